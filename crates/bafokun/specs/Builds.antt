@@ -1,4 +1,4 @@
--- A device that is built for C, or why there is none.
+-- A device that is built for C, or the fault.
 use Rattle.std.specs.Prelude.{◌≡◌, ℕ, List, [], map, Option, Some, None}
 use Rattle.co_sheet_rows.specs.declared.fault.SheetFault.{SheetFault}
 use Rattle.co_sheet.specs.Accepted.{IsAnswered, first_fault}
@@ -20,57 +20,58 @@ use Rattle.co_sheet_changes.specs.Originals.{original_at}
 use Rattle.co_dict_table.specs.Entries.{EntryContent, contents_of_rows}
 use Rattle.co_dict_table.specs.Known.{Known, blank_of}
 
--- the room of strings and of domains: no entry has a limit of its own
+-- the capacities of strings and of domains; no entry has one of its own
 abbrev pub limits_for : Settings → Limits
 limits_for settings = record { strings = settings.strings; domains = settings.domains; own = [] }
 
--- what a data sheet, a node-ID and settings say of a dictionary
+-- the plan of a dictionary by a data sheet, a node-ID and settings
 abbrev pub plan_for : ℕ → Settings → SheetContent → Plan
 plan_for node settings sheet = plan_of node (limits_for settings) sheet
 
 -- ---- both outcomes
 
--- this node was built of this sheet, and nothing has come to it
+-- this node was built from this sheet, and has had no input
 pub record IsNodeOf (node : ℕ) (settings : Settings) (sheet : SheetContent) (made : Node) : Type 0 where
   pub accepted : build_fault (plan_for node settings sheet) ≡ None
   pub stands : (greatest : ℕ)
       → IsGreatestCapacity (built_description (plan_for node settings sheet)).rows greatest
       → Stands (node_constants (plan_for node settings sheet) greatest settings.time) made []
 
--- it is held with these entries and these bytes of them
+-- a node is held with this entry table and these known bytes
 pub record IsHeld (made : Node) (table : List EntryContent) (bytes : List Known) (held : Held) : Type 0 where
   pub node : held.node ≡ made
   pub entries : held.entries ≡ table
   pub known : held.known ≡ bytes
 
--- this device was built of this sheet; it has what the sheet says of the entries, with these original types by section lines, and
--- the application knows no bytes of them
+-- this device was built from this sheet; it has the entry table of the sheet, with these original
+-- types by section lines, and the application knows no bytes of the entries
 pub record IsHeldOf (originals : ℕ → Option (List ℕ)) (node : ℕ) (settings : Settings) (sheet : SheetContent) (held : Held) : Type 0 where
   pub is_built : IsNodeOf node settings sheet held.node
   pub entries : held.entries ≡ contents_of_rows originals (limits_for settings) sheet.rows
   pub known : held.known ≡ map blank_of held.entries
 
--- and of a text
+-- this device was built from a text
 pub record IsBuilt (text : List ℕ) (node : ℕ) (settings : Settings) (held : Held) : Type 0 where
   pub sheet : SheetContent
   pub is_sheet : IsSheet text sheet
   pub is_whole : IsWhole text sheet
   pub is_held : IsHeldOf (original_at text) node settings sheet held
 
+-- the content of a place was built from a text
 abbrev pub IsFilled : List ℕ → ℕ → Settings → Option Held → Type 0
 IsFilled text node settings None = ⊥
 IsFilled text node settings (Some held) = IsBuilt text node settings held
 
--- a place has it
+-- a place has a device that was built from a text
 abbrev pub IsPlaced : List ℕ → ℕ → Settings → Handle → Type 0
 IsPlaced text node settings place = IsFilled text node settings place.seal.value
 
--- there is none of what a sheet says: by a fault of the device that it makes, or since memory ran out
+-- no device was built of a plan: it has a fault, or memory ran out
 pub data IsUnbuilt (plan : Plan) (fault : Fault) : Type 0 where
   ByFault : (f : BuildFault) → IsBuildFault plan f → fault ≡ device_fault f → IsUnbuilt plan fault
   ByMemory : fault ≡ device_fault Memory → IsUnbuilt plan fault
 
--- there is none: by a fault of the text, by one of the device that its sheet makes, or since memory ran out
+-- no device was built of a text: the text or the device of its sheet has a fault, or memory ran out
 pub data IsRefused (text : List ℕ) (node : ℕ) (settings : Settings) (fault : Fault) : Type 0 where
   OfText : (f : SheetFault) → IsAnswered (first_fault text) f → fault ≡ sheet_fault f
       → IsRefused text node settings fault

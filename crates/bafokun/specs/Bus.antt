@@ -1,4 +1,5 @@
--- What changes of the CAN controller are to a device: bus-off, error passive, and their ends (CiA 301, 7.2.7.1 and 7.5.2.32).
+-- Changes of the CAN controller as inputs of a device: bus-off, error passive, and their ends
+-- (CiA 301, 7.2.7.1 and 7.5.2.32).
 use Rattle.std.specs.Prelude.{◌≡◌, ℕ, ◌==◌, if◌then◌else◌, bit_and, List, [], ◌∷◌, Option, Some, None, unwrap_or, slice_index_or}
 use Rattle.co_frame.specs.declared.nmt.NmtService.{NmtService}
 use Rattle.co_frame.specs.declared.nmt.NmtService.TheVariants.{Stop, EnterPreOperational}
@@ -19,15 +20,18 @@ use Rattle.bafokun.specs.declared.handle.Handle.{Handle}
 use Rattle.bafokun.specs.Devices.{Gave, Gives, IsDevice, sent_of}
 use Rattle.bafokun.specs.Frames.{ArePut}
 
--- the byte of an entry of one byte, as the error register (1001h) and the error behaviour (1029:01); 0 where there is none
+-- the first byte of an entry, such as the error register (1001h) or the error behaviour (1029:01);
+-- 0 if there is none
 abbrev pub byte_of : Option (List ℕ) → ℕ
 byte_of bytes = slice_index_or (unwrap_or bytes []) 0 0
 
--- an error of the CAN interface: bit 4 of the error register, communication error, and bit 0 by itself
+-- an error of the CAN interface: it sets bit 4 of the error register, communication error; bit 0 is
+-- always set
 abbrev pub bus_error : ℕ → InputView
 bus_error code = Applied (Raised code 0x10 (0 ∷ 0 ∷ 0 ∷ 0 ∷ 0 ∷ []))
 
--- the bits of the error register that end with it: bit 4, and bit 0, generic error, where none but these two is set
+-- the bits of the error register to clear: bit 4, and bit 0, generic error, if none but these two
+-- is set
 abbrev pub ended_bits : ℕ → ℕ
 ended_bits register = if bit_and register 0xEE == 0 then 0x11 else 0x10
 
@@ -36,7 +40,7 @@ abbrev pub command_to_all : NmtService → InputView
 command_to_all service =
     Framed (record { id = 0; bytes = nmt_command_bytes (record { service = service; node = 0 }) })
 
--- the command that leads where a lost heartbeat does (7.5.2.32)
+-- the NMT command that has the effect of a lost heartbeat (7.5.2.32)
 abbrev pub by_reaction : LossReaction → NodeState → Option InputView
 by_reaction NoChange state = None
 by_reaction EnterStopped state = Some (command_to_all Stop)
@@ -44,7 +48,8 @@ by_reaction LeaveOperational Operational = Some (command_to_all EnterPreOperatio
 by_reaction LeaveOperational PreOperational = None
 by_reaction LeaveOperational Stopped = None
 
--- the input that a change is: 0 error active again, 1 error passive (8120h), 2 bus-off, 3 recovered from bus-off (8140h)
+-- the input of a change: 0 error active again, 1 error passive (8120h), 2 bus-off, 3 recovered from
+-- bus-off (8140h)
 abbrev pub bus_input : Constants → Inputs → ℕ → Option InputView
 bus_input k before change =
     if change == 0 then Some (Applied (Cleared (ended_bits (byte_of (contents_of k before error_register_key)))))
@@ -54,20 +59,22 @@ bus_input k before change =
     else if change == 3 then Some (bus_error 0x8140)
     else None
 
--- the inputs after it
+-- the inputs after a change
 abbrev pub after_bus : Option InputView → Inputs → Inputs
 after_bus None before = before
 after_bus (Some input) before = input ∷ before
 
--- nothing comes of what is no input
+-- the device after a change that is no input: nothing happens
 pub record IsIdle (k : Constants) (before : Inputs) (held : Held) : Type 0 where
   pub stands : Stands k held.node before
   pub sent : held.sent.items ≡ []
 
+-- a held device after a change
 abbrev pub GaveBus : Constants → Inputs → Option InputView → Held → Type 0
 GaveBus k before None held = IsIdle k before held
 GaveBus k before (Some input) held = Gave k before input held
 
+-- the result of a change that is no input: no frame
 pub record GivesNothing (k : Constants) (before : Inputs)
     (place : Handle) (array filled : List CanFrame) (count : ℕ) : Type 0 where
   pub stands : IsDevice k place before
@@ -75,7 +82,7 @@ pub record GivesNothing (k : Constants) (before : Inputs)
   pub put : ArePut [] array filled
   pub number : count ≡ 0
 
--- the frames of the input, where it is one
+-- the frames of a change, if it is an input
 abbrev pub GivesBus : Constants → Inputs → Option InputView → Handle → List CanFrame → List CanFrame → ℕ → Type 0
 GivesBus k before None place array filled count = GivesNothing k before place array filled count
 GivesBus k before (Some input) place array filled count = Gives k before input place array filled count

@@ -11,57 +11,59 @@ use Rattle.co_node_model.specs.Device.{app_after, contents_of}
 use Rattle.co_node_model.specs.declared.app_answer.AppAnswer.{AppAnswer}
 use Rattle.co_node_model.specs.declared.app_answer.AppAnswer.TheVariants as app
 
--- the bytes of the entry with a key; none where there is no such entry
+-- the bytes of the entry with a key; empty if there is no such entry
 abbrev pub bytes_at : Contents → Key → List ℕ
 bytes_at contents key = unwrap_or (contents key) []
 
--- the bytes that are known of an entry; none where nothing is
+-- the known bytes of an entry; empty if none are
 abbrev pub known_bytes : Option Known → List ℕ
 known_bytes k = unwrap_or (option_map (λ k. k.bytes) k) []
 
--- an entry has other bytes than those that are known of it
+-- the bytes of an entry differ from the known ones
 abbrev pub differs : Contents → Option EntryContent → Option Known → Bool
 differs contents None k = false
 differs contents (Some e) k = not (bytes_eq (bytes_at contents e.facts.key) (known_bytes k))
 
--- the entry with a number has: none has past the last one
+-- the bytes of the entry with a number differ from the known ones; never past the last entry
 abbrev pub is_changed : Contents → List EntryContent → List Known → ℕ → Bool
 is_changed contents entries known number = differs contents (entry_at entries number) (slice_get known number)
 
--- none has from one number on up to another
+-- no entry from one number up to another differs
 abbrev pub AreSame : Contents → List EntryContent → List Known → ℕ → ℕ → Type 0
 AreSame contents entries known from to = (n : ℕ) → from ≤ n → n < to → is_changed contents entries known n ≡ false
 
--- the first one from a number on; none where no entry from there on has
+-- the first entry from a number on that differs, if any
 abbrev pub IsNext : Contents → List EntryContent → List Known → ℕ → Option ℕ → Type 0
 IsNext contents entries known from None = (n : ℕ) → from ≤ n → is_changed contents entries known n ≡ false
 IsNext contents entries known from (Some number) =
     (from ≤ number) × (is_changed contents entries known number ≡ true) × AreSame contents entries known from number
 
--- its bytes are known from then on
+-- the known bytes once those of an entry are noted
 abbrev pub known_with : Contents → Option EntryContent → List Known → ℕ → List Known
 known_with contents None known number = known
 known_with contents (Some e) known number = with_known known number (bytes_at contents e.facts.key)
 
+-- the known bytes after the entry with a number was returned, if one was
 abbrev pub known_after : Contents → List EntryContent → List Known → Option ℕ → List Known
 known_after contents entries known None = known
 known_after contents entries known (Some number) = known_with contents (entry_at entries number) known number
 
--- the application knows the bytes that it wrote into the entry with a key, where that was done
+-- the known bytes after the application wrote into the entry with a key, by the answer
 abbrev pub known_written : Contents → List EntryContent → List Known → Key → AppAnswer → List Known
 known_written contents entries known key app.None = known
 known_written contents entries known key app.Done =
     option_map_or (λ number. with_known known number (bytes_at contents key)) (number_of entries key) known
 known_written contents entries known key (app.Refused code) = known
 
--- the same of the last of all inputs
+-- the same for a write that is the last input
 pub record KnowsWritten (k : Constants) (before : Inputs) (key : Key) (bytes : List ℕ)
     (entries : List EntryContent) (known later : List Known) : Type 0 where
   pub is : later
       ≡ known_written (contents_of k (Applied (Written key bytes) ∷ before)) entries known key
       (app_after k (Applied (Written key bytes) ∷ before))
 
--- C is given the first one's number, where there is one, and its bytes are known from then on; else nothing changes
+-- C gets the number of the first entry that differs, and its bytes are known then; if there is
+-- none, nothing changes
 abbrev pub IsGiven : Contents → List EntryContent → List Known → ℕ → ℕ → ℕ → Bool → List Known → Type 0
 IsGiven contents entries known from before after false later =
     (after ≡ before) × IsNext contents entries known from None × (later ≡ known)

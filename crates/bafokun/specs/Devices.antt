@@ -1,4 +1,4 @@
--- The device that a place has, and what an input gives.
+-- The device of a place, and the results of its inputs.
 use Rattle.std.specs.Prelude.{◌≡◌, ℕ, ◌≤◌, List, [], ◌∷◌, length, Option, Some, None}
 use Rattle.co_frame.specs.FrameContent.{FrameContent}
 use Rattle.co_node_model.specs.Inputs.{InputView, Inputs}
@@ -13,12 +13,12 @@ use Rattle.co_dict_table.specs.Entries.{EntryContent}
 use Rattle.co_dict_table.specs.Known.{Known}
 use Rattle.bafokun.specs.Frames.{ArePut}
 
--- this held device stands after these inputs, the newest first
+-- this held device is in the state after these inputs, newest first
 abbrev pub HasStood : Constants → Option Held → Inputs → Type 0
 HasStood k None before = ⊥
 HasStood k (Some held) before = Stands k held.node before
 
--- the place has a device that stands after these inputs
+-- the place has a device in the state after these inputs
 abbrev pub IsDevice : Constants → Handle → Inputs → Type 0
 IsDevice k place before = HasStood k place.seal.value before
 
@@ -26,37 +26,40 @@ IsDevice k place before = HasStood k place.seal.value before
 abbrev pub IsEmpty : Handle → Type 0
 IsEmpty place = place.seal.value ≡ None
 
+-- the frames of the last input of a held device
 abbrev pub frames_of : Option Held → List FrameContent
 frames_of None = []
 frames_of (Some held) = held.sent.items
 
--- the frames that the last input of its device gave
+-- the frames of the last input of a place's device
 abbrev pub sent_of : Handle → List FrameContent
 sent_of place = frames_of place.seal.value
 
+-- the entry table of a held device
 abbrev pub entries_in : Option Held → List EntryContent
 entries_in None = []
 entries_in (Some held) = held.entries
 
--- what the data sheet of its device says of the entries, in increasing key
+-- the entry table of a place's device, in increasing key
 abbrev pub entries_of : Handle → List EntryContent
 entries_of place = entries_in place.seal.value
 
+-- the known bytes of a held device
 abbrev pub known_in : Option Held → List Known
 known_in None = []
 known_in (Some held) = held.known
 
--- the bytes that the application knows of the entries of its device
+-- the bytes that the application knows of the entries of a place's device
 abbrev pub known_of : Handle → List Known
 known_of place = known_in place.seal.value
 
--- after one more input
+-- a held device after one more input
 pub record Gave (k : Constants) (before : Inputs) (input : InputView) (held : Held) : Type 0 where
   pub stands : Stands k held.node (input ∷ before)
   pub sent : held.sent.items ≡ prescribed k before input
   pub few : length held.sent.items ≤ frame_bound k before input
 
--- one more input gives this many frames, exactly those that it prescribes, which are put into an array
+-- the result of one more input: exactly the prescribed frames are put into an array, and counted
 pub record Gives (k : Constants) (before : Inputs) (input : InputView)
     (place : Handle) (array filled : List CanFrame) (count : ℕ) : Type 0 where
   pub stands : IsDevice k place (input ∷ before)
@@ -65,13 +68,13 @@ pub record Gives (k : Constants) (before : Inputs) (input : InputView)
   pub number : count ≡ length (prescribed k before input)
   pub few : count ≤ frame_bound k before input
 
--- nothing happens where there is no device
+-- nothing happens without a device
 pub record IsQuiet (place : Handle) (array filled : List CanFrame) (count : ℕ) : Type 0 where
   pub empty : IsEmpty place
   pub same : filled ≡ array
   pub number : count ≡ 0
 
--- the boot-up, and nothing else; the device stands as before
+-- the boot-up, and nothing else; the state of the device stays the same
 pub record GivesBootUp (k : Constants) (before : Inputs)
     (place : Handle) (array filled : List CanFrame) (count : ℕ) : Type 0 where
   pub stands : IsDevice k place before

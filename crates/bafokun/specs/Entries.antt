@@ -1,4 +1,4 @@
--- An entry of a device, as C has it.
+-- An entry of a device for C.
 use Rattle.std.specs.Prelude.{◌≡◌, ℕ, Bool, true, false, length, Option, Some, None}
 use Rattle.std.specs.Option.{option_map_or}
 use Rattle.co_value.specs.Types.{code_of}
@@ -21,7 +21,7 @@ access_code Constant = 6
 abbrev pub length_in : Contents → EntryContent → ℕ
 length_in contents e = option_map_or (λ bytes. length bytes) (contents e.facts.key) 0
 
--- an entry as C has it, with so many bytes
+-- the form of an entry for C, with `size` bytes now
 abbrev pub c_entry : EntryContent → ℕ → Entry
 c_entry e size = record {
   index = e.facts.key.index;
@@ -33,12 +33,13 @@ c_entry e size = record {
   length = size;
 }
 
--- where there is a number it is given; else nothing changes
+-- if there is a number, C gets it; else nothing changes
 abbrev pub IsNumber : Option ℕ → ℕ → ℕ → Bool → Type 0
 IsNumber None before after found = (after ≡ before) × (found ≡ false)
 IsNumber (Some number) before after found = (after ≡ number) × (found ≡ true)
 
--- where there is an entry it is given, with the number of the bytes that it has among these; else nothing changes
+-- if there is an entry, C gets it, with the number of its bytes in these contents; else nothing
+-- changes
 abbrev pub IsEntry : Option EntryContent → Contents → Entry → Entry → Bool → Type 0
 IsEntry None contents before after found = (after ≡ before) × (found ≡ false)
 IsEntry (Some e) contents before after found = (after ≡ c_entry e (length_in contents e)) × (found ≡ true)

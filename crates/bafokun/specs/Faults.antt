@@ -1,4 +1,4 @@
--- Faults as C has them.
+-- Faults for C.
 use Rattle.co_value.specs.declared.key.Key.{Key}
 use Rattle.co_sheet_rows.specs.declared.fault.SheetFault.{SheetFault}
 use Rattle.co_sheet_rows.specs.FaultTexts.{fault_number as sheet_number}
@@ -7,6 +7,7 @@ use Rattle.co_dict_build.specs.declared.build_fault.BuildFault.TheVariants.{Node
 use Rattle.co_dict_build.specs.BuildFaultTexts.{fault_number}
 use Rattle.bafokun.specs.declared.build.Fault.{Fault}
 
+-- no fault
 abbrev pub no_fault : Fault
 no_fault = record { line = 0; stage = 0; number = 0; index = 0; sub_index = 0 }
 

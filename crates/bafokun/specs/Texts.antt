@@ -1,10 +1,10 @@
--- Words in an array of C's.
+-- Texts in an array of C.
 use Rattle.std.specs.Prelude.{◌≡◌, ℕ, suc, ◌<◌, List, length, Option, Some, None, slice_index_or}
 use Rattle.co_dict_build.specs.declared.build_fault.BuildFault.{BuildFault}
 use Rattle.co_words.specs.BuildFaultWords.{build_fix_of, build_meaning_of}
 
--- the array has the words and a 0 after them; where it has less room, as many of them as leave room for the 0; past the 0 it
--- has what it had. The count is that of all words
+-- the array has the text and a 0 after it; with less room, as much of the text as leaves room for
+-- the 0. The bytes after the 0 are unchanged. The count is the length of the whole text
 pub record IsText (words before after : List ℕ) (count : ℕ) : Type 0 where
   pub size : count ≡ length words
   pub room : length after ≡ length before
@@ -14,7 +14,7 @@ pub record IsText (words before after : List ℕ) (count : ℕ) : Type 0 where
   pub cut : (i e : ℕ) → i < length words → suc i ≡ length before → slice_index_or after i e ≡ 0
   pub kept : (i e : ℕ) → length words < i → slice_index_or after i e ≡ slice_index_or before i e
 
--- a build fault with the same words
+-- a build fault with the same texts
 abbrev pub HasWordsOf : BuildFault → Option BuildFault → Type 0
 HasWordsOf fault None = ⊥
 HasWordsOf fault (Some other) =

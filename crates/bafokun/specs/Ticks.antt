@@ -1,4 +1,4 @@
--- Many ticks by one call.
+-- Several ticks by one call.
 use Rattle.std.specs.Prelude.{◌≡◌, ℕ, zero, suc, ◌<◌, ◌≤◌, List, [], length}
 use Rattle.co_frame.specs.FrameContent.{FrameContent}
 use Rattle.co_node_model.specs.Inputs.{Inputs, Ticked}
@@ -12,12 +12,13 @@ use Rattle.bafokun.specs.declared.handle.Handle.{Handle}
 use Rattle.bafokun.specs.Devices.{IsDevice, sent_of}
 use Rattle.bafokun.specs.Frames.{ArePut}
 
--- the frames that the last of so many ticks gives; none where there is no tick
+-- the frames of the last of these ticks; none if there is no tick
 abbrev pub given_last : Constants → Inputs → ℕ → List FrameContent
 given_last k before zero = []
 given_last k before (suc n) = prescribed k (after_ticks n before) Ticked
 
--- this many ticks, at most so many: those before the last gave nothing, and fewer only where the last one did
+-- `count` ticks, at most `most`: those before the last sent nothing, and there are fewer than
+-- `most` only if the last one sent frames
 pub record AreTicks (k : Constants) (before : Inputs) (most count : ℕ) : Type 0 where
   pub within : count ≤ most
   pub quiet : (n : ℕ) → n < count → given_last k before n ≡ []

@@ -1,4 +1,4 @@
-//! How C builds a device.
+//! Building a device for C.
 
 ghost use Rattle.std.specs.Prelude.{◌≡◌, ◌≤◌, None, true, false, length, map, IfErr, IfOk};
 ghost use Rattle.co_sheet_changes.specs.Originals.{original_at};
@@ -30,30 +30,34 @@ use co_sheet::{Sheet, SheetFault, read};
 use co_value::Key;
 use std::alloc::Global;
 
-/// What a data sheet leaves open, 6 bytes without padding: `struct bafokun_config`.
+/// The configuration that a data sheet doesn't contain, 6 bytes without padding: `struct
+/// bafokun_config`.
 #[repr(C)]
 #[derive(Clone, Copy)]
 pub struct Settings {
-    /// How many bytes a string that may be written has room for. A longer default makes more room.
+    /// The capacity of each string that may be written, in bytes; a longer default makes it
+    /// greater.
     pub strings: u16,
-    /// How many bytes a domain has room for.
+    /// The capacity of each domain, in bytes.
     pub domains: u16,
     /// The SDO timeout in ms; 0 disables it.
     pub time: u16,
 }
 
-/// Why there is no device, 16 bytes without padding: `struct bafokun_fault`.
+/// Why a device couldn't be built, 16 bytes without padding: `struct bafokun_fault`.
 #[repr(C)]
 #[derive(Clone, Copy)]
 pub struct Fault {
-    /// The line of a fault of the data sheet, from 1; 0 where no line is to blame.
+    /// The line of a fault of the data sheet, from 1; 0 if no line is at fault, and for a fault of
+    /// the device.
     pub line: u64,
-    /// 0 none, 1 the data sheet, 2 the device that is built of it.
+    /// 0 no fault, 1 a fault of the data sheet, 2 a fault of the device built from it.
     pub stage: u16,
     /// The fault's number: 1 to 20 of a data sheet, 1 to 7 of a device.
     pub number: u16,
-    /// Index and sub-index of the entry that a fault of a device names, else 0.
+    /// The index of the entry that a fault of a device names; else 0, as the sub-index.
     pub index: u16,
+    /// The sub-index.
     pub sub_index: u16,
 }
 
@@ -129,7 +133,7 @@ fn node_of(
     }
 }
 
-// What a text, with this sheet, says of the entries.
+// The entry table of a text and its sheet.
 fn entries_of(
     alloc: Global,
     text: &[u8],
@@ -154,7 +158,7 @@ fn entries_of(
     }
 }
 
-// A node that has given no frame, and its entries, of which nothing is known, in memory of their own.
+// Moves a node, its entries and their known bytes into memory of their own; no frame has been sent.
 fn boxed(
     alloc: Global,
     node: Node,
@@ -176,7 +180,7 @@ fn boxed(
     }
 }
 
-// Room for the bytes of entries, of which none is known.
+// Room for the known bytes of entries, all unknown.
 fn unknown(alloc: Global, entries: &EntryTable) -> Result<KnownBytes, Fault>
     ensures ok { IfOk result (λ known. known ≡ map blank_of entries.now) }
     ensures err { (plan : Plan) → IfErr result (IsUnbuilt plan) }
@@ -187,7 +191,7 @@ fn unknown(alloc: Global, entries: &EntryTable) -> Result<KnownBytes, Fault>
     }
 }
 
-// The device of a text's sheet.
+// The device of a text and its sheet.
 fn held_of(
     alloc: Global,
     text: &[u8],
@@ -217,10 +221,11 @@ fn build(alloc: Global, text: &[u8], node_id: u8, settings: &Settings) -> Result
     }
 }
 
-/// Builds the device of a data sheet (CiA 306) at a node-ID, in NMT state pre-operational, and puts it into a place,
-/// whose device, if it has one, is given back first. The result is whether there is a device; else `fault` says why
-/// not. This call alone asks for memory. C owes a place, empty or filled by this call, as many bytes of text as it
-/// says, settings and a fault, all apart. The text isn't needed any more after the call.
+/// Builds the device of a data sheet (CiA 306) at a node-ID, 1 to 127, in NMT state
+/// pre-operational, and puts it into a place; a device that was there is freed first. Returns
+/// whether there is a device; if not, `fault` is the reason, and the place is empty. Only this call
+/// allocates memory. C must pass a place, empty or filled by this call, as many bytes of text as it
+/// states, settings and a fault, none of which overlap. The text isn't needed after the call.
 #[unsafe(no_mangle)]
 pub extern "C" fn bafokun_build(
     alloc: Global,

@@ -1,4 +1,5 @@
-//! What changes of the CAN controller are to a device: bus-off, error passive, and their ends (CiA 301, 7.2.7.1 and 7.5.2.32).
+//! Changes of the CAN controller as inputs of a device: bus-off, error passive, and their ends
+//! (CiA 301, 7.2.7.1 and 7.5.2.32).
 
 ghost use Rattle.std.specs.Prelude.{◌≡◌, option_map, slice_index_or};
 ghost use Rattle.co_profile.specs.Keys.{error_behaviour_key};
@@ -24,7 +25,7 @@ use co_node_parts::LossReaction;
 use co_profile::keys;
 use co_value::Key;
 
-// The first byte, 0 where there is none.
+// The first byte; 0 if there is none.
 fn first_of(bytes: &[u8]) -> u8
     ensures { result ≡ slice_index_or bytes.now 0 0 }
 {
@@ -34,7 +35,7 @@ fn first_of(bytes: &[u8]) -> u8
     }
 }
 
-// The byte of an entry that has one; 0 where there is no such entry.
+// The first byte of an entry; 0 if there is no such entry.
 fn byte_at(node: &Node, key: Key) -> u8
     ensures { (k : Constants) (before : Inputs) → Stands k node.now before →
         result ≡ byte_of (contents_of k before key) }
@@ -45,14 +46,14 @@ fn byte_at(node: &Node, key: Key) -> u8
     }
 }
 
-// An error of communication.
+// A communication error with this code.
 fn bus_error(code: u16) -> Input<'static>
     ensures { input_view result ≡ bus_error code }
 {
     Input::App(AppEvent::Raise(code, 0x10, [0; 5]))
 }
 
-// A command to all nodes.
+// An NMT command to all nodes.
 fn command_to_all(service: NmtService) -> Input<'static>
     ensures { input_view result ≡ command_to_all service }
 {
@@ -60,14 +61,14 @@ fn command_to_all(service: NmtService) -> Input<'static>
     Input::Frame(command.write())
 }
 
-// The bits that end: bit 4, and bit 0 where no other one is left.
+// The bits of the error register to clear: bit 4, and bit 0 if no other bit is left.
 fn ended_bits(register: u8) -> u8
     ensures { result ≡ ended_bits register }
 {
     if register & 0xEE == 0 { 0x11 } else { 0x10 }
 }
 
-// The command that leads where a lost heartbeat does, in a state, by a value of 1029:01.
+// The NMT command that has the effect of a lost heartbeat in a state, by a value of 1029:01.
 fn by_reaction(code: u8, state: NodeState) -> Option<Input<'static>>
     ensures { option_map input_view result ≡ by_reaction (reaction_with code) state }
 {
@@ -81,8 +82,9 @@ fn by_reaction(code: u8, state: NodeState) -> Option<Input<'static>>
     }
 }
 
-/// The input that a change of the CAN controller is to a device; `None` where it is none: 0 error active again, 1 error
-/// passive, 2 bus-off, 3 recovered from bus-off.
+/// The input of a change of the CAN controller: 0 error active again, 1 error passive, 2 bus-off, 3
+/// recovered from bus-off. `None` for any other number, and for a bus-off without an NMT command by
+/// 1029:01.
 pub(crate) fn bus_input(node: &Node, change: u8) -> Option<Input<'static>>
     ensures { (k : Constants) (before : Inputs) → Stands k node.now before →
         option_map input_view result ≡ bus_input k before change }
@@ -99,8 +101,8 @@ pub(crate) fn bus_input(node: &Node, change: u8) -> Option<Input<'static>>
     }
 }
 
-/// After bus-off the NMT state is that after a lost heartbeat, by the error behaviour of 1029:01 (CiA 301, 7.5.2.32). This is a
-/// law: a call of it changes nothing.
+/// After bus-off the NMT state is that after a lost heartbeat, by the error behaviour in 1029:01
+/// (CiA 301, 7.5.2.32). This is a law: a call of it changes nothing.
 #[tactic(auto, using(crate::proofs::AsLoss::as_loss))]
 pub fn bus_off_as_lost_heartbeat()
     ensures { (k : Constants) (before : Inputs) →

@@ -1,4 +1,4 @@
-//! Which entries have other bytes than those that the application knows.
+//! Entries whose bytes differ from those that the application knows.
 
 ghost use Rattle.std.specs.Prelude.{◌≡◌, bytes_eq, slice_get};
 ghost use Rattle.co_node_model.specs.Inputs.{Inputs};
@@ -19,7 +19,7 @@ use co_dict_table::{EntryTable, KnownBytes};
 use co_node::{AppAnswer, Node};
 use co_value::Key;
 
-// The bytes of the entry with a key; none where there is no such entry.
+// The bytes of the entry with a key; empty if there is no such entry.
 fn bytes_at(node: &Node, key: Key) -> &[u8]
     ensures { (k : Constants) (before : Inputs) → Stands k node.now before →
         result.now ≡ bytes_at (contents_of k before) key }
@@ -30,7 +30,7 @@ fn bytes_at(node: &Node, key: Key) -> &[u8]
     }
 }
 
-// The bytes that are known of the entry with a number; none where nothing is.
+// The known bytes of the entry with a number; empty if none are.
 fn known_at(known: &KnownBytes, number: usize) -> &[u8]
     ensures { result.now ≡ known_bytes (slice_get known.now number) }
 {
@@ -46,7 +46,7 @@ fn is_same(bytes: &[u8], others: &[u8]) -> bool
     bytes == others
 }
 
-// Whether the entry with a number has other bytes than those that are known.
+// Whether the bytes of the entry with a number differ from the known ones.
 fn is_changed(node: &Node, entries: &EntryTable, known: &KnownBytes, number: usize) -> bool
     ensures { (k : Constants) (before : Inputs) → Stands k node.now before →
         result ≡ is_changed (contents_of k before) entries.now known.now number }
@@ -59,7 +59,7 @@ fn is_changed(node: &Node, entries: &EntryTable, known: &KnownBytes, number: usi
     }
 }
 
-/// The first entry from a number on that has other bytes than those that are known.
+/// The first entry from a number on whose bytes differ from the known ones.
 pub(crate) fn next_changed(
     node: &Node,
     entries: &EntryTable,
@@ -77,7 +77,7 @@ pub(crate) fn next_changed(
     None
 }
 
-/// The bytes of the entry with a number are known from now on.
+/// Notes the current bytes of the entry with a number as known.
 pub(crate) fn note(node: &Node, entries: &EntryTable, known: &mut KnownBytes, number: usize)
     ensures { (k : Constants) (before : Inputs) → Stands k node.now before → known.new
         ≡ known_with (contents_of k before) (entry_at entries.now number) known.old number }
@@ -88,7 +88,8 @@ pub(crate) fn note(node: &Node, entries: &EntryTable, known: &mut KnownBytes, nu
     }
 }
 
-/// The application knows the bytes that it wrote last, into the entry with a key, where that was done.
+/// Notes the bytes that the application wrote last, into the entry with a key, as known, if the
+/// write was done.
 pub(crate) fn note_written(node: &Node, entries: &EntryTable, known: &mut KnownBytes, key: Key)
     ensures { (k : Constants) (before : Inputs) → Stands k node.now before → known.new
         ≡ known_written (contents_of k before) entries.now known.old key (app_after k before) }

@@ -1,4 +1,4 @@
-//! What C asks of the entries of a device: each, by its number, from 0 on by increasing key.
+//! The entries of a device for C, by their numbers: from 0 on by increasing key.
 
 ghost use Rattle.std.specs.Prelude.{◌≡◌, false};
 ghost use Rattle.co_node_model.specs.Inputs.{Inputs};
@@ -16,8 +16,9 @@ use crate::texts::put_text;
 use co_value::Key;
 use std::alloc::Global;
 
-/// Whether there is an entry with a number, from 0 on by increasing key: so a loop from 0 until there is none comes to all.
-/// What it is goes into `entry`. C owes what `bafokun_tick` says, and an entry.
+/// Gets the entry with a number, from 0 on by increasing key, so that a loop from 0 until there is
+/// none visits all. Returns whether there is such an entry; if not, `entry` is unchanged. C must
+/// pass what `bafokun_tick` requires, and an entry.
 #[unsafe(no_mangle)]
 pub extern "C" fn bafokun_entry(
     alloc: Global,
@@ -52,8 +53,9 @@ pub extern "C" fn bafokun_entry(
     }
 }
 
-/// The name of the entry with a number, its ParameterName, as text by the rules of `bafokun_abort_text`; empty where it has none,
-/// and where there is no such entry. C owes what `bafokun_tick` says, and an array of as many bytes as it says.
+/// The name of the entry with a number, its ParameterName, as text by the rules of
+/// `bafokun_abort_text`; empty if it has none, and if there is no such entry. C must pass what
+/// `bafokun_tick` requires, and an array of as many bytes as it states.
 #[unsafe(no_mangle)]
 pub extern "C" fn bafokun_entry_name(
     alloc: Global,
@@ -77,7 +79,8 @@ pub extern "C" fn bafokun_entry_name(
     }
 }
 
-/// Whether there is an entry with a key. If so its number goes into `number`. C owes what `bafokun_tick` says.
+/// Gets the number of the entry with a key. Returns whether there is such an entry; if not,
+/// `number` is unchanged. C must pass what `bafokun_tick` requires, and a number.
 #[unsafe(no_mangle)]
 pub extern "C" fn bafokun_find(
     alloc: Global,
@@ -111,9 +114,11 @@ pub extern "C" fn bafokun_find(
     }
 }
 
-/// Whether an entry, from a number on, has other bytes than those that the application knows: those of its own last write, or
-/// those that the entry had when this call gave it last; at first none. Then the first one goes into `number`, and its bytes are known.
-/// So a loop that goes on from the number after it comes to each such entry once. C owes what `bafokun_find` says.
+/// Gets the first entry, from number `from` on, whose bytes differ from those that the application
+/// knows: those of its own last write, or those at the last result of this call; at first none. Its
+/// bytes are known then, so that a loop from the number after it visits each such entry once.
+/// Returns whether there is one; if not, `number` is unchanged. C must pass what `bafokun_find`
+/// requires.
 #[unsafe(no_mangle)]
 pub extern "C" fn bafokun_next_changed(
     alloc: Global,

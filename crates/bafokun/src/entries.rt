@@ -1,4 +1,4 @@
-//! An entry as C has it.
+//! An entry for C.
 
 ghost use Rattle.std.specs.Prelude.{◌≡◌};
 ghost use Rattle.co_dict_table.specs.Tables.{described_view};
@@ -7,27 +7,28 @@ ghost use Rattle.bafokun.specs.Entries.{access_code, c_entry};
 use co_dict_table::DescribedEntry;
 use co_profile::Access;
 
-/// An entry of a device, without padding, 24 bytes where a size has 8: `struct bafokun_entry_info`.
+/// An entry of a device, 24 bytes without padding if a size has 8: `struct bafokun_entry_info`.
 #[repr(C)]
 #[derive(Clone, Copy)]
 pub struct Entry {
-    /// Its key.
+    /// Its index.
     pub index: u16,
+    /// Its sub-index.
     pub sub_index: u8,
     /// 1 ro, 2 wo, 3 rw, 4 rwr, 5 rww, 6 const.
     pub access: u8,
     /// The code of its data type (CiA 301, 7.4.7.1).
     pub data_type: u16,
-    /// That of the original one, where the sheet was adapted and says so; else the same.
+    /// The code of the original data type, if the sheet was adapted and contains it; else the same.
     pub original_type: u16,
-    /// How many bytes it has room for.
+    /// Its capacity, in bytes.
     pub capacity: usize,
     /// How many bytes it has now.
     pub length: usize,
 }
 
 impl Entry {
-    /// Of an entry that has so many bytes.
+    /// The form of an entry for C, with `length` bytes now.
     pub(crate) fn of(described: &DescribedEntry<'_>, length: usize) -> Entry
         ensures { result ≡ c_entry (described_view described.now) length }
     {

@@ -1,4 +1,4 @@
-//! CAN frames as C has them.
+//! CAN frames for C.
 
 ghost use Rattle.std.specs.Prelude.{◌≡◌, ◌≤◌, IfSome, Some, None, length};
 ghost use Rattle.bafokun.specs.Frames.{ArePut, IsCan, c_frame, content_of};
@@ -14,12 +14,12 @@ pub struct CanFrame {
     pub id: u16,
     /// How many data bytes there are, 0 to 8.
     pub length: u16,
-    /// The data; the bytes past them are 0 in a frame that is sent.
+    /// The data; the bytes after them are 0 in a frame that is sent.
     pub bytes: [u8; 8],
 }
 
 impl CanFrame {
-    /// A frame that is sent.
+    /// The form for C of a frame that is sent.
     pub(crate) fn of(frame: &Frame) -> CanFrame
         ensures { result ≡ c_frame frame.now }
     {
@@ -31,7 +31,7 @@ impl CanFrame {
         }
     }
 
-    /// The frame that it is; `None` where it is no CAN frame.
+    /// The frame; `None` if the identifier is above 7FFh, or it has more than eight bytes.
     pub(crate) fn read(&self) -> Option<Frame>
         ensures some { IfSome result (λ frame. frame ≡ content_of self.now) }
         ensures is { IfSome result (λ _. IsCan self.now) }
@@ -44,7 +44,7 @@ impl CanFrame {
     }
 }
 
-// At most eight bytes. Those of SDO are eight: they come in two halves, since four bytes are read without a call.
+// Packs at most eight bytes. Eight, as in SDO, are read in two halves: four bytes need no call.
 #[inline(always)]
 fn packed(bytes: &[u8]) -> PackedBytes
     requires { length bytes.now ≤ 8 }
@@ -60,8 +60,8 @@ fn packed(bytes: &[u8]) -> PackedBytes
     packed
 }
 
-/// Puts frames into an array, as many as it has room for. It isn't compiled into its callers, as most inputs give no frame: so these
-/// keep less across the call of the device.
+/// Puts frames into an array, as many as it has room for. It is not inlined, since most inputs send
+/// no frame: its callers then keep less across the call of the device.
 #[inline(never)]
 pub(crate) fn put(frames: &[Frame], places: &mut [CanFrame])
     ensures { ArePut frames.now places.old places.new }

@@ -13,7 +13,8 @@ use co_value::Key;
 use std::alloc::Global;
 use std::mem::replace;
 
-/// The place of a device, 16 bytes without padding: `struct bafokun_node`. It is empty while `built` is 0.
+/// The place of a device, 16 bytes without padding: `struct bafokun_node`. It is empty while
+/// `built` is 0.
 #[repr(C)]
 #[derive(Drop)]
 pub struct Handle {
@@ -39,7 +40,7 @@ impl Handle {
         }
     }
 
-    /// Of a device.
+    /// The place of a device.
     pub(crate) fn of(held: Box<Held>) -> Handle
         ensures { result.seal.value ≡ Some held.value }
     {
@@ -59,7 +60,7 @@ impl Handle {
         Some(seal.into_parts(alloc).into_box())
     }
 
-    /// The device, which it then no longer has.
+    /// Takes the device out; the place is then empty.
     pub(crate) fn take(&mut self, alloc: Global) -> Option<Box<Held>>
         ensures taken { option_map (λ b. b.value) result ≡ self.old.seal.value }
         ensures left { IsEmpty self.new }
@@ -68,7 +69,8 @@ impl Handle {
     }
 
     #[tactic(auto, using(crate::proofs::Nothing::nothing_put))]
-    /// A device again after an input, whose frames go into the array, as many as it has room for. It gives how many there are.
+    /// Puts the device back after an input. Its frames are put into the array, as many as it has
+    /// room for; returns how many there are.
     #[inline(always)]
     pub(crate) fn give(&mut self, held: Box<Held>, frames: &mut [CanFrame]) -> usize
         ensures back { self.new.seal.value ≡ Some held.value }
@@ -83,7 +85,8 @@ impl Handle {
         count
     }
 
-    /// A frame is received. What is sent goes into the array, as many frames as it has room for; it gives how many there are.
+    /// Takes a received frame. The frames that are sent are put into the array, as many as it has
+    /// room for; returns how many there are.
     #[inline(always)]
     pub(crate) fn take_frame(
         &mut self,
@@ -106,7 +109,7 @@ impl Handle {
         }
     }
 
-    /// 1 ms elapsed. What is sent goes into the array as by `take_frame`.
+    /// 1 ms elapsed. The frames that are sent are put and counted as by `take_frame`.
     #[inline(always)]
     pub(crate) fn tick(&mut self, alloc: Global, frames: &mut [CanFrame]) -> usize
         ensures gives { (k : Constants) (before : Inputs) → IsDevice k self.old before →
@@ -124,7 +127,7 @@ impl Handle {
         }
     }
 
-    /// The application did something. What is sent goes into the array as by `take_frame`.
+    /// Takes an application event. The frames that are sent are put and counted as by `take_frame`.
     pub(crate) fn take_event(
         &mut self,
         alloc: Global,
@@ -146,7 +149,8 @@ impl Handle {
         }
     }
 
-    /// The application writes an entry, whose bytes it knows then. What is sent goes into the array as by `take_frame`.
+    /// The application writes an entry, and knows its bytes if that is done. The frames that are
+    /// sent are put and counted as by `take_frame`.
     pub(crate) fn write(
         &mut self,
         alloc: Global,

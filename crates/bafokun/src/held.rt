@@ -1,4 +1,4 @@
-//! What C holds a device by.
+//! A device with the data that C reads of it.
 
 ghost use Rattle.std.specs.Prelude.{◌≡◌, [], ◌∷◌, true, false};
 ghost use Rattle.co_node_model.specs.Inputs.{Inputs, Framed, Ticked, Applied, Written, app_view};
@@ -18,8 +18,8 @@ use co_frame::{Frame, Outbox};
 use co_node::{AppEvent, Node};
 use co_value::Key;
 
-/// A device, the frames that its last input gave, what its data sheet says of the entries, and the bytes of them that the application
-/// knows.
+/// A device, the frames of its last input, the entry table of its data sheet, and the bytes of the
+/// entries that the application knows.
 #[derive(Drop)]
 pub struct Held {
     pub(crate) node: Node,
@@ -29,7 +29,7 @@ pub struct Held {
 }
 
 impl Held {
-    /// A frame is received.
+    /// Takes a received frame.
     #[inline(always)]
     pub(crate) fn take_frame(&mut self, frame: &Frame)
         ensures gave { (k : Constants) (before : Inputs) → Stands k self.old.node before →
@@ -51,7 +51,8 @@ impl Held {
         self.node.tick(&mut self.sent);
     }
 
-    /// So many ms elapsed at most: they end with the first one that gives frames. It gives how many there were.
+    /// At most `most` ms elapse: the ticks end with the first that sends frames. Returns how many
+    /// elapsed.
     pub(crate) fn ticks(&mut self, most: u32) -> u32
         ensures gave { (k : Constants) (before : Inputs) → Stands k self.old.node before →
             GaveTicks k before most result self.new }
@@ -68,7 +69,7 @@ impl Held {
         most
     }
 
-    // Whether the last input gave frames.
+    // Whether the last input sent frames.
     #[inline(always)]
     fn has_sent(&self) -> bool
         ensures yes { result ≡ true → self.now.sent.items ≡ [] → ⊥ }
@@ -77,7 +78,7 @@ impl Held {
         !self.sent.is_empty()
     }
 
-    /// The application did something.
+    /// Takes an application event.
     pub(crate) fn take_event(&mut self, event: AppEvent<'_>)
         ensures gave { (k : Constants) (before : Inputs) → Stands k self.old.node before →
             Gave k before (Applied (app_view event.entry)) self.new }
@@ -87,7 +88,7 @@ impl Held {
         self.node.take_event(event, &mut self.sent);
     }
 
-    /// The application writes an entry, whose bytes it knows then.
+    /// The application writes an entry, and knows its bytes if that is done.
     pub(crate) fn write(&mut self, key: Key, bytes: &[u8])
         ensures gave { (k : Constants) (before : Inputs) → Stands k self.old.node before →
             Gave k before (Applied (Written key bytes.now)) self.new }
@@ -99,7 +100,8 @@ impl Held {
         note_written(&self.node, &self.entries, &mut self.known, key);
     }
 
-    /// The first entry from a number on whose bytes the application doesn't know; it knows them then.
+    /// The first entry from a number on whose bytes the application doesn't know; these are known
+    /// then.
     pub(crate) fn next_changed(&mut self, from: usize) -> Option<usize>
         ensures next { (k : Constants) (before : Inputs) → Stands k self.old.node before →
             IsNext (contents_of k before) self.old.entries self.old.known from result }
@@ -119,7 +121,7 @@ impl Held {
         }
     }
 
-    /// A change of the CAN controller.
+    /// Takes a change of the CAN controller.
     pub(crate) fn bus(&mut self, change: u8)
         ensures gave { (k : Constants) (before : Inputs) → Stands k self.old.node before →
             GaveBus k before (bus_input k before change) self.new }
@@ -132,7 +134,7 @@ impl Held {
         }
     }
 
-    /// The boot-up.
+    /// Sends the boot-up.
     pub(crate) fn boot(&mut self)
         ensures node { self.new.node ≡ self.old.node }
         ensures sent { (k : Constants) (before : Inputs) → Stands k self.old.node before →

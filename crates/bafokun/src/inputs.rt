@@ -1,4 +1,4 @@
-//! What comes to a device.
+//! The inputs of a device from C.
 
 ghost use Rattle.std.specs.Prelude.{◌≡◌};
 ghost use Rattle.co_node_model.specs.Inputs.{
@@ -25,7 +25,8 @@ use co_node::AppEvent;
 use co_value::Key;
 use std::alloc::Global;
 
-/// The boot-up of a device (CiA 301, 7.2.8.3.3): to be sent once, after it was built. C owes what `bafokun_tick` says.
+/// The boot-up of a device (CiA 301, 7.2.8.3.3), to be sent once after it was built; put and
+/// counted as by `bafokun_tick`. C must pass what `bafokun_tick` requires.
 #[unsafe(no_mangle)]
 pub extern "C" fn bafokun_boot(alloc: Global, node: &mut Handle, frames: &mut [CanFrame]) -> usize
     ensures gives { (k : Constants) (before : Inputs) → IsDevice k node.old before →
@@ -43,8 +44,8 @@ pub extern "C" fn bafokun_boot(alloc: Global, node: &mut Handle, frames: &mut [C
     }
 }
 
-/// A frame is received. Nothing happens where it is no CAN frame: an identifier above 7FFh, or more than 8 bytes. C
-/// owes what `bafokun_tick` says, and a frame, which isn't part of the array.
+/// A frame was received. Nothing happens if it is no CAN frame: an identifier above 7FFh, or more
+/// than 8 bytes. C must pass what `bafokun_tick` requires, and a frame outside the array.
 #[unsafe(no_mangle)]
 pub extern "C" fn bafokun_take(
     alloc: Global,
@@ -67,9 +68,10 @@ pub extern "C" fn bafokun_take(
     }
 }
 
-/// 1 ms elapsed. The frames that the device then sends are put into the array, as many as it has room for; the result
-/// is how many there are, and `bafokun_sent` gives the others. C owes the place of a device, empty or filled by
-/// `bafokun_build`, an array of as many frames as it says, and no other call for this place at the same time.
+/// 1 ms elapsed. The frames that the device then sends are put into the array, as many as it has
+/// room for. Returns how many there are; `bafokun_sent` returns the others. C must pass the place
+/// of a device, empty or filled by `bafokun_build`, and an array of as many frames as it states; it
+/// must make no other call for this place at the same time.
 #[unsafe(no_mangle)]
 pub extern "C" fn bafokun_tick(alloc: Global, node: &mut Handle, frames: &mut [CanFrame]) -> usize
     ensures gives { (k : Constants) (before : Inputs) → IsDevice k node.old before →
@@ -81,10 +83,11 @@ pub extern "C" fn bafokun_tick(alloc: Global, node: &mut Handle, frames: &mut [C
     node.tick(alloc, frames)
 }
 
-/// Many ms elapsed, at most so many: the ticks end with the first one that sends frames, so that these are sent before the
-/// next. `elapsed` is how many there were, all where none sends any; the frames of the last one are put and counted as by
-/// `bafokun_tick`. Where there is no device all elapse and nothing happens. C owes what `bafokun_tick` says, and that the
-/// array and `elapsed` are apart.
+/// Several ms elapsed, at most `most`: the ticks end with the first that sends frames, so that
+/// these are sent before the next tick. `elapsed` is how many elapsed: all, if none sends frames.
+/// The frames of the last one are put and counted as by `bafokun_tick`. Without a device all
+/// elapse, and nothing happens. C must pass what `bafokun_tick` requires, and `elapsed` outside the
+/// array.
 #[unsafe(no_mangle)]
 pub extern "C" fn bafokun_ticks(
     alloc: Global,
@@ -112,8 +115,9 @@ pub extern "C" fn bafokun_ticks(
     }
 }
 
-/// The application writes an entry, also one that a client may only read; it knows the bytes then. C owes what `bafokun_tick` says, and as many
-/// bytes as it says, which aren't part of the array.
+/// The application writes an entry, even if SDO clients may only read it. If that is done it knows
+/// the bytes; `bafokun_answer` returns the answer. C must pass what `bafokun_tick` requires, and as
+/// many bytes as it states, outside the array.
 #[unsafe(no_mangle)]
 pub extern "C" fn bafokun_write(
     alloc: Global,
@@ -139,7 +143,8 @@ pub extern "C" fn bafokun_write(
     node.write(alloc, key, bytes, frames)
 }
 
-/// An event on a TPDO, by its number from 0. C owes what `bafokun_tick` says.
+/// An event of the TPDO with a number, from 0: k of 1800h + k. C must pass what `bafokun_tick`
+/// requires.
 #[unsafe(no_mangle)]
 pub extern "C" fn bafokun_event(
     alloc: Global,
@@ -156,7 +161,8 @@ pub extern "C" fn bafokun_event(
     node.take_event(alloc, AppEvent::Event(tpdo), frames)
 }
 
-/// The value of an entry changed: an event on each active TPDO that maps it. C owes what `bafokun_tick` says.
+/// The value of an entry changed: an event of each active TPDO that maps it. C must pass what
+/// `bafokun_tick` requires.
 #[unsafe(no_mangle)]
 pub extern "C" fn bafokun_changed(
     alloc: Global,
@@ -179,8 +185,9 @@ pub extern "C" fn bafokun_changed(
     node.take_event(alloc, AppEvent::Changed(key), frames)
 }
 
-/// An error: its emergency error code, the bits that it sets in the error register besides bit 0, and the
-/// manufacturer's five bytes (CiA 301, 7.2.7). C owes what `bafokun_tick` says, and the five bytes, outside the array.
+/// An error is raised: its emergency error code, the bits that it sets in the error register
+/// besides bit 0, and the manufacturer-specific five bytes (CiA 301, 7.2.7). Code 0 is refused. C
+/// must pass what `bafokun_tick` requires, and the five bytes, outside the array.
 #[unsafe(no_mangle)]
 pub extern "C" fn bafokun_raise(
     alloc: Global,
@@ -200,7 +207,8 @@ pub extern "C" fn bafokun_raise(
     node.take_event(alloc, AppEvent::Raise(code, bits, *manufacturer), frames)
 }
 
-/// Errors have ended: these bits of the error register are cleared. C owes what `bafokun_tick` says.
+/// Errors are gone: these bits of the error register are cleared. C must pass what `bafokun_tick`
+/// requires.
 #[unsafe(no_mangle)]
 pub extern "C" fn bafokun_clear(
     alloc: Global,
@@ -217,10 +225,11 @@ pub extern "C" fn bafokun_clear(
     node.take_event(alloc, AppEvent::Clear(bits), frames)
 }
 
-/// A change of the CAN controller: 0 error active again, 1 error passive, 2 bus-off, 3 recovered from bus-off. Error passive and
-/// recovered raise the errors 8120h and 8140h with bit 4 of the error register, which 0 clears, with bit 0 where no other bit is
-/// left (CiA 301, 7.2.7.1); bus-off changes the NMT state as a lost heartbeat does, by 1029:01 (7.5.2.32). Of another number
-/// nothing happens. C owes what `bafokun_tick` says.
+/// A change of the CAN controller: 0 error active again, 1 error passive, 2 bus-off, 3 recovered
+/// from bus-off. Error passive raises error 8120h, recovered 8140h, each with bit 4 of the error
+/// register. Error active clears that bit, and bit 0 if no other is left (CiA 301, 7.2.7.1).
+/// Bus-off changes the NMT state as a lost heartbeat does, by 1029:01 (CiA 301, 7.5.2.32). Any
+/// other number is no input. C must pass what `bafokun_tick` requires.
 #[tactic(auto, using(crate::proofs::GivenBus::given_bus))]
 #[unsafe(no_mangle)]
 pub extern "C" fn bafokun_bus(

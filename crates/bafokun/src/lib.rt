@@ -1,4 +1,4 @@
-//! A CANopen device for programs in C: the static library of `include/bafokun.h`. Each export is one call of `co_node`.
+//! A CANopen device for programs in C: the library of `include/bafokun.h`.
 #![tactic(auto)]
 
 mod build;

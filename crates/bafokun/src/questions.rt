@@ -1,4 +1,4 @@
-//! What C asks of a device.
+//! Reading from a device, and freeing it.
 
 ghost use Rattle.std.specs.Prelude.{◌≡◌, ℕ, ◌≤◌, None, drop, length};
 ghost use Rattle.co_node_model.specs.Inputs.{Inputs};
@@ -16,9 +16,9 @@ use co_node::{AppAnswer, NodeState};
 use co_value::Key;
 use std::alloc::Global;
 
-/// The frames that the last input gave, from one of them on: for an array that had no room for all. They are put into
-/// the array, as many as it has room for; the result is how many there are from that one on, 0 where there is no
-/// device. C owes what `bafokun_tick` says.
+/// The frames of the last input, from number `from` on: for an array that had no room for all. They
+/// are put into the array, as many as it has room for; returns how many there are from that one on,
+/// 0 without a device. C must pass what `bafokun_tick` requires.
 #[unsafe(no_mangle)]
 pub extern "C" fn bafokun_sent(
     alloc: Global,
@@ -46,8 +46,9 @@ pub extern "C" fn bafokun_sent(
     }
 }
 
-/// Whether there is an entry. Its bytes are put into the array, as many as it has room for, and `length` is how many
-/// they are. C owes what `bafokun_tick` says, and that the array and `length` are apart.
+/// Gets the bytes of an entry: they are put into the array, as many as it has room for, and
+/// `length` is how many the entry has. Returns whether there is such an entry; if not, nothing is
+/// written. C must pass what `bafokun_tick` requires, and `length` outside the array.
 #[unsafe(no_mangle)]
 pub extern "C" fn bafokun_value(
     alloc: Global,
@@ -84,7 +85,7 @@ pub extern "C" fn bafokun_value(
     }
 }
 
-/// Copies bytes, as many as there is room for.
+/// Copies bytes into an array, as many as it has room for.
 pub(crate) fn copy(value: &[u8], bytes: &mut [u8])
     ensures { IsCopied value.now bytes.old bytes.new }
 {
@@ -93,7 +94,7 @@ pub(crate) fn copy(value: &[u8], bytes: &mut [u8])
     }
 }
 
-/// The node-ID, 1 to 127; 0 where there is no device. C owes what `bafokun_tick` says.
+/// The node-ID, 1 to 127; 0 without a device. C must pass what `bafokun_tick` requires.
 #[unsafe(no_mangle)]
 pub extern "C" fn bafokun_node_id(alloc: Global, node: &mut Handle) -> u8
     ensures same { node.new.seal.value ≡ node.old.seal.value }
@@ -111,9 +112,9 @@ pub extern "C" fn bafokun_node_id(alloc: Global, node: &mut Handle) -> u8
     }
 }
 
-/// For at least so many ms the device sends nothing, and neither an entry nor its NMT state changes, if nothing is
-/// received: so many ticks, or fewer, may be made up for at once by `bafokun_ticks`. 4294967295 if it never does, and
-/// where there is no device. C owes what `bafokun_tick` says.
+/// During this many ms the device sends nothing, and its entries and its NMT state stay the same,
+/// if it gets no other input: a lower bound. These ticks, or fewer, may be passed at once by
+/// `bafokun_ticks`. 4294967295 without a device. C must pass what `bafokun_tick` requires.
 #[unsafe(no_mangle)]
 pub extern "C" fn bafokun_idle(alloc: Global, node: &mut Handle) -> u32
     ensures same { node.new.seal.value ≡ node.old.seal.value }
@@ -131,8 +132,8 @@ pub extern "C" fn bafokun_idle(alloc: Global, node: &mut Handle) -> u32
     }
 }
 
-/// Of as many ticks at once as a device is idle for, or fewer, all elapse: `bafokun_ticks` ends with none of them. This is
-/// a law: a call of it changes nothing.
+/// If a device is quiet for at least `most` ticks, as by `bafokun_idle`, `bafokun_ticks` lets all
+/// of these elapse: it doesn't end early. This is a law: a call of it changes nothing.
 #[tactic(auto, using(crate::proofs::Ticks::all_elapse))]
 pub fn idle_ticks_elapse()
     ensures { (k : Constants) (before : Inputs) (count most elapsed : ℕ) →
@@ -140,8 +141,8 @@ pub fn idle_ticks_elapse()
         elapsed ≡ most }
 {}
 
-/// The NMT state (CiA 301, 7.3.2), as the byte of a heartbeat: 4 stopped, 5 operational, 127 pre-operational; 0 where
-/// there is no device. C owes what `bafokun_tick` says.
+/// The NMT state (CiA 301, 7.3.2), as the byte of a heartbeat: 4 stopped, 5 operational, 127
+/// pre-operational; 0 without a device. C must pass what `bafokun_tick` requires.
 #[unsafe(no_mangle)]
 pub extern "C" fn bafokun_state(alloc: Global, node: &mut Handle) -> u8
     ensures same { node.new.seal.value ≡ node.old.seal.value }
@@ -163,8 +164,9 @@ pub extern "C" fn bafokun_state(alloc: Global, node: &mut Handle) -> u8
     }
 }
 
-/// The answer to the last input, where that was an event of the application: 0 none, 1 done, 2 refused, and then
-/// `abort` is the abort code, else 0. C owes what `bafokun_tick` says.
+/// The answer to the last input: 0 if that was no application event, 1 done, 2 refused. `abort` is
+/// the abort code if it was refused, else 0. C must pass what `bafokun_tick` requires, and an abort
+/// code.
 #[unsafe(no_mangle)]
 pub extern "C" fn bafokun_answer(alloc: Global, node: &mut Handle, abort: &mut u32) -> u8
     ensures same { node.new.seal.value ≡ node.old.seal.value }
@@ -192,8 +194,9 @@ pub extern "C" fn bafokun_answer(alloc: Global, node: &mut Handle, abort: &mut u
     }
 }
 
-/// How many bytes are held for the transfer of an SDO channel; 0 where there is no such channel or no device. They are
-/// at most 889 more than the entry that is transferred has room for. C owes what `bafokun_tick` says.
+/// How many bytes are held for the transfer of an SDO channel; 0 if there is no such channel or no
+/// device. They are at most the capacity of the transferred entry plus 889. C must pass what
+/// `bafokun_tick` requires.
 #[unsafe(no_mangle)]
 pub extern "C" fn bafokun_held(alloc: Global, node: &mut Handle, channel: u8) -> usize
     ensures same { node.new.seal.value ≡ node.old.seal.value }
@@ -213,7 +216,8 @@ pub extern "C" fn bafokun_held(alloc: Global, node: &mut Handle, channel: u8) ->
     }
 }
 
-/// Gives the device back, with its memory: the place is then empty. C owes what `bafokun_tick` says.
+/// Frees the device and its memory: the place is then empty. C must pass what `bafokun_tick`
+/// requires.
 #[unsafe(no_mangle)]
 pub extern "C" fn bafokun_free(alloc: Global, node: &mut Handle)
     ensures { IsEmpty node.new }

@@ -11,7 +11,7 @@ use std::alloc::Global;
 use std::marker::Model;
 use std::ptr::null_mut;
 
-/// A box of a device as a pointer whose type C can have, or null. What is dropped is not freed.
+/// A box of a device as a pointer of a type that C has, or null. Dropping it frees nothing.
 #[repr(C)]
 #[derive(Drop)]
 pub struct Seal {
@@ -25,7 +25,7 @@ impl Model for Seal {
 }
 
 impl Seal {
-    /// Of a box.
+    /// The seal of a box.
     pub(crate) fn of_parts(parts: Parts<Held, Global>) -> Seal
         ensures { result.value ≡ Some parts.value }
     {
@@ -33,7 +33,7 @@ impl Seal {
         Seal { at: ptr as *mut u8 }
     }
 
-    /// The box again, where there is one.
+    /// The box again. There has to be one.
     pub(crate) fn into_parts(self, alloc: Global) -> Parts<Held, Global>
         requires { self.value ≡ None → ⊥ }
         ensures { Some result.value ≡ self.value }
@@ -45,7 +45,7 @@ impl Seal {
         }
     }
 
-    /// Of nothing.
+    /// The seal of no box: null.
     pub(crate) fn none(alloc: Global) -> Seal
         ensures { result.value ≡ None }
     {

@@ -1,4 +1,4 @@
-//! Words for people.
+//! Texts for users.
 
 ghost use Rattle.std.specs.Prelude.{◌≡◌, [], Some};
 ghost use Rattle.co_dict_build.specs.declared.build_fault.BuildFault.{BuildFault};
@@ -21,9 +21,9 @@ use co_sheet_faults::{fix_of, meaning_of};
 use co_value::Key;
 use co_words::{abort_text, build_fix_of, build_meaning_of};
 
-/// What an SDO abort code means (CiA 301, 7.2.4.3.17), as text with a 0 after it, cut where the array has less room. The
-/// result is how long the whole text is, without the 0; 0 for a code that the standard doesn't have. C owes an array of as
-/// many bytes as it says.
+/// The meaning of an SDO abort code (CiA 301, 7.2.4.3.17), as text with a 0 after it, truncated if
+/// the array has less room. Returns the length of the whole text without the 0; 0 for a code that
+/// the standard doesn't have. C must pass an array of as many bytes as it states.
 #[unsafe(no_mangle)]
 pub extern "C" fn bafokun_abort_text(code: u32, text: &mut [u8]) -> usize
     ensures known { (reason : AbortReason) → code_of reason ≡ code →
@@ -34,8 +34,9 @@ pub extern "C" fn bafokun_abort_text(code: u32, text: &mut [u8]) -> usize
     put_text(abort_text(code).as_bytes(), text)
 }
 
-/// What is wrong, of a fault of `bafokun_build`, as text by the rules of `bafokun_abort_text`; empty for no fault. C owes what
-/// that call says, and a fault as `bafokun_build` has written it, which isn't part of the array.
+/// The meaning of a fault of `bafokun_build`, as text by the rules of `bafokun_abort_text`; empty
+/// for no fault. C must pass what that call requires, and a fault that `bafokun_build` has written,
+/// outside the array.
 #[unsafe(no_mangle)]
 pub extern "C" fn bafokun_fault_text(fault: &Fault, text: &mut [u8]) -> usize
     ensures sheet { (f : SheetFault) → fault.now ≡ sheet_fault f →
@@ -47,8 +48,8 @@ pub extern "C" fn bafokun_fault_text(fault: &Fault, text: &mut [u8]) -> usize
     put_text(meaning(fault).as_bytes(), text)
 }
 
-/// How a fault of `bafokun_build` is fixed, as text by the rules of `bafokun_abort_text`; empty for no fault. C owes what
-/// `bafokun_fault_text` says.
+/// How to fix a fault of `bafokun_build`, as text by the rules of `bafokun_abort_text`; empty for
+/// no fault. C must pass what `bafokun_fault_text` requires.
 #[unsafe(no_mangle)]
 pub extern "C" fn bafokun_fault_fix(fault: &Fault, text: &mut [u8]) -> usize
     ensures sheet { (f : SheetFault) → fault.now ≡ sheet_fault f →
@@ -67,7 +68,7 @@ fn meaning(fault: &Fault) -> &'static str
 {
     match fault.stage {
         1 => match sheet_kind(fault.number) {
-            // the words differ only where no line is to blame
+            // the text differs only if no line is at fault
             Some(kind) => meaning_of(&SheetFault {
                 kind,
                 line: if fault.line == 0 { 0 } else { 1 },
@@ -100,7 +101,7 @@ fn fix(fault: &Fault) -> &'static str
     }
 }
 
-// The kind of a data sheet's fault with this number.
+// The kind of a fault of a data sheet, by its number.
 fn sheet_kind(number: u16) -> Option<FaultKind>
     ensures { (kind : FaultKind) → sheet_number kind ≡ number → result ≡ Some kind }
 {
@@ -129,7 +130,7 @@ fn sheet_kind(number: u16) -> Option<FaultKind>
     }
 }
 
-// A build fault with this number, whose words don't say where it is.
+// A build fault with this number; its texts don't name an entry.
 fn build_fault(number: u16) -> Option<BuildFault>
     ensures { (fault : BuildFault) → fault_number fault ≡ number → HasWordsOf fault result }
 {
@@ -146,7 +147,8 @@ fn build_fault(number: u16) -> Option<BuildFault>
     }
 }
 
-// Words with a 0 after them, cut to the room of the array. It gives how long they are.
+// Puts a text with a 0 after it into an array, truncated to its room. Returns the length of the
+// whole text.
 #[tactic(auto, using(crate::proofs::Terminated::is_text))]
 pub(crate) fn put_text(words: &[u8], text: &mut [u8]) -> usize
     ensures { IsText words.now text.old text.new result }

@@ -7,8 +7,8 @@ use crate::fault::ReadFault;
 use std::io;
 use std::io::Read;
 
-/// Asks a reader for as many bytes as there is room for, until it gives some, comes to its end (0 bytes) or fails. A
-/// read that a signal interrupted is tried again, at most 2^64 - 1 times.
+/// Asks a reader for as many bytes as there is room for, until it gives some, comes to its end
+/// (0 bytes) or fails. A read that a signal interrupted is tried again, at most 2^64 - 1 times.
 pub(crate) fn ask<R: Read>(reader: &mut R, room: &mut [u8]) -> Result<usize, ReadFault>
     ensures bound { IfOk result (λ count. count ≤ length room.new) }
     ensures length { length room.new ≡ length room.old }

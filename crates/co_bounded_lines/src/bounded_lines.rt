@@ -27,9 +27,9 @@ pub enum Found {
     End,
 }
 
-/// Reads a text line by line in constant memory, whatever the length of its lines: it holds at most 8,192 bytes. There
-/// is no bound on how many lines come. Contracts see the line that was found last, what the reader gave after it, and
-/// whether the reader has come to its end.
+/// Reads a text line by line in constant memory, whatever the length of its lines: it holds at most
+/// 8,192 bytes. There is no bound on how many lines come. Contracts see the line that was found
+/// last, what the reader gave after it, and whether the reader has come to its end.
 #[derive(Drop)]
 pub struct BoundedLines {
     window: Window,
@@ -55,7 +55,7 @@ impl BoundedLines {
         }
     }
 
-    /// Whether the next line is held whole, so that `advance` gives it without asking the reader.
+    /// Whether the next line is held whole, so that `advance` finds it without asking the reader.
     pub fn has_line(&self) -> bool
         ensures { result ≡ has_line_feed self.now.rest }
     {
@@ -69,16 +69,17 @@ impl BoundedLines {
         self.window.line()
     }
 
-    /// Finds the next line of what the reader gives. A line feed ends a line, with one carriage return before it; the
-    /// last line may lack its line feed, and then keeps a carriage return. All calls have to have the same reader.
+    /// Finds the next line of what the reader gives. A line feed ends a line, with one carriage
+    /// return before it; the last line may lack its line feed, and then keeps a carriage return.
+    /// Pass the same reader to all calls.
     ///
-    /// The reader is asked only while no whole line is held, and not again once it has come to its end. A read that a
-    /// signal interrupted is tried again.
+    /// The reader is asked only while no whole line is held, and not again once it has come to its
+    /// end. A read that a signal interrupted is tried again.
     ///
     /// * `Read`: the reader failed.
-    /// * `NeverEnds`: it was asked 2^64 - 1 times for this line.
+    /// * `NeverEnds`: it was asked at least 2^64 - 1 times for this line.
     ///
-    /// After a fault what the reader gave of the line may be lost: no further call says anything of it.
+    /// After a fault the part of the line that was read may be lost.
     pub fn advance<R: Read>(&mut self, reader: &mut R) -> Result<Found, ReadFault>
         ensures found { IfOk result (λ found. Gave self.old.ended self.new.ended
             (R.remaining reader.old) (R.remaining reader.new)
@@ -106,7 +107,7 @@ impl BoundedLines {
         Err(ReadFault::NeverEnds)
     }
 
-    // what a line is that a line feed ended
+    // how to report a line that a line feed ended
     fn line_found(&self, passing: bool) -> Found
         ensures long { passing ≡ true → result ≡ Found.TooLong }
         ensures short { passing ≡ false → length self.now.line ≤ 512 → result ≡ Found.Line }
@@ -119,7 +120,7 @@ impl BoundedLines {
         }
     }
 
-    // what the bytes are that are left at the reader's end
+    // how to report the bytes left at the reader's end
     fn last_found(&mut self, passing: bool) -> Found
         ensures long { passing ≡ true → result ≡ Found.TooLong }
         ensures none { passing ≡ false → length self.old.rest ≡ 0 → result ≡ Found.End }

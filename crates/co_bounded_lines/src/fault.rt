@@ -5,6 +5,6 @@
 pub enum ReadFault {
     /// The reader failed.
     Read,
-    /// The reader was asked 2^64 - 1 times for one line.
+    /// The reader was asked at least 2^64 - 1 times for one line.
     NeverEnds,
 }

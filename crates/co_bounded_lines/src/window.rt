@@ -14,10 +14,11 @@ use std::marker::Model;
 
 const LINE_FEED: u8 = b'\n';
 
-/// So many bytes without a line feed may yet be a line of 512 bytes, with a carriage return at its end.
+/// The most bytes without a line feed that may still become a line of 512 bytes: 512, and a
+/// carriage return.
 const MOST: usize = 513;
 
-/// What a reader gave at most, 8,192 bytes. Contracts see the last line that was taken of it, and the rest.
+/// At most 8,192 bytes of a reader. Contracts see the last line taken from them, and the rest.
 #[derive(Drop)]
 pub(crate) struct Window {
     bytes: [u8; 8192],
@@ -25,7 +26,7 @@ pub(crate) struct Window {
     line_end: usize,
     start: usize,
     end: usize,
-    // where the last line that ends among the bytes ends, found once for all of them
+    // end of the last whole line among the bytes; found once per read call
     lines_end: usize,
 }
 
@@ -105,7 +106,8 @@ impl Window {
         self.start < self.lines_end
     }
 
-    /// Takes the line that the first line feed ends, without its end. `false` where no line feed is left.
+    /// Takes the line that the first line feed ends, without its end. `false` where no line feed is
+    /// left.
     pub(crate) fn take_line(&mut self) -> bool
         ensures line { result ≡ true → (front : List ℕ) × (self.old.rest ≡ front ++ 10 ∷ self.new.rest)
             × (has_line_feed front ≡ false) × (self.new.line ≡ strip_carriage_return front) }
@@ -133,8 +135,8 @@ impl Window {
         self.start = self.end;
     }
 
-    /// Forgets the bytes that are left, where those before them are passed over already, or where they make the line
-    /// too long with any end. Whether they are passed over.
+    /// Drops the bytes that are left if their line is already being passed over (`passing`), or is
+    /// too long however it ends: `true`. Else keeps them: `false`.
     pub(crate) fn pass_over(&mut self, passing: bool) -> bool
         ensures over { result ≡ true → (length self.new.rest ≡ 0)
             × (passing ≡ false → 513 < length self.old.rest) }
@@ -148,7 +150,7 @@ impl Window {
         false
     }
 
-    /// Asks the reader for more bytes, which come after those that are left. `false` where it has come to its end.
+    /// Reads more bytes, which come after those that are left. `false` at the reader's end.
     pub(crate) fn refill<R: Read>(&mut self, reader: &mut R) -> Result<bool, ReadFault>
         requires { length self.old.rest < 8192 }
         ensures more { IfOk result (λ _. (came : List ℕ) × (self.new.rest ≡ self.old.rest ++ came)

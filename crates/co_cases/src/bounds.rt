@@ -1,4 +1,4 @@
-//! How many frames an input gives at most, and records of many inputs.
+//! The most frames of an input, and records of many inputs.
 
 use crate::scripts::shows;
 use co_frame::Outbox;
@@ -9,7 +9,8 @@ use std::alloc::{AllocError, Global};
 use std::string::String;
 use std::test::Fail;
 
-// Runs a device on four requests and an event, without the first so many of them. It gives how many it took.
+// Runs a device on four requests and an event, without the first `without` of them. Returns how
+// many it took.
 fn run(devices: &mut [Node], without: usize, record: &mut Record) -> Result<usize, BadScript> {
     let request = frame_of("605#4000100000000000")?;
     let inputs = [
@@ -24,7 +25,7 @@ fn run(devices: &mut [Node], without: usize, record: &mut Record) -> Result<usiz
     Ok(node.run(inputs, record))
 }
 
-// What they send.
+// The frames that they send.
 const SENT: &str = "\
 585#4300100091010000 585#4300100091010000 585#4300100091010000 585#4300100091010000
 085#0000000000000000
@@ -32,21 +33,21 @@ const SENT: &str = "\
 
 const ENDS: [usize; 5] = [1, 2, 3, 4, 5];
 
-// Whether a record has the first so many inputs, with a frame each.
+// Whether a record has the first `taken` inputs, with a frame each.
 fn has_taken(record: &Record, taken: usize) -> Result<bool, BadScript> {
     let ends = ENDS.get(..taken).ok_or(BadScript)?;
     let text = SENT.get(..taken.saturating_mul(21)).ok_or(BadScript)?;
     Ok(record.ends() == ends && are_frames(record.frames(), text)?)
 }
 
-/// How many inputs are taken, and how many of those after the second once the record is empty again.
+/// How many inputs a record takes, and how many of those after the second once it is cleared.
 #[derive(Clone, Copy)]
 struct Counts {
     taken: usize,
     again: usize,
 }
 
-// Whether a record takes so many.
+// Whether a record takes these numbers of inputs.
 fn is_right(devices: &mut [Node], record: &mut Record, counts: Counts) -> Result<bool, BadScript> {
     let Counts { taken, again } = counts;
     if run(devices, 0, record)? != taken || !has_taken(record, taken)? {
@@ -56,7 +57,7 @@ fn is_right(devices: &mut [Node], record: &mut Record, counts: Counts) -> Result
     Ok(run(devices, 2, record)? == again)
 }
 
-// The same of a new record, with room for so many frames and inputs.
+// The same for a new record, with room for `frames` frames and `inputs` inputs.
 fn takes(
     alloc: Global,
     devices: &mut [Node],
@@ -68,7 +69,7 @@ fn takes(
     Ok(is_right(devices, &mut record, counts) == Ok(true))
 }
 
-// The same of a new device. A row is the room for frames and for inputs, and the two counts.
+// The same for a new device. A row is the room for frames and for inputs, and the two counts.
 fn is_row_right(alloc: Global, row: &str) -> Result<bool, Fail> {
     let mut numbers = [0; 4];
     let mut words = row.split_whitespace();
@@ -81,7 +82,7 @@ fn is_row_right(alloc: Global, row: &str) -> Result<bool, Fail> {
     Ok(takes(alloc, devices.as_mut_slice(), frames, inputs, counts)?)
 }
 
-// A run stops where the record has no room for the frames of one more input, or for its end.
+// A run stops when the record has no room for the most frames of one more input, or for its end.
 const RECORDS: &str = "\
 130 4 2 2
 128 1 0 0

@@ -10,7 +10,8 @@ use std::test::Fail;
 /// A device of a data sheet.
 pub(crate) type Device = Served<ListStore>;
 
-/// The sheet at node-ID 5, with room for strings of 12 bytes; `time` is that of a transfer.
+/// The device of the sheet at node-ID 5, with room for strings of 12 bytes; `time` is the SDO
+/// timeout in ms.
 pub(crate) fn device_of(alloc: Global, domains: u16, time: u16) -> Result<Device, Fail> {
     let limits = Limits {
         strings: 12,
@@ -23,7 +24,7 @@ pub(crate) fn device_of(alloc: Global, domains: u16, time: u16) -> Result<Device
     Ok(Served::over(alloc, store, time)?)
 }
 
-/// Fails unless all goes as a dialogue says.
+/// Fails unless the device follows a dialogue.
 pub(crate) fn shows(rt: &impl Abort, device: &mut Device, dialogue: &str) {
     let shown = server_follows(device, dialogue);
     assert!(rt; shown.is_ok(), "{shown:?} in {dialogue}");

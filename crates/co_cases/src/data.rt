@@ -7,7 +7,7 @@ use co_sheet::read;
 use std::alloc::Global;
 use std::test::Fail;
 
-/// What comes into 2002h and 2003h, the answer, and what is sent of them then.
+/// The data of the RPDO of 2002h and 2003h, its fault, and the data of the two TPDOs after that.
 const ROWS: [(&[u8], Result<(), PdoFault>, [u8; 6]); 4] = [
     (&[1, 2, 3, 4, 5], Err(PdoFault::Short), [0; 6]),
     (&[1, 2, 3, 4, 5, 0], Ok(()), [1, 2, 3, 4, 5, 0]),

@@ -1,10 +1,11 @@
-//! Dialogues with a channel, in text: what isn't among the closed examples, and a whole transfer of each kind.
+//! Dialogues with a channel: cases that aren't among the closed examples, and a whole transfer of
+//! each kind.
 
 use crate::channel::{device_of, shows};
 use co_scripts::{TIMED_OUT, UPLOAD};
 use std::test::Fail;
 
-// One a line; each begins with a device of its own.
+// One dialogue a line, each with a device of its own.
 const DIALOGUES: &str = "\
 605#2B032000E8030000 585#6003200000000000 0 605#4003200000000000 585#4B032000E8030000
 605#210120000A000000 585#6001200000000000 605#0061626364656667 585#2000000000000000 7 605#1968696A00000000 \
@@ -34,8 +35,8 @@ fn dialogues(rt: HostRuntime) -> Result<(), Fail> {
     Ok(())
 }
 
-// What may be open: a segmented download, a segmented upload, a block download after its last segment, a block upload
-// before its start, before an acknowledgement, and after the server's end.
+// Open transfers: a segmented download, a segmented upload, a block download after its last
+// segment, a block upload before its start, before an acknowledgement, and after the server's end.
 const OPEN: &str = "\
 605#210120000A000000 585#6001200000000000 605#0030313233343536 585#2000000000000000
 605#4001200000000000 585#410120000A000000 605#6000000000000000 585#0030313233343536
@@ -46,7 +47,7 @@ const OPEN: &str = "\
     585#CD00000000000000
 ";
 
-// The begins, and how many bytes are held after each.
+// The initiate requests, and how many bytes are held after each.
 const BEGINS: &str = "\
 605#2101200004000000 585#6001200000000000 0
 605#23022000EFBEADDE 585#6002200000000000 0

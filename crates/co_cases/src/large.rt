@@ -13,7 +13,8 @@ const WITH_NUMBER: &str = "\
 2100 2
 ";
 
-// A heartbeat each tick, and 512 TPDOs with an event timer of one tick, all with identifier 185h.
+// A heartbeat at each tick, and 512 TPDOs with an event timer of one tick, all with identifier
+// 185h.
 fn with_tpdos(alloc: Global) -> Result<Node, Fail> {
     let mut table = format!(in alloc; "1017 6 rw 1\n")?;
     for number in 0..512u16 {
@@ -35,7 +36,7 @@ fn with_tpdos(alloc: Global) -> Result<Node, Fail> {
     Ok(node_of(alloc, text.as_str(), 1)?)
 }
 
-// The abort of a transfer whose time is over, a heartbeat, and all TPDOs, in one tick: 514 frames.
+// The abort of a transfer that times out, a heartbeat, and all TPDOs, at one tick: 514 frames.
 const TICK: &str = "\
 000#0105
 605#2000210000000000 = 585#6000210000000000
@@ -79,7 +80,7 @@ fn ids_of(channel: u16) -> (u16, u16) {
     }
 }
 
-// A frame with these data on each channel in turn, and what answers it.
+// A frame with these data on each channel in turn, with its answer.
 fn push_on_all(script: &mut String, data: &str, answer: &str) -> Result<(), AllocError> {
     for channel in 0..128u16 {
         let (request, id) = ids_of(channel);
@@ -103,7 +104,7 @@ fn push_sub_block(alloc: Global, script: &mut String, last: &str) -> Result<(), 
     push_on_all(script, last, ACKNOWLEDGED)
 }
 
-// All channels hold two sub-blocks at once, and then give up one after another.
+// All channels hold two sub-blocks at once, and then time out one after another.
 fn push_time_outs(script: &mut String) -> Result<(), AllocError> {
     for channel in 0..128u16 {
         write!(script, "held {channel} 1778\n")?;

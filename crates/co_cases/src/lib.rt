@@ -1,5 +1,5 @@
-//! Tests of the libraries from streams to a whole device through the public calls of their crates, so that those are
-//! proved once.
+//! Tests of the libraries, from streams to a whole device, through the public calls of their
+//! crates. A crate with tests of its own would be proved twice.
 #![tactic(auto)]
 
 #[cfg(test)]

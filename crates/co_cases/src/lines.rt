@@ -1,4 +1,4 @@
-//! Lines and a text of a reader that fails, or never ends.
+//! Lines and a text from a reader that fails, or never ends.
 
 use co_scripts::{Endless, Pieces};
 use co_stream::{LineFault, LineReader, StreamFault, read_text};

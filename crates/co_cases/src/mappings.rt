@@ -1,4 +1,5 @@
-//! The compiled mappings of a device, before and after its mapping parameters are written, and after a reset.
+//! The compiled mappings of a device, before and after its mapping parameters are written, and
+//! after a reset.
 
 use crate::scripts::shows;
 use co_node::Node;
@@ -16,8 +17,8 @@ const REMAPPING: &str = "\
 605#2300140105020000 = 585#6000140100000000
 ";
 
-// The index of the first entry that a PDO maps, and how many bytes it maps in all; `None` where there is no such PDO
-// or no entry is mapped.
+// The index of the first entry that a PDO maps, and how many bytes it maps in all; `None` if there
+// is no such PDO, or its first object isn't an entry.
 fn first_of(node: &Node, side: Side, number: u16) -> Option<(u16, usize)> {
     let compiled = node.compiled(side, number)?;
     match compiled.mapped().first() {

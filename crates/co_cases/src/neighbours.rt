@@ -1,4 +1,4 @@
-//! Each entry set to its greatest bytes: no other one changes, in both stores.
+//! Each entry is set to its greatest bytes: no other one changes, in both stores.
 
 ghost use Rattle.std.specs.Prelude.{◌≡◌, ◌≤◌, length};
 
@@ -19,7 +19,7 @@ const LIMITS: Limits<'static> = Limits {
 
 const GREATEST: [u8; 8] = [0xFF; 8];
 
-/// So many bytes of FFh, at most eight.
+/// `size` bytes of FFh, at most eight.
 fn greatest(size: usize) -> &'static [u8]
     requires { size ≤ 8 }
     ensures { length result.now ≡ size }
@@ -27,7 +27,8 @@ fn greatest(size: usize) -> &'static [u8]
     &GREATEST[..size]
 }
 
-/// Sets an entry to bytes of FFh, as many as it has room for; false where there is no such entry or too much room.
+/// Sets an entry to bytes of FFh, as many as it has room for; false if there is no such entry, or
+/// it has too much room.
 fn set_greatest<S: ObjectStore>(store: &mut S, key: Key) -> bool {
     store_laws(store);
     let Some(row) = store.row(key) else {
@@ -41,7 +42,7 @@ fn set_greatest<S: ObjectStore>(store: &mut S, key: Key) -> bool {
     store.bytes(key) == Some(greatest(size))
 }
 
-/// Whether all entries but one are in two stores the same.
+/// Whether all entries but one are the same in two stores.
 fn are_same_but<S: ObjectStore>(store: &S, other: &S, entries: &[EntryRow<'_>], key: Key) -> bool {
     for entry in entries {
         if entry.key != key && store.bytes(entry.key) != other.bytes(entry.key) {

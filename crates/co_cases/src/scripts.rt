@@ -8,14 +8,14 @@ use co_scripts::{
 use std::process::Abort;
 use std::test::Fail;
 
-/// Fails unless all goes as a script says.
+/// Fails unless the devices follow a script.
 pub(crate) fn shows(rt: &impl Abort, devices: &mut [Node], script: &str) {
     let mut sent = Outbox::new();
     let wrong = first_wrong(devices, script, &mut sent);
     assert!(rt; wrong.is_none(), "{wrong:?}: {sent:?}");
 }
 
-// The same, of new devices.
+// The same for new devices.
 fn check(rt: &(impl AllocGlobal + Abort), script: &str) -> Result<(), Fail> {
     let mut devices = devices_of(rt.alloc(), script)?;
     shows(rt, devices.as_mut_slice(), script);

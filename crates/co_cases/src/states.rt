@@ -1,4 +1,4 @@
-//! A channel in each of its states: what it answers to every value of a frame's first two bytes.
+//! A channel in each of its states: its answers to every value of a frame's first two bytes.
 
 use crate::channel::{Device, device_of, shows};
 use co_frame::{Frame, Outbox};
@@ -12,7 +12,8 @@ const STRING: Key = Key {
     sub: 0,
 };
 
-// Whether the frames sent, the key that was set, the bytes held and the entries are those of an outcome.
+// Whether the frames sent, the key that was set, the bytes held and the entries are those of an
+// outcome.
 fn is_shown(device: &Device, sent: &[Frame], set: Option<Key>, outcome: &Outcome) -> bool {
     let mut answers = sent.iter();
     for data in outcome.answers.iter().flatten() {
@@ -39,7 +40,7 @@ fn open(device: &mut Device, requests: &[Frame], sent: &mut Outbox) {
     }
 }
 
-// Sends a frame whose other bytes are 0, and drops what is then open.
+// Sends a frame whose other bytes are 0, compares the outcome, and drops the open transfer.
 fn check(
     rt: &impl Abort,
     device: &mut Device,

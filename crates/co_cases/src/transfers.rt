@@ -19,8 +19,9 @@ const KEY: Key = Key {
     sub: 0,
 };
 
-// Hands each request to the server and each of its answers to the client, in their order, until nothing is under way.
-// No step of a client sends two batches, so what waits is what the last answer made it send.
+// Hands each request to the server and each of its answers to the client, in their order, until
+// none is left. A client sends requests at no more than one answer of a batch, so the last ones it
+// sent are all that wait.
 fn runs(client: &mut Client, server: &mut Device) {
     let mut requests = begun(client);
     for _ in 0..20_000 {
@@ -40,7 +41,7 @@ fn runs(client: &mut Client, server: &mut Device) {
     }
 }
 
-// Bytes that differ from segment to segment, and from sub-block to sub-block: of these as many as are wanted.
+// The pattern of the bytes: they differ from segment to segment, and from sub-block to sub-block.
 const DIGITS: &[u8; 10] = b"0123456789";
 
 const MODES: [Mode; 3] = [Mode::Plain, Mode::Segmented, Mode::Block];
@@ -80,7 +81,7 @@ fn uploads(rt: HostRuntime) -> Result<(), Fail> {
     Ok(())
 }
 
-// Hands all these requests to the server, and gives the last answers.
+// Hands all these requests to the server, and returns the last answers.
 fn takes(server: &mut Device, requests: &Outbox) -> Outbox {
     let mut last = Outbox::new();
     for request in requests.iter() {
@@ -89,8 +90,8 @@ fn takes(server: &mut Device, requests: &Outbox) -> Outbox {
     last
 }
 
-// The answers of the server to a block download of three sub-blocks; after `again` the client hears the last one once
-// more, and what it had sent is lost.
+// The answers of the server to a block download of three sub-blocks; at `again` the client hears
+// the last one once more, and the frames that it had sent are lost.
 const LOST: &str = "\
 585#A00021007F000000
 585#A27F7F0000000000

@@ -1,4 +1,5 @@
--- 1016h, the consumer heartbeat time: bits 23 to 16 are a node-ID, bits 15 to 0 the time in ms (CiA 301, 7.5.2.19).
+-- 1016h, the consumer heartbeat time: bits 23 to 16 are a node-ID, bits 15 to 0 the time in ms
+-- (CiA 301, 7.5.2.19).
 use Rattle.std.specs.Prelude.{ℕ, ◌/◌, ◌%◌, ◌==◌, nat_lt, nat_le, Bool, ◌&&◌, not, Option}
 use Rattle.std.specs.List.{list_any, range_with_len}
 use Rattle.co_value.specs.declared.key.Key.{Key}
@@ -7,7 +8,7 @@ use Rattle.co_dict.specs.Rows.{Contents, number_at}
 use Rattle.co_dict.specs.Refusals.{refused_if}
 use Rattle.co_frame.specs.AbortCodes.{parameter_incompatible}
 
--- where an entry is, 1016:01 to 7F
+-- the key of an entry, 1016:01 to 7F
 abbrev pub consumer_key : ℕ → Key
 consumer_key sub = record { index = consumer_heartbeat; sub = sub }
 
@@ -15,7 +16,7 @@ consumer_key sub = record { index = consumer_heartbeat; sub = sub }
 abbrev pub consumer_time : ℕ → ℕ
 consumer_time word = word % 0x1_0000
 
--- the node-ID whose heartbeat is awaited
+-- the node-ID whose heartbeat is consumed
 abbrev pub consumer_node : ℕ → ℕ
 consumer_node word = word / 0x1_0000 % 0x100
 

@@ -1,4 +1,5 @@
--- 1003h, the pre-defined error field: sub-index 0 is the number of errors, sub-index 1 the newest one (CiA 301, 7.5.2.4).
+-- 1003h, the pre-defined error field: sub-index 0 is the number of errors, sub-index 1 the newest
+-- one (CiA 301, 7.5.2.4).
 use Rattle.std.specs.Prelude.{ℕ, ◌+◌, ◌-◌, ◌==◌, nat_lt, nat_le, min, Bool, ◌&&◌, not, if◌then◌else◌, Option, Some, List}
 use Rattle.co_value.specs.declared.key.Key.{Key}
 use Rattle.co_value.specs.Numbers.{low_bytes}
@@ -8,7 +9,7 @@ use Rattle.co_dict.specs.Refusals.{refused_if}
 use Rattle.co_dict.specs.Objects.{has_sub, subs_present}
 use Rattle.co_frame.specs.AbortCodes.{invalid_value}
 
--- where an error is, or with 0 the number of errors
+-- the key of an error, or for 0 that of the number of errors
 abbrev pub error_key : ℕ → Key
 error_key sub = record { index = error_field; sub = sub }
 
@@ -24,11 +25,13 @@ is_past_errors contents key = (key.index == error_field) && nat_lt (error_count 
 abbrev pub error_count_refusal : ℕ → Option ℕ
 error_count_refusal count = refused_if (not (count == 0)) invalid_value
 
--- how many errors the field has room for: the greatest number up to 254 such that 1003:01 to it are there; none without 1003:00
+-- how many errors the field has room for: the greatest number up to 254 such that 1003:01 to it are
+-- there; none without 1003:00
 abbrev pub error_room : Rows → ℕ
 error_room rows = if has_sub rows error_field 0 then subs_present rows error_field 254 else 0
 
--- what a sub-index has after the errors moved down by one: the first one these bytes, each other one those before it
+-- the bytes of a sub-index after the errors moved down by one: the first one has these, each other
+-- one those of the sub-index before it
 abbrev pub moved_bytes : Contents → List ℕ → ℕ → Option (List ℕ)
 moved_bytes contents first sub = if sub == 1 then Some first else contents (error_key (sub - 1))
 
@@ -41,8 +44,9 @@ moved_down contents first last = λ key.
 abbrev pub next_count : Contents → ℕ → ℕ
 next_count contents room = min (error_count contents + 1) room
 
--- the contents after an error was put in front: where there is room, all errors move down by one, the first one is the
--- code with 0 in its upper 16 bits, and the number is one more
+-- the contents after an error was added: where there is room, all errors move down by one, the
+-- first one is the code with 0 in its upper 16 bits, and the number increases by one, up to the
+-- room
 abbrev pub pushed : Rows → ℕ → Contents → Contents
 pushed rows code contents = let room = error_room rows in
     if nat_lt 0 room

@@ -1,4 +1,5 @@
--- How many mapping words of a PDO count: sub-index 0 of 1600h to 17FFh and 1A00h to 1BFFh (CiA 301, 7.5.2.36 and 7.5.2.38).
+-- How many mapping words of a PDO count: sub-index 0 of 1600h to 17FFh and 1A00h to 1BFFh
+-- (CiA 301, 7.5.2.36 and 7.5.2.38).
 use Rattle.std.specs.Prelude.{ℕ, Bool, nat_lt, is_none, unwrap_or, Option, List, [], ◌∷◌, map, sum_by}
 use Rattle.std.specs.List.{list_any, range_with_len}
 use Rattle.co_dict.specs.declared.side.Side.{Side}
@@ -24,8 +25,8 @@ counted_words contents index count = map (λ sub. number_at contents (record { i
 abbrev pub total_width : Side → Description → List ℕ → ℕ
 total_width side d words = sum_by (λ word. unwrap_or (word_width side d word) 0) words
 
--- why a count is refused while the PDO is not valid: more than the mapping words that are there, up to 64; a counted
--- word that can't be mapped; more than 8 bytes in all
+-- why a count is refused while the PDO is not valid: more than the mapping words that are there, up
+-- to 64; a counted word that can't be mapped; more than 8 bytes in all
 abbrev pub count_refusal : Side → Description → Contents → ℕ → ℕ → Option ℕ
 count_refusal side d contents index count = let words = counted_words contents index count in first_refusal (
     refused_if (nat_lt (subs_present d.rows index 64) count) invalid_value

@@ -1,5 +1,6 @@
--- Mapping words of PDOs (CiA 301, 7.5.2.36 and 7.5.2.38): bits 31 to 16 are the index, bits 15 to 8 the sub-index,
--- bits 7 to 0 the length in bits. An RPDO may also map dummy entries (CiA 306, dummy usage), whose bytes are passed over.
+-- Mapping words of PDOs (CiA 301, 7.5.2.36 and 7.5.2.38): bits 31 to 16 are the index, bits 15 to 8
+-- the sub-index, bits 7 to 0 the length in bits. An RPDO may also map dummy entries (CiA 306, dummy
+-- usage), whose bytes are passed over.
 use Rattle.std.specs.Prelude.{ℕ, ◌/◌, ◌%◌, ◌*◌, ◌==◌, nat_le, Bool, true, false, ◌&&◌, not, if◌then◌else◌, find, Option, Some, None, is_some, is_none, option_map, option_and_then, List, [], ◌∷◌}
 use Rattle.co_value.specs.declared.key.Key.{Key}
 use Rattle.co_value.specs.Types.{width_of}
@@ -30,7 +31,8 @@ dummy_widths = (0x0002, 1) ∷ (0x0003, 2) ∷ (0x0004, 4) ∷ (0x0005, 1) ∷ (
 abbrev pub dummy_width : ℕ → Option ℕ
 dummy_width index = option_map (λ dummy. dummy.1) (find (λ dummy. dummy.0 == index) dummy_widths)
 
--- the width in bytes of a dummy entry that may be mapped on a side: an RPDO may map those that the data sheet allows
+-- the width in bytes of a dummy entry that may be mapped on a side: an RPDO may map those that the
+-- data sheet allows
 abbrev pub usable_dummy : Side → (ℕ → Bool) → ℕ → Option ℕ
 usable_dummy Rpdo dummies index = if dummies index then dummy_width index else None
 usable_dummy Tpdo dummies index = None
@@ -70,7 +72,8 @@ mapping_width side d key =
     then (if key.sub == 0 then usable_dummy side d.dummies key.index else None)
     else entry_width side d.rows key
 
--- the width in bytes that a word maps on a side: its key may be mapped there, and its length is 8 times the width
+-- the width in bytes that a word maps on a side: its key may be mapped there, and its length is 8
+-- times the width
 abbrev pub word_width : Side → Description → ℕ → Option ℕ
 word_width side d word = option_and_then (λ width. if mapped_bits word == 8 * width then Some width else None) (mapping_width side d (mapped_key word))
 
@@ -79,6 +82,7 @@ abbrev pub missing_mapped : Side → Description → Key → Option ℕ
 missing_mapped side d key =
     if is_some (usable_dummy side d.dummies key.index) then refused_if (not (key.sub == 0)) sub_index_missing else missing_entry d.rows key
 
--- why a word can't be mapped on a side: what it maps is absent, isn't mappable there, or has another length
+-- why a word can't be mapped on a side: what it maps is absent, isn't mappable there, or has
+-- another length
 abbrev pub word_refusal : Side → Description → ℕ → Option ℕ
 word_refusal side d word = first_of (missing_mapped side d (mapped_key word)) (refused_if (is_none (word_width side d word)) not_mappable)

@@ -1,4 +1,5 @@
--- Objects and their sub-indices: which are there, and what is answered where one is absent (CiA 301, 7.4.1).
+-- Objects and their sub-indices: which are there, and the abort code where one is absent
+-- (CiA 301, 7.4.1).
 use Rattle.std.specs.Prelude.{ℕ, Bool, not, is_some, is_none, length, Option, option_and_then, List, [], ◌∷◌}
 use Rattle.std.specs.List.{list_any, range_with_len, take_while}
 use Rattle.co_value.specs.declared.key.Key.{Key}

@@ -1,4 +1,5 @@
--- The rules that entries of the communication profile have of their own, by their keys (CiA 301, 7.5.2).
+-- The rules that entries of the communication profile have of their own, by their keys
+-- (CiA 301, 7.5.2).
 use Rattle.std.specs.Prelude.{ℕ, ◌==◌, nat_lt, ◌&&◌, ◌||◌, find, Bool, true, Option, Some, None, option_map, option_and_then, List, [], ◌∷◌}
 use Rattle.co_value.specs.declared.key.Key.{Key}
 use Rattle.co_value.specs.Numbers.{unsigned_of}

@@ -23,7 +23,7 @@ row_at d place = option_and_then d.rows (key_at d place)
 abbrev pub bytes_at : Description → Contents → ℕ → Option (List ℕ)
 bytes_at d contents place = option_and_then contents (key_at d place)
 
--- there is an entry at a place, and so many bytes fit it
+-- there is an entry at a place, and this many bytes fit it
 abbrev pub takes_at : Description → ℕ → ℕ → Bool
 takes_at d place size = option_map_or (λ key. takes d.rows key size) (key_at d place) false
 

@@ -18,11 +18,12 @@ Rows = Key → Option Row
 abbrev pub Contents : Type 0
 Contents = Key → Option (List ℕ)
 
--- so many bytes fit an entry: a number's are as many as its type is wide, others at most as many as there is room for
+-- this many bytes fit an entry: for a number exactly the width of its type, else at most its
+-- capacity
 abbrev pub fits : Row → ℕ → Bool
 fits row size = option_map_or (λ width. size == width) (width_of row.data_type) (nat_le size row.capacity)
 
--- there is an entry, and so many bytes fit it
+-- there is an entry, and this many bytes fit it
 abbrev pub takes : Rows → Key → ℕ → Bool
 takes rows key size = option_map_or (λ row. fits row size) (rows key) false
 

@@ -6,11 +6,11 @@ use Rattle.co_profile.specs.Indices.{sdo_server, nth}
 use Rattle.co_dict.specs.Rows.{Contents, number_at}
 use Rattle.co_dict.specs.CobIds.{identifier_of, is_valid}
 
--- where the COB-ID word of a channel's requests is, client to server
+-- the key of the COB-ID word of a channel's requests, client to server
 abbrev pub request_key : ℕ → Key
 request_key channel = record { index = nth sdo_server channel; sub = 1 }
 
--- where the COB-ID word of a channel's answers is, server to client
+-- the key of the COB-ID word of a channel's answers, server to client
 abbrev pub answer_key : ℕ → Key
 answer_key channel = record { index = nth sdo_server channel; sub = 2 }
 

@@ -10,8 +10,8 @@ use Rattle.co_profile.specs.FixedTypes.{fixed_type_of}
 use Rattle.co_dict.specs.declared.row.Row.{Row}
 use Rattle.co_dict.specs.Rows.{Rows, Contents, fits}
 
--- what never changes of a dictionary: the node-ID, the rows, the bytes that a reset restores, the dummy entries that
--- may be mapped, and the keys that have an entry
+-- what never changes of a dictionary: the node-ID, the rows, the bytes that a reset restores, the
+-- dummy entries that may be mapped, and the keys that have an entry
 pub record Description : Type 0 where
   pub node : ℕ
   pub rows : Rows
@@ -36,8 +36,9 @@ pub record HasLimits (row : Row) : Type 0 where
   pub low : (width : ℕ) → width_of row.data_type ≡ Some width → InRange row.data_type row.low
   pub high : (width : ℕ) → width_of row.data_type ≡ Some width → InRange row.data_type row.high
 
--- the rows of a dictionary: finitely many; their indices are from 1000h on; the capacity of a number is its width; fixed
--- types are as they must be; the dummy entries are 0002h to 0007h
+-- the rows of a dictionary: finitely many; their indices are from 1000h on; the capacity of a
+-- number is its width; an entry whose type is fixed has that type; the dummy entries are 0002h to
+-- 0007h
 pub record IsDescription (d : Description) : Type 0 where
   pub first_node : 1 ≤ d.node
   pub last_node : d.node ≤ 127

@@ -29,7 +29,8 @@ is_constant access = false
 abbrev pub is_sdo_parameter : ℕ → Bool
 is_sdo_parameter index = is_within sdo_server index
 
--- why so many bytes don't fit an entry: more than its capacity, or less than the width of its type
+-- why this many bytes don't fit an entry: more than its capacity, or fewer than the width of its
+-- type
 abbrev pub size_refusal : Row → ℕ → Option ℕ
 size_refusal row size = first_refusal (
     refused_if (nat_lt row.capacity size) too_long
@@ -50,7 +51,8 @@ limit_refusal row bytes = if is_some (width_of row.data_type) then first_refusal
     ∷ refused_if (int_lt (number_of row.data_type bytes) row.low) below_low_limit
     ∷ []) else None
 
--- why bytes can't be the value of an entry: they don't fit; their number is outside the limits; the entry's own rule
+-- why bytes can't be the value of an entry: they don't fit; their number is outside the limits; the
+-- entry's own rule
 abbrev pub value_refusal : Description → Contents → Key → Row → List ℕ → Option ℕ
 value_refusal d contents key row bytes = first_refusal (
     size_refusal row (length bytes)
@@ -58,16 +60,16 @@ value_refusal d contents key row bytes = first_refusal (
     ∷ own_refusal d contents key bytes
     ∷ [])
 
--- why a write by SDO is refused when it begins: the entry is absent; it can't be written; the indicated size, where
--- there is one, doesn't fit
+-- why a write by SDO is refused when it begins: the entry is absent; it can't be written; the
+-- indicated size, where there is one, doesn't fit
 abbrev pub initiate_refusal : Rows → Key → Option ℕ → Option ℕ
 initiate_refusal rows key indicated = entry_refusal rows key (λ row.
     refused_if (is_read_only row.access || is_sdo_parameter key.index) read_only
     ∷ option_and_then (size_refusal row) indicated
     ∷ [])
 
--- why a write by SDO is refused when it completes: what refuses its begin; its bytes are not as many as indicated; they
--- can't be the value
+-- why a write by SDO is refused when it completes: what refuses its begin; its bytes are not as
+-- many as indicated; they can't be the value
 abbrev pub writing_refusal : Description → Contents → Key → Option ℕ → List ℕ → Option ℕ
 writing_refusal d contents key indicated bytes = entry_refusal d.rows key (λ row.
     refused_if (is_read_only row.access || is_sdo_parameter key.index) read_only
@@ -76,8 +78,8 @@ writing_refusal d contents key indicated bytes = entry_refusal d.rows key (λ ro
     ∷ value_refusal d contents key row bytes
     ∷ [])
 
--- why a write by the application is refused: the entry is absent; it is a constant or an SDO server parameter; the bytes
--- can't be the value
+-- why a write by the application is refused: the entry is absent; it is a constant or an SDO server
+-- parameter; the bytes can't be the value
 abbrev pub app_refusal : Description → Contents → Key → List ℕ → Option ℕ
 app_refusal d contents key bytes = entry_refusal d.rows key (λ row.
     refused_if (is_constant row.access || is_sdo_parameter key.index) read_only

@@ -11,9 +11,9 @@ ghost use Rattle.co_dict.specs.CobIds.{
   is_default_sdo,
 };
 
-/// A COB-ID word: bit 31 says that the PDO, the emergency or the SDO channel does not exist, bits 10 to 0 are the
-/// identifier (CiA 301, 7.5.2).
-#[derive(Clone, Copy, Debug, PartialEq, Eq, Hash)]
+/// A COB-ID word: bit 31 set means that the PDO, the emergency or the SDO channel does not exist,
+/// bits 10 to 0 are the identifier (CiA 301, 7.5.2).
+#[derive(Clone, Copy, Debug, PartialEq, Eq)]
 pub struct CobId(pub u32);
 
 impl CobId {
@@ -46,7 +46,7 @@ impl CobId {
         self.0 / 0x800 % 0x8_0000 == 0
     }
 
-    // whether bits 30 to 11 are 0
+    // whether bits 30 to 11 are 0: the identifier has 11 bits, and the device doesn't produce SYNC
     pub(crate) fn is_sync_consumer(self) -> bool
         ensures { result ≡ is_sync_consumer self.0 }
     {
@@ -54,7 +54,8 @@ impl CobId {
     }
 }
 
-/// Whether no COB-ID word may have the identifier: 0 to 7Fh, 101h to 180h, or 6E0h to 7FFh (CiA 301, 7.3.5).
+/// Whether no COB-ID word may have the identifier: 0 to 7Fh, 101h to 180h, or 6E0h to 7FFh
+/// (CiA 301, 7.3.5).
 pub fn is_restricted(identifier: u16) -> bool
     ensures { result ≡ is_restricted identifier }
 {

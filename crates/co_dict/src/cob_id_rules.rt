@@ -13,7 +13,7 @@ use crate::store::ObjectStore;
 use co_frame::AbortCode;
 use co_value::Key;
 
-// 1005:00: the word has to be a good one of SYNC
+// 1005:00: the word must be one that SYNC may have
 pub(crate) fn check_sync_cob_id<S: ObjectStore>(store: &S, word: CobId) -> Result<(), AbortCode>
     ensures { refusal_in result
         ≡ sync_cob_id_refusal (S.description store.now).node (S.contents store.now) word.0 }
@@ -32,7 +32,8 @@ fn changes_while_valid(old: CobId, new: CobId) -> bool
     old.is_valid() && !new.has_bit_31() && old.0 % 0x4000_0000 != new.0 % 0x4000_0000
 }
 
-// 1014:00 and sub-index 1 of a PDO: the word has to be a good one, and a valid word doesn't change unless bit 31 is set
+// 1014:00 and sub-index 1 of a PDO: the word must be one that these may have, and bits 29 to 0 of a
+// valid word change only if bit 31 is set
 pub(crate) fn check_cob_id<S: ObjectStore>(
     store: &S,
     key: Key,

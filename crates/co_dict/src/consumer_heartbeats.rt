@@ -19,8 +19,9 @@ use co_frame::AbortCode;
 use co_profile::CONSUMER_HEARTBEAT;
 use co_value::Key;
 
-/// An entry of 1016h: a node-ID in bits 23 to 16, the time in ms in bits 15 to 0 (CiA 301, 7.5.2.19).
-#[derive(Clone, Copy, Debug, PartialEq, Eq, Hash)]
+/// An entry of 1016h: a node-ID in bits 23 to 16, the time in ms in bits 15 to 0
+/// (CiA 301, 7.5.2.19).
+#[derive(Clone, Copy, Debug, PartialEq, Eq)]
 pub struct HeartbeatConsumer(pub u32);
 
 impl HeartbeatConsumer {
@@ -31,7 +32,7 @@ impl HeartbeatConsumer {
         (self.0 % 0x1_0000) as u16
     }
 
-    /// The node-ID whose heartbeat is awaited.
+    /// The node-ID whose heartbeat is consumed.
     pub fn node(self) -> u8
         ensures { result ≡ consumer_node self.0 }
     {

@@ -13,7 +13,7 @@ use crate::store::{ObjectStore, store_laws};
 use co_profile::ERROR_FIELD;
 use co_value::{Key, bytes_of_u32};
 
-// where an error is, or with 0 the number of errors
+// the key of an error, or for 0 that of the number of errors
 fn error_key(sub: u8) -> Key
     ensures { result ≡ error_key sub }
 {
@@ -54,7 +54,7 @@ fn error_bytes<S: ObjectStore>(store: &S, sub: u8) -> [u8; 4]
     word_bytes(store, error_key(sub)).unwrap_or([0; 4])
 }
 
-// puts an error in the place of another, and gives the one that was there
+// replaces an error, and returns the old one
 fn replace_error<S: ObjectStore>(store: &mut S, sub: u8, error: [u8; 4]) -> [u8; 4]
     requires first { 1 ≤ sub }
     requires last { sub ≤ 254 }
@@ -93,10 +93,11 @@ fn set_count<S: ObjectStore>(store: &mut S, count: u8)
     store.set(error_key(0), &[count]);
 }
 
-/// Puts an error in front of the pre-defined error field: all sub-indices of 1003h move down by one, the code with 0 in
-/// its upper 16 bits is put into 1003:01, and the number of errors in 1003:00 is one more, up to the greatest h up to
-/// 254 such that 1003:01 to h are there. Without 1003:00 or 1003:01 nothing changes. No limits or rights are asked
-/// (CiA 301, 7.5.2.4).
+/// Adds an error to the pre-defined error field (CiA 301, 7.5.2.4): the errors in 1003:01 to h move
+/// down by one sub-index, and that of h is dropped; h, at most 254, is the greatest number such
+/// that 1003:01 to h are there. 1003:01 gets the code, with 0 in the upper 16 bits, and the number
+/// of errors in 1003:00 increases by one, up to h. Without 1003:00 or 1003:01 nothing changes.
+/// Limits and access rights aren't checked.
 pub fn push_error<S: ObjectStore>(store: &mut S, code: u16)
     ensures contents { S.contents store.new
         ≡ pushed (S.description store.old).rows code (S.contents store.old) }

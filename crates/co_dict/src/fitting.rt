@@ -11,7 +11,7 @@ use co_frame::AbortCode;
 use co_value::{Key, from_bytes};
 
 impl Row {
-    // so many bytes are at most the capacity, and at least the width of the type
+    // whether this many bytes are at most the capacity, and at least the width of the type
     fn check_size(&self, size: usize) -> Result<(), AbortCode>
         ensures { refusal_in result ≡ size_refusal self.now size }
     {
@@ -24,8 +24,9 @@ impl Row {
         Ok(())
     }
 
-    /// Whether bytes that fit the entry are within its limits: a number above the high limit is refused, and one below
-    /// the low limit; strings and domains have no limits (CiA 306, object description).
+    /// Whether bytes that fit the entry are within its limits: a number above the high limit
+    /// (06090031h) or below the low limit (06090032h) is refused; strings and domains have no
+    /// limits (CiA 306, object description).
     pub fn check_limits(&self, bytes: &[u8]) -> Result<(), AbortCode>
         requires { fits self.now (length bytes.now) ≡ true }
         ensures { refusal_in result ≡ limit_refusal self.now bytes.now }
@@ -43,7 +44,7 @@ impl Row {
     }
 }
 
-// so many bytes fit the entry of a key
+// whether this many bytes fit the entry of a key
 pub(crate) fn check_size<S: ObjectStore>(
     store: &S,
     key: Key,

@@ -1,4 +1,5 @@
-//! The object dictionary of a CANopen device: its entries, their rights and limits, and why a write is refused.
+//! The object dictionary of a CANopen device: its entries, their rights and limits, and why a write
+//! is refused.
 #![tactic(auto)]
 
 mod area;

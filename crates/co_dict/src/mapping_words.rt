@@ -25,9 +25,9 @@ use co_frame::AbortCode;
 use co_profile::Access;
 use co_value::Key;
 
-/// A mapping word of a PDO: the index in bits 31 to 16, the sub-index in bits 15 to 8, the length in bits in bits 7
-/// to 0 (CiA 301, 7.5.2.36, 7.5.2.38).
-#[derive(Clone, Copy, Debug, PartialEq, Eq, Hash)]
+/// A mapping word of a PDO: the index in bits 31 to 16, the sub-index in bits 15 to 8, the length
+/// in bits in bits 7 to 0 (CiA 301, 7.5.2.36, 7.5.2.38).
+#[derive(Clone, Copy, Debug, PartialEq, Eq)]
 pub struct MappingWord(pub u32);
 
 impl MappingWord {
@@ -62,8 +62,8 @@ fn dummy_width(index: u16) -> Option<u8>
     }
 }
 
-/// The width in bytes of a dummy entry, 0002h to 0007h at sub-index 0, that a PDO of this side may map: an RPDO those
-/// that the data sheet allows, a TPDO none (CiA 306, dummy usage).
+/// The width in bytes of a dummy entry, 0002h to 0007h at sub-index 0, that a PDO of this side may
+/// map: an RPDO those that the data sheet allows, a TPDO none (CiA 306, dummy usage).
 pub fn usable_dummy<S: ObjectStore>(store: &S, side: Side, index: u16) -> Option<u8>
     ensures value { result ≡ usable_dummy side (S.description store.now).dummies index }
     ensures small { IfSome result (λ width. width ≤ 8) }
@@ -100,9 +100,9 @@ impl Side {
     }
 }
 
-/// The width in bytes of an entry that a PDO of this side may map: PDOMapping is set, the type is numeric, and the
-/// access is ro, rw, rwr or const for a TPDO, rw, rww or wo and an index from 2000h on for an RPDO (CiA 306, object
-/// description). `None` for every other key.
+/// The width in bytes of an entry that a PDO of this side may map: PDOMapping is set, the type is
+/// numeric, and the access is ro, rw, rwr or const for a TPDO, rw, rww or wo and an index from
+/// 2000h on for an RPDO (CiA 306, object description). `None` for every other key.
 pub fn entry_width<S: ObjectStore>(store: &S, side: Side, key: Key) -> Option<u8>
     ensures value { result ≡ entry_width side (S.description store.now).rows key }
     ensures small { IfSome result (λ width. width ≤ 8) }
@@ -115,7 +115,8 @@ pub fn entry_width<S: ObjectStore>(store: &S, side: Side, key: Key) -> Option<u8
     Some(width as u8)
 }
 
-/// The width in bytes of what a PDO of this side may map at a key: a usable dummy at sub-index 0, or an entry.
+/// The width in bytes of what a PDO of this side may map at a key: a usable dummy at sub-index 0,
+/// or an entry.
 pub fn mapping_width<S: ObjectStore>(store: &S, side: Side, key: Key) -> Option<u8>
     ensures value { result ≡ mapping_width side (S.description store.now) key }
     ensures small { IfSome result (λ width. width ≤ 8) }
@@ -127,8 +128,8 @@ pub fn mapping_width<S: ObjectStore>(store: &S, side: Side, key: Key) -> Option<
     }
 }
 
-/// The width in bytes that a mapping word maps on a side; `None` where its key may not be mapped there, or its length
-/// is not 8 times the width.
+/// The width in bytes that a mapping word maps on a side; `None` where its key may not be mapped
+/// there, or its length is not 8 times the width.
 pub fn word_width<S: ObjectStore>(store: &S, side: Side, word: MappingWord) -> Option<u8>
     ensures value { result ≡ word_width side (S.description store.now) word.0 }
     ensures small { IfSome result (λ width. width ≤ 8) }

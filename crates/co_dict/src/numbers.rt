@@ -9,7 +9,8 @@ ghost use Rattle.co_dict.specs.Rows.{number_at, takes, with_number};
 use crate::store::{ObjectStore, store_laws};
 use co_value::{Key, read_u8, read_u16, read_u32};
 
-/// The number of an entry whose type is UNSIGNED8 wherever it is, 0 where there is no such entry (CiA 301, 7.5.2).
+/// The number of an entry whose type is fixed as UNSIGNED8; 0 where there is no such entry
+/// (CiA 301, 7.5.2).
 pub fn number_u8<S: ObjectStore>(store: &S, key: Key) -> u8
     requires { fixed_type_of key ≡ Some Unsigned8 }
     ensures { result ≡ number_at (S.contents store.now) key }
@@ -21,8 +22,8 @@ pub fn number_u8<S: ObjectStore>(store: &S, key: Key) -> u8
     }
 }
 
-/// Sets the number of an entry whose type is UNSIGNED8 wherever it is; where there is no such entry nothing changes. No
-/// limits or rights are asked (CiA 301, 7.5.2).
+/// Sets the number of an entry whose type is fixed as UNSIGNED8; where there is no such entry
+/// nothing changes. Limits and access rights aren't checked (CiA 301, 7.5.2).
 pub fn set_u8<S: ObjectStore>(store: &mut S, key: Key, number: u8)
     requires { fixed_type_of key ≡ Some Unsigned8 }
     ensures contents { S.contents store.new
@@ -35,7 +36,8 @@ pub fn set_u8<S: ObjectStore>(store: &mut S, key: Key, number: u8)
     }
 }
 
-/// The number of an entry whose type is UNSIGNED16 wherever it is, 0 where there is no such entry (CiA 301, 7.5.2).
+/// The number of an entry whose type is fixed as UNSIGNED16; 0 where there is no such entry
+/// (CiA 301, 7.5.2).
 pub fn number_u16<S: ObjectStore>(store: &S, key: Key) -> u16
     requires { fixed_type_of key ≡ Some Unsigned16 }
     ensures { result ≡ number_at (S.contents store.now) key }
@@ -47,7 +49,8 @@ pub fn number_u16<S: ObjectStore>(store: &S, key: Key) -> u16
     }
 }
 
-/// The number of an entry whose type is UNSIGNED32 wherever it is, 0 where there is no such entry (CiA 301, 7.5.2).
+/// The number of an entry whose type is fixed as UNSIGNED32; 0 where there is no such entry
+/// (CiA 301, 7.5.2).
 pub fn number_u32<S: ObjectStore>(store: &S, key: Key) -> u32
     requires { fixed_type_of key ≡ Some Unsigned32 }
     ensures { result ≡ number_at (S.contents store.now) key }

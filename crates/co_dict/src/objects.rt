@@ -25,8 +25,8 @@ pub fn has_object<S: ObjectStore>(store: &S, index: u16) -> bool
     (0..256u16).any(|sub| has_sub(store, index, sub as u8))
 }
 
-/// The row of an entry. Without one there is no object of the index (06020000h), or no such sub-index (06090011h;
-/// CiA 301, 7.2.4.3.17).
+/// The row of an entry. `Err`: there is no object at the index (06020000h), or no such sub-index
+/// (06090011h; CiA 301, 7.2.4.3.17).
 pub fn entry_row<S: ObjectStore>(store: &S, key: Key) -> Result<Row, AbortCode>
     ensures refusal { refusal_in result ≡ missing_entry (S.description store.now).rows key }
     ensures row { IfOk result (λ row. (S.description store.now).rows key ≡ Some row) }
@@ -47,7 +47,7 @@ fn row_in<S: ObjectStore>(store: &S, index: u16, sub: u8) -> Result<Row, AbortCo
     }
 }
 
-/// The place of an entry with its row, from one search; without an entry as `entry_row`.
+/// The place of an entry with its row, from one search. `Err` as for `entry_row`.
 pub(crate) fn placed_row<S: ObjectStore>(store: &S, key: Key) -> Result<(u32, Row), AbortCode>
     ensures refusal { refusal_in result ≡ missing_entry (S.description store.now).rows key }
     ensures place { IfOk result (λ found. place_of (S.description store.now) key ≡ Some found.0) }

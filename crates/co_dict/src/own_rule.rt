@@ -21,31 +21,31 @@ fn is_communication(index: u16) -> bool
 }
 
 /// What a write of an entry has to keep besides its rights, length and limits.
-#[derive(Clone, Copy, Debug, PartialEq, Eq, Hash)]
+#[derive(Clone, Copy, PartialEq, Eq)]
 pub(crate) enum OwnRule {
     /// 1003:00, the number of errors.
     ErrorCount,
-    /// 1005:00.
+    /// 1005:00, the COB-ID of SYNC.
     SyncCobId,
     /// 1010h and 1011h: store and restore parameters.
     StoredParameters,
-    /// 1014:00 and sub-index 1 of a PDO's communication parameter.
+    /// 1014:00 and sub-index 1 of a PDO's communication parameter: the COB-ID of EMCY and of a PDO.
     CobId,
-    /// 1016:01 to 7F.
+    /// 1016:01 to 7F, the consumer heartbeat time.
     ConsumerHeartbeat,
     /// 1019:00, the synchronous counter overflow value.
     SyncCounterOverflow,
-    /// 1029:01.
+    /// 1029:01, the error behaviour at a communication error.
     ErrorBehaviour,
-    /// Sub-index 2 of a PDO's communication parameter.
+    /// Sub-index 2 of a PDO's communication parameter, the transmission type.
     TransmissionType,
-    /// Sub-index 3 of a TPDO's communication parameter.
+    /// Sub-index 3 of a TPDO's communication parameter, the inhibit time.
     InhibitTime,
-    /// Sub-index 6 of a TPDO's communication parameter.
+    /// Sub-index 6 of a TPDO's communication parameter, the SYNC start value.
     SyncStartValue,
-    /// Sub-index 0 of a PDO's mapping parameter.
+    /// Sub-index 0 of a PDO's mapping parameter, the number of mapped objects.
     MappingCount(Side),
-    /// Sub-indices 1 to 64 of a PDO's mapping parameter.
+    /// Sub-indices 1 to 64 of a PDO's mapping parameter, the mapping words.
     MappingEntry(Side),
 }
 

@@ -54,7 +54,7 @@ fn check_error_behaviour(value: u8) -> Result<(), AbortCode>
     }
 }
 
-// bytes that fit the entry keep its own rule
+// whether bytes that fit the entry keep its own rule
 pub(crate) fn check_own_rule<S: ObjectStore>(
     store: &S,
     key: Key,

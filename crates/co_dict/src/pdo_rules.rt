@@ -25,7 +25,8 @@ use co_frame::AbortCode;
 use co_profile::TransmissionType;
 use co_value::Key;
 
-/// Whether the PDO with this communication parameter, 1400h to 15FFh or 1800h to 19FFh, is valid (CiA 301, 7.5.2.35).
+/// Whether the PDO with this communication parameter, 1400h to 15FFh or 1800h to 19FFh, is valid
+/// (CiA 301, 7.5.2.35, 7.5.2.37).
 pub fn is_pdo_valid<S: ObjectStore>(store: &S, index: u16) -> bool
     requires { fixed_type_of (record { index = index; sub = 1 }) ≡ Some Unsigned32 }
     ensures { result ≡ is_pdo_valid (S.contents store.now) index }
@@ -56,7 +57,8 @@ pub(crate) fn check_inhibit_time<S: ObjectStore>(store: &S, index: u16) -> Resul
     }
 }
 
-// sub-index 6 of a TPDO, the SYNC start value, doesn't change while the TPDO is valid, and is at most 240
+// sub-index 6 of a TPDO, the SYNC start value, doesn't change while the TPDO is valid, and is at
+// most 240
 pub(crate) fn check_sync_start<S: ObjectStore>(
     store: &S,
     index: u16,
@@ -75,8 +77,8 @@ pub(crate) fn check_sync_start<S: ObjectStore>(
     }
 }
 
-/// The mapping word of a mapping parameter, 1600h to 17FFh on the side RPDO and 1A00h to 1BFFh on the side TPDO, at a
-/// sub-index, 1 to 64; 0 where there is none (CiA 301, 7.5.2.36, 7.5.2.38).
+/// The mapping word of a mapping parameter, 1600h to 17FFh on the side RPDO and 1A00h to 1BFFh on
+/// the side TPDO, at a sub-index, 1 to 64; 0 where there is none (CiA 301, 7.5.2.36, 7.5.2.38).
 pub fn mapping_word<S: ObjectStore>(store: &S, side: Side, index: u16, sub: u8) -> MappingWord
     requires index { is_mapping_index side index ≡ true }
     requires first { 1 ≤ sub }
@@ -86,9 +88,10 @@ pub fn mapping_word<S: ObjectStore>(store: &S, side: Side, index: u16, sub: u8) 
     MappingWord(number_u32(store, Key { index, sub }))
 }
 
-/// Whether a mapping parameter of a side may count so many of its words, as long as the PDO is not valid: more than the
-/// words that are there, up to 64, are an invalid value; then a counted word that can't be mapped is not mappable; then
-/// more than 8 bytes in all are too long (CiA 301, 7.5.2.36, 7.5.2.38).
+/// Whether a mapping parameter of a side may count this many of its words while the PDO is not
+/// valid (CiA 301, 7.5.2.36, 7.5.2.38). The first of these refuses it: more words than are there,
+/// up to 64 (06090030h), a counted word that can't be mapped (06040041h), more than 8 bytes in all
+/// (06040042h).
 pub fn check_count<S: ObjectStore>(
     store: &S,
     side: Side,
@@ -115,8 +118,8 @@ pub fn check_count<S: ObjectStore>(
     Ok(())
 }
 
-// sub-indices 1 to 64 of a mapping parameter: they don't change while the PDO is valid or any of them counts, and a
-// word other than 0 has to be one that the side may map
+// sub-indices 1 to 64 of a mapping parameter: they don't change while the PDO is valid or any of
+// them counts, and a word other than 0 has to be one that the side may map
 pub(crate) fn check_mapping_entry<S: ObjectStore>(
     store: &S,
     side: Side,

@@ -20,8 +20,8 @@ fn is_past_errors<S: ObjectStore>(store: &S, key: Key) -> bool
     key.index == ERROR_FIELD && error_count(store) < key.sub
 }
 
-/// The place of an entry that may be read, from one search: `bytes_at` gives its bytes without another (CiA 301,
-/// 7.2.4.3.17). It is refused as by `may_read`. After Ok the entry has bytes.
+/// The place of an entry that may be read, from one search: `bytes_at` gives its bytes without
+/// another (CiA 301, 7.2.4.3.17). It is refused as by `may_read`. After Ok the entry has bytes.
 pub fn readable<S: ObjectStore>(store: &S, key: Key) -> Result<u32, AbortCode>
     ensures refusal { refusal_in result
         ≡ reading_refusal (S.description store.now).rows (S.contents store.now) key }
@@ -39,9 +39,10 @@ pub fn readable<S: ObjectStore>(store: &S, key: Key) -> Result<u32, AbortCode>
     Ok(place)
 }
 
-/// Whether an entry may be read (CiA 301, 7.2.4.3.17). The first of these refuses it: there is no object of the index
-/// (06020000h), there is no such sub-index (06090011h), the access is wo (06010001h), the key is a sub-index of 1003h
-/// above the number of errors in 1003:00 (08000024h). After Ok the entry has bytes.
+/// Whether an entry may be read (CiA 301, 7.2.4.3.17). The first of these refuses it: there is no
+/// object of the index (06020000h), there is no such sub-index (06090011h), the access is wo
+/// (06010001h), the key is a sub-index of 1003h above the number of errors in 1003:00 (08000024h).
+/// After Ok the entry has bytes.
 pub fn may_read<S: ObjectStore>(store: &S, key: Key) -> Result<(), AbortCode>
     ensures refusal { refusal_in result
         ≡ reading_refusal (S.description store.now).rows (S.contents store.now) key }

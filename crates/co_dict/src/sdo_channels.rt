@@ -10,7 +10,7 @@ use co_profile::IndexRange;
 use co_value::Key;
 
 /// The identifiers of an SDO channel (CiA 301, 7.5.2.33).
-#[derive(Clone, Copy, Debug, PartialEq, Eq, Hash)]
+#[derive(Clone, Copy, Debug, PartialEq, Eq)]
 pub struct SdoChannel {
     /// The identifier of requests, from client to server.
     pub request: u16,
@@ -18,8 +18,9 @@ pub struct SdoChannel {
     pub answer: u16,
 }
 
-/// The SDO channel of a number, 0 to 127: channel 0 always exists, with 600h + node-ID and 580h + node-ID; channel j
-/// exists where the COB-ID words 1200h + j, sub-index 1 and 2, are valid (CiA 301, 7.5.2.33).
+/// The SDO channel of a number, 0 to 127: channel 0 always exists, with 600h + node-ID and 580h +
+/// node-ID; channel j exists where the COB-ID words 1200h + j, sub-index 1 and 2, are valid
+/// (CiA 301, 7.5.2.33).
 pub fn sdo_channel<S: ObjectStore>(store: &S, number: u8) -> Option<SdoChannel>
     requires { number ≤ 127 }
     ensures exists { is_some result ≡ is_channel (S.contents store.now) number }

@@ -11,10 +11,11 @@ use crate::area::Area;
 use crate::row::Row;
 use co_value::Key;
 
-/// The entries of an object dictionary with their bytes: a finite map, in which a call changes the bytes of the
-/// entries that it names and nothing else (CiA 301, 7.4).
+/// The entries of an object dictionary with their bytes: a finite map, in which a call changes the
+/// bytes of the entries that it names and nothing else (CiA 301, 7.4).
 pub trait ObjectStore {
-    /// The node-ID, the rows, the initial bytes, the dummy entries that may be mapped, the keys: no call changes them.
+    /// The node-ID, the rows, the initial bytes, the dummy entries that may be mapped, the keys: no
+    /// call changes them.
     ghost description: { Self → Description };
 
     /// The bytes of each entry.
@@ -34,18 +35,19 @@ pub trait ObjectStore {
     fn bytes(&self, key: Key) -> Option<&[u8]>
         ensures { option_map (λ bytes. bytes.now) result ≡ contents self.now key };
 
-    /// Whether the dummy entry of an index, 0002h to 0007h, may be mapped into an RPDO (CiA 306, dummy usage).
+    /// Whether the dummy entry of an index, 0002h to 0007h, may be mapped into an RPDO (CiA 306,
+    /// dummy usage).
     fn dummy(&self, index: u16) -> bool
         ensures { result ≡ (description self.now).dummies index };
 
-    /// Sets the bytes of one entry, which have to fit it.
+    /// Sets the bytes of one entry; they must fit it.
     fn set(&mut self, key: Key, bytes: &[u8])
         requires { takes (description self.old).rows key (length bytes.now) ≡ true }
         ensures contents { contents self.new ≡ written (contents self.old) key bytes.now }
         ensures description { description self.new ≡ description self.old };
 
-    /// The place of an entry, its number in the list of the keys; `None` where there is no entry. No call changes a
-    /// place, so that who looks it up once may use it from then on.
+    /// The place of an entry, its number in the list of the keys; `None` where there is no entry.
+    /// No call changes a place, so it needs to be looked up only once.
     fn place(&self, key: Key) -> Option<u32>
         ensures { result ≡ place_of (description self.now) key };
 
@@ -58,7 +60,7 @@ pub trait ObjectStore {
         ensures { option_map (λ bytes. bytes.now) result
             ≡ bytes_at (description self.now) (contents self.now) place };
 
-    /// Sets the bytes of the entry at a place, which have to fit it.
+    /// Sets the bytes of the entry at a place; they must fit it.
     fn set_at(&mut self, place: u32, bytes: &[u8])
         requires { takes_at (description self.old) place (length bytes.now) ≡ true }
         ensures contents { contents self.new
@@ -75,13 +77,15 @@ pub trait ObjectStore {
     ghost lawful: { (store : Self) → IsDictionary (description store) (contents store) };
 }
 
-/// What holds of each store: its keys are finitely many, none has an index below 1000h, each entry has bytes that fit
-/// it, the room of a number is its width, and fixed types are as they must be. A law: a call of it changes nothing.
+/// What holds of each store: its keys are finitely many, none has an index below 1000h, each entry
+/// has bytes that fit it, the capacity of a number is its width, and an entry whose type is fixed
+/// has that type. A law: a call of it changes nothing.
 pub fn store_laws<S: ObjectStore>(store: &S)
     ensures { IsDictionary (S.description store.now) (S.contents store.now) }
 {}
 
-/// No entry of a store has room for more than 65,535 bytes. This is a law: a call of it changes nothing.
+/// No entry of a store has room for more than 65,535 bytes. This is a law: a call of it changes
+/// nothing.
 #[tactic(auto, using(crate::proofs::StoreLemmas::room_at))]
 pub fn capacity_law<S: ObjectStore>(store: &S)
     ensures { (key : Key) → capacity_at (S.description store.now).rows key ≤ 65535 }
@@ -89,8 +93,9 @@ pub fn capacity_law<S: ObjectStore>(store: &S)
     store_laws(store);
 }
 
-/// What holds of the places of each store: exactly the entries have places, different entries different ones; and by
-/// its place an entry is what it is by its key, for `row`, `bytes` and `set`. A law: a call of it changes nothing.
+/// What holds of the places of each store: exactly the entries have places, no two of them the same
+/// one; and `row`, `bytes` and `set` do the same by place as by key. A law: a call of it changes
+/// nothing.
 pub fn place_laws<S: ObjectStore>(store: &S)
     ensures present { (key : Key) → is_some (place_of (S.description store.now) key)
         ≡ is_some ((S.description store.now).rows key) }

@@ -9,8 +9,8 @@ ghost use Rattle.co_dict.specs.PdoRules.{is_pdo_valid};
 ghost use Rattle.co_dict.specs.OwnRules.{own_refusal};
 ghost use Rattle.co_dict.specs.WriteRefusals.{writing_refusal, app_refusal};
 
-/// Bytes that neither SDO nor the application is refused keep the own rule of their entry. This is a law: a call of it
-/// changes nothing.
+/// Bytes that SDO may write, or that the application may write, keep the own rule of their entry.
+/// This is a law: a call of it changes nothing.
 pub fn own_rule_law()
     ensures by_sdo { (d : Description) (contents : Contents) (key : Key) (indicated : Option ℕ)
         (bytes : List ℕ) → writing_refusal d contents key indicated bytes ≡ None
@@ -19,8 +19,8 @@ pub fn own_rule_law()
         → app_refusal d contents key bytes ≡ None → own_refusal d contents key bytes ≡ None }
 {}
 
-/// A TPDO whose inhibit time or number of mapped objects may be written is not valid. This is a law: a call of it
-/// changes nothing.
+/// A TPDO whose inhibit time or number of mapped objects may be written is not valid. This is a
+/// law: a call of it changes nothing.
 pub fn invalid_pdo_law()
     ensures inhibit_time { (d : Description) (contents : Contents) (k : ℕ) (bytes : List ℕ)
         → k < 512

@@ -42,7 +42,7 @@ fn is_sdo_parameter(index: u16) -> bool
     IndexRange::SDO_SERVER.contains(index)
 }
 
-// an entry is written by SDO: its access allows it, and it is no SDO server parameter
+// whether an entry may be written by SDO: its access allows it, and it is no SDO server parameter
 fn check_writable(row: &Row, index: u16) -> Result<(), AbortCode>
     ensures { refusal_in result
         ≡ refused_if (is_read_only row.now.access || is_sdo_parameter index) read_only }
@@ -53,7 +53,8 @@ fn check_writable(row: &Row, index: u16) -> Result<(), AbortCode>
     Ok(())
 }
 
-// bytes may be the value of an entry: they fit, their number is within the limits, and they keep the own rule
+// whether bytes may be the value of an entry: they fit, their number is within the limits, and they
+// keep the own rule
 fn check_value<S: ObjectStore>(
     store: &S,
     key: Key,
@@ -71,10 +72,11 @@ fn check_value<S: ObjectStore>(
     check_own_rule(store, key, bytes)
 }
 
-/// Whether a write by SDO may begin, with the size in bytes where it is known (CiA 301, 7.2.4.3.17). The first of these
-/// refuses it: there is no object of the index (06020000h), there is no such sub-index (06090011h), the access is ro or
-/// const or the index 1200h to 127Fh (06010002h), the size is above the capacity (06070012h) or below the width of the
-/// type (06070013h). After Ok the entry is there, and takes a known size.
+/// Whether a write by SDO may begin, with the size in bytes where it is indicated
+/// (CiA 301, 7.2.4.3.17). The first of these refuses it: there is no object of the index
+/// (06020000h), there is no such sub-index (06090011h), the access is ro or const or the index
+/// 1200h to 127Fh (06010002h), the size is above the capacity (06070012h) or below the width of the
+/// type (06070013h). After Ok the entry is there, and an indicated size fits it.
 pub fn may_begin<S: ObjectStore>(store: &S, key: Key, size: Option<u32>) -> Result<(), AbortCode>
     ensures refusal { refusal_in result ≡ initiate_refusal (S.description store.now).rows key size }
     ensures there { OnOk result (is_some ((S.description store.now).rows key) ≡ true) }
@@ -89,7 +91,7 @@ pub fn may_begin<S: ObjectStore>(store: &S, key: Key, size: Option<u32>) -> Resu
     }
 }
 
-// the bytes are as many as indicated
+// whether the bytes are as many as indicated
 fn check_total(indicated: usize, total: usize) -> Result<(), AbortCode>
     ensures { refusal_in result ≡ total_refusal indicated total }
 {
@@ -102,11 +104,11 @@ fn check_total(indicated: usize, total: usize) -> Result<(), AbortCode>
     Ok(())
 }
 
-/// Whether a write by SDO may complete with these bytes, where a size was indicated at its begin or none (CiA 301,
-/// 7.2.4.3.17). The first of these refuses it: what refuses its begin, more bytes than indicated (06070012h) or less
-/// (06070013h), more than the capacity (06070012h) or less than the width (06070013h), a number above the high limit
-/// (06090031h) or below the low limit (06090032h), and the rule that the entry has of its own. After Ok the entry takes
-/// the bytes.
+/// Whether a write by SDO may complete with these bytes, after a begin with or without an indicated
+/// size (CiA 301, 7.2.4.3.17). The first of these refuses it: what refuses its begin, more bytes
+/// than indicated (06070012h) or fewer (06070013h), more than the capacity (06070012h) or less than
+/// the width (06070013h), a number above the high limit (06090031h) or below the low limit
+/// (06090032h), and the rule that the entry has of its own. After Ok the bytes fit the entry.
 pub fn may_complete<S: ObjectStore>(
     store: &S,
     key: Key,
@@ -127,8 +129,8 @@ pub fn may_complete<S: ObjectStore>(
     check_value(store, key, &row, bytes)
 }
 
-/// Whether a write by SDO without an indicated size may set these bytes, as `may_complete` answers it. After Ok the
-/// entry takes the bytes.
+/// Whether a write by SDO without an indicated size may set these bytes; refused as by
+/// `may_complete`. After Ok the bytes fit the entry.
 pub fn may_store<S: ObjectStore>(store: &S, key: Key, bytes: &[u8]) -> Result<(), AbortCode>
     ensures refusal { refusal_in result
         ≡ writing_refusal (S.description store.now) (S.contents store.now) key None bytes.now }
@@ -138,9 +140,10 @@ pub fn may_store<S: ObjectStore>(store: &S, key: Key, bytes: &[u8]) -> Result<()
     may_complete(store, key, None, bytes)
 }
 
-/// Whether the application may set these bytes. The first of these refuses it: there is no object of the index
-/// (06020000h), there is no such sub-index (06090011h), the access is const or the index 1200h to 127Fh (06010002h),
-/// the length, the limits and the own rule as for a write by SDO. After Ok the entry takes the bytes.
+/// Whether the application may set these bytes. The first of these refuses it: there is no object
+/// of the index (06020000h), there is no such sub-index (06090011h), the access is const or the
+/// index 1200h to 127Fh (06010002h), the length, the limits and the own rule as for a write by SDO.
+/// After Ok the bytes fit the entry.
 pub fn app_store<S: ObjectStore>(store: &S, key: Key, bytes: &[u8]) -> Result<(), AbortCode>
     ensures refusal { refusal_in result
         ≡ app_refusal (S.description store.now) (S.contents store.now) key bytes.now }

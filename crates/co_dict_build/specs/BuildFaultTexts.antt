@@ -6,7 +6,7 @@ use Rattle.co_value.specs.KeyTexts.{key_text}
 use Rattle.co_dict_build.specs.declared.build_fault.BuildFault.{BuildFault}
 use Rattle.co_dict_build.specs.declared.build_fault.BuildFault.TheVariants.{NodeId, ValueRange, BadCobId, PdoPair, BadMapping, TooMany, Memory}
 
--- the number of a fault: of several that apply the smallest is answered
+-- the number of a fault: of several that apply, the one with the smallest number is returned
 abbrev pub fault_number : BuildFault → ℕ
 fault_number NodeId = 1
 fault_number (ValueRange key) = 2

@@ -1,5 +1,5 @@
--- Why a data sheet makes no dictionary for a node-ID and limits. The rows of a sheet are in increasing key, so the first
--- that is found at fault has the smallest key.
+-- Why a data sheet makes no dictionary for a node-ID and limits. The rows of a sheet are in
+-- increasing key, so the first one at fault has the smallest key.
 use Rattle.std.specs.Prelude.{◌≡◌, ◌⊎◌, true, ℕ, ◌+◌, ◌-◌, ◌==◌, nat_lt, Bool, false, not, ◌&&◌, ◌||◌, if◌then◌else◌, ℤ, pos, List, [], ◌∷◌, map, find, sum_by, length, Option, Some, None, option_map, is_some}
 use Rattle.std.specs.Option.{option_or}
 use Rattle.std.specs.List.{list_any, range_with_len}
@@ -66,7 +66,8 @@ is_word_key key = same_key key emergency_key || (is_communication key.index && (
 abbrev pub is_channel_key : Key → Bool
 is_channel_key key = is_within sdo_server key.index && is_from_to 1 2 key.sub
 
--- a channel exists, and one of its words has an identifier at a smaller key than this; channel 0 has the smallest keys
+-- a channel exists, and one of its words has an identifier at a smaller key than this; channel 0
+-- has the smallest keys
 abbrev pub is_used_by_channel : ℕ → Contents → Key → ℕ → ℕ → Bool
 is_used_by_channel node contents key identifier channel =
     is_channel contents channel
@@ -77,7 +78,8 @@ is_used_by_channel node contents key identifier channel =
 unfoldable pub is_used_before : ℕ → Contents → Key → ℕ → Bool
 is_used_before node contents key identifier = list_any (is_used_by_channel node contents key identifier) (range_with_len 0 128)
 
--- a word that no SDO channel may have: bits 29 to 11 are not 0, its identifier is restricted or used at a smaller key
+-- a word that no SDO channel may have: bits 29 to 11 are not 0, its identifier is restricted or
+-- used at a smaller key
 abbrev pub is_bad_channel_word : ℕ → Contents → Key → ℕ → Bool
 is_bad_channel_word node contents key word =
     not (has_11_bits word) || is_restricted (identifier_of word) || is_used_before node contents key (identifier_of word)
@@ -90,7 +92,8 @@ is_bad_sync_word node contents word = not ((word == 0) || is_good_sync_word node
 abbrev pub is_bad_word : ℕ → Contents → ℕ → Bool
 is_bad_word node contents word = not ((word == 0) || is_good_word node contents word)
 
--- an entry begins with a COB-ID word that it may not have; that of an SDO channel counts where the channel exists
+-- the initial COB-ID word of an entry isn't one that it may have; that of an SDO channel counts if
+-- the channel exists
 abbrev pub is_bad_cob_id : ℕ → Contents → Key → Bool
 is_bad_cob_id node contents key =
     let word = number_at contents key in
@@ -115,7 +118,7 @@ is_unpaired rows index = is_lone_communication rows index || is_lone_mapping row
 
 -- ---- 5, BadMapping
 
--- the mapping of a PDO of a side begins with a count other than 0 that would be refused while the PDO is not valid
+-- the initial count of a mapping of a side isn't 0, and would be refused while the PDO is not valid
 abbrev pub is_bad_count : Side → Description → Contents → ℕ → Bool
 is_bad_count side d contents index =
     let count = number_at contents (record { index = index; sub = 0 }) in
@@ -131,7 +134,7 @@ is_bad_mapping d contents key = (key.sub == 0) && (is_bad_count Rpdo d contents 
 abbrev pub is_too_many : ℕ → ℕ → Bool
 is_too_many entries room = nat_lt 16384 entries || nat_lt 16777216 room
 
--- ---- the fault that is answered
+-- ---- the fault that is returned
 
 -- a fault, where a condition is true
 abbrev pub fault_if : Bool → BuildFault → Option BuildFault
@@ -146,7 +149,7 @@ first_there (fault ∷ faults) = option_or fault (first_there faults)
 abbrev pub smallest_key : (Key → Bool) → List Key → Option Key
 smallest_key test keys = find test keys
 
--- the smallest key of an entry of a dictionary whose first COB-ID word it may not have
+-- the smallest key of an entry whose initial COB-ID word isn't allowed
 abbrev pub bad_cob_id : Description → Contents → Option Key
 bad_cob_id d contents = smallest_key (is_bad_cob_id d.node contents) d.keys
 
@@ -154,7 +157,7 @@ bad_cob_id d contents = smallest_key (is_bad_cob_id d.node contents) d.keys
 abbrev pub unpaired : Description → Option ℕ
 unpaired d = find (is_unpaired d.rows) (map (λ key. key.index) d.keys)
 
--- the smallest key of a count that a mapping may not begin with
+-- the smallest key of an initial count of a mapping that isn't allowed
 abbrev pub bad_mapping : Description → Contents → Option Key
 bad_mapping d contents = smallest_key (is_bad_mapping d contents) d.keys
 
@@ -162,7 +165,7 @@ bad_mapping d contents = smallest_key (is_bad_mapping d contents) d.keys
 abbrev pub room_fault : Limits → List SheetRow → Option BuildFault
 room_fault limits rows = fault_if (is_too_many (length rows) (sum_by (capacity_of limits) rows)) TooMany
 
--- the first fault of the parameters of a dictionary, by what never changes of it and by its first contents
+-- the first fault of the parameters of a dictionary, by its description and its initial contents
 abbrev pub parameter_fault : Description → Contents → Option BuildFault
 parameter_fault d contents = first_there (
     option_map BadCobId (bad_cob_id d contents)
@@ -170,7 +173,7 @@ parameter_fault d contents = first_there (
     ∷ option_map BadMapping (bad_mapping d contents)
     ∷ [])
 
--- the first fault of what never changes of a dictionary and of its first contents
+-- the first fault of a dictionary, by its description and its initial contents
 abbrev pub dictionary_fault : Limits → List SheetRow → Description → Contents → Option BuildFault
 dictionary_fault limits rows d contents = first_there (
     option_map BadCobId (bad_cob_id d contents)
@@ -179,7 +182,8 @@ dictionary_fault limits rows d contents = first_there (
     ∷ room_fault limits rows
     ∷ [])
 
--- the smallest number of those that apply, out of memory aside, and of those with one number the smallest key
+-- of the faults that apply, `Memory` excepted, the one with the smallest number, and of several
+-- with that number the one with the smallest key
 abbrev pub build_fault : Plan → Option BuildFault
 build_fault plan = first_there (
     fault_if (not (is_node plan.node)) NodeId
@@ -187,7 +191,8 @@ build_fault plan = first_there (
     ∷ dictionary_fault plan.limits plan.rows (built_description plan) (built_contents plan)
     ∷ [])
 
--- what is answered in place of a dictionary: its fault, or out of memory, which no NodeId and no ValueRange comes after
+-- the fault that is returned in place of a dictionary: the one above, or out of memory if neither
+-- NodeId nor ValueRange applies
 abbrev pub IsBuildFault : Plan → BuildFault → Type 0
 IsBuildFault plan fault =
     (build_fault plan ≡ Some fault)

@@ -11,26 +11,27 @@ use Rattle.co_dict_build.specs.Capacities.{Limits, limits_view}
 use Rattle.co_dict_build.specs.EntryLimits.{row_in}
 use Rattle.co_dict_build.specs.InitialBytes.{initial_of}
 
--- what a data sheet, a node-ID and limits say: the rows, and which of the dummy entries 0002h to 0007h may be mapped
+-- what a data sheet, a node-ID and limits say: the rows, and which of the dummy entries 0002h to
+-- 0007h may be mapped
 pub record Plan : Type 0 where
   pub node : ℕ
   pub limits : Limits
   pub rows : List SheetRow
   pub dummies : List Bool
 
--- that of these rows and dummy entries
+-- the plan of these rows and dummy entries
 abbrev pub plan_with : ℕ → Limits → List SheetRow → List Bool → Plan
 plan_with node limits rows dummies = record { node = node; limits = limits; rows = rows; dummies = dummies }
 
--- that of rows and limits as the code has them
+-- the plan of rows and limits as the code has them
 abbrev pub plan_in : ℕ → CodeLimits → List EntryRow → List Bool → Plan
 plan_in node limits rows dummies = plan_with node (limits_view limits) (map row_view rows) dummies
 
--- which of the dummy entries 0002h to 0007h a data sheet lets be mapped
+-- which of the dummy entries 0002h to 0007h a data sheet allows to be mapped
 abbrev pub dummies_of : SheetContent → List Bool
 dummies_of sheet = map (is_dummy sheet.dummies) (2 ∷ 3 ∷ 4 ∷ 5 ∷ 6 ∷ 7 ∷ [])
 
--- that of a data sheet
+-- the plan of a data sheet
 abbrev pub plan_of : ℕ → Limits → SheetContent → Plan
 plan_of node limits sheet = plan_with node limits sheet.rows (dummies_of sheet)
 

@@ -12,7 +12,8 @@ use Rattle.co_sheet.specs.Limits.{Default, text, pairs}
 use Rattle.co_sheet.specs.Content.{Row as SheetRow}
 use Rattle.co_dict_build.specs.declared.limits.Limits.{Limits as CodeLimits}
 
--- the configured room of strings, of domains and of single entries, without where the list lies in memory
+-- the configured room of strings, of domains and of single entries, without where the list lies in
+-- memory
 pub record Limits : Type 0 where
   pub strings : ℕ
   pub domains : ℕ
@@ -32,7 +33,8 @@ decoded [] = []
 decoded (digit ∷ []) = []
 decoded (high ∷ low ∷ digits) = (16 * digit_value high + digit_value low) ∷ decoded digits
 
--- the bytes of a string's default: those of its text, or of its pairs of hexadecimal digits; none where there is none
+-- the bytes of a string's default: those of its text, or of its pairs of hexadecimal digits; none
+-- where there is none
 abbrev pub default_bytes : Default → List ℕ
 default_bytes (text bytes) = bytes
 default_bytes (pairs digits) = decoded digits

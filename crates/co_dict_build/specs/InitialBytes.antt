@@ -21,8 +21,8 @@ number_with node row (number value) = value
 number_with node row (node_id n) = pos (node + n)
 number_with node row other = nearest_to_zero (low_of row) (high_of row)
 
--- The number that a numeric entry begins with. 1200:01 and 1200:02 hold the identifiers of the default SDO channel,
--- whatever the sheet says (CiA 301, 7.5.2.33).
+-- The number that a numeric entry begins with. 1200:01 and 1200:02 hold the identifiers of the
+-- default SDO channel, whatever the sheet says (CiA 301, 7.5.2.33).
 abbrev pub initial_number : ℕ → SheetRow → ℤ
 initial_number node row =
     if same_key row.key (request_key 0) then pos (0x600 + node)

@@ -74,7 +74,8 @@ abbrev pub are_increasing : List Key → Bool
 are_increasing [] = true
 are_increasing (key ∷ keys) = list_all (is_key_before key) keys && are_increasing keys
 
--- the dictionary of a node-ID, of which dummy entries from 0002h to 0007h may be mapped, and of entries
+-- the dictionary of a node-ID, of which dummy entries from 0002h to 0007h may be mapped, and of
+-- entries
 abbrev pub description_in : ℕ → List Bool → List ListedEntry → Description
 description_in node dummies entries = record {
   node = node;

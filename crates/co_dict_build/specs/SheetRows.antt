@@ -11,7 +11,8 @@ use Rattle.co_dict_build.specs.InitialBytes.{initial_number}
 abbrev pub HasShortDefault : SheetRow → Type 0
 HasShortDefault row = length (default_bytes row.default) ≤ 65535
 
--- an entry can be made of a row for a node-ID: it is a sheet's, and the number that it begins with is one of its type
+-- an entry can be made of a row for a node-ID: it is a sheet's, and the number that it begins with
+-- is one of its type
 pub record IsReady (node : ℕ) (row : SheetRow) : Type 0 where
   pub sheet : IsSheetRow row
   pub short : HasShortDefault row

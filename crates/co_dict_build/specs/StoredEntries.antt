@@ -21,7 +21,7 @@ entry_view e = record {
 abbrev pub entry_views : List StoredEntry → List ListedEntry
 entry_views entries = map entry_view entries
 
--- an entry has as many bytes as its size says
+-- an entry has `size` bytes
 size_is : (e : StoredEntry) → length (entry_view e).bytes ≡ e.size
 size_is e = length-take-le e.size (boxed_slice_items e.buffer) (omega (arith, e.within, e.reserved, e.buffer.items.ok.0))
 

@@ -80,7 +80,8 @@ fn parameter_fault<S: ObjectStore>(store: &S, rows: &[EntryRow<'_>]) -> Option<B
 
 /// A store that can be made of the rows of a data sheet: `build_store` makes any of them.
 pub trait FromRows: ObjectStore {
-    /// The dictionary of these rows, in increasing key, with their initial bytes. `AllocError` where memory runs out.
+    /// The dictionary of these rows, in increasing key, with their initial bytes. `AllocError`: out
+    /// of memory.
     fn from_rows(
         alloc: Global,
         node_id: u8,
@@ -100,8 +101,9 @@ pub trait FromRows: ObjectStore {
             ≡ built_contents (plan_in node_id limits.now rows.now dummies)) };
 }
 
-// The first fault of the parameters, whatever the limits are: found in a dictionary whose strings and domains have no
-// room besides that of their defaults, since none of these faults looks at the room.
+// The first fault of the parameters, whatever the limits are. It is found in a dictionary whose
+// strings and domains have room for their defaults only, since none of these faults depends on the
+// room.
 fn parameter_fault_of<S: FromRows + Drop>(
     alloc: Global,
     node_id: u8,
@@ -125,8 +127,9 @@ fn parameter_fault_of<S: FromRows + Drop>(
     Ok(parameter_fault(&store, rows))
 }
 
-// The dictionary of rows of a sheet, or its first fault. Nothing asks for memory before a node-ID or a sum was at
-// fault, nor for the room of strings and domains before it is known that there is not too much of it.
+// The dictionary of rows of a sheet, or its first fault. Nothing is allocated before the node-ID
+// and the sums with `$NODEID` are known to be good, and no room for strings and domains before it
+// is known not to be too much.
 fn build_rows<S: FromRows + Drop>(
     alloc: Global,
     node_id: u8,
@@ -167,7 +170,8 @@ fn build_rows<S: FromRows + Drop>(
     }
 }
 
-/// Which of the dummy entries 0002h to 0007h a data sheet lets be mapped (CiA 306, dummy usage).
+/// Which of the dummy entries 0002h to 0007h the data sheet allows to be mapped (CiA 306, dummy
+/// usage).
 pub fn usable_dummies(sheet: &Sheet<'_>) -> [bool; 6]
     ensures { result ≡ dummies_of sheet.now }
 {
@@ -181,12 +185,13 @@ pub fn usable_dummies(sheet: &Sheet<'_>) -> [bool; 6]
     ]
 }
 
-/// The dictionary that a data sheet makes for a node-ID and limits, with its initial bytes (CiA 301, 7.4; CiA 306), as
-/// a store of any kind: each row of the sheet becomes an entry, `$NODEID` the node-ID.
+/// The dictionary that a data sheet makes for a node-ID and limits, with its initial bytes
+/// (CiA 301, 7.4; CiA 306), as a store of any kind: each row of the sheet becomes an entry,
+/// `$NODEID` the node-ID.
 ///
-/// Of the faults that apply the one with the smallest number is answered, and of those with one number the one with the
-/// smallest key. `Memory` may come in place of those from `BadCobId` on: nothing asks for memory before the node-ID and
-/// the sums with `$NODEID` were looked at.
+/// If several faults apply, the one with the smallest number is returned, and of several with that
+/// number the one with the smallest key. `Memory` may come in place of any fault but `NodeId` and
+/// `ValueRange`: these are found before anything is allocated.
 pub fn build_store<S: FromRows + Drop>(
     alloc: Global,
     sheet: &Sheet<'_>,
@@ -212,8 +217,8 @@ pub fn build_store<S: FromRows + Drop>(
     )
 }
 
-/// In a dictionary that was built each PDO communication parameter has its COB-ID, sub-index 1. This is a law: a call
-/// of it changes nothing.
+/// In a dictionary that was built each PDO communication parameter has its COB-ID, sub-index 1.
+/// This is a law: a call of it changes nothing.
 pub fn communication_law()
     ensures { (plan : Plan) → build_fault plan ≡ None →
         (index : ℕ) → is_communication index ≡ true

@@ -10,19 +10,22 @@ use itoa::Buffer;
 use std::error::Error;
 use std::fmt;
 
-/// Why a data sheet makes no dictionary for a node-ID and limits. Of several faults that apply the one with the
-/// smallest number is answered, and of those with one number the one with the smallest key.
-#[derive(Clone, Copy, Debug, PartialEq, Eq, Hash)]
+/// Why a data sheet makes no dictionary for a node-ID and limits. If several apply, the one with
+/// the smallest number is returned, and of several with that number the one with the smallest key.
+#[derive(Clone, Copy, Debug, PartialEq, Eq)]
 pub enum BuildFault {
-    /// 1: the node-ID is none of 1 to 127 (CiA 301, 6.1).
+    /// 1: the node-ID isn't one of 1 to 127 (CiA 301, 6.1).
     NodeId,
-    /// 2: the default of this entry is a sum with `$NODEID` that is outside its type or its limits (CiA 306).
+    /// 2: the default of this entry is a sum with `$NODEID` that is outside its type or its limits
+    /// (CiA 306).
     ValueRange(Key),
-    /// 3: the COB-ID that this entry begins with is none that it may have (CiA 301, 7.5.2).
+    /// 3: the initial COB-ID of this entry isn't one that it may have (CiA 301, 7.5.2).
     BadCobId(Key),
-    /// 4: this PDO object has no partner, or an entry that a PDO needs is missing (CiA 301, 7.5.2.35 to 7.5.2.38).
+    /// 4: this PDO object has no partner, or an entry that a PDO needs is missing
+    /// (CiA 301, 7.5.2.35 to 7.5.2.38).
     PdoPair(u16),
-    /// 5: the mapping whose sub-index 0 this is can't be as it begins (CiA 301, 7.5.2.36, 7.5.2.38).
+    /// 5: an initial mapping isn't allowed; the key is its sub-index 0, the number of mapped
+    /// objects (CiA 301, 7.5.2.36, 7.5.2.38).
     BadMapping(Key),
     /// 6: more than 16,384 entries, or more than 16,777,216 bytes of room in all.
     TooMany,

@@ -47,7 +47,8 @@ pub(crate) fn limit_or(stated: Option<i128>, end: Option<i128>) -> i128
 }
 
 impl Limits<'_> {
-    // the room that is configured for an entry: its own, of equal keys the first; else that of its kind
+    // the room that is configured for an entry: its own, of equal keys the first; else that of its
+    // kind
     fn configured(&self, key: Key, of_kind: u16) -> u16
         ensures { result ≡ configured self.now.own.now key of_kind }
     {

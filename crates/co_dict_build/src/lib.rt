@@ -1,5 +1,5 @@
-//! What both stores of an object dictionary are made from: the entries that a data sheet makes for a node-ID and
-//! limits, with their rows, room and initial bytes, or the first fault.
+//! What both stores of an object dictionary are made from: the entries that a data sheet makes for
+//! a node-ID and limits, with their rows, room and initial bytes, or the first fault.
 #![tactic(auto)]
 
 mod build;

@@ -13,8 +13,8 @@ use co_value::Key;
 use std::alloc::{AllocError, Global};
 use std::boxed::BoxedSlice;
 
-/// An entry with its bytes and its initial bytes. Both are in memory of their own, which is asked for once: neither
-/// grows.
+/// An entry with its bytes and its initial bytes. Each has memory of its own, allocated once:
+/// neither grows.
 #[derive(Drop)]
 pub struct StoredEntry {
     pub key: Key,
@@ -48,7 +48,8 @@ fn copy_to_front(buffer: &mut [u8], bytes: &[u8])
 impl StoredEntry {
     ghost use Rattle.co_dict_build.specs.StoredEntries.{entry_view};
 
-    /// An entry that has its initial bytes, with room for `row.capacity` bytes.
+    /// An entry that has its initial bytes, with room for `row.capacity` bytes. `Err`: out of
+    /// memory.
     pub(crate) fn new(alloc: Global, key: Key, row: Row, initial: &[u8]) -> Result<Self, AllocError>
         requires from_1000 { 0x1000 ≤ key.index }
         requires width { HasWidth row }
@@ -76,7 +77,8 @@ impl StoredEntry {
         self.key
     }
 
-    /// Its row. The capacity of a number is its width, a fixed type is as it must be, and the limits are in order.
+    /// Its row. The capacity of a number is its width, an entry whose type is fixed has that type,
+    /// and the limits are in order.
     pub fn row(&self) -> Row
         ensures row { result ≡ (entry_view self.now).row }
         ensures width { HasWidth result }
@@ -103,7 +105,7 @@ impl StoredEntry {
         &self.buffer[..usize::from(self.size)]
     }
 
-    /// Takes these bytes in place of those that it has: one copy, into memory that it has.
+    /// Replaces its bytes: one copy, into memory that it has.
     pub fn fill(&mut self, bytes: &[u8])
         requires { fits self.old.row (length bytes.now) ≡ true }
         ensures { entry_view self.new ≡ record (entry_view self.old) { bytes = bytes.now } }
@@ -112,7 +114,8 @@ impl StoredEntry {
         self.size = bytes.len() as u16;
     }
 
-    /// Takes its initial bytes again, if a reset of the area restores it: one copy, into memory that it has.
+    /// Restores its initial bytes, if a reset of the area restores the entry: one copy, into memory
+    /// that it has.
     pub fn reset(&mut self, area: Area)
         ensures { entry_view self.new ≡ reset_entry area (entry_view self.old) }
     {

@@ -17,7 +17,7 @@ use Rattle.co_dict_faults.specs.SoundPlans.{sums_outside, sound_plan, rests_word
 abbrev pub list_if : Bool → BuildFault → List BuildFault
 list_if condition fault = if condition then fault ∷ [] else []
 
--- ---- 3, BadCobId: each COB-ID word that the entry may not have, and that rests on no value at fault
+-- ---- 3, BadCobId: each initial COB-ID word that isn't allowed, and rests on no value at fault
 
 abbrev pub is_word_found : List Key → Description → Contents → Key → Bool
 is_word_found outside d contents key =
@@ -27,7 +27,7 @@ abbrev pub bad_words : List Key → Description → Contents → List Key → Li
 bad_words outside d contents keys =
     flat_map (λ key. list_if (is_word_found outside d contents key) (BadCobId key)) keys
 
--- ---- 4, PdoPair: each index of a PDO object that is without its partner or an entry, by the keys in their order
+-- ---- 4, PdoPair: each index of a PDO object without its partner or an entry, in increasing order
 
 -- the index of the key before
 abbrev pub is_index : Option ℕ → ℕ → Bool
@@ -39,7 +39,7 @@ unpaired_past rows last (key ∷ keys) =
     list_if (not (is_index last key.index) && is_unpaired rows key.index) (PdoPair key.index)
     ++ unpaired_past rows (Some key.index) keys
 
--- ---- 5, BadMapping: each mapping that can't be as it begins, and that rests on no value at fault
+-- ---- 5, BadMapping: each initial mapping that isn't allowed, and rests on no value at fault
 
 abbrev pub is_mapping_found : List Key → Description → Contents → Key → Bool
 is_mapping_found outside d contents key =
@@ -69,7 +69,7 @@ abbrev pub room_faults : Plan → List BuildFault
 room_faults plan =
     list_if (is_too_many (length plan.rows) (sum_by (capacity_of plan.limits) plan.rows)) TooMany
 
--- all faults of a plan; without a node-ID there is nothing else to say
+-- all faults of a plan; if the node-ID is at fault, that alone
 abbrev pub build_faults_of : Plan → List BuildFault
 build_faults_of plan =
     let outside = sums_outside plan.node plan.rows in

@@ -1,4 +1,4 @@
--- What all faults of a build keep: their order, and each by the definition of its kind.
+-- What holds of all faults of a build: their order, and each by the definition of its kind.
 use Rattle.std.specs.Prelude.{◌≡◌, ℕ, Bool, true, false, List, Contains, length, sum_by}
 use Rattle.std.specs.Ordering.{nat_cmp, ordering_then}
 use Rattle.std.specs.declared.cmp.Ordering.{Ordering}
@@ -57,7 +57,8 @@ IsParameterFault d contents (PdoPair index) = HasObject d index (is_unpaired d.r
 IsParameterFault d contents (BadMapping key) = HasEntry d key (is_bad_mapping d contents key)
 IsParameterFault d contents other = ⊥
 
--- a fault is one of a plan; those of parameters are looked for in its rows without sums out of range
+-- a fault is one of a plan; those of parameters are looked for in its rows without sums out of
+-- range
 abbrev pub IsFaultOf : Plan → BuildFault → Type 0
 IsFaultOf plan NodeId = is_node plan.node ≡ false
 IsFaultOf plan (ValueRange key) = HasSumOutside plan.node plan.rows key

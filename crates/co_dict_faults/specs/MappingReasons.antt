@@ -1,4 +1,5 @@
--- Why a mapping can't be as it begins: each of its counted words, and their count (CiA 301, 7.5.2.36 and 7.5.2.38).
+-- Why an initial mapping isn't allowed: each of its counted words, and their count
+-- (CiA 301, 7.5.2.36 and 7.5.2.38).
 use Rattle.std.specs.Prelude.{ℕ, ◌+◌, ◌-◌, ◌*◌, ◌==◌, nat_lt, min, Bool, true, false, ◌&&◌, not, if◌then◌else◌, Option, Some, None, is_some, is_none, List, [], ◌∷◌, ◌++◌, flat_map}
 use Rattle.std.specs.List.{list_any, range_with_len}
 use Rattle.std.specs.Option.{option_map_or}
@@ -23,8 +24,8 @@ side_of index = if is_within rpdo_mapping index then Rpdo else Tpdo
 
 -- ---- a word
 
--- an entry that is there and may not be mapped on a side: PDOMapping isn't set, or its type is a string or a domain, or
--- an RPDO doesn't map its index; else it is its access
+-- why an entry that is there may not be mapped on a side: PDOMapping isn't set, or its type is a
+-- string or a domain, or an RPDO doesn't map its index; else because of its access
 abbrev pub row_reason : Side → ℕ → Row → MappingReason
 row_reason side index row =
     if not row.mappable then NotMappable
@@ -32,13 +33,14 @@ row_reason side index row =
     else if not (is_mapped_index side index) then BelowProfile
     else WrongAccess
 
--- what can't be mapped on a side: a dummy entry has sub-index 0 alone
+-- why nothing at a key may be mapped on a side; a dummy entry has sub-index 0 alone
 abbrev pub unmapped_reason : Side → Description → Key → MappingReason
 unmapped_reason side d key =
     if is_some (usable_dummy side d.dummies key.index) then NoEntry
     else option_map_or (row_reason side key.index) (d.rows key) NoEntry
 
--- the bits of a word, where so many bytes are mapped: 1 in place of 8, as of a BOOLEAN, is told from the others
+-- why a length in bits isn't that of the bytes that are mapped: 1 in place of 8, as for a BOOLEAN,
+-- has a reason of its own
 abbrev pub length_reason : ℕ → ℕ → Option MappingReason
 length_reason width bits =
     if bits == 8 * width then None
@@ -55,8 +57,8 @@ word_reason side d word =
 unfoldable pub has_from : Rows → ℕ → ℕ → Bool
 has_from rows index sub = list_any (has_sub rows index) (range_with_len sub (65 - sub))
 
--- why a counted sub-index can't count: one that is absent is missing where a later word is there, else the count is at
--- fault
+-- why a counted sub-index can't count: one that is absent is missing where a later word is there,
+-- else the count is at fault
 abbrev pub sub_reason : Side → Description → Contents → ℕ → ℕ → Option MappingReason
 sub_reason side d contents index sub =
     if has_sub d.rows index sub
@@ -73,7 +75,7 @@ mapping_fault_at index sub reason =
 abbrev pub fault_list : ℕ → ℕ → Option MappingReason → List MappingFault
 fault_list index sub reason = option_map_or (λ r. mapping_fault_at index sub r ∷ []) reason []
 
--- those of the counted sub-indices, up to 64
+-- the faults of the counted sub-indices, up to 64
 abbrev pub word_faults : Side → Description → Contents → ℕ → ℕ → List MappingFault
 word_faults side d contents index count =
     flat_map (λ sub. fault_list index sub (sub_reason side d contents index sub))
@@ -87,7 +89,8 @@ is_empty (x ∷ xs) = false
 abbrev pub length_fault : ℕ → Option MappingReason
 length_fault total = if nat_lt 8 total then Some (TooLong (8 * total)) else None
 
--- that of the count: no word is there at it or later; else, where each word can be mapped, they map too much in all
+-- why the count isn't allowed: no word is there at that sub-index or later; else, if each word can
+-- be mapped, they map too much in all
 abbrev pub count_reason : Bool → Side → Description → Contents → ℕ → ℕ → Option MappingReason
 count_reason is_mapped side d contents index count =
     if not (has_from d.rows index count) then Some CountsMore
@@ -100,7 +103,7 @@ counted_faults side d contents index count =
     let words = word_faults side d contents index count in
     words ++ fault_list index 0 (count_reason (is_empty words) side d contents index count)
 
--- those of the mapping that a dictionary begins with, if it counts any
+-- the faults of an initial mapping, if it counts any word
 abbrev pub mapping_faults : Side → Description → Contents → ℕ → List MappingFault
 mapping_faults side d contents index =
     let count = number_at contents (record { index = index; sub = 0 }) in

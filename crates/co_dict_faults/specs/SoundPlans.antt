@@ -1,5 +1,5 @@
--- Which values are at fault, so that nothing is said of what rests on them (CiA 306, $NODEID): those of entries whose
--- default is a sum with `$NODEID` that is out of range.
+-- Which values are at fault, so that no fault is reported that rests on them (CiA 306, $NODEID):
+-- those of entries whose default is a sum with `$NODEID` that is out of range.
 use Rattle.std.specs.Prelude.{ℕ, Bool, ◌&&◌, ◌||◌, ◌==◌, if◌then◌else◌, List, [], ◌∷◌, map, flat_map}
 use Rattle.std.specs.List.{list_any}
 use Rattle.co_value.specs.declared.key.Key.{Key}
@@ -25,7 +25,7 @@ abbrev pub sound_row : ℕ → SheetRow → SheetRow
 sound_row node row =
     record row { default = sound_default (is_sum_outside node row row.default) row.default }
 
--- no room for strings and domains but that of their defaults: only TooMany looks at the room
+-- no room for strings and domains but that of their defaults: only TooMany depends on the room
 abbrev pub no_room : Limits
 no_room = record { strings = 0; domains = 0; own = [] }
 
@@ -33,7 +33,8 @@ no_room = record { strings = 0; domains = 0; own = [] }
 abbrev pub sound_plan : Plan → Plan
 sound_plan plan = plan_with plan.node no_room (map (sound_row plan.node) plan.rows) plan.dummies
 
--- a COB-ID rests on a value at fault: its own, or a word of an SDO channel, by which identifiers are free
+-- a COB-ID rests on a value at fault: its own, or a word of an SDO channel, by which identifiers
+-- are free
 abbrev pub rests_word : List Key → Key → Bool
 rests_word outside key = list_any (λ other. same_key other key || is_channel_key other) outside
 

@@ -30,7 +30,7 @@ use std::alloc::{AllocError, Global};
 pub struct BuildFaults {
     /// By the numbers of their kinds, and then by key; none is there twice.
     pub faults: Vec<BuildFault>,
-    /// Of each mapping among them its words and its count.
+    /// For each mapping among them the faults of its words and its count.
     pub mappings: Vec<MappingFault>,
 }
 
@@ -43,7 +43,7 @@ fn add_value_ranges(faults: &mut Vec<BuildFault>, outside: &[Key]) -> Result<(),
     Ok(())
 }
 
-// those of the parameters
+// adds the faults of the parameters
 fn add_parameter_faults<S: ObjectStore>(
     faults: &mut Vec<BuildFault>,
     store: &S,
@@ -60,7 +60,8 @@ fn add_parameter_faults<S: ObjectStore>(
     Ok(())
 }
 
-// the dictionary of rows of a sheet without the sums out of range, and without room for strings and domains
+// the dictionary of rows of a sheet without the sums out of range, and without room for strings and
+// domains
 fn sound_store<S: FromRows>(
     alloc: Global,
     node_id: u8,
@@ -118,14 +119,15 @@ fn find_in_rows<S: FromRows + Drop>(
     Ok(BuildFaults { faults, mappings })
 }
 
-/// All faults of the dictionary that a data sheet makes for a node-ID and limits (CiA 301, 7.4; CiA 306), where
-/// `co_dict_build::build_store` answers the first: each sum with `$NODEID` out of range, each COB-ID that its entry may
-/// not have, each PDO object without its partner, each mapping that can't be as it begins, with each of its words, and
-/// too many entries or too much room. Where the node-ID is none, that alone.
+/// All faults of the dictionary that a data sheet makes for a node-ID and limits (CiA 301, 7.4;
+/// CiA 306), where `co_dict_build::build_store` returns the first only: each sum with `$NODEID` out
+/// of range, each initial COB-ID that isn't allowed, each PDO object without its partner or an
+/// entry that it needs, each initial mapping that isn't allowed, with each of its words, and too
+/// many entries or too much room. If the node-ID isn't 1 to 127, that fault alone.
 ///
-/// Nothing is found that rests on a sum out of range: a mapping rests on its count and its words, a COB-ID on its word
-/// and on those of the SDO channels. `S` is the store that is made for the search. It fails out of memory, and none of
-/// the faults is `Memory`.
+/// No fault is reported that depends on a sum out of range: a mapping depends on its count and its
+/// words, a COB-ID on its word and on those of the SDO channels. `S` is the store that is made for
+/// the search. `Err`: out of memory; no fault in the list is `Memory`.
 pub fn find_build_faults<S: FromRows + Drop>(
     alloc: Global,
     sheet: &Sheet<'_>,

@@ -22,10 +22,10 @@ ghost use Rattle.co_dict_faults.specs.MappingReasons.{
   mapping_faults,
 };
 
-/// All faults of a dictionary against the first, which `co_dict_build::build_store` answers: it is the first of them,
-/// so there is none exactly where the dictionary can be built. Each is one by the definition of its kind. Those of a
-/// sheet, whose keys increase, are in increasing order, so none is there twice. This is a law: a call of it changes
-/// nothing.
+/// All faults of a dictionary against the one that `co_dict_build::build_store` returns: that one
+/// is the first of them, so there are none exactly if the dictionary can be built, given memory.
+/// Each is one by the definition of its kind. For the rows of a sheet, whose keys increase, they
+/// are in increasing order, so none is there twice. This is a law: a call of it changes nothing.
 pub fn all_build_faults()
     ensures first { (plan : Plan) → slice_get (build_faults_of plan) 0 ≡ build_fault plan }
     ensures each { (plan : Plan) (fault : Fault) → Contains (build_faults_of plan) fault →
@@ -34,9 +34,9 @@ pub fn all_build_faults()
         IsStrictlySortedBy build_cmp (build_faults_of plan) }
 {}
 
-/// A word of a mapping has a reason exactly where `co_dict` refuses it; a count other than 0 has faults exactly where
-/// it is refused while the PDO is not valid; and a mapping that a dictionary begins with has faults exactly where it
-/// can't be as it begins. This is a law: a call of it changes nothing.
+/// A word of a mapping has a reason exactly where `co_dict` refuses it; a count other than 0 has
+/// faults exactly where it is refused while the PDO is not valid; and an initial mapping has faults
+/// exactly where it isn't allowed. This is a law: a call of it changes nothing.
 pub fn mapping_reasons()
     ensures word { (side : Side) (d : Description) (word : ℕ) →
         is_some (word_reason side d word) ≡ is_some (word_refusal side d word) }

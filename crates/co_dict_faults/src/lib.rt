@@ -1,5 +1,5 @@
-//! All faults of the dictionary that a data sheet makes for a node-ID and limits, where `co_dict_build` answers the
-//! first.
+//! All faults of the dictionary that a data sheet makes for a node-ID and limits, where
+//! `co_dict_build` returns the first only.
 #![tactic(auto)]
 
 mod find;

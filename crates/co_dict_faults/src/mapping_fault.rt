@@ -1,13 +1,14 @@
-//! Why a mapping can't be as it begins.
+//! Why an initial mapping isn't allowed.
 
 use co_value::Key;
 
-/// Why a counted word of a mapping can't be mapped, or its count can't be (CiA 301, 7.5.2.36, 7.5.2.38).
+/// Why a counted word of a mapping can't be mapped, or its count can't be (CiA 301, 7.5.2.36,
+/// 7.5.2.38).
 #[derive(Clone, Copy, Debug, PartialEq, Eq)]
 pub enum MappingReason {
-    /// Of the count: no word is there at it or later, up to sub-index 64.
+    /// Of the count: no word is there at that sub-index or later, up to 64.
     CountsMore,
-    /// Of the count: the words map so many bits in all, more than 64.
+    /// Of the count: the words map this many bits in all, more than 64.
     TooLong(u16),
     /// The word is absent, and a later one is there.
     Missing,
@@ -23,16 +24,16 @@ pub enum MappingReason {
     BelowProfile,
     /// The entry's access is one with which an RPDO can't write it, or a TPDO can't read it.
     WrongAccess,
-    /// The length is 1 bit in place of 8, as of a BOOLEAN.
+    /// The length is 1 bit in place of 8, as for a BOOLEAN.
     OneBit,
-    /// Another length than that of the entry.
+    /// The length isn't that of the entry.
     WrongLength,
 }
 
 /// A fault of a mapping.
 #[derive(Clone, Copy, Debug, PartialEq, Eq)]
 pub struct MappingFault {
-    /// The word's entry; of the count sub-index 0.
+    /// The key of the word; for the count sub-index 0.
     pub key: Key,
     pub reason: MappingReason,
 }

@@ -38,7 +38,7 @@ fn add_reason(
     }
 }
 
-// those of the first words, up to 64
+// the faults of the first words, up to 64
 fn word_faults<S: ObjectStore>(
     alloc: Global,
     store: &S,
@@ -117,7 +117,7 @@ fn count_reason<S: ObjectStore>(
     }
 }
 
-// those of a mapping that counts so many words
+// the faults of a mapping that counts this many words
 fn counted_faults<S: ObjectStore>(
     alloc: Global,
     store: &S,
@@ -144,10 +144,10 @@ fn is_empty(faults: &[MappingFault]) -> bool
     }
 }
 
-/// Why the mapping of a PDO of a side can't be as it begins (CiA 301, 7.5.2.36, 7.5.2.38): each counted word that
-/// can't be mapped, in increasing sub-index, up to 64; then the count, if it is more than the words that are there,
-/// or if they can be mapped and map more than 64 bits in all. None where nothing is counted. On an `Err` memory ran
-/// out.
+/// Why the initial mapping of a PDO of a side isn't allowed (CiA 301, 7.5.2.36, 7.5.2.38): each
+/// counted word that can't be mapped, in increasing sub-index, up to 64; then the count, if it is
+/// more than the words that are there, or if they can be mapped and map more than 64 bits in all.
+/// No fault where nothing is counted. `Err`: out of memory.
 pub fn mapping_faults<S: ObjectStore>(
     alloc: Global,
     store: &S,

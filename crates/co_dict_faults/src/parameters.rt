@@ -31,7 +31,7 @@ fn is_word_found<S: ObjectStore>(store: &S, outside: &[Key], key: Key) -> bool
     !rests_word(outside, key) && is_bad_cob_id(store, key)
 }
 
-/// Each COB-ID word that its entry may not have (CiA 301, 7.5.2).
+/// Adds each initial COB-ID word that isn't allowed (CiA 301, 7.5.2).
 pub(crate) fn add_words<S: ObjectStore>(
     faults: &mut Vec<BuildFault>,
     store: &S,
@@ -50,7 +50,7 @@ pub(crate) fn add_words<S: ObjectStore>(
     Ok(())
 }
 
-/// A fault, where a condition is true.
+/// Adds a fault, if a condition is true.
 pub(crate) fn add_if(
     faults: &mut Vec<BuildFault>,
     condition: bool,
@@ -73,7 +73,8 @@ fn is_index(last: Option<u16>, index: u16) -> bool
     }
 }
 
-/// Each PDO object that has no partner, or is without an entry that a PDO needs (CiA 301, 7.5.2.35 to 7.5.2.38).
+/// Adds each PDO object that has no partner, or lacks an entry that a PDO needs (CiA 301, 7.5.2.35
+/// to 7.5.2.38).
 pub(crate) fn add_lone_objects<S: ObjectStore>(
     faults: &mut Vec<BuildFault>,
     store: &S,
@@ -100,7 +101,7 @@ fn is_mapping_found<S: ObjectStore>(store: &S, outside: &[Key], key: Key) -> boo
     !rests_mapping(outside, key.index) && is_bad_mapping(store, key)
 }
 
-/// Each mapping that can't be as it begins (CiA 301, 7.5.2.36, 7.5.2.38).
+/// Adds each initial mapping that isn't allowed (CiA 301, 7.5.2.36, 7.5.2.38).
 pub(crate) fn add_mappings<S: ObjectStore>(
     faults: &mut Vec<BuildFault>,
     store: &S,

@@ -46,7 +46,7 @@ fn sound_row<'a>(node_id: u8, row: &EntryRow<'a>) -> EntryRow<'a>
     EntryRow { default, ..*row }
 }
 
-/// The rows, where an entry with such a sum has no default.
+/// The rows, without the default of an entry with such a sum.
 pub(crate) fn sound_rows<'a>(
     alloc: Global,
     node_id: u8,

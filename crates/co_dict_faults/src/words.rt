@@ -18,7 +18,7 @@ use co_dict::{
 };
 use co_value::Key;
 
-// an entry that is there and may not be mapped on a side
+// why an entry that is there may not be mapped on a side
 fn row_reason(side: Side, index: u16, row: &Row) -> MappingReason
     ensures { result ≡ row_reason side index row.now }
 {
@@ -33,7 +33,7 @@ fn row_reason(side: Side, index: u16, row: &Row) -> MappingReason
     }
 }
 
-// what can't be mapped on a side
+// why nothing at a key may be mapped on a side
 fn unmapped_reason<S: ObjectStore>(store: &S, side: Side, key: Key) -> MappingReason
     ensures { result ≡ unmapped_reason side (S.description store.now) key }
 {
@@ -46,7 +46,7 @@ fn unmapped_reason<S: ObjectStore>(store: &S, side: Side, key: Key) -> MappingRe
     }
 }
 
-// a length that isn't that of what is mapped
+// why the length isn't that of what is mapped
 fn length_reason(width: u8, bits: u8) -> Option<MappingReason>
     requires { width ≤ 8 }
     ensures { result ≡ length_reason width bits }

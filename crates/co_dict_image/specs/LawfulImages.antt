@@ -33,7 +33,7 @@ bytes-drop zero bytes h = h
 bytes-drop (suc n) [] h = tt
 bytes-drop (suc n) (byte ∷ bytes) h = bytes-drop n bytes h.1
 
--- so many bytes from a place on, where they are within the list
+-- this many bytes from a place on, where they are within the list
 pub part_length : (size start : ℕ) (values : List ℕ) → start + size ≤ length values → length (take size (drop start values)) ≡ size
 part_length size start values h = length-take-le size (drop start values) (let rest = length-drop start values in omega arith)
 

@@ -27,7 +27,8 @@ are_lined at (slot ∷ slots) end = (slot.start == at) && are_lined (at + slot.r
 abbrev pub keys_of : List Slot → List Key
 keys_of slots = map (λ (slot : Slot). slot.key) slots
 
--- bytes were put into the room of a slot: the values beside them are as before, and the slot has so many bytes
+-- bytes were put into the room of a slot: the other values are as before, and the slot's size is
+-- the number of bytes
 pub record IsFilled (old : Slot) (before bytes : List ℕ) (new : Slot) (after : List ℕ) : Type 0 where
   pub values : after ≡ with_range before old.start bytes
   pub len : length after ≡ length before

@@ -22,9 +22,10 @@ use co_value::Key;
 use std::alloc::{AllocError, Global};
 use std::boxed::BoxedSlice;
 
-/// An object dictionary as an image: the values of all entries in one piece of memory, each with room for its capacity,
-/// and the initial ones in a second, at the same places. An entry is found by a table of hashed keys, or by its place
-/// without a search. All memory is asked for by the build: a boxed slice never grows.
+/// An object dictionary as an image: the values of all entries in one piece of memory, each with
+/// room for its capacity, and the initial ones in a second, at the same places. An entry is found
+/// by a table of hashed keys, or by its place without a search. All memory is allocated by the
+/// build: a boxed slice never grows.
 #[derive(Drop)]
 pub struct ImageStore {
     node_id: u8,
@@ -219,12 +220,12 @@ impl FromRows for ImageStore {
 }
 
 impl ImageStore {
-    /// The dictionary that a data sheet makes for a node-ID and limits, with its initial bytes (CiA 301, 7.4; CiA 306):
-    /// each row of the sheet becomes an entry, `$NODEID` the node-ID.
+    /// The dictionary that a data sheet makes for a node-ID and limits, with its initial bytes
+    /// (CiA 301, 7.4; CiA 306): each row of the sheet becomes an entry, `$NODEID` the node-ID.
     ///
-    /// Of the faults that apply the one with the smallest number is answered, and of those with one number the one
-    /// with the smallest key. `Memory` may come in place of those from `BadCobId` on: nothing asks for memory before
-    /// the node-ID and the sums with `$NODEID` were looked at.
+    /// If several faults apply, the one with the smallest number is returned, and of several with
+    /// that number the one with the smallest key. `Memory` may come in place of any fault but
+    /// `NodeId` and `ValueRange`: these are found before anything is allocated.
     pub fn build(
         alloc: Global,
         sheet: &Sheet<'_>,

@@ -11,7 +11,8 @@ use indexmap::IndexSet;
 use std::alloc::{AllocError, Global};
 use std::marker::Model;
 
-/// The keys of slots, numbered in their order, in a table of hashed keys. No method changes it, so that it never grows.
+/// The keys of slots, numbered in their order, in a table of hashed keys. No method changes it, so
+/// that it never grows.
 #[derive(Drop)]
 pub(crate) struct KeyNumbers {
     keys: IndexSet<Key>,
@@ -27,7 +28,7 @@ impl Model for KeyNumbers {
 }
 
 impl KeyNumbers {
-    /// Those of these slots. `AllocError` where there is no memory.
+    /// The keys of these slots, numbered. `AllocError`: out of memory.
     pub(crate) fn of(alloc: Global, slots: &[Slot]) -> Result<KeyNumbers, AllocError>
         requires { are_increasing (keys_of slots.now) ≡ true }
         ensures { IfOk result (λ numbers. numbers ≡ keys_of slots.now) }

@@ -1,4 +1,5 @@
-//! The object dictionary as one image: all values in one piece of memory, and the initial ones in a second.
+//! The object dictionary as one image: all values in one piece of memory, and the initial ones in a
+//! second.
 #![tactic(auto)]
 
 mod image;

@@ -11,7 +11,8 @@ use co_dict::Row;
 use co_dict_build::StoredEntry;
 use co_value::Key;
 
-/// An entry without its bytes: where its room is in the image, and how many of the bytes there are its own.
+/// An entry without its bytes: where its room is in the image, and how many of the bytes there are
+/// its own.
 #[derive(Drop)]
 pub(crate) struct Slot {
     /// Where its room begins: as many bytes as its capacity, in the values as in the initial bytes.
@@ -32,7 +33,8 @@ pub(crate) struct Slot {
     ghost initially: { fits row initial_size ≡ true },
 }
 
-/// Copies bytes to as many others. One byte, as most entries that are mapped into PDOs have, needs no call.
+/// Copies bytes to as many others. A single byte, as most entries that are mapped into PDOs have,
+/// is copied without a call.
 #[inline(always)]
 fn copy(to: &mut [u8], from: &[u8])
     requires { length to.old ≡ length from.now }
@@ -45,7 +47,7 @@ fn copy(to: &mut [u8], from: &[u8])
     }
 }
 
-/// Copies bytes to as many others. Those of most numbers are moved at once, without a call of a copy.
+/// Copies bytes to as many others. The widths of most numbers, 2, 4 and 8 bytes, are moved at once.
 #[inline(never)]
 fn copy_more(to: &mut [u8], from: &[u8])
     requires { length to.old ≡ length from.now }
@@ -62,7 +64,8 @@ fn copy_more(to: &mut [u8], from: &[u8])
 impl Slot {
     ghost use Rattle.co_dict_image.specs.Slots.{IsFilled};
 
-    /// The slot of an entry, of which its bytes are the initial ones, with its room from `start` on.
+    /// The slot of an entry, of which its bytes are the initial ones, with its room from `start`
+    /// on.
     pub(crate) fn new(entry: &StoredEntry, start: usize) -> Slot
         ensures key { result.key ≡ (entry_view entry.now).key }
         ensures row { result.row ≡ (entry_view entry.now).row }

@@ -16,7 +16,8 @@ use co_sheet::{EntryRow, Sheet};
 use co_value::Key;
 use std::alloc::{AllocError, Global};
 
-/// An object dictionary as a list of its entries in increasing key. An entry is found by binary search.
+/// An object dictionary as a list of its entries in increasing key. An entry is found by binary
+/// search.
 #[derive(Drop)]
 pub struct ListStore {
     node_id: u8,
@@ -152,12 +153,12 @@ impl FromRows for ListStore {
 }
 
 impl ListStore {
-    /// The dictionary that a data sheet makes for a node-ID and limits, with its initial bytes (CiA 301, 7.4; CiA 306):
-    /// each row of the sheet becomes an entry, `$NODEID` the node-ID.
+    /// The dictionary that a data sheet makes for a node-ID and limits, with its initial bytes
+    /// (CiA 301, 7.4; CiA 306): each row of the sheet becomes an entry, `$NODEID` the node-ID.
     ///
-    /// Of the faults that apply the one with the smallest number is answered, and of those with one number the one
-    /// with the smallest key. `Memory` may come in place of those from `BadCobId` on: nothing asks for memory before
-    /// the node-ID and the sums with `$NODEID` were looked at.
+    /// If several faults apply, the one with the smallest number is returned, and of several with
+    /// that number the one with the smallest key. `Memory` may come in place of any fault but
+    /// `NodeId` and `ValueRange`: these are found before anything is allocated.
     pub fn build(
         alloc: Global,
         sheet: &Sheet<'_>,

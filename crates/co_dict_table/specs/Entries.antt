@@ -9,7 +9,8 @@ use Rattle.co_sheet.specs.Content.{Row as SheetRow}
 use Rattle.co_dict_build.specs.Capacities.{Limits, capacity_of}
 use Rattle.co_dict_table.specs.declared.table.EntryFacts.{EntryFacts}
 
--- the number of an original type's code, as it is written: REAL32, UNICODE_STRING, TIME_OF_DAY, TIME_DIFFERENCE, REAL64
+-- the number of an original type's code, as it is written: REAL32, UNICODE_STRING, TIME_OF_DAY,
+-- TIME_DIFFERENCE, REAL64
 abbrev pub code_written : List ℕ → ℕ
 code_written text =
     if bytes_eq text (codes "0x0008") then 0x08
@@ -22,7 +23,8 @@ code_written text =
 abbrev pub code_or : Option (List ℕ) → DataType → ℕ
 code_or original t = option_map_or code_written original (code_of t)
 
--- what the row of a sheet says of an entry, whose original types by section lines, and whose limits, are these
+-- what the row of a sheet says of an entry, with these original types by section line, and these
+-- limits
 abbrev pub facts_of_row : (ℕ → Option (List ℕ)) → Limits → SheetRow → EntryFacts
 facts_of_row originals limits row = record {
   key = row.key;
@@ -41,7 +43,7 @@ abbrev pub content_of_row : (ℕ → Option (List ℕ)) → Limits → SheetRow 
 content_of_row originals limits row =
     record { facts = facts_of_row originals limits row; name = unwrap_or row.name [] }
 
--- those of all rows, in their order, which is that of the keys
+-- the entries of all rows, in their order, which is that of the keys
 abbrev pub contents_of_rows : (ℕ → Option (List ℕ)) → Limits → List SheetRow → List EntryContent
 contents_of_rows originals limits rows = map (content_of_row originals limits) rows
 

@@ -13,11 +13,11 @@ pub record Known : Type 0 where
 abbrev pub blank_of : EntryContent → Known
 blank_of e = record { capacity = e.facts.capacity; bytes = [] }
 
--- nor of that of a line
+-- nothing is known of the entry of a line
 abbrev pub blank_line : Line → Known
 blank_line l = record { capacity = l.facts.capacity; bytes = [] }
 
--- of a room are known the first bytes
+-- the bytes that are known of a room are its first ones
 abbrev pub known_at : List ℕ → Room → Known
 known_at bytes room = record { capacity = room.capacity; bytes = take room.size (drop room.start bytes) }
 
@@ -29,18 +29,18 @@ abbrev pub AreLined : ℕ → List Room → ℕ → Type 0
 AreLined at [] end = at ≡ end
 AreLined at (room ∷ rooms) end = (room.start ≡ at) × (room.size ≤ room.capacity) × AreLined (at + room.capacity) rooms end
 
--- a list, from a place on over-written with others
+-- a list, overwritten with others from a place on
 abbrev pub with_range : List ℕ → ℕ → List ℕ → List ℕ
 with_range values start bytes = take start values ++ bytes ++ drop (start + length bytes) values
 
--- bytes are over-written with others from a place on, and are as before on both sides
+-- bytes are overwritten with others from a place on, and are as before on both sides
 pub record IsWritten (before : List ℕ) (start : ℕ) (over after : List ℕ) : Type 0 where
   pub len : length after ≡ length before
   pub inside : take (length over) (drop start after) ≡ over
   pub below : (size from : ℕ) → from + size ≤ start → take size (drop from after) ≡ take size (drop from before)
   pub past : (from : ℕ) → start + length over ≤ from → drop from after ≡ drop from before
 
--- of the entry with a number these bytes are known, as many of them as it has room for
+-- the bytes that are known of an entry are set, as many of them as it has room for
 abbrev pub and_known : Known → List ℕ → Known
 and_known k bytes = record { capacity = k.capacity; bytes = take k.capacity bytes }
 

@@ -4,14 +4,15 @@ use Rattle.co_dict_table.specs.declared.table.Line.{Line}
 use Rattle.co_dict_table.specs.declared.table.DescribedEntry.{DescribedEntry}
 use Rattle.co_dict_table.specs.Entries.{EntryContent}
 
--- the entry of a line: its name is as many of the names as the line says, from where it says
+-- the entry of a line: its name is the part of the names that begins at `start` and has `size`
+-- bytes
 abbrev pub in_line : List ℕ → Line → EntryContent
 in_line names l = record { facts = l.facts; name = take l.size (drop l.start names) }
 
 abbrev pub in_table : List ℕ → List Line → List EntryContent
 in_table names lines = map (in_line names) lines
 
--- each name is within so many bytes
+-- each name is within this many bytes
 abbrev pub AreWithin : ℕ → List Line → Type 0
 AreWithin size lines = All (λ l. l.start + l.size ≤ size) lines
 

@@ -22,8 +22,8 @@ pub(crate) struct Room {
     size: u16,
 }
 
-/// The bytes that are known of entries, by number, each within as much room as its entry has, one after another in one piece of
-/// memory. Contracts see the list of both.
+/// The bytes that are known of entries, by number, in one piece of memory: each entry has room for
+/// its capacity. Contracts see the list of capacities and known bytes.
 #[derive(Drop)]
 pub struct KnownBytes {
     rooms: BoxedSlice<Room>,
@@ -44,7 +44,7 @@ impl Model for KnownBytes {
 }
 
 impl KnownBytes {
-    // Of the entries of lines, of which nothing is known yet.
+    // Room for the entries of lines, of which nothing is known yet. `Err`: out of memory.
     pub(crate) fn of_lines(alloc: Global, lines: &[Line]) -> Result<KnownBytes, AllocError>
         ensures { IfOk result (λ known. known ≡ map blank_line lines.now) }
     {
@@ -59,7 +59,7 @@ impl KnownBytes {
         })
     }
 
-    /// The bytes that are known of the entry with a number; `None` where there are not so many.
+    /// The bytes that are known of the entry with a number; `None` where there is no such entry.
     pub fn get(&self, number: usize) -> Option<&[u8]>
         ensures { option_map (λ bytes. bytes.now) result
             ≡ option_map (λ k. k.bytes) (slice_get self.now number) }
@@ -67,8 +67,8 @@ impl KnownBytes {
         bytes_of(&self.rooms, &self.bytes, number)
     }
 
-    /// From now on these bytes are known of the entry with a number, as many of them as it has room for; where there are not so
-    /// many entries nothing changes.
+    /// Sets the bytes that are known of the entry with a number, as many of them as it has room
+    /// for; where there is no such entry nothing changes.
     #[tactic(auto, using(crate::proofs::Rooms::known_past))]
     pub fn set(&mut self, number: usize, bytes: &[u8])
         ensures { self.new ≡ with_known self.old number bytes.now }
@@ -79,7 +79,7 @@ impl KnownBytes {
     }
 }
 
-// Bytes are known in the room with a number, as many of them as there is room for.
+// Sets the bytes that are known of the room with a number, as many of them as it has room for.
 fn put(rooms: &mut [Room], bytes: &mut [u8], number: usize, over: &[u8])
     requires within { number < length rooms.old }
     requires lined { AreLined 0 rooms.old (length bytes.old) }
@@ -103,7 +103,7 @@ fn put(rooms: &mut [Room], bytes: &mut [u8], number: usize, over: &[u8])
     };
 }
 
-// One more room after the others, of which nothing is known.
+// Appends a room of which nothing is known.
 fn append(line: &Line, rooms: &mut Vec<Room>, bytes: &mut Vec<u8>) -> Result<(), AllocError>
     requires { AreLined 0 rooms.old.items (length bytes.old.items) }
     ensures known { IfOk result (λ _. known_in bytes.new.items rooms.new.items
@@ -120,7 +120,7 @@ fn append(line: &Line, rooms: &mut Vec<Room>, bytes: &mut Vec<u8>) -> Result<(),
     Ok(())
 }
 
-// Bytes over others, from a place on.
+// Overwrites bytes from a place on.
 fn write(bytes: &mut [u8], start: usize, over: &[u8])
     requires { start + length over.now ≤ length bytes.old }
     ensures { bytes.new ≡ with_range bytes.old start over.now }
@@ -138,7 +138,7 @@ fn bytes_in<'a>(room: &Room, bytes: &'a [u8]) -> &'a [u8]
     &bytes[room.start..end]
 }
 
-// Those of the room with a number.
+// The bytes that are known of the room with a number.
 fn bytes_of<'a>(rooms: &[Room], bytes: &'a [u8], number: usize) -> Option<&'a [u8]>
     requires { AreLined 0 rooms.now (length bytes.now) }
     ensures { option_map (λ known. known.now) result

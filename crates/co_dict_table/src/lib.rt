@@ -1,4 +1,5 @@
-//! What a data sheet says of the entries of a device, in a table that outlives the sheet's text, and bytes that are known of them.
+//! What a data sheet says of the entries of a device, in a table that outlives the sheet's text,
+//! and the bytes that are known of them.
 #![tactic(auto)]
 
 mod known;

@@ -44,7 +44,8 @@ pub struct EntryFacts {
     pub key: Key,
     pub data_type: DataType,
     pub access: Access,
-    /// The code of its original data type (CiA 301, 7.4.7.1), where the sheet was adapted and says so; else that of its data type.
+    /// The code of its original data type (CiA 301, 7.4.7.1), where the sheet was adapted and says
+    /// so; else that of its data type.
     pub original: u16,
     /// How many bytes it has room for.
     pub capacity: u16,
@@ -65,8 +66,8 @@ pub struct DescribedEntry<'a> {
     pub name: &'a [u8],
 }
 
-/// What a data sheet says of all entries, in increasing key, with their names one after another in one piece of memory.
-/// Contracts see it as the list of the entries.
+/// What a data sheet says of all entries, in increasing key, with their names one after another in
+/// one piece of memory. Contracts see it as the list of the entries.
 #[derive(Drop)]
 pub struct EntryTable {
     lines: BoxedSlice<Line>,
@@ -88,7 +89,8 @@ impl Model for EntryTable {
 }
 
 impl EntryTable {
-    /// The entries of the rows of a text, which are ready, in their order. `AllocError` where there is no memory.
+    /// The entries of the rows of a text, in their order; each row must be ready to become an
+    /// entry. `AllocError`: out of memory.
     #[tactic(auto, using(crate::proofs::Appended::same_originals))]
     pub fn of(
         alloc: Global,
@@ -130,7 +132,7 @@ impl EntryTable {
         })
     }
 
-    /// Room for the bytes of all entries, of which none is known yet. `AllocError` where there is no memory.
+    /// Room for the bytes of all entries, of which none is known yet. `AllocError`: out of memory.
     #[tactic(auto, using(crate::proofs::Rooms::blank_entries))]
     pub fn known_bytes(&self, alloc: Global) -> Result<KnownBytes, AllocError>
         ensures { IfOk result (λ known. known ≡ map blank_of self.now) }
@@ -145,7 +147,7 @@ impl EntryTable {
         self.lines.len()
     }
 
-    /// The entry with a number, from 0 on; `None` where there are not so many.
+    /// The entry with a number, from 0 on; `None` where there is no such entry.
     pub fn get(&self, number: usize) -> Option<DescribedEntry<'_>>
         ensures { option_map described_view result ≡ entry_at self.now number }
     {
@@ -171,7 +173,7 @@ fn name_of<'a>(line: &Line, names: &'a [u8]) -> &'a [u8]
     &names[start..end]
 }
 
-// The entry of the line with a number, if there are so many.
+// The entry of the line with a number, if there is such a line.
 fn entry_of_line<'a>(lines: &[Line], names: &'a [u8], number: usize) -> Option<DescribedEntry<'a>>
     requires { AreWithin (length names.now) lines.now }
     ensures { option_map described_view result ≡ entry_at (in_table names.now lines.now) number }
@@ -225,7 +227,8 @@ fn facts_of(
     })
 }
 
-// Appends a line, and its name. No text of a sheet is so large that a name doesn't fit a line.
+// Appends a line, and its name. `AllocError`: out of memory. A name whose start has more than
+// 32 bits, or its size more than 16, is refused too; no text of a sheet is so large.
 fn append(
     facts: EntryFacts,
     name: &[u8],

@@ -6,7 +6,8 @@ use Rattle.co_frame.specs.declared.block_segment.BlockSegment.{BlockSegment}
 abbrev pub IsBlockSegment : BlockSegment → Type 0
 IsBlockSegment segment = (1 ≤ segment.sequence) × (segment.sequence < 128)
 
--- eight bytes: c in bit 7 of the first and the sequence number, which is not 0, in its bits 6..0, then seven bytes of data
+-- eight bytes: c in bit 7 of the first and the sequence number, which is not 0, in its bits 6..0,
+-- then seven bytes of data
 pub record SpellsBlockSegment (segment : BlockSegment) (bytes : List ℕ) : Type 0 where
   pub length : length bytes ≡ 8
   pub last : segment.last ≡ (slice_index bytes 0 / 128 == 1)
@@ -26,6 +27,7 @@ block_segment_in bytes =
     then Some (record { last = first / 128 == 1; sequence = first % 128; bytes = drop 1 bytes })
     else None
 
--- an abort inside a sub-block: eight bytes of which the first is 80h (81h to 9Fh, which otherwise read as an abort, are segments there)
+-- an abort inside a sub-block: eight bytes of which the first is 80h (81h to 9Fh, which otherwise
+-- read as an abort, are segments there)
 abbrev pub is_abort_in_sub_block : List ℕ → Bool
 is_abort_in_sub_block bytes = (length bytes == 8) && (slice_index bytes 0 == 0x80)

@@ -1,4 +1,5 @@
--- The client command specifiers, ccs, in bits 7 to 5 of a request's command byte (CiA 301, 7.2.4.3).
+-- The client command specifiers, ccs, in bits 7 to 5 of a request's command byte
+-- (CiA 301, 7.2.4.3).
 use Rattle.std.specs.Prelude.{ℕ}
 
 -- download SDO segment

@@ -3,7 +3,8 @@ use Rattle.std.specs.Prelude.{◌≡◌, ◌==◌, ℕ, if◌then◌else◌, Opt
 use Rattle.co_value.specs.Numbers.{unsigned_of, low_bytes}
 use Rattle.co_frame.specs.declared.emergency.Emergency.{Emergency}
 
--- eight bytes: the emergency error code, its low byte first, the error register, and five of the manufacturer's
+-- eight bytes: the emergency error code, its low byte first, the error register, and five of the
+-- manufacturer's
 pub record SpellsEmergency (emergency : Emergency) (bytes : List ℕ) : Type 0 where
   pub length : length bytes ≡ 8
   pub code : emergency.code ≡ unsigned_of (take 2 bytes)

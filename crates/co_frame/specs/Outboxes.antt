@@ -7,6 +7,6 @@ use Rattle.co_frame.specs.FrameContent.{FrameContent}
 abbrev pub outbox_room : ℕ
 outbox_room = 514
 
--- an outbox has room for so many frames more
+-- an outbox has room for this many more frames
 abbrev pub HasRoomFor : ℕ → ArrayVec FrameContent → Type 0
 HasRoomFor frames outbox = array_vec_len outbox + frames ≤ outbox_room

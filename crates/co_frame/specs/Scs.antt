@@ -1,4 +1,5 @@
--- The server command specifiers, scs, in bits 7 to 5 of a response's command byte (CiA 301, 7.2.4.3).
+-- The server command specifiers, scs, in bits 7 to 5 of a response's command byte
+-- (CiA 301, 7.2.4.3).
 use Rattle.std.specs.Prelude.{ℕ}
 
 -- upload SDO segment

@@ -1,4 +1,5 @@
--- The forms that rows of both tables of SDO services share (CiA 301, 7.2.4.3): what spells them, what bytes say, and how they are written.
+-- The forms that rows of both tables of SDO services share (CiA 301, 7.2.4.3): what spells them,
+-- what bytes say, and how they are written.
 use Rattle.std.specs.Prelude.{◌≡◌, ℕ, ◌+◌, ◌-◌, ◌*◌, ◌≤◌, Bool, true, false, if◌then◌else◌, Option, Some, None, List, ◌∷◌, ◌++◌, length, slice_index, take, drop, replicate}
 use Rattle.arrayvec.specs.ArrayVec.{ArrayVec}
 use Rattle.co_value.specs.declared.key.Key.{Key}
@@ -10,17 +11,20 @@ use Rattle.co_frame.specs.Ccs as ccs
 use Rattle.co_frame.specs.Subcommands as subcommands
 use Rattle.co_frame.specs.SdoFields.{command_with, has_bit, unused_of_segment, unused_of_expedited, unused_of_end, key_in, number_in, key_bytes, weight, padded}
 
--- expedited data: bit 1 (e) is set; where bit 0 (s) is, bits 3 to 2 (n) are the unused ones of the four data bytes
+-- expedited data: bit 1 (e) is set; where bit 0 (s) is, bits 3 to 2 (n) are the unused ones of the
+-- four data bytes
 abbrev pub SpellsExpedited : Key → ExpeditedData → List ℕ → Type 0
 SpellsExpedited key (Indicated counted) bytes = (has_bit 1 bytes ≡ true) × (has_bit 0 bytes ≡ true) × (key ≡ key_in bytes) × (counted.items ≡ take (4 - unused_of_expedited bytes) (drop 4 bytes))
 SpellsExpedited key (NotIndicated four) bytes = (has_bit 1 bytes ≡ true) × (has_bit 0 bytes ≡ false) × (key ≡ key_in bytes) × (four ≡ drop 4 bytes)
 
--- initiate of a segmented transfer: bit 1 (e) is clear; where bit 0 (s) is set, the data bytes are the size
+-- initiate of a segmented transfer: bit 1 (e) is clear; where bit 0 (s) is set, the data bytes are
+-- the size
 abbrev pub SpellsInitiate : Key → Option ℕ → List ℕ → Type 0
 SpellsInitiate key (Some size) bytes = (has_bit 1 bytes ≡ false) × (has_bit 0 bytes ≡ true) × (key ≡ key_in bytes) × (size ≡ number_in bytes)
 SpellsInitiate key None bytes = (has_bit 1 bytes ≡ false) × (has_bit 0 bytes ≡ false) × (key ≡ key_in bytes)
 
--- a segment: bit 4 is the toggle, bits 3 to 1 (n) the unused ones of the seven data bytes, bit 0 (c) marks the last
+-- a segment: bit 4 is the toggle, bits 3 to 1 (n) the unused ones of the seven data bytes, bit 0
+-- (c) marks the last
 abbrev pub SpellsSegment : Bool → ArrayVec ℕ → Bool → List ℕ → Type 0
 SpellsSegment toggle segment last bytes = (toggle ≡ has_bit 4 bytes) × (segment.items ≡ take (7 - unused_of_segment bytes) (drop 1 bytes)) × (last ≡ has_bit 0 bytes)
 
@@ -33,11 +37,13 @@ abbrev pub SpellsBlockInitiate : Key → Option ℕ → List ℕ → Type 0
 SpellsBlockInitiate key (Some size) bytes = (has_bit 0 bytes ≡ false) × (has_bit 1 bytes ≡ true) × (key ≡ key_in bytes) × (size ≡ number_in bytes)
 SpellsBlockInitiate key None bytes = (has_bit 0 bytes ≡ false) × (has_bit 1 bytes ≡ false) × (key ≡ key_in bytes)
 
--- the end of a block transfer: bit 0 is set, bits 4 to 2 (n) are the unused bytes of the last segment
+-- the end of a block transfer: bit 0 is set, bits 4 to 2 (n) are the unused bytes of the last
+-- segment
 abbrev pub SpellsBlockEnd : ℕ → List ℕ → Type 0
 SpellsBlockEnd unused bytes = (has_bit 0 bytes ≡ true) × (unused ≡ unused_of_end bytes)
 
--- the acknowledgement of a sub-block: byte 1 is the sequence number of the last segment taken, byte 2 the next sub-block's size
+-- the acknowledgement of a sub-block: byte 1 is the sequence number of the last segment taken,
+-- byte 2 the next sub-block's size
 abbrev pub SpellsAcknowledge : ℕ → ℕ → List ℕ → Type 0
 SpellsAcknowledge sequence block_size bytes = (sequence ≡ slice_index bytes 1) × (block_size ≡ slice_index bytes 2)
 
@@ -105,7 +111,8 @@ bare_bytes command = command ∷ replicate 7 0
 
 -- ---- what can be written
 
--- expedited data of which the size is indicated isn't empty; it has at most the four bytes that there is room for
+-- expedited data of which the size is indicated isn't empty; it has at most the four bytes that
+-- there is room for
 abbrev pub IsExpeditedData : ExpeditedData → Type 0
 IsExpeditedData (Indicated counted) = 1 ≤ length counted.items
 IsExpeditedData (NotIndicated four) = Unit {0}

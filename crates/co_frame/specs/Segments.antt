@@ -5,7 +5,7 @@ use Rattle.co_frame.specs.SegmentSizes.{bytes_per_segment}
 use Rattle.co_frame.specs.SdoFields.{padded}
 use Rattle.co_frame.specs.declared.block_segment.BlockSegment.{BlockSegment}
 
--- the toggle of the segment after so many
+-- the toggle bit of a segment after this many others
 abbrev pub is_odd : ℕ → Bool
 is_odd n = n % 2 == 1
 
@@ -14,20 +14,21 @@ abbrev pub same_bool : Bool → Bool → Bool
 same_bool true b = b
 same_bool false b = not b
 
--- seven of the bytes, fewer at their end: those after so many segments
+-- the bytes of the segment after `count` others: seven, or fewer at the end
 abbrev pub part_after : ℕ → List ℕ → List ℕ
 part_after count bytes = take bytes_per_segment (drop (bytes_per_segment * count) bytes)
 
 -- ---- in blocks
 
--- how many segments so many bytes have: one for each seven or fewer, and one where there are none
+-- the number of segments for a number of bytes: seven bytes each, and one segment where there are
+-- none
 abbrev pub segments_for : ℕ → ℕ
 segments_for size = max 1 ((size + 6) / bytes_per_segment)
 
 abbrev pub segment_count : List ℕ → ℕ
 segment_count bytes = segments_for (length bytes)
 
--- segment `number` of a sub-block that begins after so many segments; unused bytes are 0
+-- segment `number` of a sub-block that begins after `position` segments; unused bytes are 0
 abbrev pub block_segment : List ℕ → ℕ → ℕ → BlockSegment
 block_segment bytes position number = record {
   last = position + number == segment_count bytes;
@@ -35,7 +36,8 @@ block_segment bytes position number = record {
   bytes = padded bytes_per_segment (part_after (position + number - 1) bytes);
 }
 
--- how many segments a sub-block has after so many: as many as it may have, or as are left
+-- the number of segments of a sub-block that begins after `position` segments: its block size, or
+-- what is left
 abbrev pub sub_block_length : List ℕ → ℕ → ℕ → ℕ
 sub_block_length bytes position size = min size (segment_count bytes - position)
 

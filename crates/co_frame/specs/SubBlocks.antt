@@ -25,12 +25,12 @@ abbrev pub and_segment : Option BlockSegment → List BlockSegment → List Bloc
 and_segment None taken = taken
 and_segment (Some segment) taken = segment ∷ taken
 
--- the segments taken of one sub-block's frames
+-- the segments taken from one sub-block's frames
 abbrev pub taken_segments : List (List ℕ) → List BlockSegment
 taken_segments [] = []
 taken_segments (frame ∷ older) = and_segment (segment_taken (length (taken_segments older)) (block_segment_in frame)) (taken_segments older)
 
--- the segment that is taken of a frame after those of a block transfer, if it is one
+-- the segment taken from the next frame of a block transfer, if one is
 abbrev pub taken_after : List (List ℕ) → List ℕ → Option BlockSegment
 taken_after older frame = segment_taken (length (taken_segments (sub_block older))) (block_segment_in frame)
 
@@ -39,7 +39,7 @@ abbrev pub bytes_taken : Option BlockSegment → List ℕ
 bytes_taken None = []
 bytes_taken (Some segment) = segment.bytes
 
--- it is the last segment of the transfer
+-- whether the last segment of the transfer was taken
 abbrev pub is_last_taken : Option BlockSegment → Bool
 is_last_taken None = false
 is_last_taken (Some segment) = segment.last

@@ -1,4 +1,5 @@
--- The subcommands of a block transfer, cs of a client and ss of a server (CiA 301, 7.2.4.3.9 to 7.2.4.3.15).
+-- The subcommands of a block transfer, cs of a client and ss of a server (CiA 301, 7.2.4.3.9 to
+-- 7.2.4.3.15).
 use Rattle.std.specs.Prelude.{ℕ}
 
 -- initiate the transfer

@@ -4,7 +4,7 @@ ghost use Rattle.std.specs.Prelude.{◌≡◌};
 ghost use Rattle.co_frame.specs.AbortCodes as codes;
 
 /// An abort code of the SDO protocol (CiA 301, 7.2.4.3.17). Any number may come in a frame.
-#[derive(Clone, Copy, Debug, PartialEq, Eq, Hash)]
+#[derive(Clone, Copy, Debug, PartialEq, Eq)]
 pub struct AbortCode(pub u32);
 
 impl AbortCode {
@@ -24,7 +24,7 @@ impl AbortCode {
     pub const WRITE_ONLY: AbortCode = AbortCode(0x0601_0001);
     /// The object can't be written: it is read only.
     pub const READ_ONLY: AbortCode = AbortCode(0x0601_0002);
-    /// There is no object of the index.
+    /// There is no object at this index.
     pub const OBJECT_MISSING: AbortCode = AbortCode(0x0602_0000);
     /// The object can't be mapped to the PDO.
     pub const NOT_MAPPABLE: AbortCode = AbortCode(0x0604_0041);
@@ -44,14 +44,15 @@ impl AbortCode {
     pub const ABOVE_HIGH_LIMIT: AbortCode = AbortCode(0x0609_0031);
     /// The value is below the low limit.
     pub const BELOW_LOW_LIMIT: AbortCode = AbortCode(0x0609_0032);
-    /// The value can't be stored by the application.
+    /// The value can't be transferred to the application, or stored by it.
     pub const NOT_STORABLE: AbortCode = AbortCode(0x0800_0020);
     /// The value can't be stored in the device's present state.
     pub const NOT_IN_THIS_STATE: AbortCode = AbortCode(0x0800_0022);
-    /// No value is there to be read.
+    /// There is no value to be read.
     pub const NO_VALUE: AbortCode = AbortCode(0x0800_0024);
 
-    /// Each constant is the number that the standard gives it. This is a law: a call of it changes nothing.
+    /// Each constant is the number that the standard gives it. This is a law: a call of it changes
+    /// nothing.
     pub fn numbers()
         ensures toggle_not_alternated { AbortCode.TOGGLE_NOT_ALTERNATED.0
             ≡ codes.toggle_not_alternated }

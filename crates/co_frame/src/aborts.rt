@@ -18,9 +18,10 @@ ghost use Rattle.co_frame.specs.SdoResponses.{response_in, response_bytes, IsAbo
 use crate::frame::Frame;
 
 impl Frame {
-    /// Whether the frame is an abort where segments of a block transfer are awaited: eight bytes, of which the
-    /// first is 80h (CiA 301, 7.2.4.3.10 and 7.2.4.3.17). There 81h to 9Fh begin segments, though `SdoRequest::read`
-    /// and `SdoResponse::read` give an abort for them too.
+    /// Whether the frame is an abort inside a sub-block, where segments of a block transfer are
+    /// expected: eight bytes, the first 80h (CiA 301, 7.2.4.3.10 and 7.2.4.3.17). A first byte 81h
+    /// to 9Fh is that of a segment there, though `SdoRequest::read` and `SdoResponse::read` return
+    /// an abort for it.
     pub fn is_abort_in_sub_block(&self) -> bool
         ensures { result ≡ is_abort_in_sub_block self.now.bytes }
     {
@@ -29,8 +30,8 @@ impl Frame {
     }
 }
 
-/// Byte 0 of what is written is 80h exactly for an abort, of a client and of a server, and never for a segment
-/// of a block transfer. This is a law: a call of it changes nothing.
+/// Byte 0 of what is written is 80h exactly for an abort, of a client and of a server, and never
+/// for a segment of a block transfer. This is a law: a call of it changes nothing.
 pub fn abort_byte()
     ensures requests { (request : SdoRequest)
         → (slice_index (request_bytes request) 0 ≡ 0x80) ↔ IsAbortRequest request }

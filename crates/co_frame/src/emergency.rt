@@ -6,8 +6,8 @@ ghost use Rattle.co_frame.specs.Emergencies.{SpellsEmergency, emergency_bytes, e
 use crate::frame::Frame;
 use byteorder::{ByteOrder, LittleEndian};
 
-/// An emergency: an error that a node reports, or the end of errors (CiA 301, 7.2.7).
-#[derive(Clone, Copy, Debug, PartialEq, Eq, Hash)]
+/// An EMCY message: a node reports an error, or that errors have ended (CiA 301, 7.2.7).
+#[derive(Clone, Copy, Debug, PartialEq, Eq)]
 pub struct Emergency {
     /// The emergency error code; 0000h for errors that have ended.
     pub code: u16,

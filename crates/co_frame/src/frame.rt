@@ -9,7 +9,7 @@ use std::fmt;
 use std::marker::Model;
 
 /// Why a frame can't be made.
-#[derive(Clone, Copy, Debug, PartialEq, Eq, Hash)]
+#[derive(Clone, Copy, Debug, PartialEq, Eq)]
 pub enum FrameFault {
     /// The identifier is above 7FFh.
     BadId = 1,
@@ -44,9 +44,10 @@ impl fmt::Display for FrameFault {
 
 impl Error for FrameFault {}
 
-/// A CAN data frame with an identifier of 11 bits, up to 7FFh, and up to 8 bytes of data (CiA 301, 6.2).
-/// Contracts see it as the record of both. The default is identifier 0 without data.
-#[derive(Clone, Copy, Debug, PartialEq, Eq, Hash)]
+/// A CAN data frame with an identifier of 11 bits, up to 7FFh, and up to 8 bytes of data
+/// (CiA 301, 6.2). Contracts see it as the record of both. The default is identifier 0 without
+/// data.
+#[derive(Clone, Copy, Debug, PartialEq, Eq)]
 pub struct Frame {
     id: u16,
     len: u8,
@@ -91,7 +92,8 @@ impl Frame {
         Ok(Frame::packed(id, &packed))
     }
 
-    /// The frame with this identifier, at most 7FFh, and these data bytes, without an access to memory for each byte.
+    /// The frame with this identifier, at most 7FFh, and these data bytes, without an access to
+    /// memory for each byte.
     #[inline(always)]
     pub fn packed(id: u16, bytes: &PackedBytes) -> Frame
         requires { id < 2048 }

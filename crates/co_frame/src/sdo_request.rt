@@ -53,14 +53,15 @@ impl ExpeditedData {
 /// A request of an SDO client (CiA 301, 7.2.4.3).
 #[derive(Clone, Debug, PartialEq, Eq, Drop)]
 pub enum SdoRequest {
-    /// Initiate SDO download, ccs = 1, e = 1: a whole download of 1 to 4 bytes (CiA 301, 7.2.4.3.3).
+    /// Initiate SDO download, ccs = 1, e = 1: a whole download of 1 to 4 bytes
+    /// (CiA 301, 7.2.4.3.3).
     DownloadExpedited {
         /// The multiplexor: index and sub-index of the entry.
         key: Key,
         data: ExpeditedData,
     },
-    /// Initiate SDO download, ccs = 1, e = 0: a segmented download, of as many bytes where s = 1
-    /// (CiA 301, 7.2.4.3.3).
+    /// Initiate SDO download, ccs = 1, e = 0: a segmented download, with its size in bytes where
+    /// s = 1 (CiA 301, 7.2.4.3.3).
     DownloadInitiate {
         /// The multiplexor: index and sub-index of the entry.
         key: Key,
@@ -77,7 +78,7 @@ pub enum SdoRequest {
         /// The multiplexor: index and sub-index of the entry.
         key: Key,
     },
-    /// Upload SDO segment, ccs = 3: the next segment is asked for (CiA 301, 7.2.4.3.7).
+    /// Upload SDO segment, ccs = 3: requests the next segment (CiA 301, 7.2.4.3.7).
     UploadSegment {
         toggle: bool,
     },
@@ -87,8 +88,9 @@ pub enum SdoRequest {
         key: Key,
         code: AbortCode,
     },
-    /// Initiate SDO block upload, ccs = 5, cs = 0: with the number of segments in a sub-block (blksize), and the
-    /// number of bytes up to which the server may switch to another protocol (pst) (CiA 301, 7.2.4.3.13).
+    /// Initiate SDO block upload, ccs = 5, cs = 0: with the number of segments in a sub-block
+    /// (blksize), and the number of bytes up to which the server may switch to another protocol
+    /// (pst) (CiA 301, 7.2.4.3.13).
     BlockUploadInitiate {
         /// The multiplexor: index and sub-index of the entry.
         key: Key,
@@ -97,15 +99,16 @@ pub enum SdoRequest {
     },
     /// End SDO block upload, ccs = 5, cs = 1 (CiA 301, 7.2.4.3.15).
     BlockUploadEnd,
-    /// SDO block upload, ccs = 5, cs = 2: the last segment that was taken (ackseq), and the number of segments in
-    /// the next sub-block (blksize) (CiA 301, 7.2.4.3.14).
+    /// SDO block upload, ccs = 5, cs = 2: the last segment taken in sequence (ackseq), and the
+    /// number of segments in the next sub-block (blksize) (CiA 301, 7.2.4.3.14).
     BlockUploadAcknowledge {
         sequence: u8,
         block_size: u8,
     },
     /// Start SDO block upload, ccs = 5, cs = 3: the segments may be sent (CiA 301, 7.2.4.3.13).
     BlockUploadStart,
-    /// Initiate SDO block download, ccs = 6, cs = 0: of as many bytes where s = 1 (CiA 301, 7.2.4.3.9).
+    /// Initiate SDO block download, ccs = 6, cs = 0: with its size in bytes where s = 1
+    /// (CiA 301, 7.2.4.3.9).
     BlockDownloadInitiate {
         /// The multiplexor: index and sub-index of the entry.
         key: Key,
@@ -119,11 +122,12 @@ pub enum SdoRequest {
 }
 
 impl SdoRequest {
-    /// The request that a frame's data spells, whatever its identifier (CiA 301, 7.2.4.3).
-    /// `None` for a frame that hasn't eight bytes, and for a command specifier that no request has.
+    /// The request that a frame's data spells, whatever its identifier (CiA 301, 7.2.4.3). `None`
+    /// for a frame without eight bytes, and for a command specifier that no request has.
     pub fn read(frame: &Frame) -> Option<SdoRequest>
         ensures exact { result ≡ request_in frame.now.bytes }
-        // What is read is spelled by the frame, and what the frame spells is read: one request at most.
+        // What is read is spelled by the frame, and what the frame spells is read: one request at
+        // most.
         ensures found { IfSome result (λ request. SpellsSdoRequest request frame.now.bytes) }
         ensures only { (request : SdoRequest)
             → SpellsSdoRequest request frame.now.bytes → result ≡ Some request }
@@ -132,8 +136,8 @@ impl SdoRequest {
         request_of(frame.bytes())
     }
 
-    /// Whether the request can be spelled: expedited data whose size is indicated has 1 to 4 bytes, and an
-    /// end of a block download leaves at most 7 bytes unused.
+    /// Whether the request can be spelled: expedited data whose size is indicated has 1 to 4 bytes,
+    /// and an end of a block download leaves at most 7 bytes unused.
     pub fn is_spellable(&self) -> bool
         ensures { IsTrue result ↔ IsSdoRequest self.now }
     {
@@ -144,7 +148,8 @@ impl SdoRequest {
         }
     }
 
-    /// The frame of the request on an identifier, 0 to 7FFh; reserved bits and bytes are 0 (CiA 301, 7.2.4.3).
+    /// The frame of the request on an identifier, 0 to 7FFh; reserved bits and bytes are 0
+    /// (CiA 301, 7.2.4.3).
     pub fn write(&self, id: u16) -> Frame
         requires id { id < 2048 }
         requires spellable { IsSdoRequest self.now }
@@ -154,7 +159,8 @@ impl SdoRequest {
         Frame::of_eight(id, self.spelling())
     }
 
-    /// Writing and then reading gives the same request. This is a law: a call of it changes nothing.
+    /// Writing and then reading gives the same request. This is a law: a call of it changes
+    /// nothing.
     pub fn round_trip(&self)
         requires spellable { IsSdoRequest self.now }
         ensures { request_in (request_bytes self.now) ≡ Some self.now }

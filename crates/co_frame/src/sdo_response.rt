@@ -48,7 +48,7 @@ pub enum SdoResponse {
         key: Key,
         data: ExpeditedData,
     },
-    /// Initiate SDO upload, scs = 2, e = 0: a segmented upload, of as many bytes where s = 1
+    /// Initiate SDO upload, scs = 2, e = 0: a segmented upload, with its size in bytes where s = 1
     /// (CiA 301, 7.2.4.3.6).
     UploadInitiated {
         /// The multiplexor: index and sub-index of the entry.
@@ -67,8 +67,8 @@ pub enum SdoResponse {
         key: Key,
         code: AbortCode,
     },
-    /// Initiate SDO block download, scs = 5, ss = 0: with the number of segments in a sub-block (blksize)
-    /// (CiA 301, 7.2.4.3.9).
+    /// Initiate SDO block download, scs = 5, ss = 0: with the number of segments in a sub-block
+    /// (blksize) (CiA 301, 7.2.4.3.9).
     BlockDownloadInitiated {
         /// The multiplexor: index and sub-index of the entry.
         key: Key,
@@ -76,13 +76,14 @@ pub enum SdoResponse {
     },
     /// End SDO block download, scs = 5, ss = 1 (CiA 301, 7.2.4.3.11).
     BlockDownloadDone,
-    /// SDO block download, scs = 5, ss = 2: the last segment that was taken (ackseq), and the number of segments
-    /// in the next sub-block (blksize) (CiA 301, 7.2.4.3.10).
+    /// SDO block download, scs = 5, ss = 2: the last segment taken in sequence (ackseq), and the
+    /// number of segments in the next sub-block (blksize) (CiA 301, 7.2.4.3.10).
     BlockDownloadAcknowledge {
         sequence: u8,
         block_size: u8,
     },
-    /// Initiate SDO block upload, scs = 6, ss = 0: of as many bytes where s = 1 (CiA 301, 7.2.4.3.13).
+    /// Initiate SDO block upload, scs = 6, ss = 0: with its size in bytes where s = 1
+    /// (CiA 301, 7.2.4.3.13).
     BlockUploadInitiated {
         /// The multiplexor: index and sub-index of the entry.
         key: Key,
@@ -96,11 +97,13 @@ pub enum SdoResponse {
 }
 
 impl SdoResponse {
-    /// The response that a frame's data spells, whatever its identifier (CiA 301, 7.2.4.3).
-    /// `None` for a frame that hasn't eight bytes, and for a command specifier or subcommand that no response has.
+    /// The response that a frame's data spells, whatever its identifier (CiA 301, 7.2.4.3). `None`
+    /// for a frame without eight bytes, and for a command specifier or subcommand that no response
+    /// has.
     pub fn read(frame: &Frame) -> Option<SdoResponse>
         ensures exact { result ≡ response_in frame.now.bytes }
-        // What is read is spelled by the frame, and what the frame spells is read: one response at most.
+        // What is read is spelled by the frame, and what the frame spells is read: one response at
+        // most.
         ensures found { IfSome result (λ response. SpellsSdoResponse response frame.now.bytes) }
         ensures only { (response : SdoResponse)
             → SpellsSdoResponse response frame.now.bytes → result ≡ Some response }
@@ -109,8 +112,8 @@ impl SdoResponse {
         response_of(frame.bytes())
     }
 
-    /// Whether the response can be spelled: expedited data whose size is indicated has 1 to 4 bytes, and an
-    /// end of a block upload leaves at most 7 unused.
+    /// Whether the response can be spelled: expedited data whose size is indicated has 1 to
+    /// 4 bytes, and an end of a block upload leaves at most 7 bytes unused.
     pub fn is_spellable(&self) -> bool
         ensures { IsTrue result ↔ IsSdoResponse self.now }
     {
@@ -121,7 +124,8 @@ impl SdoResponse {
         }
     }
 
-    /// The frame of the response on an identifier, 0 to 7FFh; reserved bits and bytes are 0 (CiA 301, 7.2.4.3).
+    /// The frame of the response on an identifier, 0 to 7FFh; reserved bits and bytes are 0
+    /// (CiA 301, 7.2.4.3).
     #[inline(always)]
     pub fn write(&self, id: u16) -> Frame
         requires id { id < 2048 }
@@ -132,7 +136,8 @@ impl SdoResponse {
         Frame::of_eight(id, self.spelling())
     }
 
-    /// Writing and then reading gives the same response. This is a law: a call of it changes nothing.
+    /// Writing and then reading gives the same response. This is a law: a call of it changes
+    /// nothing.
     pub fn round_trip(&self)
         requires spellable { IsSdoResponse self.now }
         ensures { response_in (response_bytes self.now) ≡ Some self.now }

@@ -1,4 +1,5 @@
-//! Devices after their build, when no more memory is given: worked sequences, and a run over a record.
+//! Devices after their build, when every allocation is refused: worked sequences, and a run with a
+//! record.
 
 use co_frame::Outbox;
 use co_node::{AppEvent, Input, Node, Record};
@@ -13,7 +14,7 @@ pub(crate) fn script_of(alloc: Global) -> Result<String, AllocError> {
     format!(in alloc; "{SEGMENTED}{BLOCKS}{RPDOS}{TPDOS}{EMERGENCIES}{APPLICATION}")
 }
 
-// Runs the first device on four requests and an event; it gives how many it took.
+// Runs the first device on four requests and an event; returns how many it took.
 fn run(devices: &mut [Node], kept: &mut Record) -> Result<usize, BadScript> {
     let request = frame_of("605#4000100000000000")?;
     let inputs = [
@@ -27,7 +28,7 @@ fn run(devices: &mut [Node], kept: &mut Record) -> Result<usize, BadScript> {
     Ok(node.run(&inputs, kept))
 }
 
-// Whether a record with room for two inputs takes two, and two again once it is empty.
+// Whether a record with room for two inputs takes two, and two again once it is cleared.
 fn has_run(devices: &mut [Node], kept: &mut Record) -> bool {
     if run(devices, kept) != Ok(2) || kept.ends().len() != 2 || kept.frames().len() != 2 {
         return false;
@@ -36,13 +37,13 @@ fn has_run(devices: &mut [Node], kept: &mut Record) -> bool {
     run(devices, kept) == Ok(2)
 }
 
-// Whether devices do what a script says.
+// Whether devices follow a script.
 fn are_shown(devices: &mut [Node], script: &str) -> bool {
     let mut sent = Outbox::new();
     first_wrong(devices, script, &mut sent).is_none()
 }
 
-/// Whether the devices of a script, of which the first runs on a record before that, do what it says.
+/// Whether the devices of a script follow it, after the first of them has run with a record.
 pub(crate) fn are_right(devices: &mut [Node], script: &str, kept: &mut Record) -> bool {
     has_run(devices, kept) && are_shown(devices, script)
 }

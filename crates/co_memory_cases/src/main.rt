@@ -1,9 +1,10 @@
-//! Each call of the libraries that takes memory, over a data sheet, with the dialogue that it begins. A call that answers
-//! that it is out of memory is made again. The status is 0 where all were right at once, 2 where one of all was out of
-//! memory, and 1 where one was wrong, whose name is then written. Before the calls a block of a size of its own is asked
-//! for. Where it is refused, the worked sequences of devices that are already built are run in place of the calls, and
-//! the status is 4 where all were right. `tests/refused_memory` refuses each allocation of a run in turn, from that
-//! block on, and all of them at once.
+//! Makes each call of the libraries that allocates memory, over a data sheet, with the dialogue
+//! that it begins. A call that reports that it is out of memory is made again. The status is 0 if
+//! all were right at once, 2 if one of them ran out of memory, and 1 if one was wrong: its name is
+//! printed. Before the calls a block of a unique size is allocated. If that is refused, the worked
+//! sequences of devices that are already built are run in place of the calls; the status is 4 if
+//! all were right. `tests/refused_memory` refuses each allocation of a run in turn, from that block
+//! on, and all of them at once.
 #![tactic(auto)]
 
 mod after_build;
@@ -34,13 +35,13 @@ pub(crate) const LIMITS: Limits<'static> = Limits {
     own: &[],
 };
 
-/// The device type, which the sheet begins with 191h.
+/// The device type, 191h in the sheet.
 const DEVICE_TYPE: Key = Key {
     index: 0x1000,
     sub: 0,
 };
 
-/// The greatest room of an entry: a domain's.
+/// The greatest capacity of an entry, that of a domain, in bytes.
 const GREATEST: u16 = 889;
 
 #[derive(Clone, Copy)]
@@ -132,7 +133,7 @@ fn sheet_read(alloc: Global, text: &[u8]) -> Outcome {
     }
 }
 
-// a fault of the last check
+// a fault that the last check finds
 fn faulty_read(alloc: Global) -> Outcome {
     let text =
         b"[MandatoryObjects]\nSupportedObjects=1\n1=0x1000\n[1000]\nDataType=7\nAccessType=ro\n";
@@ -186,7 +187,7 @@ fn record_made(alloc: Global) -> Outcome {
     }
 }
 
-// what it sends is proved
+// the frames that it sends are proved
 fn worked_out(alloc: Global) -> Outcome {
     match worked(alloc) {
         Some(sent) => right_if(sent.response.len() == 1 && sent.later.ends() == [0, 1].as_slice()),
@@ -194,7 +195,7 @@ fn worked_out(alloc: Global) -> Outcome {
     }
 }
 
-// answered before any memory is asked for
+// refused before any allocation
 fn node_id_refused(alloc: Global, sheet: &Sheet<'_>) -> Outcome {
     let config = Config {
         limits: LIMITS,
@@ -215,7 +216,7 @@ fn size_refused(alloc: Global, text: &[u8]) -> Outcome {
     }
 }
 
-/// What the calls are made with.
+/// The arguments of the calls.
 #[derive(Clone, Copy)]
 struct Given<'a, 's> {
     alloc: Global,
@@ -253,7 +254,8 @@ fn outcome_of(call: Call, given: &Given<'_, '_>) -> Outcome {
     }
 }
 
-/// Makes each call. The first that is wrong, or out of memory a second time in the run; else whether one was refused.
+/// Makes each call. `Err` with the first that is wrong, or out of memory a second time in the run;
+/// else whether one was out of memory.
 fn make_calls(given: &Given<'_, '_>) -> Result<bool, Call> {
     let mut was_refused = false;
     for call in CALLS {
@@ -294,17 +296,17 @@ fn status_after_build(
     ExitCode::FAILURE
 }
 
-/// An allocation of this size is the first that is refused.
+/// The size of the first allocation that is refused, in bytes.
 const ROOM: usize = 54_321;
 
 fn block(alloc: Global) -> Result<Vec<u8>, AllocError> {
     Vec::with_capacity(alloc, ROOM)
 }
 
-/// There is no memory before the first that is refused.
+/// The status if an allocation before that one fails.
 const NO_MEMORY: u8 = 3;
 
-// Each of these functions has one value of its own and hands it on.
+// Each of these functions makes one value and passes it on.
 
 fn with_record(
     rt: &HostRuntime,

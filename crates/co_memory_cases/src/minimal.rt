@@ -1,5 +1,5 @@
-//! The least data sheet, with the mandatory objects alone: it is read; its device is built, boots, and answers a frame
-//! into a record; and a schedule is made over its dictionary.
+//! The smallest data sheet, with the mandatory objects alone: it is read, its device is built,
+//! boots, and answers a frame into a record; and a schedule is made over its dictionary.
 
 use crate::LIMITS;
 use crate::outcome::{Outcome, refused_if, right_if};
@@ -32,7 +32,7 @@ fn boots(node: &Node) -> bool {
     are_frames(sent.as_slice(), "705#00") == Ok(true)
 }
 
-// Whether a device reads its type out to a client.
+// Whether a device answers an upload of its device type.
 fn runs(node: &mut Node, kept: &mut Record) -> Result<bool, BadScript> {
     let inputs = [Input::Frame(frame_of("605#4000100000000000")?)];
     Ok(node.run(&inputs, kept) == 1 && are_frames(kept.frames(), "585#4300100091010000")?)
@@ -66,7 +66,7 @@ fn sheet_read(alloc: Global, text: &str) -> Outcome {
     }
 }
 
-// The front of a data sheet that is one by itself.
+// The first part of a data sheet, itself a data sheet.
 fn mandatory(text: &str) -> &str {
     match text.split_once("[1003]") {
         Some((front, _)) => front,

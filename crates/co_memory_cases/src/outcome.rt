@@ -1,10 +1,10 @@
-//! How a call ended.
+//! The outcome of a call.
 
 #[derive(Clone, Copy, PartialEq, Eq)]
 pub(crate) enum Outcome {
-    /// As it has to where there is memory.
+    /// Right, as with enough memory.
     Right,
-    /// Out of memory, and all that this has to leave is left.
+    /// Out of memory, and everything is as it has to be after that.
     Refused,
     Wrong,
 }

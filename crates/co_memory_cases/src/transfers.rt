@@ -1,4 +1,5 @@
-//! SDO transfers at one end, each a whole dialogue: a channel over a dictionary of its own, and uploads by a client.
+//! SDO transfers at one end, each a whole dialogue: a channel over its own dictionary, and uploads
+//! by a client.
 
 use crate::LIMITS;
 use crate::outcome::{Outcome, refused_if, right_if};
@@ -12,7 +13,7 @@ use co_sheet::Sheet;
 use co_value::Key;
 use std::alloc::Global;
 
-// A download over a dictionary that is there, which the channel gives up after 10 ms.
+// A download over this dictionary, which the channel aborts after 10 ms.
 fn timed_out_over(alloc: Global, store: ListStore) -> Outcome {
     match Served::over(alloc, store, 10) {
         Ok(mut served) => right_if(server_follows(&mut served, TIMED_OUT) == Ok(4)),
@@ -27,7 +28,7 @@ pub(crate) fn timed_out(alloc: Global, sheet: &Sheet<'_>) -> Outcome {
     }
 }
 
-/// What an upload is made with, what is said, and how it ends.
+/// The arguments of an upload, its dialogue, and its end.
 #[derive(Clone, Copy)]
 struct Upload {
     mode: Mode,
@@ -38,7 +39,7 @@ struct Upload {
     result: &'static [u8],
 }
 
-// Whether a client says its part of the dialogue, and ends as it should.
+// Whether a client follows the dialogue, and ends as it should.
 fn is_shown(client: &mut Client<'_>, upload: &Upload) -> bool {
     client_follows(client, upload.dialogue) == Ok(upload.requests)
         && client.state() == upload.state
@@ -60,7 +61,7 @@ fn outcome_of(alloc: Global, upload: &Upload) -> Outcome {
     }
 }
 
-// ten bytes, and as many at most
+// ten bytes, with a cap of ten
 pub(crate) fn uploaded(alloc: Global) -> Outcome {
     let upload = Upload {
         mode: Mode::Segmented,
@@ -73,7 +74,7 @@ pub(crate) fn uploaded(alloc: Global) -> Outcome {
     outcome_of(alloc, &upload)
 }
 
-// ten bytes, and five at most
+// ten bytes, with a cap of five
 pub(crate) fn uploaded_too_long(alloc: Global) -> Outcome {
     let upload = Upload {
         mode: Mode::Segmented,
@@ -86,7 +87,7 @@ pub(crate) fn uploaded_too_long(alloc: Global) -> Outcome {
     outcome_of(alloc, &upload)
 }
 
-// fourteen bytes by blocks
+// fourteen bytes in blocks
 pub(crate) fn uploaded_by_blocks(alloc: Global) -> Outcome {
     let upload = Upload {
         mode: Mode::Block,

@@ -1,5 +1,5 @@
--- The memory that a device keeps: how long each list is that its build asks memory for. What else it has is of fixed size, by
--- the invariants of its types: eight emergencies, and two tables of 2,048 identifiers.
+-- The memory of a device: the length of each list that `build` allocates. All else has a fixed
+-- size, by the invariants of its types: eight emergencies, and two tables of 2,048 identifiers.
 use Rattle.std.specs.Prelude.{ℕ, ◌+◌, List, length, map}
 use Rattle.std.specs.Box.{boxed_slice_items}
 use Rattle.co_sdo_bank.specs.Channels.{ChannelSettings}
@@ -7,11 +7,11 @@ use Rattle.co_sdo_bank.specs.Banks.{all_settings}
 use Rattle.co_node.specs.declared.node.Node.{Node}
 
 pub record Memory : Type 0 where
-  -- the entries of the dictionary, the bytes that their values have room for, and those of the initial values
+  -- the entries of the dictionary, the bytes for their values, and those for their initial values
   pub entries : ℕ
   pub values : ℕ
   pub initial : ℕ
-  -- how many bytes the buffer of each SDO channel has room for
+  -- the bytes of the buffer of each SDO channel
   pub buffers : List ℕ
   -- the compiled mappings of RPDOs and of TPDOs
   pub rpdos : ℕ
@@ -19,7 +19,7 @@ pub record Memory : Type 0 where
   -- the slots for RPDO frames that wait for a SYNC, and for those that a SYNC takes
   pub waiting : ℕ
   pub taken : ℕ
-  -- the TPDOs of the schedule, and where it finds what the dictionary says of each
+  -- the TPDOs of the schedule, and the places of the parameters of each
   pub scheduled : ℕ
   pub places : ℕ
 

@@ -16,19 +16,20 @@ use Rattle.co_node_device.specs.NodeStanding.{NodeStands}
 use Rattle.co_node.specs.declared.config.Config.{Config}
 use Rattle.co_node.specs.declared.node.Node.{Node}
 
--- what a data sheet, a node-ID and a configuration say of a dictionary
+-- the plan of a dictionary by a data sheet, a node-ID and a configuration
 abbrev pub planned : SheetContent → ℕ → Config → Plan
 planned sheet node config = plan_of node (limits_view config.limits) sheet
 
--- what never changes of the device that is made, where this is the greatest capacity of its entries
+-- what never changes of the device of a plan, by the greatest capacity of its entries, in bytes,
+-- and the SDO timeout in ms
 abbrev pub node_constants : Plan → ℕ → ℕ → Constants
 node_constants plan greatest time = constants_of (built_description plan) (built_contents plan) greatest time
 
--- the greatest capacity of the entries of a dictionary, in bytes; 0 where it has none
+-- the greatest capacity of the entries of a dictionary, in bytes; 0 if it has none
 abbrev pub greatest_capacity : Description → ℕ
 greatest_capacity d = fold (λ most key. max most (capacity_at d.rows key)) 0 d.keys
 
--- what never changes of the device that a data sheet makes, with this SDO timeout in ms
+-- what never changes of the device of a plan, with this SDO timeout in ms
 abbrev pub built_constants : Plan → ℕ → Constants
 built_constants plan time = node_constants plan (greatest_capacity (built_description plan)) time
 
@@ -39,7 +40,7 @@ description_of store = description_in store.node_id store.dummies (entries_in (b
 abbrev pub entries_of : ImageStore → Contents
 entries_of store = contents_in (entries_in (boxed_slice_items store.values) (boxed_slice_items store.initial) (boxed_slice_items store.slots))
 
--- this device stands after these inputs, the newest first
+-- this device is in the state after these inputs, newest first
 abbrev pub Stands : Constants → Node → Inputs → Type 0
 Stands k node inputs =
     NodeStands k (description_of node.device.store) (entries_of node.device.store) node.device.parts inputs

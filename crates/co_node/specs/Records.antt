@@ -1,15 +1,16 @@
--- The frames that many inputs gave, and where those of each end.
+-- The frames of many inputs.
 use Rattle.std.specs.Prelude.{ℕ, ◌+◌, ◌<◌, ◌≤◌, List, [], ◌∷◌, ◌++◌, length}
 use Rattle.co_frame.specs.FrameContent.{FrameContent}
 
--- what is recorded, and how much may be
+-- the recorded frames, for each input the number of frames up to its end, and the room for frames
+-- and inputs
 pub record Recorded : Type 0 where
   pub frames : List FrameContent
   pub ends : List ℕ
   pub frame_room : ℕ
   pub input_room : ℕ
 
--- there is room for one more input with so many frames
+-- there is room for one more input with `frames` frames
 pub record HasRoom (frames : ℕ) (r : Recorded) : Type 0 where
   pub input : length r.ends < r.input_room
   pub sent : length r.frames + frames ≤ r.frame_room

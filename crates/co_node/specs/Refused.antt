@@ -1,4 +1,4 @@
--- What an application event does that is refused.
+-- The effect of a refused application event.
 use Rattle.std.specs.Prelude.{◌≡◌, ℕ, List, ◌∷◌}
 use Rattle.co_frame.specs.FrameContent.{FrameContent}
 use Rattle.co_node_model.specs.declared.address.Address.TheVariants.{Nobody}
@@ -11,12 +11,13 @@ use Rattle.co_node_device.specs.NodeStanding.{NodeStands}
 use Rattle.co_node.specs.declared.node.Node.{Node}
 use Rattle.co_node.specs.Nodes.{description_of, entries_of}
 
--- nobody takes this frame after these inputs
+-- this frame is for nobody after these inputs
 abbrev pub IsForNobody : Constants → Inputs → FrameContent → Type 0
 IsForNobody k inputs frame = address_at k (moments k inputs) frame.id ≡ Nobody
 
--- this device, and what it sent, after an application event that was refused with this abort code: no entry changed, and
--- frames and parts are those after a frame for nobody; the answer alone differs
+-- a device, and the frames it sent, after an application event that was refused with this abort
+-- code: no entry changed, and frames and parts are those after a frame for nobody; only the answer
+-- differs
 pub record AsForNobody (k : Constants) (node : Node) (sent : List FrameContent) (before : Inputs) (event : AppView) (code : ℕ) : Type 0 where
   pub answer : app_after k (Applied event ∷ before) ≡ app.Refused (record { 0 = code })
   pub contents : contents_of k (Applied event ∷ before) ≡ contents_of k before

@@ -1,4 +1,4 @@
--- Inputs one after another, and what is recorded of them.
+-- Inputs one after another, and their record.
 use Rattle.std.specs.Prelude.{ℕ, ◌+◌, List, [], ◌∷◌, ◌++◌, length, max}
 use Rattle.co_node_model.specs.Inputs.{InputView, Inputs}
 use Rattle.co_node_model.specs.Moments.{Constants}
@@ -6,7 +6,7 @@ use Rattle.co_node_model.specs.Device.{all_frames, prescribed}
 use Rattle.co_node_model.specs.Tpdos.{tpdo_count}
 use Rattle.co_node.specs.Records.{Recorded}
 
--- after how many frames those of each input end, where there were so many before
+-- for each input the number of frames up to its end, with `before` frames before the first
 abbrev pub all_ends : Constants → Inputs → ℕ → List InputView → List ℕ
 all_ends k inputs before [] = []
 all_ends k inputs before (input ∷ more) =
@@ -20,6 +20,6 @@ recorded_after k inputs more r = record r {
   ends = r.ends ++ all_ends k inputs (length r.frames) more;
 }
 
--- how many frames an input gives at most: 127, or as many as there are TPDOs where those are more, and 2
+-- the most frames of an input: 129, or the number of TPDOs plus 2 if that is more
 abbrev pub most_frames : Constants → ℕ
 most_frames k = max 127 (tpdo_count k.description.rows) + 2

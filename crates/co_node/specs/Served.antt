@@ -1,5 +1,5 @@
--- A segmented download that a device built from a data sheet permits, by what a caller of it knows, and what it comes to
--- (CiA 301, 7.2.4.3).
+-- A segmented download that a device built from a data sheet permits, and its result, by what a
+-- caller of the device knows (CiA 301, 7.2.4.3).
 use Rattle.std.specs.Prelude.{◌≡◌, ◌<◌, ◌≤◌, ℕ, true, false, List, length, None}
 use Rattle.co_value.specs.declared.key.Key.{Key}
 use Rattle.co_dict.specs.Rows.{written}
@@ -24,12 +24,13 @@ use Rattle.co_node.specs.declared.node.Node.{Node}
 use Rattle.co_node.specs.Built.{IsBuilt}
 use Rattle.co_node.specs.Nodes.{Stands}
 
--- the entries of a device that stands are those of a dictionary
+-- the entries of a device are those of a dictionary, after any inputs
 abbrev pub StandOnDictionaries : Type 0
 StandOnDictionaries = (k : Constants) (node : Node) (before : Inputs) → Stands k node before → IsDictionary k.description (contents_of k before)
 
--- a device built from a data sheet permits a segmented download after these inputs: it isn't stopped, no transfer is open on
--- its default channel, and the dictionary doesn't refuse the bytes; in the plain mode they are none or more than four
+-- a device built from a data sheet permits a segmented download after these inputs: it isn't
+-- stopped, no transfer is open on its default channel, and the dictionary permits the bytes; in
+-- plain mode they are none or more than four
 pub record IsPermitted (k : Constants) (before : Inputs) (key : Key) (bytes : List ℕ) (mode : Mode) : Type 0 where
   pub plan : Plan
   pub built : IsBuilt plan k
@@ -39,14 +40,14 @@ pub record IsPermitted (k : Constants) (before : Inputs) (key : Key) (bytes : Li
   pub permitted : completion_refusal k.description (contents_of k before) key None bytes ≡ None
   pub segmented : is_segmented_download mode (Download bytes true) ≡ true
 
--- what it comes to: the client is done after one request and one for each seven bytes or fewer, the entry has the bytes, and
--- no other entry was changed
+-- its result: the client is done after one request and one for each seven bytes or fewer, at least
+-- one; the entry has the bytes, and no other entry was changed
 pub record IsComplete (k : Constants) (before : Inputs) (key : Key) (bytes : List ℕ) (mode : Mode) (state : ClientState) : Type 0 where
   pub done : state ≡ Done
   pub requests : sent_of (download_of k key bytes mode) before ≡ requests_needed (length bytes)
   pub entry : contents_of k (last_ends (download_of k key bytes mode) before).inputs ≡ written (contents_of k before) key bytes
 
--- each such download of at most 65,535 bytes comes to this
+-- each such download of at most 65,535 bytes has this result
 abbrev pub PermittedComplete : Type 0
 PermittedComplete =
     (k : Constants) (node : Node) (before : Inputs) (key : Key) (bytes : List ℕ) (mode : Mode)

@@ -1,4 +1,4 @@
-//! What follows for a device that is built from a data sheet. Each is a law: a call of it changes nothing.
+//! Laws about a device that is built from a data sheet: a call of one changes nothing.
 
 ghost use Rattle.std.specs.Prelude.{◌≡◌, ℕ, true, List, length};
 ghost use Rattle.co_value.specs.declared.key.Key.{Key};
@@ -20,19 +20,21 @@ ghost use Rattle.co_node.specs.Served.{PermittedComplete, StandOnDictionaries};
 
 use co_node_laws::{segmented_download_ends, stays_apart};
 
-/// The entries of a device that stands after whatever inputs are those of a dictionary: its store keeps them so.
+/// After any inputs, the entries of a device are those of a dictionary: its store keeps them so.
 pub fn stands_on_dictionary()
     ensures { StandOnDictionaries }
 {}
 
-/// A device built from a data sheet, as by `Node::build`, begins with SYNC and EMCY apart from its default SDO channel:
-/// else the word 1005:00 or 1014:00 would be the fault `BadCobId`.
+/// A device built from a data sheet, as by `Node::build`, begins with SYNC and EMCY apart from its
+/// default SDO channel: else `build` reports `BadCobId` for 1005:00 or 1014:00 (CiA 301, 7.3.5).
 pub fn begins_apart()
     ensures { (plan : Plan) (k : Constants) → IsBuilt plan k → BeginsApart k }
 {}
 
-/// So does one that a device built from a data sheet serves, after whatever inputs: SYNC and EMCY are always apart from
-/// its default channel.
+/// A segmented download that a device built from a data sheet serves completes, after any inputs
+/// (CiA 301, 7.2.4.3.3 and 7.2.4.3.4): the client is done (`done`) after one request and one for
+/// each seven bytes or fewer, at least one (`requests`), the entry has the bytes, and no other
+/// entry was changed (`entry`).
 pub fn built_download_ends()
     ensures done { (plan : Plan) (k : Constants) (before : Inputs) (key : Key) (bytes : List ℕ)
         (mode : Mode) → IsBuilt plan k → IsServed k before key bytes →
@@ -54,8 +56,8 @@ pub fn built_download_ends()
     segmented_download_ends();
 }
 
-/// So does each that a device built from a data sheet permits: nothing has to be known of its entries, since a device
-/// that stands has those of a dictionary.
+/// The same for each segmented download that such a device permits, without a condition on its
+/// entries: they are those of a dictionary.
 pub fn permitted_download_completes()
     ensures { PermittedComplete }
 {

@@ -1,13 +1,13 @@
-//! What a data sheet leaves open of a device.
+//! The configuration of a device that its data sheet doesn't contain.
 
 use co_dict_build::Limits;
 
-/// What a data sheet leaves open of a device, besides its node-ID.
-#[derive(Clone, Copy, Debug, PartialEq, Eq, Hash)]
+/// The configuration of a device that its data sheet doesn't contain, besides the node-ID.
+#[derive(Clone, Copy, Debug, PartialEq, Eq)]
 pub struct Config<'a> {
-    /// How many bytes strings and domains have room for.
+    /// The capacities of strings and domains, in bytes.
     pub limits: Limits<'a>,
-    /// The SDO timeout: after how many ms without the next request an SDO channel aborts its transfer. 0 disables it
-    /// (CiA 301, 7.2.4.3).
+    /// The SDO timeout in ms: an SDO channel aborts its transfer if the next request doesn't come
+    /// within this time. 0 disables it (CiA 301, 7.2.4.3).
     pub time: u16,
 }

@@ -1,4 +1,5 @@
-//! A CANopen device made from a data sheet: what comes in, and the frames that it then sends.
+//! A CANopen device made from a data sheet: it takes inputs, and sends the frames that the
+//! definitions prescribe.
 #![tactic(auto)]
 
 mod built_laws;

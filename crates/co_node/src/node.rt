@@ -67,12 +67,13 @@ use co_sheet::Sheet;
 use co_value::Key;
 use std::alloc::Global;
 
-/// A CANopen device made from a data sheet. It asks for no memory after `build`.
+/// A CANopen device made from a data sheet. It allocates no memory after `build`.
 pub struct Node {
     device: Device<ImageStore>,
 }
 
-// Not derived: a device has many parts, and each function that lets one go would have the drop of every part.
+// Not derived: else each function that drops a device would contain the drop of each of its many
+// parts.
 impl Drop for Node {
     fn drop(self) {
         let Node { device } = self;
@@ -81,8 +82,9 @@ impl Drop for Node {
 }
 
 impl Node {
-    /// The device of a data sheet at a node-ID, in NMT state pre-operational and with nothing received. The faults are
-    /// those of `ImageStore::build`; `Memory` also where there is none for the device.
+    /// The device of a data sheet at a node-ID, in NMT state pre-operational, that has received
+    /// nothing. The faults are those of `ImageStore::build`; `Memory` also if the device's own
+    /// memory can't be allocated.
     pub fn build(
         alloc: Global,
         sheet: &Sheet<'_>,
@@ -114,8 +116,8 @@ impl Node {
         }
     }
 
-    /// The boot-up, as the device enters pre-operational after power-on: the outbox then holds it and nothing else (CiA
-    /// 301, 7.2.8.3.3).
+    /// Sends the boot-up, when the device enters pre-operational after power-on: the outbox then
+    /// holds it and nothing else (CiA 301, 7.2.8.3.3).
     pub fn boot(&self, outbox: &mut Outbox)
         ensures { (k : Constants) (before : Inputs) → Stands k self.now before →
             outbox.new.items ≡ boot_up k ∷ [] }
@@ -123,7 +125,8 @@ impl Node {
         self.device.boot(outbox);
     }
 
-    /// A frame is received: the outbox then holds the frames that this prescribes, and nothing else.
+    /// Takes a received frame. The outbox then holds the frames that the definitions prescribe at
+    /// it, and nothing else.
     #[inline(always)]
     pub fn take_frame(&mut self, frame: &Frame, outbox: &mut Outbox)
         ensures frames { (k : Constants) (before : Inputs) → Stands k self.old before →
@@ -140,7 +143,8 @@ impl Node {
         self.device.take_frame(frame, outbox);
     }
 
-    /// 1 ms elapsed: the outbox then holds the frames that this prescribes, and nothing else.
+    /// 1 ms elapsed. The outbox then holds the frames that the definitions prescribe at it, and
+    /// nothing else.
     #[inline(always)]
     pub fn tick(&mut self, outbox: &mut Outbox)
         ensures frames { (k : Constants) (before : Inputs) → Stands k self.old before →
@@ -157,7 +161,8 @@ impl Node {
         self.device.tick(outbox);
     }
 
-    /// The application did something: the outbox then holds the frames that this prescribes, and nothing else.
+    /// Takes an application event. The outbox then holds the frames that the definitions prescribe
+    /// at it, and nothing else. A refused event changes nothing but the answer.
     #[inline(always)]
     pub fn take_event(&mut self, event: AppEvent<'_>, outbox: &mut Outbox)
         ensures frames { (k : Constants) (before : Inputs) → Stands k self.old before →
@@ -178,7 +183,8 @@ impl Node {
         self.device.take_event(event, outbox);
     }
 
-    /// One input: the outbox then holds the frames that it prescribes, and nothing else.
+    /// Takes one input of any kind. The outbox then holds the frames that the definitions prescribe
+    /// at it, and nothing else.
     #[inline(always)]
     pub fn step(&mut self, input: Input<'_>, outbox: &mut Outbox)
         ensures frames { (k : Constants) (before : Inputs) → Stands k self.old before →
@@ -199,7 +205,7 @@ impl Node {
         match input {
             Input::Frame(_) => self.take_frame(&frame, outbox),
             Input::Tick => self.tick(outbox),
-            // taken apart and put together again: an event of a caller can't be handed on as a whole
+            // matched and built again: a caller's event can't be passed on as a whole
             Input::App(AppEvent::Write(key, bytes)) => {
                 self.take_event(AppEvent::Write(key, bytes), outbox)
             }
@@ -216,7 +222,7 @@ impl Node {
         }
     }
 
-    /// The bytes of an entry; `None` where there is no entry.
+    /// The bytes of an entry; `None` if there is no such entry.
     pub fn value(&self, key: Key) -> Option<&[u8]>
         ensures { (k : Constants) (before : Inputs) → Stands k self.now before →
             option_map (λ bytes. bytes.now) result ≡ contents_of k before key }
@@ -240,8 +246,8 @@ impl Node {
         self.device.state()
     }
 
-    /// How many bytes are held for the transfer of an SDO channel; 0 where there is no such channel. They are at most
-    /// 889 more than the entry that is transferred has room for.
+    /// How many bytes are held for the transfer of an SDO channel; 0 if there is no such channel.
+    /// They are at most the capacity of the transferred entry plus 889.
     pub fn held(&self, channel: u8) -> usize
         ensures held { (k : Constants) (before : Inputs) → Stands k self.now before →
             result ≡ held_of k before channel }
@@ -251,8 +257,8 @@ impl Node {
         self.device.held(channel)
     }
 
-    /// The compiled mapping of PDO `number` of a side, of what it maps as the dictionary is now; `None` where there is
-    /// no such PDO (CiA 301, 7.5.2.36, 7.5.2.38).
+    /// The compiled mapping of PDO `number` of a side in the dictionary now; `None` if there is no
+    /// such PDO (CiA 301, 7.5.2.36 and 7.5.2.38).
     pub fn compiled(&self, side: Side, number: u16) -> Option<&Compiled>
         ensures there { (k : Constants) (before : Inputs) → Stands k self.now before →
             is_some result ≡ (nat_lt number 512 && has_pdo side k.description.rows number) }
@@ -263,8 +269,8 @@ impl Node {
         self.device.compiled(side, number)
     }
 
-    /// For at least so many ms the device sends nothing, and neither an entry nor the NMT state changes, if nothing is
-    /// received; `u32::MAX` if it never does.
+    /// During this many ms the device sends nothing, and its entries, its NMT state and the bytes
+    /// held by SDO channels stay the same, if it gets no other input: a lower bound.
     pub fn idle(&self) -> u32
         ensures { (k : Constants) (before : Inputs) → Stands k self.now before →
             IsQuietFor k before result }
@@ -272,7 +278,7 @@ impl Node {
         self.device.idle()
     }
 
-    /// The answer to the last input, where that was an application event.
+    /// The answer to the last input, if that was an application event; else `AppAnswer::None`.
     pub fn last_app(&self) -> AppAnswer
         ensures { (k : Constants) (before : Inputs) → Stands k self.now before →
             result ≡ app_after k before }
@@ -280,9 +286,10 @@ impl Node {
         self.device.last_app()
     }
 
-    /// Takes inputs in order, and appends to the record the frames of each and where they end. It takes one only where
-    /// the record has room for one more input and for as many frames as an input gives at most: 127, or as many as
-    /// there are TPDOs where those are more, and 2. It gives how many it took.
+    /// Takes inputs in order, and appends the frames of each and their end to the record. It stops
+    /// at an input for which the record may lack room: it needs room for one more input and the
+    /// most frames of an input: 129, or the number of TPDOs plus 2 if that is more. Returns how
+    /// many inputs it took.
     pub fn run(&mut self, inputs: &[Input<'_>], kept: &mut Record) -> usize
         ensures within { result ≤ length inputs.now }
         ensures frames { (k : Constants) (before : Inputs) → Stands k self.old before →

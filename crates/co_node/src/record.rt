@@ -1,4 +1,4 @@
-//! The frames that many inputs give, and where those of each end.
+//! The frames of many inputs.
 
 ghost use Rattle.std.specs.Prelude.{◌≡◌, ◌+◌, ◌≤◌, ◌++◌, [], length, take, true, false, IfOk};
 ghost use Rattle.co_node.specs.Records.{HasRoom, with_input};
@@ -8,14 +8,15 @@ use std::alloc::{AllocError, Global};
 use std::boxed::BoxedSlice;
 use std::marker::Model;
 
-/// The frames that many inputs gave, and after how many of them those of each input end. All memory is asked for by
-/// `new`: contracts see how many frames and inputs it has room for, which no call changes.
+/// The frames of many inputs, and for each input the number of frames up to its end. `new`
+/// allocates all memory: contracts see how many frames and inputs it has room for, which no call
+/// changes.
 #[derive(Drop)]
 pub struct Record {
-    // as many as there is room for; the first `frame_count` are recorded
+    // as long as there is room; the first `frame_count` are recorded
     frames: BoxedSlice<Frame>,
     frame_count: usize,
-    // the same of the inputs
+    // as long as there is room; the first `input_count` are recorded
     ends: BoxedSlice<usize>,
     input_count: usize,
 }
@@ -38,7 +39,7 @@ impl Model for Record {
         × (r.input_count ≤ length (boxed_slice_items r.ends)) };
 }
 
-/// Copies frames to a place that has room for them.
+/// Copies frames to the places from `start` on.
 fn copy_at(to: &mut [Frame], start: usize, frames: &[Frame])
     requires { start + length frames.now ≤ length to.old }
     ensures front { take (start + length frames.now) to.new ≡ take start to.old ++ frames.now }
@@ -48,7 +49,8 @@ fn copy_at(to: &mut [Frame], start: usize, frames: &[Frame])
 }
 
 impl Record {
-    /// An empty record with room for `frames` frames, of `inputs` inputs. `AllocError` where there is no memory.
+    /// An empty record with room for `frames` frames, of `inputs` inputs. `AllocError` if it can't
+    /// be allocated.
     pub fn new(alloc: Global, frames: usize, inputs: usize) -> Result<Record, AllocError>
         ensures { IfOk result (λ r. r ≡
             record { frames = []; ends = []; frame_room = frames; input_room = inputs }) }
@@ -63,7 +65,7 @@ impl Record {
         })
     }
 
-    /// Empties it. Its room stays.
+    /// Clears the record. Its room stays.
     pub fn clear(&mut self)
         ensures { self.new ≡ record self.old { frames = []; ends = [] } }
     {
@@ -78,14 +80,14 @@ impl Record {
         &self.frames[..self.frame_count]
     }
 
-    /// For each input after how many frames its own end.
+    /// For each input the number of frames up to its end, those of earlier inputs included.
     pub fn ends(&self) -> &[usize]
         ensures { result.now ≡ self.now.ends }
     {
         &self.ends[..self.input_count]
     }
 
-    /// Whether there is room for one more input with so many frames.
+    /// Whether there is room for one more input with `frames` frames.
     pub(crate) fn has_room(&self, frames: usize) -> bool
         ensures yes { result ≡ true → HasRoom frames self.now }
         ensures no { result ≡ false → HasRoom frames self.now → ⊥ }
@@ -93,7 +95,7 @@ impl Record {
         self.input_count < self.ends.len() && frames <= self.frames.len() - self.frame_count
     }
 
-    /// Appends the frames of an input, where there is room for them; else nothing happens.
+    /// Appends the frames of an input, if there is room for them.
     pub(crate) fn add(&mut self, frames: &[Frame])
         ensures added { HasRoom (length frames.now) self.old →
             self.new ≡ with_input frames.now self.old }

@@ -1,5 +1,5 @@
--- A table of who takes frames, at some contents of the dictionary: the word of SYNC, and for each identifier the first active
--- RPDO with it (CiA 301, 7.5.2.5 and 7.5.2.35).
+-- The address table of contents of the dictionary: the word of SYNC, and for each identifier the
+-- first active RPDO with it (CiA 301, 7.5.2.5 and 7.5.2.35).
 use Rattle.std.specs.Prelude.{ℕ, Option, List, ◌≡◌, ◌<◌, length, None, Bool, Some, if◌then◌else◌}
 use Rattle.std.specs.List.{slice_index_or}
 use Rattle.co_dict.specs.Rows.{Contents, number_at}

@@ -1,4 +1,4 @@
--- A device before an input, as far as receiving it goes.
+-- A device before it receives an input.
 use Rattle.std.specs.Prelude.{◌≡◌, ℕ, List}
 use Rattle.co_frame.specs.FrameContent.{FrameContent}
 use Rattle.co_dict.specs.Rows.{Contents}
@@ -25,7 +25,7 @@ pub record IsBefore (k : Constants) (history : History) (d : Description) (entri
   pub channels : BankStands d (channels k) bank (channel_logs history)
   pub state : now ≡ state_at history
 
--- where the input is a frame, the one with this address takes it
+-- if the input is a frame, this is its addressee
 abbrev pub IsAddressed : Constants → History → Given → Address → FrameContent → Type 0
 IsAddressed k history Frame address frame = address ≡ address_at k history frame.id
 IsAddressed k history Tick address frame = Unit {0}
@@ -35,7 +35,7 @@ IsAddressed k history (Changed key) address frame = Unit {0}
 IsAddressed k history (Raise code bits manufacturer) address frame = Unit {0}
 IsAddressed k history (Clear bits) address frame = Unit {0}
 
--- the log of each SDO channel as an input was received, before transfers are dropped
+-- the log of each SDO channel after an input was received, before transfers are dropped
 abbrev pub logs_received : Moment → History → ℕ → Log
 logs_received m history =
     logs_after m.timed_out (with_channel_ticks (marked_tick m.mark) (logs_after m.exchange (channel_logs history)))

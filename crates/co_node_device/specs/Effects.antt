@@ -1,4 +1,4 @@
--- What SYNC and RPDO frames do, by the mark of an input (CiA 301, 7.2.2 and 7.2.5).
+-- The effects of SYNC and RPDO frames, by the mark of an input (CiA 301, 7.2.2 and 7.2.5).
 use Rattle.std.specs.Prelude.{List, ◌++◌}
 use Rattle.co_frame.specs.declared.emergency.Emergency.{Emergency}
 use Rattle.co_dict.specs.Rows.{Contents}

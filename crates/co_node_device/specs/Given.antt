@@ -1,10 +1,10 @@
--- An input whose frame goes beside it.
+-- An input whose frame is a separate argument.
 use Rattle.co_frame.specs.FrameContent.{FrameContent}
 use Rattle.co_node_model.specs.Inputs.{InputView, Framed, Ticked, Applied, Written, EventOn, ChangedAt, Raised, Cleared}
 use Rattle.co_node_device.specs.declared.given.Given.{Given}
 use Rattle.co_node_device.specs.declared.given.Given.TheVariants.{Frame, Tick, Write, Event, Changed, Raise, Clear}
 
--- the input that it is with this frame
+-- the input with this frame
 abbrev pub given_view : Given → FrameContent → InputView
 given_view Frame frame = Framed frame
 given_view Tick frame = Ticked

@@ -1,4 +1,5 @@
--- A device after all its inputs: its entries, and each part, are as the history prescribes.
+-- A device after all its inputs: its entries and each part are in the state that the history
+-- prescribes.
 use Rattle.std.specs.Prelude.{◌≡◌}
 use Rattle.co_dict.specs.Rows.{Contents}
 use Rattle.co_dict.specs.Stores.{Description}
@@ -20,7 +21,7 @@ use Rattle.co_node_model.specs.Tpdos.{schedule_log}
 use Rattle.co_node_model.specs.Device.{moments, state_of, contents_of, app_after}
 use Rattle.co_node_device.specs.declared.parts.Parts.{Parts}
 
--- this device stands after these inputs, the newest first
+-- this device is in the state after these inputs, newest first
 pub record NodeStands (k : Constants) (d : Description) (entries : Contents) (parts : Parts) (inputs : Inputs) : Type 0 where
   pub description : d ≡ k.description
   pub contents : entries ≡ contents_of k inputs

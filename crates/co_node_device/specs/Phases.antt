@@ -1,5 +1,5 @@
--- A device within one input, which is this moment after this history: once the input was received, and once it took effect.
--- What is sent besides SDO comes then.
+-- A device within one input, a moment after a history: once the input was received, and once it
+-- took effect. The frames besides SDO are sent after that.
 use Rattle.std.specs.Prelude.{◌≡◌, List, ◌∷◌, ◌++◌, map}
 use Rattle.co_frame.specs.FrameContent.{FrameContent}
 use Rattle.co_dict.specs.Rows.{Contents}
@@ -24,7 +24,8 @@ use Rattle.co_node_device.specs.MappingTables.{AreMappings}
 use Rattle.co_node_device.specs.Befores.{logs_received}
 use Rattle.co_node_device.specs.declared.parts.Parts.{Parts}
 
--- the input was received: entries, SDO channels and emergencies are as it left them, all else as the history did
+-- the input was received: it has changed entries, SDO channels and emergencies; all else is as
+-- after the history
 pub record IsReceived (k : Constants) (h : History) (m : Moment) (d : Description) (entries : Contents) (parts : Parts) (marked : Mark) : Type 0 where
   pub description : d ≡ k.description
   pub contents : entries ≡ m.received
@@ -40,7 +41,8 @@ pub record IsReceived (k : Constants) (h : History) (m : Moment) (d : Descriptio
   pub schedule : IsScheduleAfter d parts.schedule (schedule_log k h)
   pub app : parts.last_app ≡ m.app
 
--- it took effect: entries and parts are those at its end, but for what is sent by emergencies, heartbeats and TPDOs
+-- the input took effect: entries and parts are those at its end, but for the sending of
+-- emergencies, heartbeats and TPDOs
 pub record TookEffect (k : Constants) (h : History) (m : Moment) (d : Description) (entries : Contents) (parts : Parts) (marked : Mark) (t : Transition) : Type 0 where
   pub description : d ≡ k.description
   pub contents : entries ≡ m.contents
@@ -58,7 +60,7 @@ pub record TookEffect (k : Constants) (h : History) (m : Moment) (d : Descriptio
   pub schedule : IsScheduleAfter d parts.schedule (schedule_log k h)
   pub app : parts.last_app ≡ m.app
 
--- frames, and then those that are sent besides SDO: EMCY, boot-up or heartbeat, TPDOs by number
+-- these frames, then those besides SDO: EMCY, boot-up or heartbeat, TPDOs by number
 abbrev pub with_sent : Constants → Moment → List FrameContent → List FrameContent
 with_sent k m sent =
     sent ++ emergency_frames m.contents m.emergency ++ life_frames k.description.node m.life

@@ -1,4 +1,4 @@
--- A device after its inputs, and within one: over any store.
+-- A device after its inputs, and within one, over any store.
 use Rattle.co_dict.specs.declared.store.ObjectStore.{Ghosts as StoreOf}
 use Rattle.co_node_parts.specs.declared.nmt_state.Transition.{Transition}
 use Rattle.co_node_model.specs.Inputs.{Inputs, InputView}
@@ -9,12 +9,12 @@ use Rattle.co_node_device.specs.declared.device.Device.{Device}
 use Rattle.co_node_device.specs.NodeStanding.{NodeStands}
 use Rattle.co_node_device.specs.Phases.{IsReceived, TookEffect}
 
--- this device stands after these inputs, the newest first
+-- this device is in the state after these inputs, newest first
 abbrev pub Stands : {S : Type 0} {store : StoreOf S} → Constants → Device S store → Inputs → Type 0
 Stands {S} {store} k device inputs =
     NodeStands k (store.description device.store) (store.contents device.store) device.parts inputs
 
--- after these inputs it received one more, which was this to it
+-- after these inputs the device has received one more, with this mark
 abbrev pub HasReceived : {S : Type 0} {store : StoreOf S} → Constants → Device S store → Inputs → InputView → Mark → Type 0
 HasReceived {S} {store} k device inputs input mark =
     IsReceived k (moments k inputs) (moment k (moments k inputs) input)

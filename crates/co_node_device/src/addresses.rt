@@ -1,4 +1,5 @@
-//! Who takes a frame (CiA 301, 7.3.5): a table by which no frame is searched for in the dictionary.
+//! The addressee of a frame (CiA 301, 7.3.5), by a table: a frame costs no search in the
+//! dictionary.
 
 ghost use Rattle.std.specs.Prelude.{◌≡◌, ℕ, ◌<◌, Option, None, false, length, IfOk};
 ghost use Rattle.co_dict.specs.Rows.{Contents};
@@ -32,9 +33,9 @@ use std::alloc::{AllocError, Global};
 use std::boxed::BoxedSlice;
 use std::marker::Model;
 
-/// The first active RPDO with an identifier depends on the parameters of RPDOs alone, 1400h to 17FFh, and the
-/// identifier of SYNC on 1005h. So a table is one of the contents of the dictionary as long as none of these entries
-/// was written.
+/// The first active RPDO with an identifier depends on the parameters of RPDOs alone, 1400h to
+/// 17FFh, and the identifier of SYNC on 1005h. So a table stays valid until one of these entries is
+/// written.
 fn addresses_by_entries()
     ensures rpdos { (contents others : Contents) (id : ℕ) → AgreeOnRpdos contents others →
         rpdo_with contents id ≡ rpdo_with others id }
@@ -57,8 +58,8 @@ fn is_address_set(set: Option<Key>) -> bool
     }
 }
 
-/// Whether the input may have changed the identifier of SYNC, or which RPDO has an identifier: it was a reset, or
-/// the COB-ID of SYNC or a parameter of an RPDO was written.
+/// Whether the input may have changed the identifier of SYNC or of an RPDO: it was a reset, or
+/// wrote the COB-ID of SYNC or a parameter of an RPDO.
 #[inline(always)]
 fn may_change_addresses(mark: &Mark) -> bool
     ensures { result ≡ may_change_addresses mark.now }
@@ -66,10 +67,10 @@ fn may_change_addresses(mark: &Mark) -> bool
     mark.is_reset() || is_address_set(mark.written())
 }
 
-/// How many identifiers there are, 0 to 7FFh.
+/// The number of identifiers, 0 to 7FFh.
 const IDENTIFIERS: usize = 2048;
 
-/// Empties all places.
+/// Clears all places.
 fn clear(numbers: &mut [Option<PdoNumber>])
     ensures { (id : ℕ) (d : Option ℕ) → id < length numbers.old →
         slice_index_or numbers.new id d ≡ None }
@@ -79,7 +80,7 @@ fn clear(numbers: &mut [Option<PdoNumber>])
     }
 }
 
-/// Enters an RPDO at its identifier, if it is active and no other one is there.
+/// Enters an RPDO at its identifier, if it is active and the place is free.
 fn enter<S: ObjectStore>(numbers: &mut [Option<PdoNumber>], store: &S, number: PdoNumber)
     requires { length numbers.old ≡ 2048 }
     ensures { (id : ℕ) (d : Option ℕ) → id < 2048 →
@@ -109,11 +110,12 @@ fn fill<S: ObjectStore>(numbers: &mut [Option<PdoNumber>], store: &S)
     }
 }
 
-/// The identifier of SYNC, and for each identifier the first active RPDO with it. It asks for no memory after `new`.
-/// Contracts see the word of 1005h, and the numbers of the RPDOs by identifier.
+/// The identifier of SYNC, and for each identifier the first active RPDO with it (CiA 301, 7.3.5).
+/// It allocates no memory after `new`. Contracts see the word of 1005h, and the numbers of the
+/// RPDOs by identifier.
 #[derive(Drop)]
 pub struct AddressTable {
-    // of 1005h; 0 where there is none
+    // the word of 1005h; 0 if there is none
     sync: u32,
     numbers: BoxedSlice<Option<PdoNumber>>,
 }
@@ -130,7 +132,7 @@ impl Model for AddressTable {
 }
 
 impl AddressTable {
-    /// The table of a dictionary. `AllocError` where there is no memory.
+    /// The table of a dictionary. `AllocError` if it can't be allocated.
     pub fn new<S: ObjectStore>(alloc: Global, store: &S) -> Result<AddressTable, AllocError>
         ensures { IfOk result (λ table. IsTableOf (S.contents store.now) table) }
     {
@@ -142,8 +144,8 @@ impl AddressTable {
         })
     }
 
-    /// Follows the dictionary over an input: the table is filled anew where that may have changed the identifier of
-    /// SYNC or which RPDO has an identifier, at a reset and where 1005h or a parameter of an RPDO was written.
+    /// Updates the table after an input: it is filled again after a reset, and after a write of
+    /// 1005h or of a parameter of an RPDO.
     #[inline(always)]
     pub fn note<S: ObjectStore>(&mut self, mark: &Mark, store: &S)
         ensures { (before : Contents) → IsTableOf before self.old →
@@ -178,7 +180,7 @@ impl AddressTable {
     }
 }
 
-/// The RPDO, or else who takes a frame with this identifier by error control.
+/// The RPDO, or else error control or nobody, by the identifier.
 #[inline(always)]
 fn from_rpdos_on(rpdo: Option<PdoNumber>, id: u16) -> Address
     ensures { result ≡ address_unless_rpdo rpdo id }
@@ -193,8 +195,8 @@ fn from_rpdos_on(rpdo: Option<PdoNumber>, id: u16) -> Address
     }
 }
 
-/// Who takes a frame with this identifier, where `is_sync` says whether it is that of SYNC, `channel` is the SDO
-/// channel whose requests have it, if one has, and `rpdo` the first active RPDO with it, if one has it.
+/// The addressee of an identifier. `is_sync` is whether it is that of SYNC, `channel` the SDO
+/// channel whose requests have it, and `rpdo` the first active RPDO with it.
 #[inline(always)]
 fn address_of(id: u16, is_sync: bool, channel: Option<u8>, rpdo: Option<PdoNumber>) -> Address
     ensures { (contents : Contents) → is_sync ≡ is_sync_id contents id →
@@ -212,7 +214,8 @@ fn address_of(id: u16, is_sync: bool, channel: Option<u8>, rpdo: Option<PdoNumbe
     }
 }
 
-/// Who takes a frame, by the identifiers of the SDO channels and a table of what the entries say.
+/// The addressee of a frame, by the identifiers of the SDO channels and the table of SYNC and
+/// RPDOs.
 #[inline(always)]
 pub(crate) fn find_address(bank: &Bank, addresses: &AddressTable, frame: &Frame) -> Address
     ensures { (k : Constants) (history : History) (d : Description) →

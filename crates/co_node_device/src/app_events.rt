@@ -1,4 +1,4 @@
-//! Application events as they are received.
+//! Application events, at reception.
 
 ghost use Rattle.std.specs.Prelude.{◌≡◌, None};
 ghost use Rattle.co_frame.specs.declared.abort_code.AbortCode.{AbortCode};
@@ -18,7 +18,7 @@ use co_node_parts::{Emergencies, EmergencyEvent};
 use co_pdo::{PdoNumber, has_pdo};
 use co_value::Key;
 
-/// A refused event changes nothing.
+/// The result of a refused event.
 fn refused(code: AbortCode) -> Received
     ensures mark { result.mark ≡ was.Quiet }
     ensures app { result.app ≡ AppAnswer.Refused code }
@@ -29,7 +29,7 @@ fn refused(code: AbortCode) -> Received
     }
 }
 
-/// An event that was done.
+/// The result of an event that was done.
 fn done(mark: Mark) -> Received
     ensures mark { result.mark ≡ mark }
     ensures app { result.app ≡ AppAnswer.Done }
@@ -60,7 +60,7 @@ pub(crate) fn write<S: ObjectStore>(store: &mut S, key: Key, bytes: &[u8]) -> Re
     }
 }
 
-/// Whether the dictionary has the TPDO with a number; none has one from 512 on.
+/// Whether the dictionary has the TPDO with a number; never from 512 on.
 fn is_tpdo<S: ObjectStore>(store: &S, number: u16) -> bool
     ensures { result ≡ is_tpdo (S.description store.now).rows number }
 {
@@ -70,7 +70,7 @@ fn is_tpdo<S: ObjectStore>(store: &S, number: u16) -> bool
     }
 }
 
-/// The application gave an event on a TPDO.
+/// An application event of a TPDO.
 pub(crate) fn event<S: ObjectStore>(store: &S, number: u16) -> Received
     ensures mark { result.mark ≡ (app_moment (S.description store.now) (S.contents store.now)
         (EventOn number)).mark }
@@ -85,7 +85,7 @@ pub(crate) fn event<S: ObjectStore>(store: &S, number: u16) -> Received
     done(Mark::Asked(Asked::Event(number)))
 }
 
-/// The application says that the value of an entry changed.
+/// The application reports that the value of an entry changed.
 pub(crate) fn change<S: ObjectStore>(store: &S, key: Key) -> Received
     ensures mark { result.mark ≡ (app_moment (S.description store.now) (S.contents store.now)
         (ChangedAt key)).mark }
@@ -100,7 +100,7 @@ pub(crate) fn change<S: ObjectStore>(store: &S, key: Key) -> Received
     }
 }
 
-/// The application raises an error, which sets bit 0, generic error, too.
+/// The application raises an error; bit 0, generic error, is set as well.
 pub(crate) fn raise<S: ObjectStore>(
     store: &mut S,
     emergencies: &mut Emergencies,

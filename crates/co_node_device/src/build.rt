@@ -1,4 +1,4 @@
-//! A device as it is built, and what is read of it.
+//! Building a device, and reading from it.
 
 ghost use Rattle.std.specs.Prelude.{◌≡◌, ◌≤◌, ◌+◌, ◌&&◌, [], ◌∷◌, IfOk, IfSome, is_some, max, nat_lt, option_map};
 ghost use Rattle.co_value.specs.declared.key.Key.{Key};
@@ -10,6 +10,10 @@ ghost use Rattle.co_node_model.specs.Moments.{Constants};
 ghost use Rattle.co_node_model.specs.Heartbeats.{boot_up};
 ghost use Rattle.co_node_model.specs.Device.{app_after, contents_of, frame_bound, held_of, room_of, state_of};
 ghost use Rattle.co_node_model.specs.Tpdos.{tpdo_count};
+ghost use Rattle.co_sdo_bank.specs.Banks.{all_settings};
+ghost use Rattle.co_sdo_bank.specs.Channels.{HaveRoom};
+ghost use Rattle.co_node_device.specs.MappingTables.{HaveParts};
+ghost use Rattle.co_node_device.specs.NodeStanding.{NodeStands};
 ghost use Rattle.co_node_device.specs.Standing.{Stands};
 ghost use Rattle.co_node_device.specs.Built.{constants_of};
 
@@ -29,10 +33,51 @@ use co_sdo_bank::Bank;
 use co_value::Key;
 use std::alloc::{AllocError, Global};
 
+// The parts of a device over a dictionary. It is lent, so that no way out has the drop of a store beside that of parts.
+fn parts_of<S: ObjectStore>(
+    alloc: Global,
+    store: &S,
+    greatest: u32,
+    time: u16,
+) -> Result<Parts, AllocError>
+    requires greatest { (key : Key) → capacity_at (S.description store.now).rows key ≤ greatest }
+    ensures stands { IfOk result (λ parts. NodeStands
+        (constants_of (S.description store.now) (S.contents store.now) greatest time)
+        (S.description store.now) (S.contents store.now) parts []) }
+    ensures fits { IfOk result (λ parts.
+        HaveRoom (S.description store.now).rows (all_settings parts.bank)) }
+    ensures rpdos { IfOk result (λ parts.
+        HaveParts (S.description store.now) parts.mappings.rpdos) }
+    ensures tpdos { IfOk result (λ parts.
+        HaveParts (S.description store.now) parts.mappings.tpdos) }
+{
+    let bank = Bank::new(alloc, store, greatest, time)?;
+    let addresses = AddressTable::new(alloc, store)?;
+    let mappings = CompiledMappings::new(alloc, store)?;
+    let emergencies = Emergencies::new(alloc)?;
+    let slots = RpdoSlots::new(alloc, 512)?;
+    let schedule = Schedule::new(alloc, store)?;
+    Ok(Parts {
+        state: NmtState::new(),
+        bank,
+        addresses,
+        mappings,
+        consumers: begun_consumers(store),
+        lost: LostHeartbeats::new(),
+        emergencies,
+        slots,
+        producer: begun_producer(store),
+        schedule,
+        due: Due::new(),
+        last_app: AppAnswer::None,
+    })
+}
+
 impl<S: ObjectStore + Drop> Device<S> {
-    /// A device over a dictionary, in NMT state pre-operational and with nothing received. `greatest` is at least the
-    /// capacity of each entry, in bytes; `time` the SDO timeout between two requests, in ms, where 0 disables it.
-    /// `AllocError` where there is no memory; the device asks for none after that.
+    /// A device over a dictionary, in NMT state pre-operational, that has received nothing.
+    /// `greatest` is at least the capacity of each entry, in bytes; `time` is the SDO timeout
+    /// between two requests, in ms, 0 disables it. `AllocError` if memory can't be allocated; the
+    /// device allocates none after that.
     pub fn new(alloc: Global, store: S, greatest: u32, time: u16) -> Result<Device<S>, AllocError>
         requires greatest { (key : Key) → capacity_at (S.description store).rows key ≤ greatest }
         ensures stands { IfOk result (λ device. Stands
@@ -41,33 +86,14 @@ impl<S: ObjectStore + Drop> Device<S> {
             S.description device.store ≡ S.description store) }
         ensures contents { IfOk result (λ device. S.contents device.store ≡ S.contents store) }
     {
-        let bank = Bank::new(alloc, &store, greatest, time)?;
-        let addresses = AddressTable::new(alloc, &store)?;
-        let mappings = CompiledMappings::new(alloc, &store)?;
-        let emergencies = Emergencies::new(alloc)?;
-        let slots = RpdoSlots::new(alloc, 512)?;
-        let schedule = Schedule::new(alloc, &store)?;
-        let parts = Parts {
-            state: NmtState::new(),
-            bank,
-            addresses,
-            mappings,
-            consumers: begun_consumers(&store),
-            lost: LostHeartbeats::new(),
-            emergencies,
-            slots,
-            producer: begun_producer(&store),
-            schedule,
-            due: Due::new(),
-            last_app: AppAnswer::None,
-        };
+        let parts = parts_of(alloc, &store, greatest, time)?;
         Ok(Device { store, parts })
     }
 }
 
 impl<S: ObjectStore> Device<S> {
-    /// The boot-up, as the device enters pre-operational after power-on: the outbox then holds it and nothing else (CiA
-    /// 301, 7.2.8.3.3).
+    /// Sends the boot-up, when the device enters pre-operational after power-on: the outbox then
+    /// holds it and nothing else (CiA 301, 7.2.8.3.3).
     pub fn boot(&self, outbox: &mut Outbox)
         ensures { (k : Constants) (inputs : Inputs) → Stands k self.now inputs →
             outbox.new.items ≡ boot_up k ∷ [] }
@@ -76,7 +102,7 @@ impl<S: ObjectStore> Device<S> {
         send_life(&self.store, Some(Heartbeat::BootUp), outbox);
     }
 
-    /// The bytes of an entry; `None` where there is no entry.
+    /// The bytes of an entry; `None` if there is no such entry.
     pub fn value(&self, key: Key) -> Option<&[u8]>
         ensures { (k : Constants) (inputs : Inputs) → Stands k self.now inputs →
             option_map (λ bytes. bytes.now) result ≡ contents_of k inputs key }
@@ -100,7 +126,7 @@ impl<S: ObjectStore> Device<S> {
         self.parts.state.get()
     }
 
-    /// How many bytes are held for the transfer of an SDO channel; 0 where there is no such channel.
+    /// How many bytes are held for the transfer of an SDO channel; 0 if there is no such channel.
     pub fn held(&self, channel: u8) -> usize
         ensures held { (k : Constants) (inputs : Inputs) → Stands k self.now inputs →
             result ≡ held_of k inputs channel }
@@ -110,7 +136,7 @@ impl<S: ObjectStore> Device<S> {
         self.parts.bank.held(channel)
     }
 
-    /// The answer to the last input, where that was an application event.
+    /// The answer to the last input, if that was an application event; else `AppAnswer::None`.
     pub fn last_app(&self) -> AppAnswer
         ensures { (k : Constants) (inputs : Inputs) → Stands k self.now inputs →
             result ≡ app_after k inputs }
@@ -118,8 +144,8 @@ impl<S: ObjectStore> Device<S> {
         self.parts.last_app
     }
 
-    /// The compiled mapping of PDO `number` of a side, of what it maps as the dictionary is now; `None` where there is
-    /// no such PDO (CiA 301, 7.5.2.36, 7.5.2.38).
+    /// The compiled mapping of PDO `number` of a side in the dictionary now; `None` if there is no
+    /// such PDO (CiA 301, 7.5.2.36 and 7.5.2.38).
     pub fn compiled(&self, side: Side, number: u16) -> Option<&Compiled>
         ensures there { (k : Constants) (inputs : Inputs) → Stands k self.now inputs →
             is_some result ≡ (nat_lt number 512 && has_pdo side k.description.rows number) }
@@ -133,7 +159,8 @@ impl<S: ObjectStore> Device<S> {
         }
     }
 
-    /// How many frames one input gives at most: 127, or the number of TPDOs where that is more, and 2; so at most 514.
+    /// The most frames that one input sends: 129, or the number of TPDOs plus 2 if that is more; so
+    /// at most 514.
     pub fn most_frames(&self) -> usize
         ensures most { (k : Constants) (inputs : Inputs) → Stands k self.now inputs →
             result ≡ max 127 (tpdo_count k.description.rows) + 2 }

@@ -1,4 +1,4 @@
-//! A device over a dictionary: one input.
+//! A device over a dictionary, and its inputs.
 
 ghost use Rattle.std.specs.Prelude.{◌≡◌, ◌<◌, ◌≤◌, ◌∷◌, length, true, IfSome, if◌then◌else◌};
 ghost use Rattle.std.proofs.Props.{props};
@@ -29,7 +29,7 @@ use co_node_laws::{addresses_kept, few, mappings_kept, schedule_ready};
 use co_node_model::{Address, AppEvent, Mark};
 use co_node_parts::Transition;
 
-/// A device over a dictionary: each SDO channel has room for every entry.
+/// A device over a dictionary. Each SDO channel has room for every entry.
 #[derive(Drop)]
 pub struct Device<S: ObjectStore> {
     pub(crate) store: S,
@@ -46,7 +46,8 @@ impl<S: ObjectStore> Device<S> {
     ghost use Rattle.co_node_device.specs.Phases.{with_sent};
     ghost use Rattle.co_node_device.specs.Standing.{HasReceived, HasTakenEffect, Stands};
 
-    /// A frame is received: the outbox then holds the frames that this prescribes, and nothing else.
+    /// Takes a received frame. The outbox then holds the frames that the definitions prescribe at
+    /// it, and nothing else.
     #[inline(never)]
     pub fn take_frame(&mut self, frame: &Frame, outbox: &mut Outbox)
         ensures frames { (k : Constants) (inputs : Inputs) → Stands k self.old inputs →
@@ -71,7 +72,8 @@ impl<S: ObjectStore> Device<S> {
         }
     }
 
-    /// 1 ms elapsed: the outbox then holds the frames that this prescribes, and nothing else.
+    /// 1 ms elapsed. The outbox then holds the frames that the definitions prescribe at it, and
+    /// nothing else.
     #[inline(never)]
     pub fn tick(&mut self, outbox: &mut Outbox)
         ensures frames { (k : Constants) (inputs : Inputs) → Stands k self.old inputs →
@@ -84,7 +86,8 @@ impl<S: ObjectStore> Device<S> {
         self.take(Given::Tick, Address::Nobody, &Frame::default(), outbox);
     }
 
-    /// The application did something: the outbox then holds the frames that this prescribes, and nothing else.
+    /// Takes an application event. The outbox then holds the frames that the definitions prescribe
+    /// at it, and nothing else.
     #[inline(never)]
     pub fn take_event(&mut self, event: AppEvent<'_>, outbox: &mut Outbox)
         ensures frames { (k : Constants) (inputs : Inputs) → Stands k self.old inputs →
@@ -104,8 +107,8 @@ impl<S: ObjectStore> Device<S> {
         self.take(given, Address::Nobody, &Frame::default(), outbox);
     }
 
-    // One input, whose frame and the address of who takes this go beside it. It is compiled anew for each call of it,
-    // for which the kind of the mark is mostly known.
+    // Takes one input; its frame and the addressee of that are arguments of their own. Inlined in
+    // each caller, where the kind of the mark is mostly known.
     #[inline(always)]
     fn take(&mut self, given: Given<'_>, address: Address, frame: &Frame, outbox: &mut Outbox)
         ensures frames { (k : Constants) (inputs : Inputs) → Stands k self.old inputs →
@@ -133,12 +136,13 @@ impl<S: ObjectStore> Device<S> {
         self.parts.last_app = received.app;
         let transition = self.take_effect(&received.mark);
         self.send(&received.mark, transition, outbox);
-        // what follows holds of every device, and does nothing
+        // laws: calls of them change nothing
         few();
         store_laws(&self.store);
     }
 
-    // What was received takes effect: lost heartbeats, the NMT state, SDO transfers that are dropped, SYNC and RPDOs.
+    // The effects of a received input: lost heartbeats, the NMT state, dropped SDO transfers, SYNC
+    // and RPDOs.
     #[inline(always)]
     fn take_effect(&mut self, mark: &Mark) -> Transition
         requires { IfSome (marked_rpdo mark.now) (λ rpdo. rpdo.number < 512) }
@@ -169,14 +173,15 @@ impl<S: ObjectStore> Device<S> {
             transition,
         );
         self.parts.addresses.note(mark, &self.store);
-        // these laws do nothing
+        // laws: calls of them change nothing
         addresses_kept();
         mappings_kept();
         mappings_stay();
         transition
     }
 
-    // Puts what is sent besides SDO into the outbox: an emergency, the boot-up or a heartbeat, and TPDOs.
+    // Puts the frames besides SDO into the outbox: an emergency, the boot-up or a heartbeat, and
+    // TPDOs.
     #[inline(always)]
     fn send(&mut self, mark: &Mark, transition: Transition, outbox: &mut Outbox)
         requires room { length outbox.old.items ≤ segments_per_sub_block }
@@ -206,7 +211,7 @@ impl<S: ObjectStore> Device<S> {
             &self.parts.due,
             outbox,
         );
-        // a law, which does nothing
+        // a law: the call changes nothing
         schedule_ready();
     }
 }

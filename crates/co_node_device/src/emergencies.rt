@@ -1,4 +1,4 @@
-//! EMCY: errors that are raised and cleared, and the emergencies that are sent (CiA 301, 7.2.7).
+//! EMCY: errors are raised and cleared, and emergencies sent (CiA 301, 7.2.7).
 
 ghost use Rattle.std.specs.Prelude.{◌≡◌, ◌∷◌, [], ◌+◌, ◌≤◌, ◌++◌, true, None, is_some, if◌then◌else◌};
 ghost use Rattle.co_node_parts.specs.EmergencyQueues.{
@@ -35,14 +35,14 @@ use co_node_model::{DeviceError, Mark};
 use co_node_parts::{Emergencies, EmergencyEvent, NodeState};
 use co_profile::keys;
 
-/// The error register, 0 where there is none.
+/// The error register; 0 if there is none.
 fn error_register<S: ObjectStore>(store: &S) -> u8
     ensures { result ≡ error_register (S.contents store.now) }
 {
     number_u8(store, keys::ERROR_REGISTER)
 }
 
-/// Sets the error register, where there is one.
+/// Sets the error register, if there is one.
 fn set_register<S: ObjectStore>(store: &mut S, register: u8)
     ensures contents { S.contents store.new
         ≡ with_register (S.description store.old).rows register (S.contents store.old) }
@@ -51,8 +51,8 @@ fn set_register<S: ObjectStore>(store: &mut S, register: u8)
     set_u8(store, keys::ERROR_REGISTER, register);
 }
 
-/// Raises the error: sets its bits in the error register, puts its code in front of the pre-defined
-/// error field, and gives the emergency that is to be queued (CiA 301, 7.2.7, 7.5.2.2 and 7.5.2.4).
+/// Raises an error: sets its bits in the error register, puts its code first into the pre-defined
+/// error field, and returns the emergency to be queued (CiA 301, 7.2.7, 7.5.2.2 and 7.5.2.4).
 fn raise<S: ObjectStore>(error: DeviceError, store: &mut S) -> Emergency
     ensures emergency { result ≡ emergency_of error (S.contents store.old) }
     ensures contents { S.contents store.new
@@ -70,7 +70,7 @@ fn raise<S: ObjectStore>(error: DeviceError, store: &mut S) -> Emergency
     }
 }
 
-/// Raises the error, and queues its emergency.
+/// Raises an error, and queues its emergency.
 pub(crate) fn raise_and_queue<S: ObjectStore>(
     error: DeviceError,
     store: &mut S,
@@ -106,8 +106,8 @@ pub(crate) fn raise_some<S: ObjectStore>(
     }
 }
 
-/// Clears bits of the error register, and gives the emergency that is to be queued: error code 0000h
-/// with the register that is left. The pre-defined error field stays (CiA 301, 7.2.7.1).
+/// Clears bits of the error register, and returns the emergency to be queued: error code 0000h,
+/// with the register after it. The pre-defined error field stays (CiA 301, 7.2.7.1).
 pub(crate) fn clear<S: ObjectStore>(store: &mut S, bits: u8) -> Emergency
     ensures emergency { result ≡ clearing_of bits (S.contents store.old) }
     ensures contents { S.contents store.new
@@ -123,7 +123,7 @@ pub(crate) fn clear<S: ObjectStore>(store: &mut S, bits: u8) -> Emergency
     }
 }
 
-/// What the input was to the emergencies, besides those that it raised.
+/// The event of the emergency queue at an input, besides the emergencies that this raised.
 #[inline(always)]
 pub(crate) fn emergency_event(mark: &Mark) -> EmergencyEvent
     ensures { result ≡ emergency_event mark.now }
@@ -137,7 +137,7 @@ pub(crate) fn emergency_event(mark: &Mark) -> EmergencyEvent
     }
 }
 
-/// Whether an emergency may be sent at the end of the input, in the state after it.
+/// Whether an emergency may be sent at the end of an input, by the state after it.
 #[inline(always)]
 pub(crate) fn may_send<S: ObjectStore>(mark: &Mark, store: &S, after: NodeState) -> bool
     ensures { result ≡ may_send mark.now after (S.contents store.now) }
@@ -147,8 +147,8 @@ pub(crate) fn may_send<S: ObjectStore>(mark: &Mark, store: &S, after: NodeState)
         && !mark.is_time_out()
 }
 
-/// Takes the emergency that is sent at the end of an input, if one is, by the NMT state after it. The dictionary is
-/// read where one waits and the inhibit time is over.
+/// Takes the emergency that is sent at the end of an input, if any, by the NMT state after it. The
+/// dictionary is read only if one waits and the inhibit time is over.
 #[inline(always)]
 pub(crate) fn take_emergency<S: ObjectStore>(
     store: &S,

@@ -1,21 +1,22 @@
-//! An input without its frame.
+//! An input whose frame is a separate argument.
 
 use co_value::Key;
 
-/// An input of a device without its frame, which goes beside it.
-#[derive(Clone, Copy, Debug)]
+/// An input of a device; the frame of a received one is a separate argument.
+#[derive(Clone, Copy)]
 pub enum Given<'a> {
-    /// The frame beside it was received, by the one whose address goes beside it as well.
+    /// A frame was received; frame and addressee are separate arguments.
     Frame,
     /// 1 ms elapsed.
     Tick,
     /// The application writes bytes into an entry.
     Write(Key, &'a [u8]),
-    /// The application gave an event on the TPDO with this number.
+    /// An application event of the TPDO with this number.
     Event(u16),
-    /// The application says that the value of this entry changed.
+    /// The application reports that the value of this entry changed.
     Changed(Key),
-    /// The application raises an error: code, bits of the error register, manufacturer's bytes.
+    /// The application raises an error: its code, the bits of the error register, the
+    /// manufacturer-specific bytes.
     Raise(u16, u8, [u8; 5]),
     /// The application clears bits of the error register.
     Clear(u8),

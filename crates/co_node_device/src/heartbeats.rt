@@ -1,4 +1,5 @@
-//! Heartbeats: those of other nodes that are monitored, and the device's own (CiA 301, 7.2.8.3.2 and 7.2.8.3.3).
+//! Heartbeats: the monitoring of other nodes, and the device's own (CiA 301, 7.2.8.3.2 and
+//! 7.2.8.3.3).
 
 ghost use Rattle.std.specs.Prelude.{◌≡◌, ◌+◌, ◌≤◌, ◌++◌, None, ◌∷◌, ◌&&◌, []};
 ghost use Rattle.co_dict.specs.Rows.{Contents, number_at};
@@ -39,7 +40,8 @@ use co_node_parts::{
 use co_profile::{CONSUMER_HEARTBEAT, keys};
 use co_value::Key;
 
-/// A heartbeat of another node, which a boot-up isn't, is heard (CiA 301, 7.2.8.3.2).
+/// The mark of an error control frame of another node: a heartbeat is heard, a boot-up is ignored
+/// (CiA 301, 7.2.8.3.2).
 #[inline(always)]
 pub(crate) fn take_error_control(node: u8, frame: &Frame) -> Mark
     ensures mark { (input : InputView) (contents : Contents) → result
@@ -54,8 +56,7 @@ pub(crate) fn take_error_control(node: u8, frame: &Frame) -> Mark
     }
 }
 
-/// What the input was to the consumers of heartbeats, where it was no reset: at a reset all of
-/// them begin.
+/// The event of the heartbeat consumers at an input that is no reset. At a reset all of them begin.
 #[inline(always)]
 fn consumers_event<S: ObjectStore>(mark: &Mark, store: &S) -> ConsumersEvent
     ensures { result ≡ consumers_event mark.now (S.contents store.now) }
@@ -74,7 +75,7 @@ fn consumers_event<S: ObjectStore>(mark: &Mark, store: &S) -> ConsumersEvent
     }
 }
 
-/// The words of 1016h, sub-indices 1 to 127 (CiA 301, 7.5.2.19).
+/// The words of consumer heartbeat time 1016h, sub-indices 1 to 127 (CiA 301, 7.5.2.19).
 fn consumer_words<S: ObjectStore>(store: &S) -> ArrayVec<u32, 127>
     ensures { result.items ≡ consumer_words (S.contents store.now) }
 {
@@ -91,7 +92,7 @@ fn consumer_words<S: ObjectStore>(store: &S) -> ArrayVec<u32, 127>
     words
 }
 
-/// The consumers of heartbeats, each begun with its word.
+/// The heartbeat consumers, each begun with its word.
 pub(crate) fn begun_consumers<S: ObjectStore>(store: &S) -> HeartbeatConsumers
     ensures { ConsumersStand result (AllBegun (consumer_words (S.contents store.now)) ∷ []) }
 {
@@ -100,7 +101,7 @@ pub(crate) fn begun_consumers<S: ObjectStore>(store: &S) -> HeartbeatConsumers
     consumers
 }
 
-/// All monitoring begins anew, with the words that the entries have.
+/// Begins all monitoring again, with the current words of the entries.
 #[cold]
 #[inline(never)]
 fn begin_anew<S: ObjectStore>(store: &S, consumers: &mut HeartbeatConsumers)
@@ -110,7 +111,7 @@ fn begin_anew<S: ObjectStore>(store: &S, consumers: &mut HeartbeatConsumers)
     consumers.begin_all(&consumer_words(store));
 }
 
-/// Raises an error for each heartbeat that is lost, and queues its emergency.
+/// Raises an error for each lost heartbeat, and queues its emergency.
 fn raise_losses<S: ObjectStore>(store: &mut S, emergencies: &mut Emergencies, lost: &[u8])
     ensures description { S.description store.new ≡ S.description store.old }
     ensures contents { S.contents store.new ≡
@@ -124,9 +125,10 @@ fn raise_losses<S: ObjectStore>(store: &mut S, emergencies: &mut Emergencies, lo
     }
 }
 
-/// The heartbeats of others at an input: each that is lost at it is an error of the device, 8130h, whose emergency is
-/// queued. At a reset all monitoring begins anew. It gives what the losses are to the NMT state, by the error behaviour
-/// of 1029h, sub-index 1, before them. `lost` is room for the sub-indices of those that are lost.
+/// Monitors the heartbeats of other nodes at an input. Each loss raises error 8130h and queues its
+/// emergency. At a reset all monitoring begins again. Returns the event of the NMT state, by the
+/// error behaviour in 1029h, sub-index 1, before the losses. `lost` is a buffer for the sub-indices
+/// of lost heartbeats.
 #[inline(always)]
 pub(crate) fn watch<S: ObjectStore>(
     store: &mut S,
@@ -173,7 +175,7 @@ fn is_set(mark: &Mark, key: Key) -> bool
     }
 }
 
-/// What the input was to the heartbeat producer.
+/// The event of the heartbeat producer at an input.
 #[inline(always)]
 pub(crate) fn producer_event<S: ObjectStore>(mark: &Mark, store: &S) -> ProducerEvent
     ensures { result ≡ producer_event mark.now (S.contents store.now) }
@@ -187,7 +189,7 @@ pub(crate) fn producer_event<S: ObjectStore>(mark: &Mark, store: &S) -> Producer
     }
 }
 
-/// The boot-up at a reset; else the heartbeat of the state after the input, where one is due.
+/// The boot-up at a reset, else the heartbeat of the state after the input, if one is due.
 #[inline(always)]
 pub(crate) fn life_of(mark: &Mark, after: NodeState, is_due: bool) -> Option<Heartbeat>
     ensures { result ≡ life_of mark.now after is_due }

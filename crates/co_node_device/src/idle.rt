@@ -1,4 +1,4 @@
-//! For how long nothing is due.
+//! How long nothing is due.
 
 ghost use Rattle.std.specs.Prelude.{◌≡◌, ℕ, ◌≤◌};
 ghost use Rattle.co_pdo.specs.Schedules.{AllCurrent, History, IsScheduleAfter, NoTpdoDueFor};
@@ -15,7 +15,8 @@ use co_node_model::Mark;
 use co_node_parts::NodeState;
 use co_pdo::Schedule;
 
-// For at least so many ticks no TPDO is due, since they are in operational alone.
+// During this many ticks no TPDO is due, if nothing else happens: a lower bound. TPDOs are sent in
+// operational alone.
 fn tpdos_idle<S: ObjectStore>(state: NodeState, schedule: &Schedule, store: &S) -> u32
     ensures { (history : History) (n : ℕ) →
         IsScheduleAfter (S.description store.now) schedule.now history →
@@ -31,13 +32,13 @@ fn tpdos_idle<S: ObjectStore>(state: NodeState, schedule: &Schedule, store: &S) 
 impl<S: ObjectStore> Device<S> {
     ghost use Rattle.co_node_device.specs.Standing.{Stands};
 
-    /// For at least so many ms the device sends nothing, and neither an entry nor the NMT state changes, if nothing is
-    /// received; `u32::MAX` if it never does.
+    /// During this many ms the device sends nothing, and its entries, its NMT state and the bytes
+    /// held by SDO channels stay the same, if it gets no other input: a lower bound.
     pub fn idle(&self) -> u32
         ensures { (k : Constants) (inputs : Inputs) → Stands k self.now inputs →
             IsQuietFor k inputs result }
     {
-        // laws, which do nothing
+        // laws: calls of them change nothing
         quiet_ticks();
         schedule_current();
         let state = self.parts.state.get();

@@ -1,4 +1,5 @@
-//! A CANopen device over a dictionary: one input after another. A file a service has its code.
+//! A CANopen device over a dictionary, one input after another. The code of each service is in a
+//! file of its own.
 #![tactic(auto)]
 
 mod addresses;

@@ -21,8 +21,8 @@ use std::alloc::{AllocError, Global};
 use std::boxed::BoxedSlice;
 use std::marker::Model;
 
-/// A table of compiled mappings is one of the contents of the dictionary as long as no mapping parameter was written,
-/// 1600h to 17FFh and 1A00h to 1BFFh.
+/// A table of compiled mappings stays valid until a mapping parameter is written, 1600h to 17FFh
+/// and 1A00h to 1BFFh.
 pub(crate) fn mappings_stay()
     ensures { (side : Side) (d : Description) (before now : Contents) (table : List (List Part)) →
         AgreeOnMappings before now →
@@ -45,7 +45,8 @@ fn is_mapping_set(set: Option<Key>) -> bool
     }
 }
 
-/// Whether an input may have changed what a PDO maps: it was a reset, or a mapping parameter was written.
+/// Whether an input may have changed the mapping of a PDO: it was a reset, or wrote a mapping
+/// parameter.
 #[inline(always)]
 fn may_change_mappings(mark: &Mark) -> bool
     ensures { result ≡ may_change_mappings mark.now }
@@ -53,7 +54,7 @@ fn may_change_mappings(mark: &Mark) -> bool
     mark.is_reset() || is_mapping_set(mark.written())
 }
 
-/// How many PDOs of a side there are up to the last one that the dictionary has.
+/// The number of the last PDO of a side that the dictionary has, plus 1; 0 if it has none.
 fn count_of<S: ObjectStore>(store: &S, side: Side) -> u16
     ensures covers { Covers side (S.description store.now) result }
     ensures few { result ≤ 512 }
@@ -68,7 +69,7 @@ fn count_of<S: ObjectStore>(store: &S, side: Side) -> u16
     count
 }
 
-/// Compiles each of them anew.
+/// Compiles the mapping of each PDO again.
 #[cold]
 #[inline(never)]
 fn compile_all<S: ObjectStore>(pdos: &mut [Compiled], store: &S, side: Side)
@@ -81,8 +82,8 @@ fn compile_all<S: ObjectStore>(pdos: &mut [Compiled], store: &S, side: Side)
     }
 }
 
-/// The compiled mappings of the PDOs of a side, up to the last PDO that the dictionary has. It asks for no memory after
-/// `new`. Contracts see the parts of each.
+/// The compiled mappings of the PDOs of a side, up to the last PDO that the dictionary has. It
+/// allocates no memory after `new`. Contracts see the parts of each.
 #[derive(Drop)]
 pub struct MappingTable {
     pdos: BoxedSlice<Compiled>,
@@ -101,7 +102,8 @@ impl Model for MappingTable {
 }
 
 impl MappingTable {
-    /// The compiled mappings of a side as the dictionary is now. `AllocError` where there is no memory.
+    /// The compiled mappings of a side of the dictionary now. `AllocError` if they can't be
+    /// allocated.
     pub fn new<S: ObjectStore>(
         alloc: Global,
         store: &S,
@@ -122,8 +124,8 @@ impl MappingTable {
         })
     }
 
-    /// Follows the dictionary over an input: the mappings are compiled anew where that may have changed what a PDO
-    /// maps, at a reset and where a mapping parameter was written.
+    /// Updates the mappings after an input: they are compiled again after a reset, and after a
+    /// write of a mapping parameter.
     #[inline(always)]
     pub fn note<S: ObjectStore>(&mut self, mark: &Mark, store: &S, side: Side)
         ensures table { (before : Contents) →
@@ -153,7 +155,7 @@ impl MappingTable {
         }
     }
 
-    /// The data of PDO k: what `image` gives of its mapping.
+    /// The data of PDO k, as `image` makes them of its mapping.
     pub fn image<S: ObjectStore>(&self, store: &S, k: PdoNumber) -> PackedBytes
         requires { HaveParts (S.description store.now) self.now }
         ensures { (side : Side) →
@@ -167,7 +169,7 @@ impl MappingTable {
         }
     }
 
-    /// Takes the data of PDO k as `apply` does with its mapping.
+    /// Writes the data of PDO k, as `apply` does with its mapping; the errors are the same.
     pub fn apply<S: ObjectStore>(
         &self,
         store: &mut S,
@@ -193,7 +195,7 @@ impl MappingTable {
         }
     }
 
-    /// The compiled mapping of PDO k; `None` where k is past the last PDO of the side.
+    /// The compiled mapping of PDO k; `None` if k is past the last PDO of the side.
     pub fn compiled(&self, k: PdoNumber) -> Option<&Compiled>
         ensures there { k < length self.now → IsSome result }
         ensures form { IfSome result (λ compiled. (k < length self.now) ×

@@ -15,7 +15,7 @@ use co_pdo::PdoNumber;
 use co_pdo_compiled::Compiled;
 use std::alloc::{AllocError, Global};
 
-/// The compiled mappings of all PDOs of a device. They ask for no memory after `new`.
+/// The compiled mappings of all PDOs of a device. They allocate no memory after `new`.
 #[derive(Drop)]
 pub struct CompiledMappings {
     /// Those of the RPDOs.
@@ -25,7 +25,7 @@ pub struct CompiledMappings {
 }
 
 impl CompiledMappings {
-    /// The compiled mappings as the dictionary is now. `AllocError` where there is no memory.
+    /// The compiled mappings of the dictionary now. `AllocError` if they can't be allocated.
     pub fn new<S: ObjectStore>(alloc: Global, store: &S) -> Result<CompiledMappings, AllocError>
         ensures mappings { IfOk result (λ mappings.
             AreMappings (S.description store.now) (S.contents store.now) mappings) }
@@ -37,8 +37,8 @@ impl CompiledMappings {
         Ok(CompiledMappings { rpdos, tpdos })
     }
 
-    /// Follows the dictionary over an input: the mappings are compiled anew at a reset and where a mapping parameter
-    /// was written.
+    /// Updates the mappings after an input: they are compiled again after a reset, and after a
+    /// write of a mapping parameter.
     #[inline(always)]
     pub fn note<S: ObjectStore>(&mut self, mark: &Mark, store: &S)
         ensures mappings { (before : Contents) → AreMappings (S.description store.now) before self.old →
@@ -53,7 +53,7 @@ impl CompiledMappings {
         self.tpdos.note(mark, store, Side::Tpdo);
     }
 
-    /// The compiled mapping of PDO k of a side. Each PDO that the dictionary has is there.
+    /// The compiled mapping of PDO k of a side, at least if the dictionary has that PDO.
     pub fn compiled(&self, side: Side, k: PdoNumber) -> Option<&Compiled>
         ensures there { (d : Description) (contents : Contents) → AreMappings d contents self.now →
             has_pdo side d.rows k ≡ true → IsSome result }

@@ -1,4 +1,4 @@
-//! NMT: commands, resets, and what they are to the NMT state (CiA 301, 7.2.8.3.1 and 7.3.2).
+//! NMT: commands, resets, and their events of the NMT state (CiA 301, 7.2.8.3.1 and 7.3.2).
 
 ghost use Rattle.std.specs.Prelude.{◌≡◌, None};
 ghost use Rattle.co_frame.specs.Nmt.{nmt_command_in};
@@ -23,7 +23,8 @@ fn service_for<S: ObjectStore>(store: &S, frame: &Frame) -> Option<NmtService>
     }
 }
 
-/// A command for this node or for all nodes restores the area that it resets (CiA 301, 7.2.8.3.1).
+/// Takes an NMT command: if it is a reset of this node or of all nodes, its area is restored
+/// (CiA 301, 7.2.8.3.1).
 pub(crate) fn take_command<S: ObjectStore>(store: &mut S, frame: &Frame) -> Mark
     ensures mark { result ≡ command_mark (service_for
         (S.description store.old).node (nmt_command_in frame.now)) }
@@ -41,7 +42,7 @@ pub(crate) fn take_command<S: ObjectStore>(store: &mut S, frame: &Frame) -> Mark
     Mark::of_command(service)
 }
 
-/// What the input was to the NMT state, besides heartbeats that are lost at it.
+/// The event of the NMT state at an input, besides heartbeats that are lost at it.
 #[inline(always)]
 pub(crate) fn state_event(mark: &Mark) -> StateEvent
     ensures { result ≡ state_event mark.now }

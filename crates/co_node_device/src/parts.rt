@@ -9,22 +9,22 @@ use co_node_parts::{
 use co_pdo::{Due, Schedule};
 use co_sdo_bank::Bank;
 
-/// The parts of a device besides its dictionary: each gets once an input what the input was to it.
+/// The parts of a device besides its dictionary. Each part notes one event per input.
 #[derive(Drop)]
 pub struct Parts {
     /// The NMT state.
     pub state: NmtState,
     /// All SDO channels.
     pub bank: Bank,
-    /// Who takes the frames of SYNC and of RPDOs.
+    /// The identifiers of SYNC and RPDOs.
     pub addresses: AddressTable,
     /// The compiled mappings of all PDOs.
     pub mappings: CompiledMappings,
     /// The monitoring of other nodes' heartbeats.
     pub consumers: HeartbeatConsumers,
-    /// The sub-indices of the heartbeats that the last input lost.
+    /// The sub-indices of 1016h whose heartbeat was lost at the last input.
     pub lost: LostHeartbeats,
-    /// The emergencies that wait.
+    /// The queue of emergencies.
     pub emergencies: Emergencies,
     /// The frames of RPDOs that wait for a SYNC.
     pub slots: RpdoSlots,
@@ -34,6 +34,6 @@ pub struct Parts {
     pub schedule: Schedule,
     /// The numbers of the TPDOs that the last input sent.
     pub due: Due,
-    /// The answer to the last input, where that was an application event.
+    /// The answer to the last input, if that was an application event.
     pub last_app: AppAnswer,
 }

@@ -1,4 +1,4 @@
-//! Receiving an input: it alone is looked at by its kind, and a frame by who takes it.
+//! Receiving an input, by its kind; a frame by its addressee.
 
 ghost use Rattle.std.specs.Prelude.{◌≡◌, ◌+◌, ◌<◌, ◌≤◌, ◌++◌, true, None, IfSome, if◌then◌else◌};
 ghost use Rattle.arrayvec.specs.ArrayVec.{array_vec_len};
@@ -29,7 +29,7 @@ use co_node_model::{Address, AppAnswer, Mark};
 use co_node_parts::{Emergencies, NodeState};
 use co_sdo_bank::Bank;
 
-/// A frame goes to the one that takes it, which has this address.
+/// Hands a frame to its addressee.
 #[inline(always)]
 fn take_frame<S: ObjectStore>(
     store: &mut S,
@@ -62,19 +62,19 @@ fn take_frame<S: ObjectStore>(
     }
 }
 
-/// What an input was, and what it is answered where it is an application event.
-#[derive(Clone, Copy, Debug)]
+/// The mark of a received input, and the answer if it is an application event.
+#[derive(Clone, Copy)]
 pub(crate) struct Received {
-    /// What it was to the parts of the device.
+    /// The mark of the input, for the parts of the device.
     pub(crate) mark: Mark,
     /// The answer to an application event.
     pub(crate) app: AppAnswer,
 }
 
-/// Receives an input in an NMT state: a frame goes to the one that takes it, a tick to all SDO
-/// channels, an application event to the entries, the register of errors or nobody. The frames of SDO
-/// channels are put into the outbox, at most 127, and where TPDOs may be due only the abort of a transfer whose time is
-/// over; the emergencies that the application raises are queued.
+/// Receives an input in an NMT state: a frame goes to its addressee, a tick to all SDO channels, an
+/// application event to the entries or the error register. The frames of SDO channels are put into
+/// the outbox, at most 127; if TPDOs may be due, at most the abort of a transfer that timed out.
+/// The emergencies that the application raises are queued.
 #[inline(always)]
 pub(crate) fn receive<S: ObjectStore>(
     store: &mut S,

@@ -1,4 +1,5 @@
-//! RPDOs: their frames, those that wait for a SYNC, errors of length, and data that take effect (CiA 301, 7.2.2).
+//! RPDOs: their frames, those that wait for a SYNC, errors of length, and data that take effect
+//! (CiA 301, 7.2.2).
 
 ghost use Rattle.std.specs.Prelude.{◌≡◌, ◌<◌, None, IfSome, [], if◌then◌else◌, ◌∷◌};
 ghost use Rattle.co_dict.specs.Rows.{Contents};
@@ -45,7 +46,7 @@ use co_pdo::{PdoFault, PdoNumber};
 use co_profile::{IndexRange, PDO_COB_ID, TRANSMISSION_TYPE, TransmissionType};
 use co_value::Key;
 
-/// An RPDO's frame counts in operational (CiA 301, 7.2.2).
+/// The mark of a frame of an RPDO: it is ignored unless the device is operational (CiA 301, 7.2.2).
 #[inline(always)]
 pub(crate) fn take_rpdo(state: NodeState, number: PdoNumber, frame: &Frame) -> Mark
     ensures mark { (input : InputView) (contents : Contents) → result
@@ -61,7 +62,7 @@ pub(crate) fn take_rpdo(state: NodeState, number: PdoNumber, frame: &Frame) -> M
     })
 }
 
-/// The transmission type of RPDO k, 0 to 511; 0 where there is none (CiA 301, 7.5.2.35).
+/// The transmission type of RPDO k, 0 to 511; 0 if there is none (CiA 301, 7.5.2.35).
 fn rpdo_type<S: ObjectStore>(store: &S, k: u16) -> u8
     requires { k < 512 }
     ensures { result ≡ rpdo_type (S.contents store.now) k }
@@ -76,7 +77,7 @@ fn rpdo_type<S: ObjectStore>(store: &S, k: u16) -> u8
     )
 }
 
-/// The transmission type of the RPDO whose frame came; 0 where none came.
+/// The transmission type of the RPDO of a received frame; 0 if there is no such frame.
 fn type_of<S: ObjectStore>(store: &S, rpdo: &Option<KeptFrame>) -> u8
     requires { IfSome rpdo.now (λ rpdo. rpdo.number < 512) }
     ensures { IsTypeOf (S.contents store.now) rpdo.now result }
@@ -87,7 +88,7 @@ fn type_of<S: ObjectStore>(store: &S, rpdo: &Option<KeptFrame>) -> u8
     }
 }
 
-/// Whether a frame of an RPDO has fewer bytes than are mapped, which are so many.
+/// Whether a frame of an RPDO has fewer than the `mapped` bytes.
 #[inline(always)]
 fn is_short(mapped: usize, rpdo: &KeptFrame) -> bool
     ensures { (d : Description) (contents : Contents) →
@@ -97,7 +98,7 @@ fn is_short(mapped: usize, rpdo: &KeptFrame) -> bool
     rpdo.frame.bytes().len() < mapped
 }
 
-/// What a write to an entry is to the frames that wait.
+/// The event of the waiting frames at a write.
 #[inline(always)]
 fn emptied_by(set: Option<Key>) -> SlotEvent
     ensures { result ≡ emptied_by set }
@@ -113,7 +114,8 @@ fn emptied_by(set: Option<Key>) -> SlotEvent
     }
 }
 
-/// What a frame of an RPDO is to those that wait, where its RPDO has this type and maps so many bytes.
+/// The event of the waiting frames at a frame of an RPDO, which has transmission type `kind` and
+/// maps `mapped` bytes.
 #[inline(always)]
 fn kept_by(kind: u8, mapped: usize, rpdo: &Option<KeptFrame>) -> SlotEvent
     ensures { (d : Description) (contents : Contents) → IsTypeOf contents rpdo.now kind →
@@ -129,8 +131,8 @@ fn kept_by(kind: u8, mapped: usize, rpdo: &Option<KeptFrame>) -> SlotEvent
     }
 }
 
-/// What the input was to the RPDO frames that wait for a SYNC, by the states before and after it. The RPDO whose frame
-/// came has this type, and maps so many bytes.
+/// The event of the frames that wait for a SYNC, by the states before and after the input. The RPDO
+/// of a received frame has transmission type `kind`, and maps `mapped` bytes.
 #[inline(always)]
 fn slot_event(mark: &Mark, kind: u8, mapped: usize, transition: Transition) -> SlotEvent
     ensures { (d : Description) (contents : Contents) →
@@ -149,8 +151,8 @@ fn slot_event(mark: &Mark, kind: u8, mapped: usize, transition: Transition) -> S
     kept_by(kind, mapped, &mark.rpdo())
 }
 
-/// The error of the length of an RPDO's frame, if one came and has it, where the RPDO maps so many bytes: 8210h where
-/// it has fewer than are mapped, 8220h where it has more; whatever the transmission type (CiA 301, 7.2.2.5).
+/// The error of the length of a received frame of an RPDO, which maps `mapped` bytes: 8210h if the
+/// frame has fewer, 8220h if it has more, at any transmission type (CiA 301, 7.2.2.5).
 #[inline(always)]
 fn rpdo_error(mapped: usize, rpdo: &Option<KeptFrame>) -> Option<DeviceError>
     ensures { (d : Description) (contents : Contents) → IsMappedLength d contents rpdo.now mapped →
@@ -169,8 +171,8 @@ fn rpdo_error(mapped: usize, rpdo: &Option<KeptFrame>) -> Option<DeviceError>
     }
 }
 
-/// Whether the data of the frame of an RPDO that came take effect at once, if one came, where its RPDO has this type
-/// and maps so many bytes: the type is 254 or 255, and it isn't short (CiA 301, 7.2.2.2 and 7.5.2.35).
+/// Whether the data of a received frame of an RPDO take effect at once: its transmission type
+/// `kind` is 254 or 255, and it has at least the `mapped` bytes (CiA 301, 7.2.2.2 and 7.5.2.35).
 #[inline(always)]
 fn is_immediate(kind: u8, mapped: usize, rpdo: &Option<KeptFrame>) -> bool
     ensures { (d : Description) (contents : Contents) → IsTypeOf contents rpdo.now kind →
@@ -183,7 +185,7 @@ fn is_immediate(kind: u8, mapped: usize, rpdo: &Option<KeptFrame>) -> bool
     TransmissionType(kind).is_event_driven() && !is_short(mapped, rpdo)
 }
 
-/// Raises the error of data that took effect, if they have one, and queues its emergency.
+/// Raises the error of data that took effect, if any, and queues its emergency.
 fn raise_outcome<S: ObjectStore>(
     store: &mut S,
     emergencies: &mut Emergencies,
@@ -202,8 +204,9 @@ fn raise_outcome<S: ObjectStore>(
     }
 }
 
-/// The data of an RPDO's frame take effect, by the compiled mappings of the RPDOs: all values are written, or none
-/// where one is outside its limits; that is an error, 8200h, whose emergency is queued. Lengths were checked before.
+/// The data of a frame of an RPDO take effect, by the compiled mappings of the RPDOs: all values
+/// are written. If one is outside its limits none is, and error 8200h is raised and its emergency
+/// queued. The length was checked at reception.
 fn take_data<S: ObjectStore>(
     store: &mut S,
     mappings: &MappingTable,
@@ -227,12 +230,12 @@ fn take_data<S: ObjectStore>(
     let number = PdoNumber::of(rpdo.number);
     let outcome = mappings.apply(store, number, rpdo.frame.bytes());
     raise_outcome(store, emergencies, outcome);
-    // these laws do nothing
+    // laws: calls of them change nothing
     settings_kept();
     mappings_stay();
 }
 
-/// Raises the errors of the length of a SYNC, and of an RPDO's frame, whose RPDO maps so many bytes.
+/// Raises the errors of the length of a SYNC, and of a frame of an RPDO, which maps `mapped` bytes.
 #[inline(always)]
 fn raise_lengths<S: ObjectStore>(
     store: &mut S,
@@ -285,7 +288,7 @@ fn take_all_data<S: ObjectStore>(
     }
 }
 
-/// The data of a frame take effect at once, if one came and they do.
+/// The data of a received frame take effect, if `is_immediate`.
 #[inline(always)]
 fn take_at_once<S: ObjectStore>(
     store: &mut S,
@@ -315,7 +318,7 @@ fn take_at_once<S: ObjectStore>(
     }
 }
 
-/// How many bytes the RPDO maps whose frame came; 0 where none came.
+/// How many bytes the RPDO of a received frame maps; 0 if there is no such frame.
 #[inline(always)]
 fn mapped_length(mappings: &MappingTable, rpdo: &Option<KeptFrame>) -> usize
     requires { IfSome rpdo.now (λ rpdo. rpdo.number < 512) }
@@ -331,10 +334,10 @@ fn mapped_length(mappings: &MappingTable, rpdo: &Option<KeptFrame>) -> usize
     }
 }
 
-/// SYNC and RPDO frames at an input, by the NMT states before and after it: errors of their lengths first, then the
-/// data of those that take effect, by number: those that wait, at a SYNC; the one that came, where its transmission
-/// type is 254 or 255. Each error's emergency is queued. `mappings` are the compiled mappings of the RPDOs, as the
-/// dictionary is now.
+/// SYNC and RPDO frames at an input, by the NMT states before and after it. Errors of their lengths
+/// are raised first; then data take effect, by number: at a SYNC those of the waiting frames, and
+/// those of a received frame of transmission type 254 or 255. The emergency of each error is
+/// queued. `mappings` are the compiled mappings of the RPDOs in the dictionary now.
 #[inline(always)]
 pub(crate) fn take_pdos<S: ObjectStore>(
     store: &mut S,
@@ -361,7 +364,7 @@ pub(crate) fn take_pdos<S: ObjectStore>(
         EmergenciesStand emergencies.new (with_queued (effect_emergencies
         (S.description store.old) (S.contents store.old) mark.now transition log) queued) }
 {
-    // lent out in place of the mark, so that what is known of it stays known
+    // borrowed in place of the mark, so that facts about the mark stay known
     let rpdo = mark.rpdo();
     let mapped = mapped_length(mappings, &rpdo);
     let kind = type_of(store, &rpdo);
@@ -370,7 +373,7 @@ pub(crate) fn take_pdos<S: ObjectStore>(
     raise_lengths(store, emergencies, mark, mapped);
     take_all_data(store, mappings, emergencies, slots.taken());
     take_at_once(store, mappings, emergencies, &rpdo, at_once);
-    // these laws do nothing
+    // laws: calls of them change nothing
     settings_kept();
     mappings_stay();
 }

@@ -1,4 +1,5 @@
-//! The SDO server: frames to the channels of a device, their ticks, and the end of their transfers (CiA 301, 7.2.4).
+//! The SDO server: frames to the channels of a device, their ticks, and drops of their transfers
+//! (CiA 301, 7.2.4).
 
 ghost use Rattle.std.specs.Prelude.{◌≡◌, ◌+◌, ◌≤◌, ◌++◌, ℕ, List, None, false, ◌||◌, if◌then◌else◌};
 ghost use Rattle.arrayvec.specs.ArrayVec.{array_vec_len};
@@ -26,7 +27,7 @@ use co_node_model::Mark;
 use co_node_parts::{NodeState, Transition};
 use co_sdo_bank::Bank;
 
-/// An SDO channel takes a frame unless the device is stopped (CiA 301, 7.2.4).
+/// A frame to an SDO channel: it is ignored while the device is stopped (CiA 301, 7.2.4).
 #[inline(always)]
 pub(crate) fn take_request<S: ObjectStore>(
     store: &mut S,
@@ -55,7 +56,7 @@ pub(crate) fn take_request<S: ObjectStore>(
     Mark::of_write(set)
 }
 
-/// 1 ms elapsed: of the SDO channels whose time is over the lowest gives up its transfer.
+/// 1 ms elapsed: the lowest SDO channel that has timed out aborts its transfer.
 #[inline(always)]
 pub(crate) fn take_tick(bank: &mut Bank, outbox: &mut Outbox) -> Mark
     requires { HasRoomFor 1 outbox.old }
@@ -77,14 +78,14 @@ pub(crate) fn take_tick(bank: &mut Bank, outbox: &mut Outbox) -> Mark
     Mark::Tick(timed_out.is_some())
 }
 
-/// A reset, and entering stopped, drop the transfers of all SDO channels.
+/// Whether the transfers of all SDO channels are dropped: at a reset, and on entering stopped.
 pub(crate) fn drops(mark: &Mark, transition: Transition) -> bool
     ensures { result ≡ is_reset mark.now || enters Stopped transition }
 {
     mark.is_reset() || transition.enters(NodeState::Stopped)
 }
 
-/// Drops the transfers of all SDO channels, or doesn't.
+/// Drops the transfers of all SDO channels, if `drops`.
 pub(crate) fn drop_if(bank: &mut Bank, drops: bool)
     ensures settings { all_settings bank.new ≡ all_settings bank.old }
     ensures stands { (d : Description) (channels : List ChannelSettings) (logs : ℕ → Log) →

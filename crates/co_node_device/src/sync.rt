@@ -14,7 +14,7 @@ use co_node_model::{DeviceError, Mark};
 use co_node_parts::NodeState;
 use co_profile::keys;
 
-/// A SYNC counts unless the device is stopped (CiA 301, 7.2.5).
+/// The mark of a SYNC: it is ignored while the device is stopped (CiA 301, 7.2.5).
 #[inline(always)]
 pub(crate) fn take_sync(state: NodeState, frame: &Frame) -> Mark
     ensures mark { (input : InputView) (contents : Contents) → result
@@ -27,7 +27,7 @@ pub(crate) fn take_sync(state: NodeState, frame: &Frame) -> Mark
     Mark::Sync(*frame)
 }
 
-/// The counter of a SYNC: its byte, where it has exactly one.
+/// The counter of a SYNC: its byte, if it has exactly one.
 #[inline(always)]
 pub(crate) fn counter_in(frame: &Frame) -> Option<u8>
     ensures { result ≡ counter_in frame.now }
@@ -38,7 +38,7 @@ pub(crate) fn counter_in(frame: &Frame) -> Option<u8>
     }
 }
 
-/// How many bytes a SYNC has: none, or the counter alone where 1019h is not 0.
+/// How many bytes a SYNC has: none, or one for the counter if 1019h is not 0.
 fn sync_length<S: ObjectStore>(store: &S) -> usize
     ensures { result ≡ sync_length (S.contents store.now) }
 {
@@ -49,7 +49,7 @@ fn sync_length<S: ObjectStore>(store: &S) -> usize
     }
 }
 
-/// The error of the length of a SYNC, if one came and has it: 8240h where it isn't the one of 1019h
+/// The error of the length of a received SYNC: 8240h if it isn't the length that 1019h requires
 /// (CiA 301, 7.2.5).
 #[inline(always)]
 pub(crate) fn sync_error<S: ObjectStore>(store: &S, sync: &Option<Frame>) -> Option<DeviceError>

@@ -1,4 +1,5 @@
-//! TPDOs: what an input is to their schedule, which are due, and their frames (CiA 301, 7.2.2.2 to 7.2.2.4).
+//! TPDOs: the turn of their schedule at an input, which are due, and their frames (CiA 301, 7.2.2.2
+//! to 7.2.2.4).
 
 ghost use Rattle.std.specs.Prelude.{◌≡◌, ◌≤◌, [], length, true, false, ◌+◌, ◌++◌, map};
 ghost use Rattle.std.specs.List.{list_any};
@@ -31,7 +32,7 @@ use co_pdo::{Due, Mapped, Mapping, Part, PdoNumber, Schedule, is_active};
 use co_profile::{EVENT_TIMER, IndexRange, PDO_COB_ID, TRANSMISSION_TYPE};
 use co_value::Key;
 
-/// Whether what is mapped is an entry.
+/// Whether a mapped object is this entry.
 fn is_entry(key: Key, mapped: Mapped) -> bool
     ensures { result ≡ is_entry key mapped }
 {
@@ -72,7 +73,7 @@ fn numbers_with<S: ObjectStore>(store: &S, key: Key) -> ArrayVec<u16, 512>
     numbers
 }
 
-/// The numbers of the TPDOs that the application gave an event on, increasing.
+/// The numbers of the TPDOs of an application event, increasing.
 fn numbers_asked<S: ObjectStore>(store: &S, asked: Asked) -> ArrayVec<u16, 512>
     ensures { result.items ≡ numbers_asked (S.description store.now) (S.contents store.now) asked }
 {
@@ -105,7 +106,7 @@ fn turn_by_write(key: Key) -> Turn
     }
 }
 
-/// What the input was to the schedule of TPDOs, by the states before and after it.
+/// The turn of the schedule of TPDOs at an input, by the states before and after it.
 #[inline(always)]
 pub(crate) fn turn_of(mark: &Mark, transition: Transition) -> Turn
     ensures turn { result ≡ turn_of mark.now transition }
@@ -132,8 +133,8 @@ pub(crate) fn turn_of(mark: &Mark, transition: Transition) -> Turn
     }
 }
 
-/// Leaves in `sent` the numbers of the TPDOs that are due where the application gave an event, increasing; they count
-/// as sent.
+/// Leaves the numbers of the TPDOs that are due at an application event in `sent`, increasing; they
+/// count as sent.
 #[cold]
 #[inline(never)]
 fn take_asked<S: ObjectStore>(schedule: &mut Schedule, store: &S, asked: Asked, sent: &mut Due)
@@ -153,8 +154,8 @@ fn take_asked<S: ObjectStore>(schedule: &mut Schedule, store: &S, asked: Asked, 
     schedule.on_events(store, &numbers_asked(store, asked), sent);
 }
 
-/// Leaves in `sent` the numbers of the TPDOs that are due at a turn, increasing; they count as sent. What the
-/// dictionary says of each TPDO is current where the schedule is asked.
+/// Leaves the numbers of the TPDOs that are due at a turn in `sent`, increasing; they count as
+/// sent. If the schedule is asked, each TPDO has to have been started with its current settings.
 #[inline(always)]
 pub(crate) fn take_turn<S: ObjectStore>(
     schedule: &mut Schedule,
@@ -209,8 +210,8 @@ fn tpdo_frame<S: ObjectStore>(
     Frame::packed(schedule.cob_id(store, number).identifier(), &image)
 }
 
-/// Puts the frames of TPDOs into the outbox, which has room for all of them. `schedule` is the schedule of the TPDOs
-/// of the dictionary, `mappings` are their compiled mappings, as the dictionary is now.
+/// Puts the frames of TPDOs into the outbox, which has room for all of them. `schedule` and
+/// `mappings` are those of the TPDOs in the dictionary now.
 #[inline(always)]
 pub(crate) fn send_tpdos<S: ObjectStore>(
     store: &S,

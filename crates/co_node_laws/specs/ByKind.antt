@@ -1,5 +1,6 @@
--- A device by the kind of its inputs: for each kind what it does, which frames it gives, and nothing of what it can't do. That
--- a device so described sends `prescribed`, and has the state and the entries of `co_node_model`, is a law of this crate.
+-- A device by the kind of its inputs: for each kind its effects and its frames. A law of this crate
+-- states that a device so described sends `prescribed`, and has the state and the entries of
+-- `co_node_model`.
 use Rattle.std.specs.Prelude.{ℕ, ◌+◌, ◌==◌, ◌&&◌, not, Bool, true, false, List, [], ◌∷◌, ◌++◌, map, is_some, Option, Some, None, if◌then◌else◌}
 use Rattle.std.specs.List.{filter}
 use Rattle.co_frame.specs.FrameContent.{FrameContent}
@@ -52,23 +53,25 @@ use Rattle.co_node_laws.specs.Devices.{
 }
 use Rattle.co_node_laws.specs.Distances.{is_multiple, queued}
 
--- ---- what an input does
+-- ---- the outcome of an input
 
--- what comes of an input: the device after it; the frames of SDO; whether they abort a transfer whose time was over; the
--- boot-up or heartbeat, and the TPDOs. Between them an emergency is sent, if one may be
+-- the outcome of an input: the device after it; the SDO frames; whether they abort a transfer that
+-- timed out; and last the boot-up or heartbeat, and the TPDOs. Between SDO and last an emergency is
+-- sent, if one may be
 pub record Outcome : Type 0 where
   pub device : Device
   pub responses : List FrameContent
   pub aborted : Bool
   pub last : List FrameContent
 
--- no frame but an emergency that waits
+-- no frame but a waiting emergency
 abbrev pub no_frame : Device → Outcome
 no_frame d = record { device = d; responses = []; aborted = false; last = [] }
 
 -- ---- NMT commands to this node or to all nodes (CiA 301, 7.2.8.3.1)
 
--- start, stop and enter pre-operational change the state alone; a reset gives the boot-up alone (7.2.8.3.3)
+-- start, stop and enter pre-operational change the state alone; a reset sends the boot-up alone
+-- (7.2.8.3.3)
 abbrev pub by_command : Constants → NmtService → Device → Outcome
 by_command k Start d = no_frame (in_state Operational d)
 by_command k Stop d = no_frame (in_state Stopped d)
@@ -89,7 +92,8 @@ with_tpdos_at_sync description frame d =
       last = map (tpdo_frame description d.entries) due;
     }
 
--- the error of its length is raised; in operational the frames of RPDOs that wait take effect, then TPDOs are sent (7.2.2.2)
+-- the error of its length is raised; in operational the frames of RPDOs that wait take effect, then
+-- TPDOs are sent (7.2.2.2)
 abbrev pub by_sync : Constants → FrameContent → NodeState → Device → Outcome
 by_sync k frame Stopped d = no_frame d
 by_sync k frame PreOperational d = no_frame (with_errors k.description (sync_errors d.entries (Some frame)) d)
@@ -99,12 +103,13 @@ by_sync k frame Operational d =
 
 -- ---- a frame on the request identifier of an SDO channel (7.2.4): nothing while stopped
 
--- the entry of the download that it completes, if it completes one that is permitted, is written (7.2.4.3.3, .4, .9 to .11)
+-- the entry of the permitted download that a frame completes, if any, is written (7.2.4.3.3,
+-- 7.2.4.3.4, 7.2.4.3.9 to 7.2.4.3.11)
 abbrev pub with_download : Option Download → Device → Device
 with_download None d = d
 with_download (Some w) d = with_write w.key (written d.entries w.key w.bytes) d
 
--- one of eight bytes is answered, and may set an entry (7.2.4.3)
+-- a frame of eight bytes is answered, and may set an entry (7.2.4.3)
 abbrev pub answered : Constants → FrameContent → Device → Outcome
 answered k frame d =
     let exchange = exchange_of (channels k) k.description d.entries d.transfers frame in
@@ -116,7 +121,7 @@ answered k frame d =
       last = [];
     }
 
--- one that comes while the device is stopped is ignored (7.3.2.2)
+-- a frame is ignored while the device is stopped (7.3.2.2)
 abbrev pub by_request : Constants → FrameContent → NodeState → Device → Outcome
 by_request k frame Stopped d = no_frame d
 by_request k frame PreOperational d = answered k frame d
@@ -124,12 +129,12 @@ by_request k frame Operational d = answered k frame d
 
 -- ---- a frame of RPDO n (7.2.2): nothing but in operational
 
--- it waits for a SYNC: its type is 0 to 240, and it isn't short (7.5.2.35)
+-- the frame waits for a SYNC: the transmission type is 0 to 240, and it isn't too short (7.5.2.35)
 abbrev pub waits_for_sync : Constants → KeptFrame → Device → Bool
 waits_for_sync k rpdo d = is_synchronous (rpdo_type d.entries rpdo.number) && not (is_short k.description d.entries rpdo)
 
--- the error of its length is raised; its data take effect at once, types 254 and 255, or it replaces the frame that waits
--- (7.2.2.4 and 7.5.2.35)
+-- the error of its length is raised; its data take effect at once (types 254 and 255), or it
+-- replaces the waiting frame (7.2.2.4 and 7.5.2.35)
 abbrev pub by_rpdo : Constants → KeptFrame → NodeState → Device → Outcome
 by_rpdo k rpdo Stopped d = no_frame d
 by_rpdo k rpdo PreOperational d = no_frame d
@@ -141,7 +146,7 @@ by_rpdo k rpdo Operational d =
 
 -- ---- a heartbeat of node c, in every state
 
--- the entries of 1016h that monitor it count anew (7.2.8.3.2 and 7.5.2.19)
+-- the entries of 1016h that monitor the node restart their count (7.2.8.3.2 and 7.5.2.19)
 abbrev pub by_heartbeat : ℕ → Device → Outcome
 by_heartbeat c d = no_frame (record d {
   silence = λ sub. if is_monitored c (monitored_by (number_at d.entries (consumer_key sub))) then Some 0 else d.silence sub;
@@ -149,7 +154,7 @@ by_heartbeat c d = no_frame (record d {
 
 -- ---- an application event that isn't refused
 
--- an event on these TPDOs: in operational those are sent that are due (7.2.2.3)
+-- an event of these TPDOs: in operational those that are due are sent (7.2.2.3)
 abbrev pub by_events : Constants → List ℕ → NodeState → Device → Outcome
 by_events k numbers Stopped d = no_frame d
 by_events k numbers PreOperational d = no_frame d
@@ -162,7 +167,8 @@ by_events k numbers Operational d =
       last = map (tpdo_frame k.description d.entries) due;
     }
 
--- a write, an event on TPDO n, a change of an entry that TPDOs map, an error that is raised, or errors that are cleared (7.2.7)
+-- a write, an event of TPDO n, a change of an entry that TPDOs map, an error that is raised, or
+-- errors that are cleared (7.2.7)
 abbrev pub by_event : Constants → AppView → Device → Outcome
 by_event k (Written key bytes) d = no_frame (with_write key (written d.entries key bytes) d)
 by_event k (EventOn n) d = by_events k (n ∷ []) d.state d
@@ -175,16 +181,18 @@ by_event k (Cleared bits) d = no_frame (record d {
 
 -- ---- a tick, 1 ms
 
--- the entries of 1016h whose time has exactly passed since their last heartbeat: it is lost (7.2.8.3.2)
+-- the entries of 1016h whose heartbeat is lost: exactly their time has elapsed since the last one
+-- (7.2.8.3.2)
 abbrev pub lost_now : Device → List ℕ
 lost_now d = filter (λ sub. is_over_after (d.silence sub) (monitored_by (number_at d.entries (consumer_key sub)))) entry_subs
 
--- the NMT state after it, by 1029:01, where one is lost (7.5.2.32)
+-- the NMT state after a tick, by 1029:01 if a heartbeat is lost (7.5.2.32)
 abbrev pub state_after_losses : List ℕ → Device → NodeState
 state_after_losses [] d = d.state
 state_after_losses (sub ∷ lost) d = after_loss (reaction_with (number_at d.entries error_behaviour_key)) d.state
 
--- the device 1 ms later: a transfer is aborted, or none, these heartbeats are lost, and it is then in this state (7.2.8.3.2)
+-- the device 1 ms later, by the transfer that is aborted, if any, the lost heartbeats, and the
+-- state after them (7.2.8.3.2)
 abbrev pub one_ms_later : Constants → Option ChannelEvent → List ℕ → NodeState → Device → Device
 one_ms_later k timed_out lost after d =
     in_state after (with_errors k.description (loss_errors lost) (record d {
@@ -194,11 +202,11 @@ one_ms_later k timed_out lost after d =
       silence = λ sub. later (d.silence sub);
     }))
 
--- the TPDOs that are due at it, in operational (7.2.2.3)
+-- the TPDOs that are due at a tick, in operational (7.2.2.3)
 abbrev pub due_at_tick : Device → List ℕ
 due_at_tick d = if is_state Operational d.state then all_due d.entries d.schedule occasion.Tick else []
 
--- the heartbeat, where 1017:00 isn't 0 and divides the ticks since it began (7.2.8.3.2); then these TPDOs
+-- the heartbeat, if it is due (7.2.8.3.2), then the TPDOs
 abbrev pub last_of_tick : Constants → Bool → Device → List FrameContent
 last_of_tick k is_due d =
     life_frames k.description.node (if is_due then Some (heartbeat_of d.state) else None)
@@ -215,8 +223,9 @@ ticked k timed_out lost after is_due d =
       last = last_of_tick k is_due e;
     }
 
--- of the channels whose time is over the lowest aborts its transfer; heartbeats are lost whose time has passed; the device's
--- own is sent where its period divides the ticks (7.2.4.3.17 and 7.2.8.3.2)
+-- the lowest channel that has timed out aborts its transfer; heartbeats whose time has elapsed are
+-- lost; the device's own is sent if its period divides the ticks since it began (7.2.4.3.17 and
+-- 7.2.8.3.2)
 abbrev pub by_tick : Constants → Device → Outcome
 by_tick k d =
     ticked k (time_out_of (channels k) (with_each TickOfChannel d.transfers)) (lost_now d) (state_after_losses (lost_now d) d)
@@ -224,6 +233,7 @@ by_tick k d =
 
 -- ---- the kind of an input
 
+-- a kind of input, as it is received
 pub data Kind : Type 0 where
   -- 1 ms elapsed
   Tick : Kind
@@ -237,18 +247,18 @@ pub data Kind : Type 0 where
   Received : KeptFrame → Kind
   -- a heartbeat of another node
   Heard : ℕ → Kind
-  -- a command to another node, a boot-up, a frame for nobody
+  -- a command to another node, a boot-up, or a frame for nobody
   Ignored : Kind
   -- an application event that isn't refused, and one that is
   Done : AppView → Kind
   Refused : ℕ → Kind
 
--- a command, where it is for this node or for all nodes (7.2.8.3.1)
+-- the kind of a command: it is ignored unless it is for this node or for all nodes (7.2.8.3.1)
 abbrev pub kind_of_command : Option NmtService → Kind
 kind_of_command None = Ignored
 kind_of_command (Some service) = Commanded service
 
--- a frame, by who takes it (7.3.5)
+-- the kind of a frame, by its addressee (7.3.5)
 abbrev pub kind_of_frame : Constants → Address → FrameContent → Kind
 kind_of_frame k Nmt frame = kind_of_command (service_for k.description.node (nmt_command_in frame))
 kind_of_frame k Sync frame = Synced frame
@@ -257,24 +267,24 @@ kind_of_frame k (Rpdo n) frame = Received (record { number = n; frame = frame })
 kind_of_frame k (ErrorControl c) frame = if is_heartbeat (heartbeat_in frame.bytes) then Heard c else Ignored
 kind_of_frame k Nobody frame = Ignored
 
--- an application event, by what refuses it
+-- the kind of an application event, by its refusal
 abbrev pub kind_of_event : AppView → Option ℕ → Kind
 kind_of_event event None = Done event
 kind_of_event event (Some code) = Refused code
 
--- an input: a frame by its identifier, and what refuses an event by the entries as they then are
+-- the kind of an input: of a frame by its identifier, of an application event by the entries then
 abbrev pub kind_of : Constants → Device → InputView → Kind
 kind_of k d (Framed frame) = kind_of_frame k (address_of (number_for (channels k) frame.id) d.entries frame.id) frame
 kind_of k d Ticked = Tick
 kind_of k d (Applied event) = kind_of_event event (event_refusal k.description d.entries event)
 
--- an input that does nothing: ignored, or refused
+-- an input without effect: ignored, or refused
 abbrev pub is_inert : Kind → Bool
 is_inert Ignored = true
 is_inert (Refused code) = true
 is_inert _ = false
 
--- a frame of SYNC, SDO or an RPDO: it does nothing while the device is stopped (7.3.2.2)
+-- a frame of SYNC, SDO or an RPDO: it has no effect while the device is stopped (7.3.2.2)
 abbrev pub is_silent_while_stopped : Kind → Bool
 is_silent_while_stopped (Synced frame) = true
 is_silent_while_stopped (Requested frame) = true
@@ -305,7 +315,7 @@ outcome k (Refused code) d = no_frame d
 abbrev pub frames_of : Outcome → List FrameContent
 frames_of o = o.responses ++ emergency_frames o.device.entries (emergency_at_end o.aborted o.device) ++ o.last
 
--- the device after them
+-- the device after these frames
 abbrev pub device_after : Outcome → Device
 device_after o = after_sending (emergency_at_end o.aborted o.device) o.device
 
@@ -320,7 +330,7 @@ abbrev pub device_of : Constants → Inputs → Device
 device_of k [] = built k
 device_of k (input ∷ inputs) = device_with k (device_of k inputs) input
 
--- the frames that one more input gives to a device
+-- the frames that a device sends at one more input
 abbrev pub sent_with : Constants → Device → InputView → List FrameContent
 sent_with k d input = frames_of (outcome k (kind_of k d input) d)
 

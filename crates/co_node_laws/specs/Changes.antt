@@ -1,4 +1,4 @@
--- What an input changes of the entries, by its kind, and a frame by who takes it.
+-- The entries after an input, by its kind, and for a frame by its addressee.
 use Rattle.std.specs.Prelude.{◌==◌, ◌||◌, ℕ, Bool, List, Option, Some, None, length, if◌then◌else◌}
 use Rattle.co_frame.specs.FrameContent.{FrameContent}
 use Rattle.co_frame.specs.Nmt.{nmt_command_in, nmt_command_bytes}
@@ -37,7 +37,8 @@ abbrev pub reset_service : Area → NmtService
 reset_service All = ResetNode
 reset_service Communication = ResetCommunication
 
--- the NMT command that resets an area of the node with a node-ID, of all nodes where this is 0 (CiA 301, 7.2.8.3.1)
+-- the NMT command that resets an area of the node with a node-ID, of all nodes if it is 0 (CiA 301,
+-- 7.2.8.3.1)
 abbrev pub reset_to : ℕ → Area → InputView
 reset_to node area = Framed (record { id = 0; bytes = nmt_command_bytes (record { service = reset_service area; node = node }) })
 
@@ -49,33 +50,34 @@ is_for k node = node == 0 || node == k.description.node
 abbrev pub after_errors_and_data : Description → List DeviceError → List KeptFrame → Contents → Contents
 after_errors_and_data d errors rpdos contents = after_all_data d (all_raised d.rows errors contents) rpdos
 
--- a SYNC: the error of its length is raised, if it has one; in operational the frames of RPDOs that wait take effect then, by
--- number; while stopped nothing changes
+-- a SYNC: the error of its length, if any, is raised; in operational the waiting frames of RPDOs
+-- take effect then, by number; while stopped nothing changes
 abbrev pub changed_by_sync : Description → NodeState → SlotLog → FrameContent → Contents → Contents
 changed_by_sync d Stopped log frame contents = contents
 changed_by_sync d PreOperational log frame contents = all_raised d.rows (sync_errors contents (Some frame)) contents
 changed_by_sync d Operational log frame contents = after_errors_and_data d (sync_errors contents (Some frame)) (all_kept 512 log) contents
 
--- the frame of an RPDO, in operational alone: the error of its length is raised, if it has one; then its data take effect,
--- where they take effect as they come
+-- a frame of an RPDO, in operational alone: the error of its length, if any, is raised; then its
+-- data take effect, unless they wait for a SYNC
 abbrev pub changed_by_rpdo : Description → NodeState → KeptFrame → Contents → Contents
 changed_by_rpdo d Stopped rpdo contents = contents
 changed_by_rpdo d PreOperational rpdo contents = contents
 changed_by_rpdo d Operational rpdo contents =
     after_errors_and_data d (rpdo_errors d contents (Some rpdo)) (immediate d contents (Some rpdo)) contents
 
--- the download that a frame sets after the log of its channel: none where it hasn't eight bytes
+-- the download that a frame sets after the log of its channel: none if it hasn't eight bytes
 abbrev pub download_set : Description → Contents → Log → FrameContent → Option Download
 download_set d contents log frame = if length frame.bytes == 8 then set_by d contents log frame.bytes else None
 
--- a frame to an SDO channel with this log: the entry whose whole download it completes is set, where that is permitted; while
--- stopped nothing changes
+-- a frame to an SDO channel with this log: it sets the entry of the whole, permitted download that
+-- it completes; while stopped nothing changes
 abbrev pub changed_by_request : Description → NodeState → Log → FrameContent → Contents → Contents
 changed_by_request d Stopped log frame contents = contents
 changed_by_request d PreOperational log frame contents = contents_with contents (download_set d contents log frame)
 changed_by_request d Operational log frame contents = contents_with contents (download_set d contents log frame)
 
--- a frame, by who takes it: an NMT command that is no reset, error control, and a frame that nobody takes change nothing
+-- a frame, by its addressee: an NMT command that is no reset, error control, and a frame for nobody
+-- change nothing
 abbrev pub changed_by_frame : Constants → Inputs → Address → FrameContent → Contents
 changed_by_frame k inputs Nmt frame =
     after_service k.description.initial (service_for k.description.node (nmt_command_in frame)) (contents_of k inputs)
@@ -88,11 +90,11 @@ changed_by_frame k inputs (Rpdo n) frame =
 changed_by_frame k inputs (ErrorControl node) frame = contents_of k inputs
 changed_by_frame k inputs Nobody frame = contents_of k inputs
 
--- a tick: an error is raised for each heartbeat of another node that is lost at it
+-- a tick: an error is raised for each heartbeat lost at it
 abbrev pub changed_by_tick : Description → ConsumersLog → Contents → Contents
 changed_by_tick d log contents = all_raised d.rows (loss_errors (lost_at consumers.Tick log)) contents
 
--- an application event: what it says, where it isn't refused
+-- an application event: its own effect, unless it is refused
 abbrev pub changed_by_event : Description → AppView → Option ℕ → Contents → Contents
 changed_by_event d event None contents = app_contents d event contents
 changed_by_event d event (Some code) contents = contents

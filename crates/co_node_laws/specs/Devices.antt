@@ -1,5 +1,5 @@
--- What a device has after its inputs, and what a write, a change of the NMT state, a reset, errors and the data of RPDOs do to
--- it: the words in which `ByKind` says what each kind of input does.
+-- The state of a device after its inputs, and the effects of a write, a change of the NMT state, a
+-- reset, errors and the data of RPDOs: the terms in which `ByKind` describes each kind of input.
 use Rattle.std.specs.Prelude.{ℕ, ◌-◌, ◌==◌, ◌&&◌, not, Bool, List, [], slice_get, Option, Some, None, if◌then◌else◌}
 use Rattle.std.specs.List.{list_all, filter_map, range_with_len}
 use Rattle.co_value.specs.declared.key.Key.{Key}
@@ -38,22 +38,27 @@ pub record Device : Type 0 where
   pub state : NodeState
   -- the bytes of the entries (7.4)
   pub entries : Contents
-  -- of each SDO channel the requests with their responses, ticks, time-outs and drops, the newest first (7.2.4)
+  -- the requests of each SDO channel with their responses, its ticks, time-outs and drops, newest
+  -- first (7.2.4)
   pub transfers : ℕ → Log
   -- the emergencies that wait, the oldest first (7.2.7)
   pub queue : List Emergency
-  -- the emergencies that were sent since the last reset: how many ticks ago, and 1015:00 as it was then (7.5.2.18)
+  -- the emergencies that were sent since the last reset: how many ticks ago, and 1015:00 as it was
+  -- then (7.5.2.18)
   pub sendings : List Sending
-  -- how many ticks came since the producer of heartbeats began: at the last reset or write of 1017:00 (7.2.8.3.2)
+  -- how many ticks came since the producer of heartbeats began: at the last reset or write of
+  -- 1017:00 (7.2.8.3.2)
   pub produced : ℕ
-  -- of each entry of 1016h how many ticks came since its last heartbeat, where one came since the entry began (7.2.8.3.2)
+  -- for each entry of 1016h, how many ticks came since its last heartbeat, if one came since the
+  -- entry began (7.2.8.3.2)
   pub silence : ℕ → Option ℕ
-  -- of each RPDO the frame that waits for a SYNC (7.2.2.2)
+  -- for each RPDO, the frame that waits for a SYNC (7.2.2.2)
   pub kept : ℕ → Option FrameContent
-  -- of TPDOs the starts, and in operational the SYNCs, events and ticks with those sent at them, newest first (7.2.2.2 to .4)
+  -- the starts of TPDOs, and in operational the SYNCs, events and ticks with the TPDOs sent at
+  -- them, newest first (7.2.2.2 to 7.2.2.4)
   pub schedule : Schedule
 
--- as it is built: pre-operational (7.3.2.2)
+-- a device that has just been built: pre-operational (7.3.2.2)
 abbrev pub built : Constants → Device
 built k = record {
   state = PreOperational;
@@ -69,8 +74,8 @@ built k = record {
 
 -- ---- the NMT state, and resets (7.3.2)
 
--- the NMT state becomes this: to enter stopped drops all SDO transfers, to leave operational drops the frames of RPDOs that
--- wait, to enter operational starts all TPDOs
+-- the device in another NMT state: entering stopped drops all SDO transfers, leaving operational
+-- drops the waiting frames of RPDOs, entering operational starts all TPDOs
 abbrev pub in_state : NodeState → Device → Device
 in_state after d =
     let t : Transition = record { before = d.state; after = after } in
@@ -81,8 +86,8 @@ in_state after d =
       schedule = if enters Operational t then with_all_started d.entries d.schedule else d.schedule;
     }
 
--- a reset restores its area, ends in pre-operational, drops what is open or waits, and begins all counts anew; TPDOs start as
--- operational is entered (7.3.2.2)
+-- a reset restores its area, ends in pre-operational, drops open transfers, waiting frames and
+-- emergencies, and restarts the heartbeat counts; TPDOs start when operational is entered (7.3.2.2)
 abbrev pub reset : Constants → Area → Device → Device
 reset k area d = record d {
   state = PreOperational;
@@ -97,11 +102,11 @@ reset k area d = record d {
 
 -- ---- a write, of an SDO download or of the application
 
--- it is to the COB-ID or the transmission type of RPDO n, 1400h + n:01 or 02 (7.5.2.35)
+-- the key is that of the COB-ID or the transmission type of RPDO n, 1400h + n:01 or 02 (7.5.2.35)
 abbrev pub is_rpdo_written : ℕ → Key → Bool
 is_rpdo_written n key = empties_slot key && n == key.index - rpdo_communication.0
 
--- TPDO n starts, whole or its event timer, if this says so
+-- the schedule with a start of TPDO n, whole or its event timer, if there is one
 abbrev pub with_part_started : ℕ → Option Part → Contents → Schedule → Schedule
 with_part_started n None entries schedule = schedule
 with_part_started n (Some part) entries schedule = with_start n part entries schedule
@@ -113,8 +118,9 @@ with_tpdo_written key entries schedule =
     then with_part_started (key.index - tpdo_communication.0) (part_started key.sub) entries schedule
     else schedule
 
--- an entry was written, which gave these: the producer of heartbeats begins anew at 1017:00, a consumer at its entry of 1016h;
--- the frame that waits for RPDO n is dropped, and in operational TPDO n starts, where this parameter of it was written
+-- the device after a write, with the new entries: at 1017:00 the heartbeat producer begins again,
+-- at an entry of 1016h its consumer. A write of a COB-ID or transmission type drops the waiting
+-- frame of an RPDO, and in operational starts a TPDO
 abbrev pub with_write : Key → Contents → Device → Device
 with_write key entries d = record d {
   entries = entries;
@@ -126,14 +132,15 @@ with_write key entries d = record d {
 
 -- ---- errors, and the data of RPDOs (7.2.7 and 7.2.2)
 
--- these errors are raised, in order: the error register, the pre-defined error field, an emergency for each
+-- the device after these errors were raised, in order: the error register, the pre-defined error
+-- field, an emergency for each
 abbrev pub with_errors : Description → List DeviceError → Device → Device
 with_errors description errors d = record d {
   entries = all_raised description.rows errors d.entries;
   queue = queued (emergencies_of description.rows errors d.entries) d.queue;
 }
 
--- the data of these frames take effect, in order
+-- the device after the data of these frames took effect, in order
 abbrev pub with_data : Description → List KeptFrame → Device → Device
 with_data description rpdos d = record d {
   entries = after_all_data description d.entries rpdos;
@@ -146,14 +153,15 @@ frames_kept d = filter_map (λ n. numbered n (d.kept n)) (range_with_len 0 512)
 
 -- ---- the end of an input
 
--- an emergency is sent at the end of an input: the oldest that waits, unless the device is stopped, 1014:00 has no valid
--- COB-ID, the input aborted a transfer whose time was over, or an inhibit time hasn't elapsed (7.2.7, 7.5.2.17, 7.5.2.18)
+-- the emergency sent at the end of an input: the oldest in the queue, unless the device is stopped,
+-- 1014:00 is no valid COB-ID, a transfer timed out at the input, or an inhibit time hasn't elapsed
+-- (7.2.7, 7.5.2.17 and 7.5.2.18)
 abbrev pub emergency_at_end : Bool → Device → Option Emergency
 emergency_at_end aborted d =
     if (not (is_state Stopped d.state) && is_valid (number_at d.entries emergency_key) && not aborted) && list_all is_past d.sendings
     then slice_get d.queue 0 else None
 
--- this was sent
+-- the device after this emergency was sent, if any
 abbrev pub after_sending : Option Emergency → Device → Device
 after_sending sent d = record d {
   queue = rest_after sent d.queue;

@@ -1,4 +1,4 @@
--- For how many ticks nothing is due of any part of a device, by the log of each.
+-- Ticks at which no part of a device has anything due, by the log of each part.
 use Rattle.std.specs.Prelude.{◌≡◌, ℕ, false}
 use Rattle.co_sdo_bank.specs.Events.{NoTimeOutFor}
 use Rattle.co_pdo.specs.Schedules.{NoTpdoDueFor}
@@ -14,8 +14,8 @@ use Rattle.co_node_model.specs.Nmt.{state_at}
 use Rattle.co_node_model.specs.Sdo.{channel_logs}
 use Rattle.co_node_model.specs.Tpdos.{schedule_log}
 
--- at none of so many ticks one after another is an SDO transfer aborted, a heartbeat of another node lost, or an emergency, a
--- heartbeat or a TPDO due; TPDOs are in operational alone
+-- at none of the next `count` ticks an SDO transfer times out, a heartbeat of another node is lost,
+-- or an emergency, a heartbeat or (in operational) a TPDO is due
 pub record NothingDueFor (k : Constants) (history : History) (count : ℕ) : Type 0 where
   pub transfers : NoTimeOutFor (channels k) count (channel_logs history)
   pub consumers : NoneLostFor count (consumers_log k history)

@@ -4,7 +4,8 @@ use Rattle.co_node_model.specs.Inputs.{InputView, Framed, Ticked, Applied}
 use Rattle.co_node_model.specs.declared.address.Address.{Address}
 use Rattle.co_node_model.specs.declared.address.Address.TheVariants.{Nmt, Sync, Channel, Rpdo, ErrorControl, Nobody}
 
--- a frame that neither an SDO channel nor SYNC takes: an NMT command, an RPDO, error control, or one that nobody takes
+-- a frame that is neither for an SDO channel nor SYNC: an NMT command, an RPDO, error control, or
+-- one for nobody
 abbrev pub is_unanswered : Address → Bool
 is_unanswered Nmt = true
 is_unanswered Sync = false

@@ -1,4 +1,4 @@
--- How long the frame of an RPDO waits for a SYNC, over all inputs (CiA 301, 7.2.2.2 and 7.5.2.35).
+-- How long a frame of an RPDO waits for a SYNC, over all inputs (CiA 301, 7.2.2.2 and 7.5.2.35).
 use Rattle.std.specs.Prelude.{◌≡◌, ℕ, ◌-◌, ◌==◌, ◌&&◌, ◌||◌, not, is_some, Bool, true, false, List, ◌++◌, Option, Some, None, [], ◌∷◌}
 use Rattle.std.specs.List.{filter_map, range_with_len}
 use Rattle.co_value.specs.declared.key.Key.{Key}
@@ -32,45 +32,47 @@ abbrev pub renews : ℕ → Option Key → Bool
 renews n None = false
 renews n (Some key) = empties_slot key && n == key.index - rpdo_communication.0
 
--- a frame of RPDO n came that waits: its type is 0 to 240, and it isn't short. A short one is dropped, and the frame before it
--- waits on (7.2.2.4)
+-- a newer frame of RPDO n was received that waits: the transmission type is 0 to 240, and it isn't
+-- too short. A frame that is too short is dropped, and the frame before it stays (7.2.2.4)
 abbrev pub is_newer_of : ℕ → Description → Contents → Option KeptFrame → Bool
 is_newer_of n d contents None = false
 is_newer_of n d contents (Some rpdo) =
     n == rpdo.number && (is_synchronous (rpdo_type contents rpdo.number) && not (is_short d contents rpdo))
 
--- a SYNC came in operational
+-- a SYNC was received in operational
 abbrev pub is_effective : Option FrameContent → Transition → Bool
 is_effective sync t = is_some sync && is_state Operational t.after
 
--- what an input was leaves a frame of RPDO n waiting: it is no reset and no SYNC in operational, operational isn't left, the
--- RPDO isn't written, and no newer frame of it comes that waits
+-- an input leaves a frame of RPDO n waiting: it is no reset and no SYNC in operational, operational
+-- isn't left, the COB-ID and the transmission type of the RPDO aren't written, and no newer frame
+-- replaces it
 abbrev pub leaves_waiting : ℕ → Description → Contents → Mark → Transition → Bool
 leaves_waiting n d contents mark t =
     not (is_reset mark || leaves Operational t)
     && (not (is_effective (marked_sync mark) t) && (not (renews n (marked_key mark)) && not (is_newer_of n d contents (marked_rpdo mark))))
 
--- so does one more input
+-- one more input leaves a frame of RPDO n waiting
 abbrev pub keeps_waiting : Constants → ℕ → Inputs → InputView → Bool
 keeps_waiting k n inputs input =
     leaves_waiting n k.description (contents_of k inputs) (moment_at k inputs input).mark
     (transition_of (moment_at k inputs input) (moments k inputs))
 
--- so do all these, the newest first, after some more
+-- all these later inputs, newest first, leave it waiting
 abbrev pub all_keep_waiting : Constants → ℕ → Inputs → Inputs → Bool
 all_keep_waiting k n inputs [] = true
 all_keep_waiting k n inputs (input ∷ later) = keeps_waiting k n (later ++ inputs) input && all_keep_waiting k n inputs later
 
--- ---- where a frame that waits comes from
+-- ---- the origin of a waiting frame
 
--- a frame is accepted to wait after some inputs: RPDO n takes it, in operational, its type is 0 to 240, and it isn't short
+-- a frame is accepted to wait after some inputs: it is for RPDO n, in operational, the transmission
+-- type is 0 to 240, and it isn't too short
 pub record IsAccepted (k : Constants) (n : ℕ) (inputs : Inputs) (frame : FrameContent) : Type 0 where
   pub address : address_at k (moments k inputs) frame.id ≡ Rpdo n
   pub operational : state_of k inputs ≡ Operational
   pub kind : is_synchronous (rpdo_type (contents_of k inputs) n) ≡ true
   pub long : is_short k.description (contents_of k inputs) (record { number = n; frame = frame }) ≡ false
 
--- it is the last frame that RPDO n accepted, and all inputs since leave it waiting
+-- a frame is the last that RPDO n accepted, and all inputs since leave it waiting
 pub record IsLastAccepted (k : Constants) (n : ℕ) (inputs : Inputs) (frame : FrameContent) : Type 0 where
   pub later : Inputs
   pub before : Inputs

@@ -11,8 +11,8 @@ use Rattle.co_node_model.specs.Sdo.{channel_logs}
 use Rattle.co_node_model.specs.Moments.{Constants}
 use Rattle.co_node_model.specs.Device.{contents_of, moments, state_of}
 
--- a node after these inputs serves a download of these bytes: it isn't stopped, no transfer is open on its default channel,
--- and the dictionary permits the download
+-- a node after these inputs serves a download of these bytes: it isn't stopped, no transfer is open
+-- on its default channel, and the dictionary permits the download
 pub record IsServed (k : Constants) (before : Inputs) (key : Key) (bytes : List ℕ) : Type 0 where
   pub dictionary : IsDictionary k.description (contents_of k before)
   pub running : is_state Stopped (state_of k before) ≡ false

@@ -1,4 +1,5 @@
-//! What follows for every device and all inputs. Each is a law: a call of it changes nothing.
+//! Answers to application events, and resets of all nodes. Each function is a law: a call of it
+//! changes nothing.
 
 ghost use Rattle.std.specs.Prelude.{◌≡◌, [], ◌∷◌};
 ghost use Rattle.co_dict.specs.Rows.{restored};
@@ -20,13 +21,13 @@ pub fn no_answer_to_frames()
         app_after k (Framed frame ∷ inputs) ≡ answer.None }
 {}
 
-/// Nor is there after a tick.
+/// After a tick there is no answer to an application event.
 pub fn no_answer_to_ticks()
     ensures { (k : Constants) (inputs : Inputs) →
         app_after k (Ticked ∷ inputs) ≡ answer.None }
 {}
 
-/// After an application event the answer says that it was done, or why it was refused.
+/// The answer to an application event is that it was done, or the abort code of its refusal.
 #[tactic(auto, using(crate::proofs::EventAnswers::to_event))]
 pub fn event_answer()
     ensures { (k : Constants) (inputs : Inputs) (event : AppView) →
@@ -34,8 +35,8 @@ pub fn event_answer()
         app_answer k.description (contents_of k inputs) event }
 {}
 
-/// A reset of all nodes, in whatever state and after whatever inputs, restores its area and ends in
-/// pre-operational (CiA 301, 7.3.2.2).
+/// A reset of all nodes, in any state and after any inputs, restores its area (`contents`) and ends
+/// in pre-operational (`state`; CiA 301, 7.3.2.2).
 #[tactic(auto, using(crate::proofs::ResetsOfAll::pre_operational, crate::proofs::ResetsOfAll::area_restored))]
 pub fn reset_restores_area()
     ensures state { (k : Constants) (inputs : Inputs) (area : Area) →
@@ -45,7 +46,8 @@ pub fn reset_restores_area()
         restored area k.description.initial (contents_of k inputs) }
 {}
 
-/// And it sends the boot-up alone: no emergency, no heartbeat and no TPDO (CiA 301, 7.2.8.3.3).
+/// A reset of all nodes sends the boot-up alone: no emergency, no heartbeat and no TPDO (CiA 301,
+/// 7.2.8.3.3).
 #[tactic(auto, using(crate::proofs::BootUps::boot_up_alone))]
 pub fn reset_sends_boot_up_alone()
     ensures { (k : Constants) (inputs : Inputs) (area : Area) →

@@ -25,9 +25,9 @@ use co_dict::{invalid_pdo_law, own_rule_law};
 use co_pdo::written_from_2000;
 use co_sdo_bank::Bank;
 
-/// A device is what `specs/ByKind.antt` says by the kind of each input, after whatever inputs: its frames (`frames`),
-/// its NMT state (`state`), its entries (`entries`), and the bytes held for the transfers of its SDO channels
-/// (`held`).
+/// After any inputs, a device is as `specs/ByKind.antt` describes it by the kind of each input: its
+/// frames (`frames`), its NMT state (`state`), its entries (`entries`), and the bytes held for the
+/// transfers of its SDO channels (`held`).
 pub fn device_by_kind()
     ensures frames { (k : Constants) (inputs : Inputs) (input : InputView) →
         prescribed k inputs input ≡ sent_by k inputs input }
@@ -44,9 +44,10 @@ pub fn device_by_kind()
     Bank::set_is_permitted();
 }
 
-/// A heartbeat of node c, in whatever state: no frame but an emergency that waits (`frames`), the same state (`state`)
-/// and the same entries (`entries`); the entries of 1016h that monitor node c count anew, and of all the rest an
-/// emergency alone that is sent changes something (`device`; CiA 301, 7.2.8.3.2).
+/// A heartbeat of node c, in any state (CiA 301, 7.2.8.3.2): no frame is sent but a waiting
+/// emergency (`frames`), and the state (`state`) and the entries (`entries`) stay the same. The
+/// entries of 1016h that monitor node c restart their count; nothing else changes but for the
+/// emergency that is sent (`device`).
 pub fn heartbeat_of_another()
     ensures frames { (k : Constants) (inputs : Inputs) (input : InputView) (c : ℕ) →
         kind_of k (device_of k inputs) input ≡ Heard c →
@@ -65,8 +66,10 @@ pub fn heartbeat_of_another()
     device_by_kind();
 }
 
-/// An input that is for nobody, a command to another node, a boot-up of another node, and an application event that is
-/// refused: no frame but an emergency that waits, the same state, the same entries, and nothing else that changes.
+/// An input that is for nobody, a command to another node, a boot-up of another node, or a refused
+/// application event: no frame is sent but a waiting emergency (`frames`); the state (`state`) and
+/// the entries (`entries`) stay the same. Nothing else changes but for the emergency that is sent
+/// (`device`).
 pub fn inert_input()
     ensures frames { (k : Constants) (inputs : Inputs) (input : InputView) →
         is_inert (kind_of k (device_of k inputs) input) ≡ true →
@@ -85,8 +88,8 @@ pub fn inert_input()
     device_by_kind();
 }
 
-/// Only NMT commands to this node or to all nodes, and lost heartbeats of other nodes, change the NMT state (CiA 301,
-/// 7.3.2 and 7.5.2.32): after one more input, of whatever kind, it is `state_with`.
+/// Only NMT commands to this node or to all nodes, and lost heartbeats of other nodes, change the
+/// NMT state (CiA 301, 7.3.2 and 7.5.2.32): after one more input of any kind it is `state_with`.
 pub fn state_by_kind()
     ensures { (k : Constants) (inputs : Inputs) (input : InputView) →
         state_of k (input ∷ inputs)
@@ -95,8 +98,8 @@ pub fn state_by_kind()
     device_by_kind();
 }
 
-/// While stopped a SYNC, a frame to an SDO channel and the frame of an RPDO give no frame at all, and change nothing
-/// (CiA 301, 7.3.2.2).
+/// While stopped, a SYNC, a frame to an SDO channel and a frame of an RPDO send no frame at all,
+/// and change nothing (CiA 301, 7.3.2.2).
 pub fn nothing_while_stopped()
     ensures frames { (k : Constants) (inputs : Inputs) (input : InputView) →
         state_of k inputs ≡ Stopped →

@@ -1,4 +1,4 @@
-//! What an input changes of the entries. Each is a law: a call of it changes nothing.
+//! The changes of the entries by an input. Each function is a law: a call of it changes nothing.
 
 ghost use Rattle.std.specs.Prelude.{◌≡◌, ◌∷◌, ℕ, Some, None, true, false};
 ghost use Rattle.co_frame.specs.FrameContent.{FrameContent};
@@ -14,9 +14,9 @@ ghost use Rattle.co_node_model.specs.Addresses.{address_at};
 ghost use Rattle.co_node_model.specs.Sdo.{channel_logs};
 ghost use Rattle.co_node_model.specs.Device.{moments, state_of, contents_of};
 
-/// An application event that is refused changes no entry; any other changes what it says and nothing else: a write its
-/// entry, an error the error register and the pre-defined error field, a clear the error register, an event or a change
-/// nothing.
+/// A refused application event changes no entry. Any other changes exactly these: a write its
+/// entry, an error the error register and the pre-defined error field, a clear the error register,
+/// an event or a change none.
 pub fn changes_by_event()
     ensures done { (k : Constants) (inputs : Inputs) (event : AppView) →
         event_refusal k.description (contents_of k inputs) event ≡ None →
@@ -27,8 +27,8 @@ pub fn changes_by_event()
         contents_of k (Applied event ∷ inputs) ≡ contents_of k inputs }
 {}
 
-/// A frame that an SDO channel takes sets at most the one entry whose whole download it completes, where that is
-/// permitted; while the device is stopped it sets none (CiA 301, 7.2.4.3).
+/// A frame to an SDO channel sets at most one entry: that of the whole, permitted download which it
+/// completes. While the device is stopped it sets none (CiA 301, 7.2.4.3).
 pub fn changes_by_request()
     ensures running { (k : Constants) (inputs : Inputs) (frame : FrameContent) (j : ℕ) →
         address_at k (moments k inputs) frame.id ≡ Channel j →

@@ -1,5 +1,5 @@
-//! Heartbeats, lost heartbeats and emergencies by distances over all inputs. Each is a law: a call of it changes
-//! nothing.
+//! When heartbeats and emergencies are sent, and heartbeats of others lost, by distances over all
+//! inputs. Each function is a law: a call of it changes nothing.
 
 ghost use Rattle.std.specs.Prelude.{◌≡◌, ◌≤◌, ℕ, [], Some, None, true, false};
 ghost use Rattle.co_frame.specs.declared.heartbeat.Heartbeat.TheVariants.{BootUp};
@@ -26,9 +26,10 @@ use co_dict::{invalid_pdo_law, own_rule_law};
 use co_pdo::written_from_2000;
 use co_sdo_bank::Bank;
 
-/// A heartbeat is sent at a tick exactly where the number of ticks since the last reset or write of 1017:00, or since
-/// the device was built, is a positive multiple of the value that 1017:00 has; it tells the state at the end of the
-/// tick. No other input sends one, but a reset the boot-up (CiA 301, 7.2.8.3.2, 7.2.8.3.3 and 7.5.2.20).
+/// A heartbeat is sent at a tick if and only if the number of ticks since the last reset or write
+/// of 1017:00, or since the device was built, is a positive multiple of the value of 1017:00 (in
+/// ms). It has the state at the end of the tick. No other input sends one; a reset sends the
+/// boot-up (CiA 301, 7.2.8.3.2, 7.2.8.3.3 and 7.5.2.20).
 pub fn heartbeat_due()
     ensures at_tick { (k : Constants) (inputs : Inputs) →
         (moment_at k inputs Ticked).life ≡ heartbeat_at_tick k inputs }
@@ -48,10 +49,10 @@ pub fn heartbeat_due()
     Bank::set_is_permitted();
 }
 
-/// The heartbeat of another node, that of an entry of 1016h, is lost at exactly the tick at which the time of the
-/// entry has passed since the last heartbeat; never where none came since the entry was written, since the last
-/// reset, or since the device was built. No other input loses one. What an entry monitors is what its word says now
-/// (7.2.8.3.2 and 7.5.2.19).
+/// The heartbeat that an entry of 1016h monitors is lost at exactly the tick at which the time of
+/// the entry has elapsed since the last heartbeat. It is never lost if no heartbeat came since the
+/// entry was written, since the last reset, or since the device was built. No other input loses
+/// one. An entry monitors the node of its current word (CiA 301, 7.2.8.3.2 and 7.5.2.19).
 pub fn heartbeat_lost()
     ensures at_tick { (k : Constants) (inputs : Inputs) (sub : ℕ) → 1 ≤ sub → sub ≤ 127 →
         is_among sub (moment_at k inputs Ticked).lost ≡ is_time_passed k sub inputs }
@@ -68,9 +69,9 @@ pub fn heartbeat_lost()
     Bank::set_is_permitted();
 }
 
-/// The emergency that an input sends is the front of the queue: where one waits, the device may send it, and each
-/// sending since the last reset is at least so many ticks ago as 1015:00 then had in milliseconds, rounded up (7.2.7,
-/// 7.5.2.17 and 7.5.2.18).
+/// An input sends the front of the emergency queue if one waits, the device may send it, and the
+/// inhibit time of each sending since the last reset has elapsed: 1015:00 as it was then, rounded
+/// up to ms (CiA 301, 7.2.7, 7.5.2.17 and 7.5.2.18).
 pub fn emergency_sent()
     ensures { (k : Constants) (inputs : Inputs) (input : InputView) →
         (moment_at k inputs input).emergency ≡ emergency_by k inputs input }

@@ -1,4 +1,5 @@
-//! Downloads over the default channel of a node that end. Each is a law: a call of it changes nothing.
+//! Downloads over the default channel of a node complete. This is a law: a call of it changes
+//! nothing.
 
 ghost use Rattle.std.specs.Prelude.{◌≡◌, ℕ, true, List, length};
 ghost use Rattle.co_value.specs.declared.key.Key.{Key};
@@ -15,10 +16,11 @@ ghost use Rattle.co_node_model.specs.Loop.{download_of, last_ends, sent_of, stat
 ghost use Rattle.co_node_laws.specs.Apart.{AreApart};
 ghost use Rattle.co_node_laws.specs.Served.{IsServed};
 
-/// A segmented download that a node serves (CiA 301, 7.2.4.3.3 and 7.2.4.3.4) ends where SYNC and EMCY are apart from
-/// its default channel, in mode segmented, or in mode plain with none or more than four bytes: the client is done
-/// (`done`) after one request and one for each seven bytes or fewer (`requests`), and the entry has the bytes, and no
-/// other entry was changed (`entry`).
+/// A segmented download that a node serves completes, if SYNC and EMCY don't use the identifiers of
+/// its default channel (CiA 301, 7.2.4.3.3 and 7.2.4.3.4). The mode is segmented, or plain with
+/// none or more than four bytes. The client is done (`done`) after one request and one for each
+/// seven bytes or fewer, at least one (`requests`). The entry has the bytes, and no other entry was
+/// changed (`entry`).
 pub fn segmented_download_ends()
     ensures done { (k : Constants) (before : Inputs) (key : Key) (bytes : List ℕ) (mode : Mode) →
         AreApart k.description.node (contents_of k before) →

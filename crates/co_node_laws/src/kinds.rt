@@ -1,5 +1,5 @@
-//! What each kind of input changes of the entries, and that it changes nothing else. Each is a law: a call of it
-//! changes nothing.
+//! The entries that each kind of input changes; it changes no other. Each function is a law: a call
+//! of it changes nothing.
 
 ghost use Rattle.std.specs.Prelude.{◌≡◌, ◌≢◌, ◌<◌, ◌∷◌, ℕ, [], Some, None, length, true, false};
 ghost use Rattle.co_frame.specs.FrameContent.{FrameContent};
@@ -22,11 +22,11 @@ ghost use Rattle.co_node_model.specs.Addresses.{address_at};
 ghost use Rattle.co_node_model.specs.Device.{contents_of, moments, prescribed, state_of};
 ghost use Rattle.co_node_laws.specs.Changes.{changed_by, reset_to, is_for};
 
-/// The entries after one more input, whatever it is: `changed_by` says it by the kind of input, and of a frame by who
-/// takes it. A reset restores its area; a SYNC and the frame of an RPDO raise the errors of their lengths, then the
-/// data that they let take effect are written; a frame to an SDO channel sets the entry whose permitted download it
-/// completes; a tick raises the heartbeats lost at it; an application event changes what it says, unless it is refused.
-/// Nothing else changes an entry.
+/// The entries after any one more input are `changed_by`, by the kind of input, and for a frame by
+/// its addressee. A reset restores its area. A SYNC and a frame of an RPDO raise the error of their
+/// length; then the data that take effect are written. A frame to an SDO channel sets the entry
+/// whose permitted download it completes. A tick raises an error for each heartbeat lost at it. An
+/// application event has its own effect, unless it is refused. Nothing else changes an entry.
 #[tactic(auto, using(crate::proofs::Changed::changed))]
 pub fn changes_by_kind()
     ensures { (k : Constants) (inputs : Inputs) (input : InputView) →
@@ -40,9 +40,10 @@ pub fn changes_by_command()
         contents_of k (Framed frame ∷ inputs) ≡ contents_of k inputs }
 {}
 
-/// A reset to all nodes or to this node alone, in whatever state and after whatever inputs, restores its area, changes
-/// nothing else, ends in pre-operational and sends the boot-up alone (7.2.8.3.1, 7.2.8.3.3 and 7.3.2.2). One to another
-/// node changes no entry.
+/// A reset of all nodes or of this node alone, in any state and after any inputs, restores its area
+/// and changes no other entry (`contents`), ends in pre-operational (`state`) and sends the boot-up
+/// alone (`frames`). A reset of another node changes no entry (`another`; CiA 301, 7.2.8.3.1,
+/// 7.2.8.3.3 and 7.3.2.2).
 pub fn changes_by_reset()
     ensures contents { (k : Constants) (inputs : Inputs) (node : ℕ) (area : Area) → node < 128 →
         is_for k node ≡ true →
@@ -59,8 +60,9 @@ pub fn changes_by_reset()
         contents_of k (reset_to node area ∷ inputs) ≡ contents_of k inputs }
 {}
 
-/// A frame of eight bytes to SDO channel j, while the device isn't stopped, sets an entry exactly where it completes a
-/// download that nothing refuses: then this entry has the bytes of the download; else no entry changes (7.2.4.3).
+/// While the device isn't stopped, a frame of eight bytes to SDO channel j sets an entry if and
+/// only if it completes a download that the dictionary permits: the entry then has the bytes of the
+/// download. Else no entry changes (CiA 301, 7.2.4.3).
 pub fn set_exactly()
     ensures set { (k : Constants) (inputs : Inputs) (frame : FrameContent) (j : ℕ) (w : Download) →
         address_at k (moments k inputs) frame.id ≡ Channel j →

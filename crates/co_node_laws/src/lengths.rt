@@ -1,4 +1,4 @@
-//! How many frames an input prescribes. Each is a law: a call of it changes nothing.
+//! How many frames an input prescribes. Each function is a law: a call of it changes nothing.
 
 ghost use Rattle.std.specs.Prelude.{◌≡◌, ◌≤◌, ◌+◌, length, max, true};
 ghost use Rattle.co_frame.specs.FrameContent.{FrameContent};
@@ -11,7 +11,7 @@ ghost use Rattle.co_node_model.specs.Tpdos.{tpdo_count};
 ghost use Rattle.co_node_laws.specs.Kinds.{is_unanswered};
 ghost use Rattle.co_node_laws.specs.Lengths.{HasParts};
 
-/// A frame that neither an SDO channel nor SYNC takes gives no more frames than its bound, which is 1: an emergency, or
+/// A frame that is neither for an SDO channel nor SYNC sends at most one frame: an emergency, or
 /// the boot-up (CiA 301, 7.2.7 and 7.2.8.3.3).
 #[tactic(auto, using(crate::proofs::Counts::few_unanswered))]
 pub fn few_unanswered()
@@ -20,24 +20,25 @@ pub fn few_unanswered()
         length (prescribed k inputs (Framed frame)) ≤ frame_bound k inputs (Framed frame) }
 {}
 
-/// An SDO channel answers a frame with at most 127 frames, after whatever inputs: an upload's sub-block has no more
-/// segments, since a greater block size is refused (7.2.4.3.13 to 7.2.4.3.15).
+/// After any inputs, an SDO channel answers a frame with at most 127 frames: a sub-block of an
+/// upload has no more segments, since a greater block size is refused (CiA 301, 7.2.4.3.13 to
+/// 7.2.4.3.15).
 #[tactic(auto, using(crate::proofs::FewExchanged::few_exchanged))]
 pub fn few_responses()
     ensures { (k : Constants) (inputs : Inputs) (input : InputView) →
         length (frames_at (moment k (moments k inputs) input).exchange) ≤ 127 }
 {}
 
-/// No input gives more frames than its bound: an NMT command 1, a request to an SDO channel 128, SYNC and an
-/// application event one more than there are TPDOs, a tick two more, all others 1. What has to be known of the device:
-/// its entries are those of a dictionary, which each store gives.
+/// No input sends more frames than its bound: an NMT command 1, a request to an SDO channel 128,
+/// SYNC and an application event the number of TPDOs plus 1, a tick the number of TPDOs plus 2, any
+/// other 1. The condition is that the entries are those of a dictionary, as each store ensures.
 #[tactic(auto, using(crate::proofs::Bounds::few))]
 pub fn few()
     ensures { (k : Constants) (inputs : Inputs) (input : InputView) → HasParts k inputs input →
         length (prescribed k inputs input) ≤ frame_bound k inputs input }
 {}
 
-/// No bound is above 127, or the number of TPDOs where that is more, and 2.
+/// No bound is above 129, or the number of TPDOs plus 2 if that is more.
 #[tactic(auto, using(crate::proofs::Bounds::greatest))]
 pub fn greatest_bound()
     ensures { (k : Constants) (inputs : Inputs) (input : InputView) →

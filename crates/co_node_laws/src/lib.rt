@@ -1,4 +1,5 @@
-//! What follows for every device and all its inputs from the definitions of a device: laws alone, no device.
+//! Laws that follow from the definitions of a device, for every device and all its inputs. This
+//! crate has no code of a device.
 #![tactic(auto)]
 
 mod answers;

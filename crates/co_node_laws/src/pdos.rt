@@ -1,4 +1,5 @@
-//! When TPDOs are due and the data of RPDOs take effect, over all inputs. Each is a law: a call of it changes nothing.
+//! When TPDOs are due and the data of RPDOs take effect, over all inputs. Each function is a law: a
+//! call of it changes nothing.
 
 ghost use Rattle.std.specs.Prelude.{◌≡◌, ◌<◌, ◌+◌, ◌==◌, ◌&&◌, ◌∷◌, ◌++◌, ℕ, Option, [], Some, true, false};
 ghost use Rattle.co_frame.specs.FrameContent.{FrameContent};
@@ -29,11 +30,11 @@ ghost use Rattle.co_node_laws.specs.RpdoWaits.{
 };
 ghost use Rattle.co_node_laws.specs.TpdoDistances.{is_sent, ticks_of_timer, tpdo_log, turn_of_input};
 
-/// TPDO n is sent at a SYNC, at a tick and at an event of the application on it, in operational, exactly where `is_due`
-/// says so by what all inputs were to it: by its transmission type, with the entries at the end of the input. No other
-/// input sends one. One that is event-driven and has no event that waits, and whose inhibit time is over, is sent at
-/// exactly the tick at which its event timer has passed since it was started or sent (CiA 301, 7.2.2.2 to 7.2.2.4 and
-/// 7.5.2.37).
+/// In operational, TPDO n is sent at a SYNC, a tick or one of its application events if and only if
+/// it is due (`is_due`) by its transmission type and its log of all inputs, with the entries at the
+/// end of the input. No other input sends one. An event-driven TPDO without a waiting event, whose
+/// inhibit time is over, is sent at exactly the tick at which its event timer has elapsed since it
+/// was started or sent (CiA 301, 7.2.2.2 to 7.2.2.4 and 7.5.2.37).
 pub fn tpdo_due()
     ensures at_sync { (k : Constants) (n : ℕ) (inputs : Inputs) (input : InputView)
         (counter : Option ℕ) → n < 512 → turn_of_input k inputs input ≡ turn.Sync counter →
@@ -65,12 +66,13 @@ pub fn tpdo_due()
         is_sent k n inputs Ticked ≡ (ticks_of_timer k n inputs + 1 == settings.event_timer) }
 {}
 
-/// In operational the frame of an RPDO of type 0 to 240, where it isn't short, waits from when it comes (`waits`); it
-/// waits on while no SYNC comes in operational, operational isn't left, nothing resets the device, the RPDO isn't
-/// written and no newer frame of it comes that waits: a short one is dropped, and the frame before it waits on. The
-/// next SYNC in operational takes all frames that wait, by number: their data take effect then (`taken`). Each is the
-/// last frame that its RPDO accepted so, and nothing since ended its wait, so no SYNC took it before (`last`; 7.2.2.2,
-/// 7.2.2.4 and 7.5.2.35).
+/// In operational, a frame of an RPDO of type 0 to 240 waits for a SYNC, unless it is too short
+/// (`waits`). It waits until a SYNC comes in operational, operational is left, the device is reset,
+/// the COB-ID or transmission type of the RPDO is written, or a newer frame replaces it; a frame
+/// that is too short is dropped and replaces none. The next SYNC in operational takes all waiting
+/// frames, by number: their data take effect then (`taken`). Each of them is the last frame that
+/// its RPDO accepted, and nothing has ended its wait since, so that no earlier SYNC took it
+/// (`last`; CiA 301, 7.2.2.2, 7.2.2.4 and 7.5.2.35).
 pub fn takes_effect_at_sync()
     ensures waits { (k : Constants) (inputs later : Inputs) (n : ℕ) (frame : FrameContent) →
         address_at k (moments k inputs) frame.id ≡ Rpdo n → state_of k inputs ≡ Operational →

@@ -1,5 +1,5 @@
-//! What an input changes of the addresses of SYNC and RPDOs, and of what PDOs map. Each is a law: a call of it changes
-//! nothing.
+//! Which inputs change the identifiers of SYNC and RPDOs, and the mappings of PDOs. Each function
+//! is a law: a call of it changes nothing.
 
 ghost use Rattle.std.specs.Prelude.{◌≡◌, ◌≤◌, ◌<◌, ◌∷◌, false};
 ghost use Rattle.co_value.specs.declared.key.Key.{Key};
@@ -14,9 +14,9 @@ use co_dict::{invalid_pdo_law, own_rule_law};
 use co_pdo::written_from_2000;
 use co_sdo_bank::Bank;
 
-/// An input that is no reset and writes neither 1005h nor a parameter of an RPDO leaves all of these, 1005h and 1400h
-/// to 17FFh, as they are. So who takes the frames of SYNC and of RPDOs has to be looked up anew after the other inputs
-/// alone.
+/// An input that is no reset and writes neither 1005h nor a parameter of an RPDO leaves 1005h and
+/// 1400h to 17FFh as they are. So the identifiers of SYNC and RPDOs have to be looked up again only
+/// after a reset or such a write.
 pub fn addresses_kept()
     ensures sync { (k : Constants) (inputs : Inputs) (input : InputView) →
         may_change_addresses (moment k (moments k inputs) input).mark ≡ false →
@@ -32,9 +32,10 @@ pub fn addresses_kept()
     Bank::set_is_permitted();
 }
 
-/// An input that is no reset and writes no mapping parameter leaves all of them, 1600h to 17FFh and 1A00h to 1BFFh, as
-/// they are. So mappings have to be compiled anew after the other inputs alone; and from the lost heartbeats on, after
-/// which SYNC and RPDOs take effect, no input changes them any more.
+/// An input that is no reset and writes no mapping parameter leaves 1600h to 17FFh and 1A00h to
+/// 1BFFh as they are (`before`). So mappings have to be compiled again only after a reset or such a
+/// write. Within an input nothing changes them after the lost heartbeats, when SYNC and RPDOs take
+/// effect (`after`).
 pub fn mappings_kept()
     ensures before { (k : Constants) (inputs : Inputs) (input : InputView) →
         may_change_mappings (moment k (moments k inputs) input).mark ≡ false →

@@ -1,4 +1,5 @@
-//! The condition of the schedule of TPDOs, over all inputs. Each is a law: a call of it changes nothing.
+//! The condition of the schedule of TPDOs, over all inputs. Each function is a law: a call of it
+//! changes nothing.
 
 ghost use Rattle.std.specs.Prelude.{◌≡◌, ◌∷◌, true};
 ghost use Rattle.co_node_model.specs.Inputs.{InputView, Inputs};
@@ -13,9 +14,9 @@ use co_dict::{invalid_pdo_law, own_rule_law};
 use co_pdo::written_from_2000;
 use co_sdo_bank::Bank;
 
-/// In operational, after whatever inputs, each TPDO that is active had a whole start with the transmission type and the
-/// inhibit time that its entries have now, and its event timer was started with the time that it has now (CiA 301,
-/// 7.2.2.2 to 7.2.2.4 and 7.5.2.37).
+/// In operational, after any inputs, each active TPDO had its last whole start with the
+/// transmission type and the inhibit time that its entries have now, and the last start of its
+/// event timer with the time that it has now (CiA 301, 7.2.2.2 to 7.2.2.4 and 7.5.2.37).
 pub fn schedule_current()
     ensures { (k : Constants) (inputs : Inputs) → state_of k inputs ≡ Operational →
         AllCurrent (contents_of k inputs) (schedule_log k (moments k inputs)) }
@@ -26,8 +27,8 @@ pub fn schedule_current()
     Bank::set_is_permitted();
 }
 
-/// And it is so as the schedule is asked at one more input, with the entries at the end of this input: so a device may
-/// ask which TPDOs are due, at a SYNC, events of the application, or a tick.
+/// The same holds for the entries at the end of an input at which the schedule is asked: a SYNC,
+/// application events of TPDOs, or a tick. So a device may ask then which TPDOs are due.
 pub fn schedule_ready()
     ensures { (k : Constants) (inputs : Inputs) (input : InputView) →
         is_asked (turn_at (moment k (moments k inputs) input) (moments k inputs)) ≡ true →

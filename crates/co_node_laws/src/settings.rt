@@ -1,5 +1,5 @@
-//! Which entries errors and the data of RPDOs leave as they are. A law is the contract of a function that does nothing
-//! when it is called.
+//! The entries that errors and the data of RPDOs leave as they are. Each function is a law: a call
+//! of it changes nothing.
 
 ghost use Rattle.std.specs.Prelude.{List};
 ghost use Rattle.co_dict.specs.Rows.{Contents, Rows};
@@ -13,8 +13,8 @@ ghost use Rattle.co_node_laws.specs.Settings.{HasSameSettings};
 
 use co_pdo::written_from_2000;
 
-/// Errors that are raised, and data that take effect, leave the entries from 1004h to 1FFFh as they are: the
-/// communication parameters of all services, and what PDOs map.
+/// Errors that are raised, and data that take effect, leave the entries from 1004h to 1FFFh as they
+/// are: the communication parameters of all services, and the mappings of PDOs.
 pub fn settings_kept()
     ensures raised { (rows : Rows) (errors : List DeviceError) (contents : Contents) →
         HasSameSettings contents (all_raised rows errors contents) }

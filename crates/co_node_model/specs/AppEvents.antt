@@ -1,4 +1,4 @@
--- Application events: what they do, and what they are answered.
+-- Application events: what they do, and their answers.
 use Rattle.std.specs.Prelude.{ℕ, ◌&&◌, nat_lt, Bool, ◌==◌, not, Option, None, Some, bit_or, List, [], ◌∷◌}
 use Rattle.co_frame.specs.AbortCodes.{object_missing, invalid_value}
 use Rattle.co_frame.specs.declared.emergency.Emergency.{Emergency}
@@ -24,8 +24,8 @@ use Rattle.co_node_model.specs.declared.mark.Mark.TheVariants as was
 abbrev pub is_tpdo : Rows → ℕ → Bool
 is_tpdo rows k = nat_lt k 512 && has_tpdo rows k
 
--- why an application event is refused: a write as `app_refusal` has it; an event on a TPDO that isn't there; a change of
--- an entry that isn't there; an error with code 0. Clearing never is
+-- why an application event is refused: a write by `app_refusal`; an event of a missing TPDO; a
+-- change of a missing entry; an error with code 0. Clearing is never refused
 abbrev pub event_refusal : Description → Contents → AppView → Option ℕ
 event_refusal d contents (Written key bytes) = app_refusal d contents key bytes
 event_refusal d contents (EventOn k) = refused_if (not (is_tpdo d.rows k)) object_missing
@@ -33,7 +33,7 @@ event_refusal d contents (ChangedAt key) = missing_entry d.rows key
 event_refusal d contents (Raised code bits manufacturer) = refused_if (code == 0) invalid_value
 event_refusal d contents (Cleared bits) = None
 
--- the answer where something is refused, or isn't
+-- the answer to an event, by its refusal
 abbrev pub answer_with : Option ℕ → AppAnswer
 answer_with None = answer.Done
 answer_with (Some code) = answer.Refused (record { 0 = code })
@@ -42,9 +42,9 @@ answer_with (Some code) = answer.Refused (record { 0 = code })
 abbrev pub app_answer : Description → Contents → AppView → AppAnswer
 app_answer d contents event = answer_with (event_refusal d contents event)
 
--- ---- what one does that isn't refused
+-- ---- the effect of an event that isn't refused
 
--- what they were to the services
+-- the mark of an event
 abbrev pub app_mark : AppView → Mark
 app_mark (Written key bytes) = was.Written key
 app_mark (EventOn n) = was.Asked (asked.Event n)
@@ -52,11 +52,11 @@ app_mark (ChangedAt key) = was.Asked (asked.Changed key)
 app_mark (Raised code bits manufacturer) = was.Quiet
 app_mark (Cleared bits) = was.Quiet
 
--- the error of the application: it sets bit 0, generic error, too
+-- the error that an application raises: it also sets bit 0, generic error
 abbrev pub app_error : ℕ → ℕ → List ℕ → DeviceError
 app_error code bits manufacturer = record { code = code; bits = bit_or bits 1; manufacturer = manufacturer }
 
--- the entries after them
+-- the contents after an event
 abbrev pub app_contents : Description → AppView → Contents → Contents
 app_contents d (Written key bytes) contents = written contents key bytes
 app_contents d (EventOn n) contents = contents
@@ -64,7 +64,7 @@ app_contents d (ChangedAt key) contents = contents
 app_contents d (Raised code bits manufacturer) contents = raised d.rows (app_error code bits manufacturer) contents
 app_contents d (Cleared bits) contents = cleared d.rows bits contents
 
--- the emergencies that they queue
+-- the emergencies that an event queues
 abbrev pub app_emergencies : AppView → Contents → List Emergency
 app_emergencies (Written key bytes) contents = []
 app_emergencies (EventOn n) contents = []
@@ -72,7 +72,8 @@ app_emergencies (ChangedAt key) contents = []
 app_emergencies (Raised code bits manufacturer) contents = emergency_of (app_error code bits manufacturer) contents ∷ []
 app_emergencies (Cleared bits) contents = clearing_of bits contents ∷ []
 
--- an application event, where this refuses it, or nothing does; a refused one changes nothing but the answer
+-- the moment with an application event, by its refusal; a refused event changes nothing but the
+-- answer
 abbrev pub with_app_event : Description → AppView → Option ℕ → Moment → Moment
 with_app_event d event (Some code) m = record m { app = answer_with (Some code) }
 with_app_event d event None m = record m {
@@ -84,7 +85,7 @@ with_app_event d event None m = record m {
 
 -- ---- over all inputs
 
--- the answer to the last application event, where that was the last input
+-- the answer to the last input, if that was an application event
 abbrev pub app_at : History → AppAnswer
 app_at [] = answer.None
 app_at (m ∷ history) = m.app

@@ -1,4 +1,4 @@
--- A whole device: the order of an input, and what the device does over all its inputs.
+-- A whole device: the order of the services at an input, and all inputs one after another.
 use Rattle.std.specs.Prelude.{◌+◌, List, ◌++◌, map, ◌∷◌, [], ℕ}
 use Rattle.co_frame.specs.FrameContent.{FrameContent}
 use Rattle.co_frame.specs.Nmt.{nmt_command_in}
@@ -21,8 +21,9 @@ use Rattle.co_node_model.specs.Emergencies.{with_emergency, emergency_frames}
 use Rattle.co_node_model.specs.Tpdos.{with_tpdos, tpdo_frame, tpdo_count}
 use Rattle.co_node_model.specs.declared.app_answer.AppAnswer.{AppAnswer}
 
--- ---- an input as it is received: it alone is looked at by its kind, and a frame by who takes it
+-- ---- an input as it is received, by its kind; a frame by its addressee
 
+-- the moment with a received frame, by its addressee
 abbrev pub with_frame : Constants → History → Address → FrameContent → Moment → Moment
 with_frame k history Nmt frame m =
     with_service k.description.initial (service_for k.description.node (nmt_command_in frame)) m
@@ -32,16 +33,19 @@ with_frame k history (Rpdo n) frame m = with_rpdo n (state_at history) frame m
 with_frame k history (ErrorControl node) frame m = with_error_control node frame m
 with_frame k history Nobody frame m = m
 
+-- the moment with a received input
 abbrev pub with_input : Constants → History → InputView → Moment → Moment
 with_input k history (Framed frame) m = with_frame k history (address_at k history frame.id) frame m
 with_input k history Ticked m = with_tick (timed_out_at k history) m
 with_input k history (Applied event) m = with_app_event k.description event (event_refusal k.description m.received event) m
 
+-- the moment of an input as received, after a history
 abbrev pub received_at : Constants → History → InputView → Moment
 received_at k history input = with_input k history input (nothing_of input (contents_at k history))
 
--- ---- one input, after this history: each service reads what those before it gave
+-- ---- one input, after this history: each service reads the results of those before it
 
+-- the whole moment of an input, after a history
 abbrev pub moment : Constants → History → InputView → Moment
 moment k history input =
     with_tpdos k history (with_life k history (with_emergency history (with_pdos k history (with_losses k history (received_at k history input)))))
@@ -58,6 +62,7 @@ frames k m =
 
 -- ---- over all inputs, the newest first
 
+-- a history with the moment of one more input
 abbrev pub and_moment : Constants → InputView → History → History
 and_moment k input history = moment k history input ∷ history
 
@@ -78,33 +83,33 @@ state_of k inputs = state_at (moments k inputs)
 abbrev pub contents_of : Constants → Inputs → Contents
 contents_of k inputs = contents_at k (moments k inputs)
 
--- the answer to the last input, where it was an application event
+-- the answer to the last input, if that was an application event
 abbrev pub app_after : Constants → Inputs → AppAnswer
 app_after k inputs = app_at (moments k inputs)
 
--- how many bytes are held for the transfer of SDO channel j, 0 where there is no such channel
+-- how many bytes are held for the transfer of SDO channel j, 0 if there is no such channel
 abbrev pub held_of : Constants → Inputs → ℕ → ℕ
 held_of k inputs j = held_on (channels k) (channel_logs (moments k inputs)) j
 
--- how many may be held for it: the capacity of the entry that is transferred and 889
+-- how many may be held for it: the capacity of the transferred entry plus 889
 abbrev pub room_of : Constants → Inputs → ℕ → ℕ
 room_of k inputs j = room_after k.description.rows (channel_logs (moments k inputs) j)
 
 -- ---- inputs one after another, the first one first
 
--- all inputs after some more
+-- all inputs with some more
 abbrev pub after_all : Inputs → List InputView → Inputs
 after_all inputs [] = inputs
 after_all inputs (input ∷ more) = after_all (input ∷ inputs) more
 
--- the frames that they prescribe, of each input in its turn
+-- the frames that these inputs prescribe, in their order
 abbrev pub all_frames : Constants → Inputs → List InputView → List FrameContent
 all_frames k inputs [] = []
 all_frames k inputs (input ∷ more) = prescribed k inputs input ++ all_frames k (input ∷ inputs) more
 
 -- ---- how many frames an input prescribes at most
 
--- by who takes a frame, where the dictionary has so many TPDOs
+-- by the addressee of a frame, and the number of TPDOs of the dictionary
 abbrev pub bound_at : Address → ℕ → ℕ
 bound_at Nmt tpdos = 1
 bound_at Sync tpdos = tpdos + 1

@@ -1,4 +1,5 @@
--- Heartbeats: those of other nodes, as the consumers have them, and the device's own (CiA 301, 7.2.8.3.2 and 7.2.8.3.3).
+-- Heartbeats: consumers of those of other nodes, and the device's own (CiA 301, 7.2.8.3.2 and
+-- 7.2.8.3.3).
 use Rattle.std.specs.Prelude.{Bool, true, false, Option, Some, None, ℕ, if◌then◌else◌, ◌==◌, ◌&&◌, List, map, is_none, [], ◌∷◌, ◌||◌, ◌+◌}
 use Rattle.std.specs.List.{range_with_len}
 use Rattle.co_value.specs.declared.key.Key.{Key}
@@ -33,8 +34,9 @@ use Rattle.co_profile.specs.Keys.{error_behaviour_key, producer_key}
 use Rattle.co_node_model.specs.declared.mark.Mark.TheVariants as was
 use Rattle.co_node_model.specs.Marks.{marked_heartbeat, marked_key, marked_tick}
 
--- ---- consumers: a heartbeat of another node is received, in every state; a boot-up is none
+-- ---- consumers: a received heartbeat of another node, in every state; a boot-up is none
 
+-- an error control frame is a heartbeat
 abbrev pub is_heartbeat : Option Heartbeat → Bool
 is_heartbeat None = false
 is_heartbeat (Some heartbeat.BootUp) = false
@@ -42,11 +44,12 @@ is_heartbeat (Some heartbeat.Stopped) = true
 is_heartbeat (Some heartbeat.Operational) = true
 is_heartbeat (Some heartbeat.PreOperational) = true
 
+-- the moment with an error control frame
 abbrev pub with_error_control : ℕ → FrameContent → Moment → Moment
 with_error_control node frame m =
     if is_heartbeat (heartbeat_in frame.bytes) then record m { mark = was.Heard node } else m
 
--- ---- consumers: what an input is to them
+-- ---- consumers: their event at an input
 
 -- an entry of 1016h, sub-indices 1 to 127
 abbrev pub is_consumer_key : Key → Bool
@@ -56,28 +59,29 @@ is_consumer_key key = key.index == consumer_heartbeat && is_from_to 1 127 key.su
 unfoldable pub consumer_words : Contents → List ℕ
 consumer_words contents = map (λ sub. number_at contents (consumer_key sub)) (range_with_len 1 127)
 
--- a heartbeat, if one came
+-- the event of a heartbeat, if one was received
 abbrev pub heard_event : Option ℕ → ConsumersEvent
 heard_event None = consumers.Quiet
 heard_event (Some node) = consumers.Heard node
 
--- the beginning of an entry of 1016h, if one was written; with the word that it then has
+-- the begin of an entry of 1016h with its new word, if one was written
 abbrev pub begin_event : Contents → Option Key → ConsumersEvent
 begin_event contents None = consumers.Quiet
 begin_event contents (Some key) = if is_consumer_key key then consumers.Begin key.sub (number_at contents key) else consumers.Quiet
 
--- to the consumers of heartbeats, where the input was no reset
+-- the event of the consumers at an input that is no reset
 abbrev pub consumers_event : Mark → Contents → ConsumersEvent
 consumers_event mark contents =
     if marked_tick mark then consumers.Tick
     else (if is_none (marked_heartbeat mark) then begin_event contents (marked_key mark) else heard_event (marked_heartbeat mark))
 
--- the call of the consumers of heartbeats: at a reset each entry begins with the word that it then has
+-- the call of the consumers: at a reset each entry begins with its word then
 abbrev pub consumers_call : Mark → Contents → ConsumersCall
 consumers_call mark contents = if is_reset mark then AllBegun (consumer_words contents) else Noted (consumers_event mark contents)
 
--- ---- consumers: over all inputs; each entry of 1016h begins as the device is built
+-- ---- consumers: over all inputs; each entry of 1016h begins when the device is built
 
+-- the calls of the consumers
 abbrev pub consumers_log : Constants → History → ConsumersLog
 consumers_log k [] = AllBegun (consumer_words k.start) ∷ []
 consumers_log k (m ∷ history) = consumers_call m.mark m.received ∷ consumers_log k history
@@ -89,15 +93,16 @@ abbrev pub lost_by : ConsumersCall → ConsumersLog → List ℕ
 lost_by (AllBegun words) log = []
 lost_by (Noted event) log = lost_at event log
 
--- an error for each
+-- an error for each of these entries
 abbrev pub loss_errors : List ℕ → List DeviceError
 loss_errors lost = map (λ sub. heartbeat_lost) lost
 
--- what they are to the NMT state, by 1029:01: several are as one
+-- the event of the NMT state, by 1029:01; several losses are one event
 abbrev pub loss_event : List ℕ → Contents → StateEvent
 loss_event [] contents = Quiet
 loss_event (sub ∷ lost) contents = HeartbeatLost (reaction_with (number_at contents error_behaviour_key))
 
+-- the moment with these lost heartbeats
 abbrev pub with_lost : Description → List ℕ → Moment → Moment
 with_lost d lost m = record m {
   lost = lost;
@@ -106,30 +111,34 @@ with_lost d lost m = record m {
   loss = loss_event lost m.received;
 }
 
+-- the moment with the heartbeats that are lost at it
 abbrev pub with_losses : Constants → History → Moment → Moment
 with_losses k history m = with_lost k.description (lost_by (consumers_call m.mark m.received) (consumers_log k history)) m
 
--- ---- producer: what an input is to it
+-- ---- producer: its event at an input
 
--- to the heartbeat producer: it begins at a reset and where 1017h was written, with the time that this then has
+-- the event of the producer: it begins at a reset and at a write of 1017h, with the time of 1017h
+-- then
 abbrev pub producer_event : Mark → Contents → ProducerEvent
 producer_event mark contents =
     if is_reset mark || is_set (marked_key mark) producer_key then producer.Begin (number_at contents producer_key)
     else (if marked_tick mark then producer.Tick else producer.Quiet)
 
--- the boot-up at a reset; else the heartbeat of the state after the input, where one is due
+-- the boot-up at a reset, else the heartbeat of the state after the input, if one is due
 abbrev pub life_of : Mark → NodeState → Bool → Option Heartbeat
 life_of mark after due = if is_reset mark then Some BootUp else (if due then Some (heartbeat_of after) else None)
 
--- ---- producer: over all inputs; it begins as the device is built
+-- ---- producer: over all inputs; it begins when the device is built
 
+-- the events of the producer
 abbrev pub producer_log : Constants → History → ProducerLog
 producer_log k [] = Begin (number_at k.start producer_key) ∷ []
 producer_log k (m ∷ history) = producer_event m.mark m.contents ∷ producer_log k history
 
 -- ---- producer: the boot-up, or a heartbeat with the state at the end of the input
 
--- the boot-up, or a heartbeat with the state at the end of the input (7.2.8.3.2 and 7.2.8.3.3)
+-- the moment with the boot-up, or a heartbeat with the state at the end of the input (7.2.8.3.2 and
+-- 7.2.8.3.3)
 abbrev pub with_life : Constants → History → Moment → Moment
 with_life k history m =
     record m { life = life_of m.mark (state_at (m ∷ history)) (is_heartbeat_due (producer_event m.mark m.contents) (producer_log k history)) }

@@ -1,4 +1,4 @@
--- The inputs of a device: frames, ticks of 1 ms, and what its application does.
+-- The inputs of a device: frames, ticks of 1 ms, and application events.
 use Rattle.std.specs.Prelude.{ℕ, List}
 use Rattle.co_value.specs.declared.key.Key.{Key}
 use Rattle.co_frame.specs.FrameContent.{FrameContent}
@@ -7,15 +7,15 @@ use Rattle.co_node_model.specs.declared.input.AppEvent.TheVariants.{Write, Event
 use Rattle.co_node_model.specs.declared.input.Input.{Input}
 use Rattle.co_node_model.specs.declared.input.Input.TheVariants.{Frame, Tick, App}
 
--- what the application does
+-- an application event
 pub data AppView : Type 0 where
   -- it writes bytes into an entry
   Written : Key → List ℕ → AppView
-  -- an event on the TPDO with a number
+  -- an event of the TPDO with a number
   EventOn : ℕ → AppView
   -- the value of an entry changed
   ChangedAt : Key → AppView
-  -- an error with its code, the bits of the error register, and the manufacturer's bytes
+  -- an error with its code, the bits of the error register, and the manufacturer-specific bytes
   Raised : ℕ → ℕ → List ℕ → AppView
   -- bits of the error register are cleared
   Cleared : ℕ → AppView
@@ -26,7 +26,7 @@ pub data InputView : Type 0 where
   Framed : FrameContent → InputView
   -- 1 ms elapsed
   Ticked : InputView
-  -- the application did something
+  -- an application event
   Applied : AppView → InputView
 
 -- all inputs since the device was built, the newest first

@@ -1,4 +1,4 @@
--- The entries of the communication profile that a device itself looks at (CiA 301, 7.5.2).
+-- The entries of the communication profile that a device itself reads (CiA 301, 7.5.2).
 use Rattle.std.specs.Prelude.{Bool, false, Option, Some, None}
 use Rattle.co_value.specs.declared.key.Key.{Key}
 use Rattle.co_value.specs.Keys.{same_key}

@@ -1,4 +1,5 @@
--- Whether an input may have changed what a PDO maps, by its mark (CiA 301, 7.5.2.36 and 7.5.2.38).
+-- Whether an input may have changed the mapping of a PDO, by its mark (CiA 301, 7.5.2.36 and
+-- 7.5.2.38).
 use Rattle.std.specs.Prelude.{◌||◌, Bool, false, Option, Some, None, ◌≡◌, true}
 use Rattle.co_value.specs.declared.key.Key.{Key}
 use Rattle.co_profile.specs.Indices.{rpdo_mapping, tpdo_mapping, is_within}
@@ -11,12 +12,12 @@ use Rattle.co_node_model.specs.Marks.{marked_key}
 abbrev pub is_mapping_key : Key → Bool
 is_mapping_key key = is_within rpdo_mapping key.index || is_within tpdo_mapping key.index
 
--- one was written
+-- such an entry was written
 abbrev pub is_mapping_set : Option Key → Bool
 is_mapping_set None = false
 is_mapping_set (Some key) = is_mapping_key key
 
--- it was a reset, or one was written
+-- the input was a reset, or wrote such an entry
 abbrev pub may_change_mappings : Mark → Bool
 may_change_mappings mark = is_reset mark || is_mapping_set (marked_key mark)
 

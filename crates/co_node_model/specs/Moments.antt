@@ -1,4 +1,4 @@
--- What one input of a device was, did and gave, service by service.
+-- One input of a device and its effects, service by service.
 use Rattle.std.specs.Prelude.{ℕ, List, Option, [], ◌∷◌, None}
 use Rattle.co_frame.specs.declared.emergency.Emergency.{Emergency}
 use Rattle.co_frame.specs.declared.heartbeat.Heartbeat.{Heartbeat}
@@ -15,8 +15,8 @@ use Rattle.co_node_model.specs.declared.mark.Mark.{Mark}
 use Rattle.co_node_model.specs.declared.app_answer.AppAnswer.TheVariants as answer
 use Rattle.co_node_model.specs.declared.mark.Mark.TheVariants as was
 
--- what never changes of a device: its dictionary's description, the bytes of the entries as it was built, the greatest
--- capacity of an entry, and the time in ms after which an SDO transfer is aborted, 0 for never
+-- what never changes of a device: the description of its dictionary, the contents with which it was
+-- built, the greatest capacity of an entry, and the SDO timeout in ms (0 disables it)
 pub record Constants : Type 0 where
   pub description : Description
   pub start : Contents
@@ -27,28 +27,31 @@ pub record Constants : Type 0 where
 abbrev pub channels : Constants → List ChannelSettings
 channels k = channels_of k.description k.start k.greatest k.time
 
--- one input, and what came of it; each field is prescribed by the older moments and by the fields before it
+-- one input and its effects; each field follows from the older moments and the fields before it
 pub record Moment : Type 0 where
   pub input : InputView
-  -- received: what it was; the exchange on an SDO channel; the channel whose time was over, with what is sent on it; the
-  -- answer to an application event; the emergencies that this event queued; the entries then
+  -- as received: the mark; the exchange on an SDO channel; the channel that timed out, with its
+  -- abort; the answer to an application event; the emergencies that this event queued; the contents
+  -- then
   pub mark : Mark
   pub exchange : Option ChannelEvent
   pub timed_out : Option ChannelEvent
   pub app : AppAnswer
   pub raised_by_app : List Emergency
   pub received : Contents
-  -- heartbeats of others: the sub-indices of 1016h that lost theirs; the emergencies that this queued; the entries then;
-  -- what it was to the NMT state
+  -- heartbeat consumers: the sub-indices of 1016h whose heartbeat is lost; the emergencies that
+  -- this queued; the contents then; the event of the NMT state
   pub lost : List ℕ
   pub raised_by_loss : List Emergency
   pub watched : Contents
   pub loss : StateEvent
-  -- SYNC and RPDOs: the frames whose data took effect; the emergencies that were queued; the entries at the end
+  -- SYNC and RPDOs: the frames whose data took effect; the emergencies that these queued; the
+  -- contents at the end
   pub taken : List KeptFrame
   pub raised_by_pdo : List Emergency
   pub contents : Contents
-  -- what is sent besides SDO: an emergency; the boot-up or a heartbeat; the TPDOs with these numbers
+  -- the frames sent besides SDO: an emergency; the boot-up or a heartbeat; the TPDOs with these
+  -- numbers
   pub emergency : Option Emergency
   pub life : Option Heartbeat
   pub due : List ℕ
@@ -57,12 +60,12 @@ pub record Moment : Type 0 where
 abbrev pub History : Type 0
 History = List Moment
 
--- the entries
+-- the contents after a history
 abbrev pub contents_at : Constants → History → Contents
 contents_at k [] = k.start
 contents_at k (m ∷ history) = m.contents
 
--- an input of which nothing came
+-- an input without any effect
 abbrev pub nothing_of : InputView → Contents → Moment
 nothing_of input contents = record {
   input = input;

@@ -16,7 +16,7 @@ use Rattle.co_node_model.specs.Moments.{Moment, History}
 use Rattle.co_node_model.specs.Inputs.{InputView, Framed}
 use Rattle.co_node_model.specs.Marks.{command_mark, marked_command}
 
--- ---- what a command is
+-- ---- the kinds of commands
 
 -- a service is a reset, of the node or of its communication
 abbrev pub resets : NmtService → Bool
@@ -35,12 +35,12 @@ is_reset_by (Some service) = resets service
 abbrev pub is_reset : Mark → Bool
 is_reset mark = is_reset_by (marked_command mark)
 
--- a command, if there was one
+-- the event of a command, if there was one
 abbrev pub commanded_event : Option NmtService → StateEvent
 commanded_event None = state.Quiet
 commanded_event (Some service) = state.Command service
 
--- to the NMT state
+-- the event of the NMT state
 abbrev pub state_event : Mark → StateEvent
 state_event mark = commanded_event (marked_command mark)
 
@@ -51,7 +51,8 @@ abbrev pub service_for : ℕ → Option NmtCommand → Option NmtService
 service_for node None = None
 service_for node (Some command) = if command.node == 0 || command.node == node then Some command.service else None
 
--- the entries after a service: reset node restores all, reset communication the communication profile
+-- the contents after a service: reset node restores all entries, reset communication those of the
+-- communication profile
 abbrev pub after_service : Contents → Option NmtService → Contents → Contents
 after_service initial None contents = contents
 after_service initial (Some Start) contents = contents
@@ -60,12 +61,14 @@ after_service initial (Some EnterPreOperational) contents = contents
 after_service initial (Some ResetNode) contents = restored All initial contents
 after_service initial (Some ResetCommunication) contents = restored Communication initial contents
 
+-- the moment with an NMT command, by its service
 abbrev pub with_service : Contents → Option NmtService → Moment → Moment
 with_service initial service m =
     record m { mark = command_mark service; received = after_service initial service m.received }
 
--- ---- the state, over all inputs: commands, and what lost heartbeats do
+-- ---- the state, over all inputs: commands and lost heartbeats
 
+-- the events of the NMT state
 abbrev pub state_log : History → StateLog
 state_log [] = []
 state_log (m ∷ history) = m.loss ∷ state_event m.mark ∷ state_log history

@@ -1,5 +1,5 @@
--- RPDOs: whose a frame is, what its length does, the frames that wait for a SYNC, and the data that take effect (CiA 301,
--- 7.2.2, 7.5.2.35 and 7.5.2.36).
+-- RPDOs: which one a frame is for, errors of its length, the frames that wait for a SYNC, and the
+-- data that take effect (CiA 301, 7.2.2, 7.5.2.35 and 7.5.2.36).
 use Rattle.std.specs.Prelude.{ℕ, ◌==◌, ◌&&◌, Bool, Option, find, ◌≡◌, IfSome, nat_lt, length, Some, if◌then◌else◌, ◌||◌, ◌-◌, None, not, is_some, [], ◌∷◌, List, ◌++◌}
 use Rattle.std.specs.List.{range_with_len}
 use Rattle.co_value.specs.declared.key.Key.{Key}
@@ -40,7 +40,7 @@ use Rattle.co_node_model.specs.Marks.{marked_key, marked_rpdo, marked_sync}
 abbrev pub rpdo_type : Contents → ℕ → ℕ
 rpdo_type contents k = number_at contents (communication_key side.Rpdo k transmission_type)
 
--- RPDO k is active, and has an identifier
+-- RPDO k is active, and has this identifier
 abbrev pub is_rpdo_with : Contents → ℕ → ℕ → Bool
 is_rpdo_with contents id k = is_pdo_active side.Rpdo contents k && identifier_of (cob_id_of side.Rpdo contents k) == id
 
@@ -52,11 +52,11 @@ rpdo_with contents id = find (is_rpdo_with contents id) (range_with_len 0 512)
 abbrev pub mapped_length : Description → Contents → ℕ → ℕ
 mapped_length d contents k = total_of (mapping_of Rpdo d contents k)
 
--- so many bytes does the RPDO map whose frame came, if one came
+-- the number of bytes that the RPDO of a received frame maps, if there is such a frame
 abbrev pub IsMappedLength : Description → Contents → Option KeptFrame → ℕ → Type 0
 IsMappedLength d contents rpdo mapped = IfSome rpdo (λ r. mapped ≡ mapped_length d contents r.number)
 
--- the transmission type is that of the RPDO whose frame came, if one came
+-- the transmission type of the RPDO of a received frame, if there is such a frame
 abbrev pub IsTypeOf : Contents → Option KeptFrame → ℕ → Type 0
 IsTypeOf contents rpdo kind = IfSome rpdo (λ r. kind ≡ rpdo_type contents r.number)
 
@@ -66,78 +66,80 @@ is_short d contents rpdo = nat_lt (length rpdo.frame.bytes) (mapped_length d con
 
 -- ---- a frame is received: in operational alone
 
+-- the moment with a frame of RPDO n
 abbrev pub with_rpdo : ℕ → NodeState → FrameContent → Moment → Moment
 with_rpdo n state frame m =
     if is_state Operational state then record m { mark = was.Rpdo (record { number = n; frame = frame }) } else m
 
--- ---- the frames that wait for a SYNC: what an input is to them
+-- ---- the frames that wait for a SYNC: their event at an input
 
 -- the COB-ID or the transmission type of an RPDO, 1400h to 15FFh, sub-index 1 or 2
 abbrev pub empties_slot : Key → Bool
 empties_slot key = is_within rpdo_communication key.index && (key.sub == pdo_cob_id || key.sub == transmission_type)
 
--- an entry that was written drops the frame of its RPDO
+-- a written COB-ID or transmission type drops the frame of its RPDO
 abbrev pub emptied_by : Option Key → SlotEvent
 emptied_by None = Quiet
 emptied_by (Some key) = if empties_slot key then Empty (key.index - rpdo_communication.0) else Quiet
 
--- a frame that came for an RPDO waits where its type is synchronous and it isn't short
+-- a received frame of an RPDO waits if its transmission type is synchronous and it isn't too short
 abbrev pub kept_by : Description → Contents → Option KeptFrame → SlotEvent
 kept_by d contents None = Quiet
 kept_by d contents (Some rpdo) =
     if is_synchronous (rpdo_type contents rpdo.number) && not (is_short d contents rpdo) then Keep rpdo.number rpdo.frame else Quiet
 
--- by what was written or came, where operational isn't left
+-- the event while operational isn't left: a SYNC, a write, or a received frame
 abbrev pub slot_event_in : Description → Contents → Mark → Transition → SlotEvent
 slot_event_in d contents mark t =
     if is_some (marked_sync mark) && is_state Operational t.after then Sync
     else (if is_some (marked_key mark) then emptied_by (marked_key mark) else kept_by d contents (marked_rpdo mark))
 
--- to the frames that wait: a reset and leaving operational drop all of them
+-- the event of the waiting frames: a reset and leaving operational drop all of them
 abbrev pub slot_event : Description → Contents → Mark → Transition → SlotEvent
 slot_event d contents mark t =
     if is_reset mark || leaves Operational t then EmptyAll else slot_event_in d contents mark t
 
 -- ---- over all inputs
 
+-- the events of the waiting frames
 abbrev pub slot_log : Constants → History → SlotLog
 slot_log k [] = []
 slot_log k (m ∷ history) = slot_event k.description m.watched m.mark (transition_of m history) ∷ slot_log k history
 
 -- ---- the error of a frame's length
 
--- the error of a number of bytes where so many are mapped
+-- the error of a frame of `count` bytes if `mapped` are mapped
 abbrev pub length_errors : ℕ → ℕ → List DeviceError
 length_errors mapped count =
     if nat_lt count mapped then pdo_too_short ∷ [] else (if nat_lt mapped count then pdo_too_long ∷ [] else [])
 
--- the error of the length of an RPDO's frame, if one came; whatever the transmission type
+-- the error of the length of an RPDO's frame, if one was received, at any transmission type
 abbrev pub rpdo_errors : Description → Contents → Option KeptFrame → List DeviceError
 rpdo_errors d contents None = []
 rpdo_errors d contents (Some rpdo) = length_errors (mapped_length d contents rpdo.number) (length rpdo.frame.bytes)
 
 -- ---- data that take effect
 
--- a frame that takes effect as it comes: its type is 254 or 255, and it isn't short
+-- a frame that takes effect at once: its transmission type is 254 or 255, and it isn't too short
 abbrev pub immediate : Description → Contents → Option KeptFrame → List KeptFrame
 immediate d contents None = []
 immediate d contents (Some rpdo) =
     if is_event_driven (rpdo_type contents rpdo.number) && not (is_short d contents rpdo) then rpdo ∷ [] else []
 
--- what the RPDO of a frame maps
+-- the mapping of the RPDO of a frame
 abbrev pub mapping_for : Description → Contents → KeptFrame → List Mapped
 mapping_for d contents rpdo = mapping_of Rpdo d contents rpdo.number
 
--- a value outside its limits is an error; lengths were looked at as the frame came
+-- a value outside its limits is an error; errors of length were raised at reception
 abbrev pub value_errors : Option PdoFault → List DeviceError
 value_errors (Some OutOfLimits) = value_outside_limits ∷ []
 value_errors fault = []
 
--- the errors of data as they take effect
+-- the errors of data when they take effect
 abbrev pub data_errors : Description → Contents → KeptFrame → List DeviceError
 data_errors d contents rpdo = value_errors (fault_of d.rows (mapping_for d contents rpdo) rpdo.frame.bytes)
 
--- the contents with these data: all values are written, or none where one is outside its limits
+-- the contents with these data: all values are written, or none if one is outside its limits
 abbrev pub with_data : Description → Contents → KeptFrame → Contents
 with_data d contents rpdo = contents_after d.rows (mapping_for d contents rpdo) rpdo.frame.bytes contents
 
@@ -166,13 +168,14 @@ all_data_emergencies d contents (rpdo ∷ rpdos) =
 abbrev pub arrival_errors : Description → Moment → List DeviceError
 arrival_errors d m = sync_errors m.watched (marked_sync m.mark) ++ rpdo_errors d m.watched (marked_rpdo m.mark)
 
--- the frames whose data take effect: at a SYNC those that wait; a frame of types 254 and 255 at once
+-- the frames whose data take effect: at a SYNC those that wait, and a frame of type 254 or 255 at
+-- once
 abbrev pub effective : Constants → History → Moment → List KeptFrame
 effective k history m =
     taken_at 512 (slot_event k.description m.watched m.mark (transition_of m history)) (slot_log k history)
     ++ immediate k.description m.watched (marked_rpdo m.mark)
 
--- after the errors of length, the data of these frames take effect
+-- the moment after the errors of length, when the data of these frames take effect
 abbrev pub with_taken : Description → List DeviceError → List KeptFrame → Moment → Moment
 with_taken d errors taken m =
     let arrived = all_raised d.rows errors m.watched in
@@ -182,5 +185,6 @@ with_taken d errors taken m =
       contents = after_all_data d arrived taken;
     }
 
+-- the moment with SYNC and RPDOs
 abbrev pub with_pdos : Constants → History → Moment → Moment
 with_pdos k history m = with_taken k.description (arrival_errors k.description m) (effective k history m) m

@@ -11,14 +11,14 @@ use Rattle.co_node_model.specs.Moments.{Moment, History, Constants, channels}
 use Rattle.co_node_model.specs.declared.mark.Mark.TheVariants as was
 use Rattle.co_node_model.specs.Marks.{marked_tick, written_mark}
 
--- ---- the log of each channel: requests with their responses, ticks, the end of a transfer's time, and drops
+-- ---- the log of each channel: requests with their responses, ticks, time-outs and drops
 
--- a tick of every channel, if it was one
+-- the logs with a tick of every channel, if the flag is set
 abbrev pub with_channel_ticks : Bool → (ℕ → Log) → ℕ → Log
 with_channel_ticks true logs = with_each Ticked logs
 with_channel_ticks false logs = logs
 
--- all transfers were dropped, if they were
+-- the logs with a drop of every transfer, if the flag is set
 abbrev pub with_drop : Bool → (ℕ → Log) → ℕ → Log
 with_drop true logs = with_each Dropped logs
 with_drop false logs = logs
@@ -36,7 +36,7 @@ channel_logs (m ∷ history) =
 
 -- ---- a frame to a channel: not while stopped; one that hasn't eight bytes is ignored
 
--- a frame to a channel, with the log of each
+-- the moment with a frame to a channel, by the log of each channel
 abbrev pub with_request : Constants → (ℕ → Log) → FrameContent → Moment → Moment
 with_request k logs frame m =
     let set = set_of (channels k) k.description m.received logs frame in
@@ -46,16 +46,18 @@ with_request k logs frame m =
       received = contents_with m.received set;
     }
 
+-- the moment with a frame to a channel
 abbrev pub with_channel_frame : Constants → History → FrameContent → Moment → Moment
 with_channel_frame k history frame m =
     if is_state Stopped (state_at history) then m else with_request k (channel_logs history) frame m
 
--- ---- a tick: of the channels whose time is over with it the lowest is aborted; the others wait
+-- ---- a tick: the lowest channel that has timed out aborts its transfer; the others wait
 
+-- the moment with a tick
 abbrev pub with_tick : Option ChannelEvent → Moment → Moment
 with_tick timed_out m =
     record m { mark = was.Tick (is_some timed_out); timed_out = timed_out }
 
--- the channel that is aborted, with what is sent
+-- the channel that times out, with its abort
 abbrev pub timed_out_at : Constants → History → Option ChannelEvent
 timed_out_at k history = time_out_of (channels k) (with_each Ticked (channel_logs history))

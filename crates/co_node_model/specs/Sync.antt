@@ -14,26 +14,27 @@ use Rattle.co_node_model.specs.declared.device_error.DeviceError.{DeviceError}
 use Rattle.co_node_model.specs.Emergencies.{unexpected_sync_length}
 use Rattle.co_node_model.specs.declared.mark.Mark.TheVariants as was
 
--- an identifier is that of SYNC; there is none without 1005:00, or where it is 0
+-- an identifier is that of SYNC; there is none if 1005:00 is missing or 0
 abbrev pub is_sync_id : Contents → ℕ → Bool
 is_sync_id contents id = not (number_at contents sync_key == 0) && identifier_of (number_at contents sync_key) == id
 
--- the counter of a SYNC: its byte, where it has exactly one
+-- the counter of a SYNC: its byte, if it has exactly one
 abbrev pub counter_in : FrameContent → Option ℕ
 counter_in frame = option_and_then (λ sync. sync.counter) (sync_in frame.bytes)
 
 -- ---- a SYNC is received: not while stopped
 
+-- the moment with a SYNC
 abbrev pub with_sync : NodeState → FrameContent → Moment → Moment
 with_sync state frame m = if is_state Stopped state then m else record m { mark = was.Sync frame }
 
 -- ---- the error of its length
 
--- how many bytes a SYNC has: none, or the counter alone where 1019h is not 0
+-- how many bytes a SYNC has: none, or one for the counter if 1019h is not 0
 abbrev pub sync_length : Contents → ℕ
 sync_length contents = if number_at contents counter_overflow_key == 0 then 0 else 1
 
--- the error of a SYNC, if one came
+-- the error of a SYNC, if one was received
 abbrev pub sync_errors : Contents → Option FrameContent → List DeviceError
 sync_errors contents None = []
 sync_errors contents (Some frame) = if length frame.bytes == sync_length contents then [] else unexpected_sync_length ∷ []

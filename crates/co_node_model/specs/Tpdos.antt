@@ -1,4 +1,5 @@
--- TPDOs: what an input is to their schedule, which are due at it, and their frames (CiA 301, 7.2.2.2 to 7.2.2.4, 7.5.2.37).
+-- TPDOs: the turn of their schedule at an input, which are due then, and their frames (CiA 301,
+-- 7.2.2.2 to 7.2.2.4 and 7.5.2.37).
 use Rattle.std.specs.Prelude.{ℕ, length, Bool, false, ◌&&◌, List, [], ◌∷◌, ◌==◌, ◌||◌, Option, Some, None, if◌then◌else◌, ◌-◌, is_some, not}
 use Rattle.std.specs.List.{list_any, filter}
 use Rattle.co_value.specs.declared.key.Key.{Key}
@@ -38,7 +39,7 @@ tpdo_count rows = length (tpdos_of rows)
 
 -- ---- an event of the application
 
--- what is mapped is this entry
+-- a mapped object is this entry
 abbrev pub is_entry : Key → Mapped → Bool
 is_entry key (Entry mapped width) = same_key mapped key
 is_entry key (Dummy width) = false
@@ -47,12 +48,12 @@ is_entry key (Dummy width) = false
 abbrev pub is_mapped_into : Description → Contents → Key → ℕ → Bool
 is_mapped_into d contents key k = is_active contents k && list_any (is_entry key) (mapping_of Tpdo d contents k)
 
--- the numbers of the TPDOs that the application gave an event on, increasing
+-- the numbers of the TPDOs of an application event, increasing
 abbrev pub numbers_asked : Description → Contents → Asked → List ℕ
 numbers_asked d contents (Event k) = k ∷ []
 numbers_asked d contents (Changed key) = filter (is_mapped_into d contents key) tpdo_numbers
 
--- ---- what an input is to the schedule
+-- ---- the turn of the schedule at an input
 
 -- the part of a TPDO that a write to a sub-index of its communication parameter starts
 abbrev pub part_started : ℕ → Option Part
@@ -63,28 +64,29 @@ abbrev pub start_turn : ℕ → Option Part → Turn
 start_turn k None = turn.Quiet
 start_turn k (Some part) = turn.Start k part
 
--- what was written starts a TPDO
+-- the turn of a written entry: it may start a TPDO
 abbrev pub turn_by_write : Key → Turn
 turn_by_write key = if is_within tpdo_communication key.index then start_turn (key.index - tpdo_communication.0) (part_started key.sub) else turn.Quiet
 
--- a SYNC came, or not
+-- the turn of a SYNC, if one was received
 abbrev pub turn_by_sync : Option FrameContent → Turn
 turn_by_sync None = turn.Quiet
 turn_by_sync (Some frame) = turn.Sync (counter_in frame)
 
--- the application gave an event, or not
+-- the turn of an application event, if it was one
 abbrev pub turn_by_asked : Option Asked → Turn
 turn_by_asked None = turn.Quiet
 turn_by_asked (Some asked) = turn.Asked asked
 
--- in operational, where an entry was written or not
+-- the turn in operational, by the entry that was written, if any
 abbrev pub turn_with : Option Key → Mark → Turn
 turn_with (Some key) mark = turn_by_write key
 turn_with None mark =
     if marked_tick mark then turn.Tick
     else (if is_some (marked_sync mark) then turn_by_sync (marked_sync mark) else turn_by_asked (marked_event mark))
 
--- to the schedule, by the states before and after the input: outside operational nothing; entering it starts all
+-- the turn of an input, by the states before and after it: quiet outside operational; entering it
+-- starts all TPDOs
 abbrev pub turn_of : Mark → Transition → Turn
 turn_of mark t =
     if not (is_state Operational t.after) then turn.Quiet
@@ -101,7 +103,7 @@ due_at d (turn.Sync counter) contents history = all_due contents history (sync_w
 due_at d (turn.Asked asked) contents history = all_due_among (numbers_asked d contents asked) contents history
 due_at d turn.Tick contents history = all_due contents history occasion.Tick
 
--- the calls of the schedule with those of one more input, at which these TPDOs were sent
+-- the calls of the schedule with one more turn, at which these TPDOs were sent
 abbrev pub with_turn : Description → Turn → Contents → List ℕ → Schedule → Schedule
 with_turn d turn.Quiet contents due history = history
 with_turn d turn.StartAll contents due history = with_all_started contents history
@@ -112,17 +114,18 @@ with_turn d turn.Tick contents due history = with_tick contents due history
 
 -- ---- over all inputs, with the entries at the end of each
 
--- what an input was to it
+-- the turn of an input
 abbrev pub turn_at : Moment → History → Turn
 turn_at m history = turn_of m.mark (transition_of m history)
 
+-- the calls of the schedule
 abbrev pub schedule_log : Constants → History → Schedule
 schedule_log k [] = []
 schedule_log k (m ∷ history) = with_turn k.description (turn_at m history) m.contents m.due (schedule_log k history)
 
 -- ---- what is sent: by number
 
--- the TPDOs that are due, by number (7.2.2)
+-- the moment with the TPDOs that are due, by number (7.2.2)
 abbrev pub with_tpdos : Constants → History → Moment → Moment
 with_tpdos k history m = record m { due = due_at k.description (turn_at m history) m.contents (schedule_log k history) }
 

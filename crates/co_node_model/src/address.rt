@@ -1,9 +1,10 @@
-//! Who takes a frame.
+//! The addressee of a frame.
 
 use co_pdo::PdoNumber;
 
-/// Who takes a received frame: the first that its identifier fits, in this order (CiA 301, 7.3.5).
-#[derive(Clone, Copy, Debug, PartialEq, Eq, Hash)]
+/// The addressee of a received frame: the first whose identifier the frame has, in this order
+/// (CiA 301, 7.3.5).
+#[derive(Clone, Copy, Debug, PartialEq, Eq)]
 pub enum Address {
     /// NMT, identifier 0.
     Nmt,

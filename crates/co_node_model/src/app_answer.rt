@@ -1,14 +1,14 @@
-//! What an application event is answered.
+//! The answer to an application event.
 
 use co_frame::AbortCode;
 
 /// The answer to an application event.
-#[derive(Clone, Copy, Debug, PartialEq, Eq, Hash)]
+#[derive(Clone, Copy, Debug, PartialEq, Eq)]
 pub enum AppAnswer {
     /// The last input was no application event.
     None,
-    /// It was done.
+    /// The event was done.
     Done,
-    /// It was refused, and changed nothing.
+    /// The event was refused with this abort code, and changed nothing.
     Refused(AbortCode),
 }

@@ -1,4 +1,5 @@
-//! What a CANopen device is, apart from how it is computed: definitions, a file a service, and types that they cite.
+//! What a CANopen device does, independent of how it is computed: definitions, one file per
+//! service, and the types that they cite.
 #![tactic(auto)]
 
 mod address;

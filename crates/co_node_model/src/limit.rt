@@ -1,9 +1,9 @@
-//! How many rounds there are.
+//! The limit on rounds of a client and a node.
 
 ghost use Rattle.std.specs.Prelude.{◌≡◌};
 ghost use Rattle.co_node_model.specs.Loop.{most_rounds};
 
-/// How many rounds a client and a node have at most.
+/// The most rounds that a client and a node run: 20,000.
 pub fn most_rounds() -> u16
     ensures { result ≡ most_rounds }
 {

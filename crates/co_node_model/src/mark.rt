@@ -1,4 +1,4 @@
-//! What an input was, in no service's words.
+//! What a received input was, for all services.
 
 ghost use Rattle.std.specs.Prelude.{◌≡◌};
 ghost use Rattle.co_node_model.specs.Marks.{
@@ -19,17 +19,17 @@ use co_frame::{Frame, NmtService};
 use co_node_parts::KeptFrame;
 use co_value::Key;
 
-/// An event of the application on TPDOs.
-#[derive(Clone, Copy, Debug, PartialEq, Eq, Hash)]
+/// An application event of TPDOs.
+#[derive(Clone, Copy, Debug, PartialEq, Eq)]
 pub enum Asked {
-    /// On the TPDO with this number.
+    /// Of the TPDO with this number.
     Event(u16),
-    /// On each active TPDO that maps this entry.
+    /// Of each active TPDO that maps this entry.
     Changed(Key),
 }
 
-/// What an input was to the device, as received.
-#[derive(Clone, Copy, Debug, PartialEq, Eq, Hash)]
+/// What an input was, as the device received it.
+#[derive(Clone, Copy, Debug, PartialEq, Eq)]
 pub enum Mark {
     /// Nothing that concerns a service.
     Quiet,
@@ -37,15 +37,15 @@ pub enum Mark {
     Command(NmtService),
     /// An entry was written, by SDO or by the application.
     Written(Key),
-    /// A frame with the identifier of SYNC came, and the node isn't stopped.
+    /// A frame with the identifier of SYNC was received, and the node isn't stopped.
     Sync(Frame),
-    /// A frame of an active RPDO came, and the node is operational.
+    /// A frame of an active RPDO was received, and the node is operational.
     Rpdo(KeptFrame),
-    /// A heartbeat of the node with this node-ID came.
+    /// A heartbeat of the node with this node-ID was received; a boot-up is none.
     Heard(u8),
-    /// 1 ms elapsed; whether an SDO transfer was then aborted because its time was over.
+    /// 1 ms elapsed; whether an SDO transfer timed out then, and was aborted.
     Tick(bool),
-    /// The application gave an event on TPDOs.
+    /// An application event of TPDOs.
     Asked(Asked),
 }
 
@@ -73,7 +73,7 @@ impl Mark {
         }
     }
 
-    /// The frame, if a SYNC came.
+    /// The frame, if it was a SYNC.
     #[inline(always)]
     pub fn sync(&self) -> Option<Frame>
         ensures { result ≡ marked_sync self.now }
@@ -84,7 +84,7 @@ impl Mark {
         }
     }
 
-    /// The frame of an RPDO, if one came.
+    /// The frame of an RPDO, if it was one.
     #[inline(always)]
     pub fn rpdo(&self) -> Option<KeptFrame>
         ensures { result ≡ marked_rpdo self.now }
@@ -95,7 +95,7 @@ impl Mark {
         }
     }
 
-    /// The node-ID of the node whose heartbeat came, if one did.
+    /// The node-ID of the node whose heartbeat was received, if one was.
     #[inline(always)]
     pub fn heard(&self) -> Option<u8>
         ensures { result ≡ marked_heartbeat self.now }
@@ -114,7 +114,7 @@ impl Mark {
         matches!(*self, Mark::Tick(_))
     }
 
-    /// Whether an SDO transfer was aborted because its time was over.
+    /// Whether an SDO transfer timed out.
     #[inline(always)]
     pub fn is_time_out(&self) -> bool
         ensures { result ≡ marked_time_out self.now }
@@ -122,7 +122,7 @@ impl Mark {
         matches!(*self, Mark::Tick(true))
     }
 
-    /// The event of the application on TPDOs, if it was one.
+    /// The application event of TPDOs, if it was one.
     #[inline(always)]
     pub fn asked(&self) -> Option<Asked>
         ensures { result ≡ marked_event self.now }
@@ -133,7 +133,7 @@ impl Mark {
         }
     }
 
-    /// A command, or none for this node.
+    /// The mark of an NMT command; quiet if it isn't for this node.
     #[inline(always)]
     pub fn of_command(service: Option<NmtService>) -> Mark
         ensures { result ≡ command_mark service }
@@ -144,7 +144,7 @@ impl Mark {
         }
     }
 
-    /// A write of an entry, or of none.
+    /// The mark of a write; quiet if no entry was written.
     #[inline(always)]
     pub fn of_write(key: Option<Key>) -> Mark
         ensures { result ≡ written_mark key }

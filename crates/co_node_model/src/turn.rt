@@ -1,20 +1,21 @@
-//! What the schedule of TPDOs is asked.
+//! What an input is to the schedule of TPDOs.
 
 use crate::mark::Asked;
 use co_pdo::{Part, PdoNumber};
 
 /// What an input is to the schedule of TPDOs (CiA 301, 7.2.2.2 to 7.2.2.4).
-#[derive(Clone, Copy, Debug, PartialEq, Eq, Hash)]
+#[derive(Clone, Copy, Debug, PartialEq, Eq)]
 pub enum Turn {
     /// Nothing: it doesn't concern TPDOs, or the NMT state isn't operational.
     Quiet,
     /// NMT state operational was entered: all TPDOs start.
     StartAll,
-    /// An entry of the TPDO with this number was written: it starts, whole or its event timer.
+    /// A communication parameter of the TPDO with this number was written: the whole TPDO starts,
+    /// or its event timer alone.
     Start(PdoNumber, Part),
-    /// A SYNC came, with its counter where its data are exactly one byte.
+    /// A SYNC, with its counter if its data are exactly one byte.
     Sync(Option<u8>),
-    /// The application gave an event.
+    /// An application event of TPDOs.
     Asked(Asked),
     /// 1 ms elapsed.
     Tick,

@@ -8,7 +8,7 @@ use Rattle.co_frame.specs.declared.emergency.Emergency.{Emergency}
 use Rattle.co_node_parts.specs.declared.emergencies.EmergencyEvent.{EmergencyEvent}
 use Rattle.co_node_parts.specs.declared.emergencies.EmergencyEvent.TheVariants.{Queue, Empty, Tick, Quiet}
 
--- one thing that happened
+-- an entry of the log
 pub data EmergencyEntry : Type 0 where
   Noted : EmergencyEvent → EmergencyEntry
   -- the front was sent, with the inhibit time in 100 µs as it was then
@@ -18,8 +18,8 @@ pub data EmergencyEntry : Type 0 where
 abbrev pub EmergencyLog : Type 0
 EmergencyLog = List EmergencyEntry
 
--- what waits to be sent, the oldest first: at most eight, of which a ninth overwrites the oldest; a
--- sending takes the oldest, and a reset all
+-- the queue, oldest first: at most eight; a ninth overwrites the oldest, a sending takes the
+-- oldest, and a reset empties it
 abbrev pub queue_of : EmergencyLog → List Emergency
 queue_of [] = []
 queue_of (Noted (Queue emergency) ∷ log) = keep_last 8 (queue_of log ++ emergency ∷ [])
@@ -54,16 +54,17 @@ is_past s = has_elapsed s.inhibit s.age
 abbrev pub is_inhibit_over : EmergencyLog → Bool
 is_inhibit_over log = list_all is_past (sendings log)
 
--- what is sent after this log: the front, where it may be sent and the inhibit time is over
+-- the emergency due after this log: the front of the queue, if it may be sent and the inhibit time
+-- is over
 abbrev pub emergency_due : Bool → EmergencyLog → Option Emergency
 emergency_due may log = if may && is_inhibit_over log then slice_get (queue_of log) 0 else None
 
--- the log after that
+-- the log after that sending, if any
 abbrev pub with_sending : Option Emergency → ℕ → EmergencyLog → EmergencyLog
 with_sending None inhibit log = log
 with_sending (Some emergency) inhibit log = Sent inhibit ∷ log
 
--- at none of so many ticks one after another is an emergency sent, where it may be or not
+-- no emergency is due after any of the next `n` ticks, if one may be sent or not throughout
 abbrev pub NoneSentFor : Bool → ℕ → EmergencyLog → Type 0
 NoneSentFor may zero log = Unit {0}
 NoneSentFor may (suc n) log = (emergency_due may (Noted Tick ∷ log) ≡ None) × NoneSentFor may n (Noted Tick ∷ log)
@@ -79,12 +80,12 @@ abbrev pub inhibit_left : List Sending → ℕ
 inhibit_left [] = 0
 inhibit_left (s ∷ older) = max (in_ms s.inhibit - s.age) (inhibit_left older)
 
--- what is kept: what waits, and how many ticks are left until the front may be sent
+-- the state of the part: the queue, and how many ticks are left until the front may be sent
 pub record Pending : Type 0 where
   pub queue : List Emergency
   pub left : ℕ
 
--- what is kept is what this log gives
+-- the part is in the state after this log
 pub record EmergenciesStand (pending : Pending) (log : EmergencyLog) : Type 0 where
   pub queue : pending.queue ≡ queue_of log
   pub left : pending.left ≡ inhibit_left (sendings log)

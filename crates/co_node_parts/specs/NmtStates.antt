@@ -1,4 +1,4 @@
--- The NMT state of the device after what happened to it (CiA 301, 7.3.2).
+-- The NMT state of the device after its events (CiA 301, 7.3.2).
 use Rattle.std.specs.Prelude.{◌==◌, ◌&&◌, Bool, true, false, not, ℕ, if◌then◌else◌, List, [], ◌∷◌}
 use Rattle.co_frame.specs.declared.nmt.NmtService.{NmtService}
 use Rattle.co_frame.specs.declared.nmt.NmtService.TheVariants.{Start, Stop, EnterPreOperational, ResetNode, ResetCommunication}
@@ -12,7 +12,7 @@ use Rattle.co_node_parts.specs.declared.nmt_state.StateEvent.{StateEvent}
 use Rattle.co_node_parts.specs.declared.nmt_state.StateEvent.TheVariants.{Command, HeartbeatLost, Quiet}
 use Rattle.co_node_parts.specs.declared.nmt_state.Transition.{Transition}
 
--- what happened, the newest first
+-- the events, newest first
 abbrev pub StateLog : Type 0
 StateLog = List StateEvent
 
@@ -32,14 +32,15 @@ after_loss LeaveOperational Stopped = Stopped
 after_loss NoChange state = state
 after_loss EnterStopped state = Stopped
 
--- pre-operational at first; else as the last command or loss left it
+-- the state after these events: pre-operational at first
 abbrev pub state_after : StateLog → NodeState
 state_after [] = PreOperational
 state_after (Command service ∷ log) = commanded service
 state_after (HeartbeatLost reaction ∷ log) = after_loss reaction (state_after log)
 state_after (Quiet ∷ log) = state_after log
 
--- the reaction with a value of 1029h:01: 0 leaves operational, 2 stops, every other does nothing
+-- the reaction for a value of 1029h:01: 0 leaves operational, 2 enters stopped, any other changes
+-- nothing
 abbrev pub reaction_with : ℕ → LossReaction
 reaction_with code =
     if code == 0 then LeaveOperational else (if code == 2 then EnterStopped else NoChange)

@@ -6,11 +6,11 @@ use Rattle.co_node_parts.specs.declared.rpdo_slots.SlotEvent.{SlotEvent}
 use Rattle.co_node_parts.specs.declared.rpdo_slots.SlotEvent.TheVariants.{Keep, Empty, EmptyAll, Sync, Quiet}
 use Rattle.co_node_parts.specs.declared.rpdo_slots.KeptFrame.{KeptFrame}
 
--- what happened, the newest first
+-- the events, newest first
 abbrev pub SlotLog : Type 0
 SlotLog = List SlotEvent
 
--- the last frame of RPDO k that came since its slot was last emptied, and since the SYNC before
+-- the frame that waits for RPDO k: the last since its slot was emptied, and since the last SYNC
 abbrev pub kept_of : ℕ → SlotLog → Option FrameContent
 kept_of k [] = None
 kept_of k (Keep j frame ∷ log) = if k == j then Some frame else kept_of k log
@@ -27,7 +27,7 @@ numbered k frame = option_map (λ f. record { number = k; frame = f }) frame
 abbrev pub all_kept : ℕ → SlotLog → List KeptFrame
 all_kept count log = filter_map (λ k. numbered k (kept_of k log)) (range_with_len 0 count)
 
--- the frames that an event takes: a SYNC all that wait, everything else none
+-- the frames that an event takes: a SYNC all that wait, any other event none
 abbrev pub taken_at : ℕ → SlotEvent → SlotLog → List KeptFrame
 taken_at count (Keep k frame) log = []
 taken_at count (Empty k) log = []
@@ -35,13 +35,13 @@ taken_at count EmptyAll log = []
 taken_at count Sync log = all_kept count log
 taken_at count Quiet log = []
 
--- the frames in some slots, those that the last event took, and how many of these there is memory for
+-- the frames in the slots, those that the last event took, and how many of these fit in memory
 pub record SlotContent : Type 0 where
   pub slots : List (Option FrameContent)
   pub taken : List KeptFrame
   pub room : ℕ
 
--- there are so many slots, memory for a frame of each, and each has what its log gives
+-- there are `count` slots, memory for a frame of each, and each slot is in the state after the log
 pub record SlotsStand (count : ℕ) (content : SlotContent) (log : SlotLog) : Type 0 where
   pub size : length content.slots ≡ count
   pub room : content.room ≡ count

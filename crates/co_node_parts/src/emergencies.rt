@@ -1,4 +1,4 @@
-//! The emergencies that wait to be sent.
+//! The queue of emergencies.
 
 ghost use Rattle.std.specs.Prelude.{◌≡◌, ℕ, ◌≤◌, ◌++◌, List, [], ◌∷◌, Bool, false, None, IfOk};
 ghost use Rattle.co_node_parts.specs.EmergencyQueues.{
@@ -16,15 +16,15 @@ use co_frame::Emergency;
 use std::alloc::{AllocError, Global};
 use std::marker::Model;
 
-/// How many emergencies wait at most.
+/// The most emergencies that wait.
 const ROOM: usize = 8;
 
-/// What happened, as far as emergencies are concerned.
-#[derive(Clone, Copy, Debug, PartialEq, Eq, Hash)]
+/// An event of the queue of emergencies.
+#[derive(Clone, Copy, Debug, PartialEq, Eq)]
 pub enum EmergencyEvent {
-    /// An emergency is to be sent. Where eight wait, it overwrites the oldest.
+    /// An emergency is queued. If eight wait, it overwrites the oldest.
     Queue(Emergency),
-    /// A reset: nothing waits, and the inhibit time is over.
+    /// A reset: the queue is emptied, and the inhibit time is over.
     Empty,
     /// 1 ms elapsed.
     Tick,
@@ -32,8 +32,8 @@ pub enum EmergencyEvent {
     Quiet,
 }
 
-/// The emergencies that wait to be sent, and the inhibit time between two of them (CiA 301, 7.2.7 and
-/// 7.5.2.18). It asks for no memory after `new`.
+/// The queue of emergencies to be sent, at most eight, and the inhibit time between two of them
+/// (CiA 301, 7.2.7 and 7.5.2.18). It allocates no memory after `new`.
 #[derive(Drop)]
 pub struct Emergencies {
     queue: HeapCircularBuffer<Emergency>,
@@ -51,7 +51,7 @@ impl Model for Emergencies {
     ghost invariant = { λ e. e.queue.capacity ≡ 8 };
 }
 
-/// Of several emergencies the last one is queued last. A law, which does nothing when it is called.
+/// Of several emergencies the last one is queued last. This is a law: a call of it changes nothing.
 pub fn queued_last()
     ensures { (several : List Emergency) (last : Emergency) (log : EmergencyLog) →
         with_queued (several ++ last ∷ []) log ≡
@@ -59,7 +59,7 @@ pub fn queued_last()
 {}
 
 impl Emergencies {
-    /// No emergency waits. `AllocError` where there is no memory.
+    /// An empty queue. `AllocError` if it can't be allocated.
     pub fn new(alloc: Global) -> Result<Emergencies, AllocError>
         ensures { IfOk result (λ emergencies. EmergenciesStand emergencies []) }
     {
@@ -67,7 +67,7 @@ impl Emergencies {
         Ok(Emergencies { queue, left: 0 })
     }
 
-    /// Takes note of an event.
+    /// Notes an event.
     pub fn note(&mut self, event: EmergencyEvent)
         ensures { (log : EmergencyLog) → EmergenciesStand self.old log →
             EmergenciesStand self.new (Noted event ∷ log) }
@@ -85,7 +85,8 @@ impl Emergencies {
         }
     }
 
-    /// Whether an emergency waits and the inhibit time is over. If not, `send` gives none and changes nothing.
+    /// Whether an emergency waits and the inhibit time is over. If not, `send` returns `None` and
+    /// changes nothing.
     pub fn is_ready(&self) -> bool
         ensures { (may : Bool) (log : EmergencyLog) → EmergenciesStand self.now log →
             result ≡ false → emergency_due may log ≡ None }
@@ -93,8 +94,8 @@ impl Emergencies {
         self.left == 0 && !self.queue.is_empty()
     }
 
-    /// For at least so many ticks none is sent, if nothing else happens and it stays so whether one may be; `u32::MAX` if none
-    /// ever is.
+    /// During this many ticks (1 ms each) no emergency is due, if nothing else happens and `may`
+    /// stays the same: a lower bound.
     pub fn idle(&self, may: bool) -> u32
         ensures { (log : EmergencyLog) (n : ℕ) → EmergenciesStand self.now log → n ≤ result →
             NoneSentFor may n log }
@@ -105,9 +106,9 @@ impl Emergencies {
         u32::from(self.left).saturating_sub(1)
     }
 
-    /// Takes the emergency that is sent now, if one is: the oldest, where it may be sent and the
-    /// inhibit time is over. `inhibit` is the inhibit time of 1015h in 100 µs. It runs from this
-    /// sending on, rounded up to ms, also where 1015h is written meanwhile.
+    /// Takes the emergency to be sent now, if any: the oldest, if `may` and the inhibit time is
+    /// over. `inhibit` is the inhibit time EMCY of 1015h, in 100 µs. It runs from this sending on,
+    /// rounded up to ms; a later write of 1015h doesn't change it.
     pub fn send(&mut self, may: bool, inhibit: u16) -> Option<Emergency>
         ensures due { (log : EmergencyLog) → EmergenciesStand self.old log →
             result ≡ emergency_due may log }

@@ -1,4 +1,4 @@
-//! The heartbeat of one other node: one entry of 1016h.
+//! The consumer of one other node's heartbeat: one entry of 1016h.
 
 ghost use Rattle.std.specs.Prelude.{◌≡◌, ℕ, ◌≤◌, [], ◌∷◌};
 ghost use Rattle.co_node_parts.specs.Consumers.{
@@ -9,18 +9,18 @@ ghost use Rattle.co_node_parts.specs.Consumers.{
   monitored_by,
 };
 
-/// What an entry that is used monitors.
-#[derive(Clone, Copy, Debug)]
+/// What a used entry monitors.
+#[derive(Clone, Copy)]
 pub struct Monitored {
     /// The node-ID of the other node, 1 to 127.
     pub node: u8,
-    /// In ms, above 0.
+    /// The consumer heartbeat time in ms, above 0.
     pub time: u16,
 }
 
 impl Monitored {
-    /// What the word of an entry says is monitored. `None` where its time is 0, or its node-ID is
-    /// not 1 to 127.
+    /// What an entry with this word monitors. `None` if its time is 0, or its node-ID is not 1 to
+    /// 127.
     fn from_word(word: u32) -> Option<Monitored>
         ensures { result ≡ monitored_by word }
     {
@@ -34,12 +34,12 @@ impl Monitored {
     }
 }
 
-/// What happened, as far as one entry is concerned.
-#[derive(Clone, Copy, Debug)]
+/// An event of one entry.
+#[derive(Clone, Copy)]
 pub enum ConsumerEvent {
     /// It begins with this word.
     Begin(u32),
-    /// The heartbeat of the node with this node-ID came.
+    /// The heartbeat of the node with this node-ID was received.
     Heard(u8),
     /// 1 ms elapsed.
     Tick,
@@ -47,12 +47,12 @@ pub enum ConsumerEvent {
     Quiet,
 }
 
-/// What is counted for one entry.
-#[derive(Clone, Copy, Debug)]
+/// The countdown of one entry.
+#[derive(Clone, Copy)]
 pub struct HeartbeatConsumer {
-    /// `None` where the entry is not used.
+    /// `None` if the entry is not used.
     pub monitored: Option<Monitored>,
-    /// How many ticks are left until the heartbeat is lost; 0 where the time doesn't run.
+    /// How many ticks are left until the heartbeat is lost; 0 while the time doesn't run.
     pub left: u16,
 }
 
@@ -67,7 +67,7 @@ impl HeartbeatConsumer {
         }
     }
 
-    /// Takes note of an event, and answers whether the heartbeat is lost at it.
+    /// Notes an event, and returns whether the heartbeat is lost at it.
     pub(crate) fn note(&mut self, event: ConsumerEvent) -> bool
         ensures lost { (log : ConsumerLog) → ConsumerStands self.old log →
             result ≡ is_lost event log }
@@ -97,7 +97,7 @@ impl HeartbeatConsumer {
         }
     }
 
-    /// For at least so many ticks its heartbeat isn't lost, if nothing else happens; `u32::MAX` if its time doesn't run.
+    /// During this many ticks its heartbeat isn't lost, if nothing else happens: a lower bound.
     pub(crate) fn idle(&self) -> u32
         ensures { (log : ConsumerLog) (n : ℕ) → ConsumerStands self.now log → n ≤ result →
             NotLostFor n log }

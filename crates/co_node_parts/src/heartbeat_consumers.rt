@@ -1,4 +1,4 @@
-//! The heartbeats of other nodes: the entries of 1016h.
+//! The heartbeat consumers: the entries of 1016h.
 
 ghost use Rattle.std.specs.Prelude.{◌≡◌, ℕ, ◌≤◌, [], ◌∷◌, length, slice_index};
 ghost use Rattle.std.specs.List.{filter, range_with_len, slice_index_or};
@@ -22,19 +22,19 @@ use crate::heartbeat_consumer::{ConsumerEvent, HeartbeatConsumer};
 use arrayvec::ArrayVec;
 use std::marker::Model;
 
-/// How many entries of 1016h there may be: sub-indices 1 to 127.
+/// The most entries of 1016h: sub-indices 1 to 127.
 const ENTRIES: usize = 127;
 
 /// The sub-indices of the entries of 1016h whose heartbeat is lost, increasing.
 pub type LostHeartbeats = ArrayVec<u8, 127>;
 
-/// What happened, as far as the heartbeat consumers are concerned.
-#[derive(Clone, Copy, Debug, PartialEq, Eq, Hash)]
+/// An event of the heartbeat consumers.
+#[derive(Clone, Copy, Debug, PartialEq, Eq)]
 pub enum ConsumersEvent {
-    /// The entry with this sub-index, 1 to 127, begins with this word: at each accepted write of it,
-    /// also of the same word. Any other sub-index concerns no entry.
+    /// The entry with this sub-index, 1 to 127, begins with this word: at each accepted write, also
+    /// of the same word. Any other sub-index has no entry, and nothing begins.
     Begin(u8, u32),
-    /// The heartbeat of the node with this node-ID came.
+    /// The heartbeat of the node with this node-ID was received.
     Heard(u8),
     /// 1 ms elapsed.
     Tick,
@@ -43,7 +43,7 @@ pub enum ConsumersEvent {
 }
 
 impl ConsumersEvent {
-    /// What it is to the entry with a sub-index.
+    /// The event of the entry with a sub-index.
     fn for_entry(self, sub: u8) -> ConsumerEvent
         ensures { result ≡ event_of sub (Noted self) }
     {
@@ -56,8 +56,8 @@ impl ConsumersEvent {
     }
 }
 
-/// Notes an event for each of some entries, and leaves in `lost` which of them lose their heartbeat. Those from `used`
-/// on are passed over by it.
+/// Notes an event for each entry, and leaves the sub-indices of those that lose their heartbeat in
+/// `lost`. The event doesn't concern the entries from `used` on.
 #[inline(always)]
 fn note_all(
     entries: &mut [HeartbeatConsumer],
@@ -85,7 +85,7 @@ fn note_all(
     }
 }
 
-/// From which entry on none monitors anything.
+/// The entry from which on none monitors a node.
 fn used_among(entries: &[HeartbeatConsumer]) -> usize
     ensures within { result ≤ length entries.now }
     ensures idle { AreIdleFrom result entries.now }
@@ -106,7 +106,7 @@ fn word_at(words: &[u32], place: usize) -> u32
     words.get(place).copied().unwrap_or(0)
 }
 
-/// Begins each of some entries with its word.
+/// Begins each entry with its word.
 fn begin_each(entries: &mut [HeartbeatConsumer], words: &[u32])
     ensures { (logs : ℕ → ConsumerLog) → AllStand entries.old logs →
         AllStand entries.new (λ sub. event_of sub (AllBegun words.now) ∷ logs sub) }
@@ -116,7 +116,8 @@ fn begin_each(entries: &mut [HeartbeatConsumer], words: &[u32])
     }
 }
 
-/// For at least so many ticks none of some entries loses its heartbeat; `u32::MAX` if no time runs.
+/// During this many ticks none of these entries loses its heartbeat, if nothing else happens: a
+/// lower bound.
 fn idle_among(entries: &[HeartbeatConsumer]) -> u32
     ensures { (logs : ℕ → ConsumerLog) (n : ℕ) → AllStand entries.now logs → n ≤ result →
         AreKeptFor n (length entries.now) logs }
@@ -128,13 +129,13 @@ fn idle_among(entries: &[HeartbeatConsumer]) -> u32
     least
 }
 
-/// The heartbeat consumers: which nodes are monitored by 1016h, and whose heartbeat is lost (CiA 301,
-/// 7.2.8.3.2 and 7.5.2.19). Monitoring begins with the first heartbeat after the entry began, and
-/// ends when the heartbeat is lost, until the next one.
+/// The heartbeat consumers: the nodes that 1016h monitors, and whose heartbeat is lost (CiA 301,
+/// 7.2.8.3.2 and 7.5.2.19). Monitoring of an entry starts at the first heartbeat after the entry
+/// began. It stops when the heartbeat is lost, and starts again at the next one.
 #[derive(Drop)]
 pub struct HeartbeatConsumers {
     entries: [HeartbeatConsumer; ENTRIES],
-    // no entry from here on monitors anything, so that a tick looks at few of them
+    // no entry from here on monitors a node, so that a tick reads few of them
     used: usize,
 }
 
@@ -151,7 +152,7 @@ impl Model for HeartbeatConsumers {
 }
 
 impl HeartbeatConsumers {
-    /// No entry began: nothing is monitored.
+    /// Consumers of which no entry has begun: nothing is monitored.
     pub fn new() -> HeartbeatConsumers
         ensures { ConsumersStand result [] }
     {
@@ -162,8 +163,8 @@ impl HeartbeatConsumers {
         }
     }
 
-    /// All entries begin, as the device is built and at each reset: the one with sub-index 1 with the
-    /// first of these words, and so on. Those past the last word are not used.
+    /// Begins all entries, when the device is built and at each reset: sub-index 1 with the first
+    /// of these words, and so on. Entries past the last word are not used.
     pub fn begin_all(&mut self, words: &[u32])
         ensures { (log : ConsumersLog) → ConsumersStand self.old log →
             ConsumersStand self.new (AllBegun words.now ∷ log) }
@@ -172,7 +173,8 @@ impl HeartbeatConsumers {
         self.used = used_among(&self.entries);
     }
 
-    /// Takes note of an event, and leaves in `lost` which entries lose their heartbeat at it, and nothing else.
+    /// Notes an event, and leaves in `lost` exactly the sub-indices of the entries that lose their
+    /// heartbeat at it.
     #[inline(always)]
     pub fn note(&mut self, event: ConsumersEvent, lost: &mut LostHeartbeats)
         ensures lost { (log : ConsumersLog) → ConsumersStand self.old log →
@@ -192,7 +194,8 @@ impl HeartbeatConsumers {
         }
     }
 
-    /// For at least so many ticks no heartbeat is lost, if nothing else happens; `u32::MAX` if no time runs.
+    /// During this many ticks (1 ms each) no heartbeat is lost, if nothing else happens: a lower
+    /// bound.
     pub fn idle(&self) -> u32
         ensures { (log : ConsumersLog) (n : ℕ) → ConsumersStand self.now log → n ≤ result →
             NoneLostFor n log }

@@ -10,10 +10,10 @@ ghost use Rattle.co_node_parts.specs.Producers.{
 
 use std::marker::Model;
 
-/// What happened, as far as the heartbeat producer is concerned.
-#[derive(Clone, Copy, Debug, PartialEq, Eq, Hash)]
+/// An event of the heartbeat producer.
+#[derive(Clone, Copy, Debug, PartialEq, Eq)]
 pub enum ProducerEvent {
-    /// It begins with the producer heartbeat time of 1017h in ms, 0 for none: when the device is
+    /// It begins with the producer heartbeat time of 1017h in ms; 0 disables it: when the device is
     /// built, at each reset, and at each accepted write of 1017h, also of the same time.
     Begin(u16),
     /// 1 ms elapsed.
@@ -45,7 +45,7 @@ impl HeartbeatProducer {
         HeartbeatProducer { period: 0, left: 0 }
     }
 
-    /// Takes note of an event, and answers whether a heartbeat is due at it.
+    /// Notes an event, and returns whether a heartbeat is due at it.
     pub fn note(&mut self, event: ProducerEvent) -> bool
         ensures due { (log : ProducerLog) → ProducerStands self.old log →
             result ≡ is_heartbeat_due event log }
@@ -70,7 +70,8 @@ impl HeartbeatProducer {
         }
     }
 
-    /// For at least so many ticks no heartbeat is due, if nothing else happens; `u32::MAX` if none ever is.
+    /// During this many ticks (1 ms each) no heartbeat is due, if nothing else happens: a lower
+    /// bound.
     pub fn idle(&self) -> u32
         ensures { (log : ProducerLog) (n : ℕ) → ProducerStands self.now log → n ≤ result →
             NoneDueFor n log }

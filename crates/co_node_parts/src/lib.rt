@@ -1,5 +1,6 @@
-//! The service parts of a CANopen device: NMT state, heartbeats, emergencies and the RPDO frames that
-//! wait for a SYNC. Each part is a type of its own, and its contracts speak of what happened to it.
+//! The service parts of a CANopen device: NMT state, heartbeats, emergencies, and the RPDO frames
+//! that wait for a SYNC. Each part is a type of its own, and its contracts are about the log of its
+//! events.
 #![tactic(auto)]
 
 mod emergencies;

@@ -14,10 +14,10 @@ ghost use Rattle.co_node_parts.specs.NmtStates.{
 use co_frame::{Heartbeat, NmtService};
 use std::marker::Model;
 
-/// An NMT state of a device that is initialised (CiA 301, 7.3.2.2).
-#[derive(Clone, Copy, Debug, PartialEq, Eq, Hash)]
+/// An NMT state of an initialised device (CiA 301, 7.3.2.2), and the services that run in it.
+#[derive(Clone, Copy, Debug, PartialEq, Eq)]
 pub enum NodeState {
-    /// SDO, SYNC, emergencies, NMT and heartbeats, but no PDO.
+    /// SDO, SYNC, EMCY, NMT and heartbeats, but no PDO.
     PreOperational,
     /// PDOs as well.
     Operational,
@@ -38,20 +38,20 @@ impl NodeState {
     }
 }
 
-/// What the device does when the heartbeat of another node is lost: object 1029h, sub-index 1
-/// (CiA 301, 7.5.2.32).
-#[derive(Clone, Copy, Debug, PartialEq, Eq, Hash)]
+/// The reaction of the device to the loss of another node's heartbeat: error behaviour object
+/// 1029h, sub-index 1, communication error (CiA 301, 7.5.2.32).
+#[derive(Clone, Copy, Debug, PartialEq, Eq)]
 pub enum LossReaction {
-    /// 0: operational becomes pre-operational, the other states stay.
+    /// 0: operational becomes pre-operational; the other states stay.
     LeaveOperational,
-    /// 1, and what is reserved or the manufacturer's: nothing.
+    /// 1, and every reserved or manufacturer-specific value: no change.
     NoChange,
     /// 2: it stops.
     EnterStopped,
 }
 
 impl LossReaction {
-    /// The reaction that a value of 1029h:01 asks for. Without that entry it is the one of 0.
+    /// The reaction for a value of 1029h:01. Without that entry the value is 0.
     pub fn from_code(code: u8) -> LossReaction
         ensures { result ≡ reaction_with code }
     {
@@ -63,8 +63,8 @@ impl LossReaction {
     }
 }
 
-/// What happened, as far as the NMT state is concerned.
-#[derive(Clone, Copy, Debug, PartialEq, Eq, Hash)]
+/// An event of the NMT state.
+#[derive(Clone, Copy, Debug, PartialEq, Eq)]
 pub enum StateEvent {
     /// An NMT command for this node or for all nodes.
     Command(NmtService),
@@ -75,7 +75,7 @@ pub enum StateEvent {
 }
 
 /// The states before and after an event.
-#[derive(Clone, Copy, Debug, PartialEq, Eq, Hash)]
+#[derive(Clone, Copy, Debug, PartialEq, Eq)]
 pub struct Transition {
     /// The state before it.
     pub before: NodeState,
@@ -99,7 +99,7 @@ impl Transition {
     }
 }
 
-/// The NMT state of the device (CiA 301, 7.3.2). A clause sees the state itself.
+/// The NMT state of the device (CiA 301, 7.3.2). Contracts see the state itself.
 #[derive(Drop)]
 pub struct NmtState {
     state: NodeState,
@@ -114,7 +114,7 @@ impl Model for NmtState {
 }
 
 impl NmtState {
-    /// The state of a device that was built: pre-operational.
+    /// The state of a device that has just been built: pre-operational.
     pub fn new() -> NmtState
         ensures { result ≡ state_after [] }
     {
@@ -130,7 +130,7 @@ impl NmtState {
         self.state
     }
 
-    /// Takes note of an event, and answers the states before and after it.
+    /// Notes an event, and returns the states before and after it.
     pub fn note(&mut self, event: StateEvent) -> Transition
         ensures transition { (log : StateLog) → self.old ≡ state_after log →
             result ≡ transition_by event log }

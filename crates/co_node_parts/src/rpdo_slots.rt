@@ -11,7 +11,7 @@ use std::boxed::BoxedSlice;
 use std::marker::Model;
 
 /// A frame of an RPDO.
-#[derive(Clone, Copy, Debug, PartialEq, Eq, Hash)]
+#[derive(Clone, Copy, Debug, PartialEq, Eq)]
 pub struct KeptFrame {
     /// k of 1400h + k.
     pub number: u16,
@@ -19,25 +19,25 @@ pub struct KeptFrame {
     pub frame: Frame,
 }
 
-/// What happened, as far as the frames that wait are concerned.
-#[derive(Clone, Copy, Debug, PartialEq, Eq, Hash)]
+/// An event of the frames that wait.
+#[derive(Clone, Copy, Debug, PartialEq, Eq)]
 pub enum SlotEvent {
-    /// A frame came for the RPDO with this number, which takes effect at a SYNC. It replaces the one
-    /// that waits.
+    /// A frame of the RPDO with this number was received, which takes effect at the next SYNC. It
+    /// replaces the one that waits.
     Keep(u16, Frame),
-    /// The COB-ID or the transmission type of the RPDO with this number was written: its frame is
-    /// dropped.
+    /// The COB-ID or the transmission type of the RPDO with this number was written: its waiting
+    /// frame is dropped.
     Empty(u16),
     /// The NMT state operational was left, or there was a reset: all frames are dropped.
     EmptyAll,
-    /// A SYNC came: all frames are taken.
+    /// A SYNC was received: all frames are taken.
     Sync,
     /// Any other event.
     Quiet,
 }
 
 #[tactic(auto, using(std::proofs::lemmas::List::set_past))]
-/// Puts a frame or none into a slot, if there is that slot.
+/// Puts a frame or `None` into a slot; nothing happens if there is no such slot.
 fn put(slots: &mut [Option<Frame>], k: u16, kept: Option<Frame>)
     ensures { slots.new ≡ slice_set slots.old k kept }
 {
@@ -59,8 +59,8 @@ fn empty_all(slots: &mut [Option<Frame>], used: usize)
     }
 }
 
-/// Puts all frames at the front of `taken`, in increasing number, and gives how many they are. None is in a slot from
-/// `used` on.
+/// Copies all frames to the front of `taken`, in increasing number, and returns their count. No
+/// slot from `used` on has a frame.
 fn collect(slots: &[Option<Frame>], used: usize, taken: &mut [KeptFrame]) -> usize
     requires numbers { length slots.now < 65536 }
     requires used { AreEmptyFrom used slots.now }
@@ -87,15 +87,16 @@ fn collect(slots: &[Option<Frame>], used: usize, taken: &mut [KeptFrame]) -> usi
     count
 }
 
-/// A slot for each RPDO, with the last frame that waits for a SYNC (CiA 301, 7.2.2.2 and 7.5.2.35). All memory is asked
-/// for by `new`: contracts see how many frames may be taken at once, and no call changes it.
+/// A slot for each RPDO, with the last frame that waits for a SYNC (CiA 301, 7.2.2.2 and 7.5.2.35).
+/// `new` allocates all memory: contracts see how many frames can be taken at once, and no call
+/// changes that.
 #[derive(Drop)]
 pub struct RpdoSlots {
     slots: BoxedSlice<Option<Frame>>,
-    // as many as there are slots; the first `count` are the frames that the last event took
+    // as long as `slots`; the first `count` are the frames that the last event took
     taken: BoxedSlice<KeptFrame>,
     count: usize,
-    // no slot from here on has a frame, so that a SYNC looks at few of them
+    // no slot from here on has a frame, so that a SYNC reads few of them
     used: usize,
 }
 
@@ -120,8 +121,8 @@ impl Model for RpdoSlots {
 }
 
 impl RpdoSlots {
-    /// Empty slots for the RPDOs with numbers below `count`; the others have none. `AllocError` where
-    /// there is no memory.
+    /// Empty slots for the RPDOs with numbers below `count`. `AllocError` if they can't be
+    /// allocated.
     pub fn new(alloc: Global, count: u16) -> Result<RpdoSlots, AllocError>
         ensures { IfOk result (λ slots. SlotsStand count slots []) }
     {
@@ -139,15 +140,15 @@ impl RpdoSlots {
         })
     }
 
-    /// The frames that the last event took: at a SYNC those that waited, in increasing number, else
-    /// none.
+    /// The frames that the last event took: a SYNC takes those that waited, in increasing number;
+    /// any other event none.
     pub fn taken(&self) -> &[KeptFrame]
         ensures { result.now ≡ self.now.taken }
     {
         &self.taken[..self.count]
     }
 
-    /// Takes note of an event. What it takes is in `taken` until the next one.
+    /// Notes an event. The frames that it takes are in `taken` until the next event.
     #[inline(always)]
     pub fn note(&mut self, event: SlotEvent)
         ensures taken { (count : ℕ) (log : SlotLog) → SlotsStand count self.old log →

@@ -1,4 +1,4 @@
--- The device of the worked chain, what comes to it, and what it sends.
+-- The device of the worked chain, its inputs and its frames.
 use Rattle.std.specs.Prelude.{ℕ, List, [], ◌∷◌, None, false, pos}
 use Rattle.co_value.specs.declared.data_type.DataType.{DataType}
 use Rattle.co_value.specs.declared.data_type.DataType.TheVariants.{Unsigned8, Unsigned16, Unsigned32}
@@ -12,7 +12,7 @@ use Rattle.co_node_model.specs.Inputs.{Framed, Inputs}
 use Rattle.co_node_model.specs.Moments.{Constants}
 use Rattle.co_node.specs.Nodes.{built_constants}
 
--- an entry, and the line of the sheet that its section begins with
+-- an entry, with the line of the sheet at which its section begins
 abbrev row : ℕ → ℕ → DataType → Access → Default → ℕ → Row
 row index sub t access default line = record {
   key = record { index = index; sub = sub };
@@ -26,7 +26,7 @@ row index sub t access default line = record {
   line = line;
 }
 
--- what the sheet, node-ID 5 and the limits say
+-- the plan by the sheet, node-ID 5 and the limits
 abbrev pub plan : Plan
 plan = record {
   node = 5;
@@ -44,15 +44,15 @@ plan = record {
 unfoldable pub constants : Constants
 constants = built_constants plan 1000
 
--- NMT start (CiA 301, 7.3.2.2.1.2)
+-- NMT service start remote node (CiA 301, 7.2.8.3.1)
 abbrev pub start : FrameContent
 start = record { id = 0; bytes = 1 ∷ 5 ∷ [] }
 
--- the request that initiates the upload of 1000:00 (CiA 301, 7.2.4.3.5)
+-- the request that initiates the upload of 1000:00 (CiA 301, 7.2.4.3.6)
 abbrev pub request : FrameContent
 request = record { id = 0x605; bytes = 0x40 ∷ 0 ∷ 0x10 ∷ 0 ∷ 0 ∷ 0 ∷ 0 ∷ 0 ∷ [] }
 
--- both, the newest first
+-- both, newest first
 abbrev pub asked : Inputs
 asked = Framed request ∷ Framed start ∷ []
 
@@ -60,6 +60,6 @@ asked = Framed request ∷ Framed start ∷ []
 abbrev pub responses : List FrameContent
 responses = record { id = 0x585; bytes = 0x43 ∷ 0 ∷ 0x10 ∷ 0 ∷ 0x91 ∷ 1 ∷ 0 ∷ 0 ∷ [] } ∷ []
 
--- operational
+-- the heartbeat in operational
 abbrev pub heartbeats : List FrameContent
 heartbeats = record { id = 0x705; bytes = 5 ∷ [] } ∷ []

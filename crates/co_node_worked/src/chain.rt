@@ -1,4 +1,4 @@
-//! The device of a data sheet, and what it sends: a function for each call of the chain. Of these only `worked` has
+//! The device of a data sheet and its frames: a function for each step, of which only `worked` has
 //! clauses without a premise.
 
 ghost use Rattle.std.specs.Prelude.{◌≡◌, [], ◌∷◌, IfSome};
@@ -11,7 +11,7 @@ use co_node::{AppEvent, Config, Input, Node, Record};
 use co_sheet::read;
 use std::alloc::Global;
 
-/// A device that sends a heartbeat each 2 ms.
+/// A device that sends a heartbeat every 2 ms.
 const SHEET: &[u8] = b"\
 [MandatoryObjects]
 SupportedObjects=3
@@ -64,7 +64,7 @@ fn built(alloc: Global) -> Option<Node>
     Some(node)
 }
 
-// What the device sends when it is started and then asked for its device type.
+// Starts the device and reads its device type; the frames that it sends.
 fn respond(node: &mut Node) -> Option<Outbox>
     ensures responses { Stands constants node.old [] →
         IfSome result (λ sent. sent.items ≡ responses) }
@@ -77,7 +77,7 @@ fn respond(node: &mut Node) -> Option<Outbox>
     let Ok(request) = Frame::new(0x605, &[0x40, 0, 0x10, 0, 0, 0, 0, 0]) else {
         return None;
     };
-    // the checker reads the type of an input's events off this name
+    // this name gives the checker the type of an input's events
     let _event: Option<AppEvent<'_>> = None;
     let mut sent = Outbox::new();
     node.step(Input::Frame(start), &mut sent);
@@ -85,7 +85,7 @@ fn respond(node: &mut Node) -> Option<Outbox>
     Some(sent)
 }
 
-// What it sends in the 2 ms after that.
+// Lets 2 ms elapse after that; the frames that the device sends.
 fn elapse(alloc: Global, node: &mut Node) -> Option<Record>
     ensures heartbeats { Stands constants node.old asked →
         IfSome result (λ later. later.frames ≡ heartbeats) }
@@ -97,17 +97,18 @@ fn elapse(alloc: Global, node: &mut Node) -> Option<Record>
     Some(later)
 }
 
-/// What the device sends.
+/// The frames that the device sends.
 #[derive(Drop)]
 pub struct Sent {
-    /// To the request for its device type.
+    /// The response to the request for its device type.
     pub response: Outbox,
-    /// At two ticks after that.
+    /// The frames of the two ticks after that.
     pub later: Record,
 }
 
-/// Builds the device of the sheet at node-ID 5, starts it, reads its device type (1000:00, 191h), and lets 2 ms elapse.
-/// `None` only where there is no memory.
+/// Builds the device of the sheet at node-ID 5, starts it, reads its device type (1000:00, 191h) by
+/// SDO upload, and lets 2 ms elapse. Returns the frames that it sends; `None` if one of the calls
+/// fails.
 pub fn worked(alloc: Global) -> Option<Sent>
     ensures response { IfSome result (λ sent. sent.response.items ≡ record {
       id = 0x585;

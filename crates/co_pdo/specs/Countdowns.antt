@@ -1,4 +1,4 @@
--- Which countdowns a TPDO has after its log.
+-- The countdowns of a TPDO after its log.
 use Rattle.std.specs.Prelude.{◌≡◌, ℕ, ◌-◌, ◌%◌, true, List, [], ◌∷◌, Option, Some, None}
 use Rattle.co_frame.specs.InhibitTimes.{in_ms}
 use Rattle.co_profile.specs.TransmissionTypes.{is_synchronous}
@@ -7,22 +7,22 @@ use Rattle.co_pdo.specs.declared.tpdo.Tpdo.{Tpdo}
 use Rattle.co_pdo.specs.Log.{Log, started_with, timer_of}
 use Rattle.co_pdo.specs.Due.{syncs, has_begun, counted_syncs, event_since_sync, timer_ticks, event_waits, sendings}
 
--- what is left of a time that began at the last sending; nothing where there was none
+-- what is left of a time that began at the last sending; 0 if there was none
 abbrev pub left_of : ℕ → List ℕ → ℕ
 left_of time [] = 0
 left_of time (n ∷ older) = time - n
 
--- the transmission type of a start, 0 where there was none
+-- the transmission type at a start, 0 if there was none
 abbrev pub type_of : Option Settings → ℕ
 type_of None = 0
 type_of (Some s) = s.transmission_type.0
 
--- the inhibit time of a start in ms, 0 where there was none
+-- the inhibit time at a start in ms, 0 if there was none
 abbrev pub inhibit_of : Option Settings → ℕ
 inhibit_of None = 0
 inhibit_of (Some s) = in_ms s.inhibit_time
 
--- SYNCs count at transmission types 0 to 240; above, what is counted of them is of no use
+-- SYNCs count at transmission types 0 to 240; above, their count is of no use
 abbrev pub CountsSyncs : Tpdo → Type 0
 CountsSyncs t = is_synchronous t.transmission_type.0 ≡ true
 
@@ -47,8 +47,9 @@ IsAsAt (Some start) s = (start.transmission_type.0 ≡ s.transmission_type.0) ×
 abbrev pub IsAsStarted : Settings → Log → Type 0
 IsAsStarted s log = s.is_active ≡ true → IsAsAt (started_with log) s
 
--- the last starts of this log took what the dictionary says now: if the TPDO is active now, its last whole start had this
--- transmission type and inhibit time, and the last start, whole or of the timer, had this event timer
+-- the last starts of this log had these settings: if the TPDO is active, its last whole start had
+-- this transmission type and inhibit time; and the last start, whole or of the timer, had this
+-- event timer
 pub record IsCurrent (s : Settings) (log : Log) : Type 0 where
   pub started : IsAsStarted s log
   pub timer : s.event_timer ≡ timer_of log

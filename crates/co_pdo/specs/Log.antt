@@ -1,13 +1,13 @@
--- What happened to one TPDO, the newest first.
+-- The log of one TPDO, newest first.
 use Rattle.std.specs.Prelude.{ℕ, Bool, List, [], ◌∷◌, Option, Some, None}
 use Rattle.co_pdo.specs.declared.settings.Settings.{Settings}
 use Rattle.co_pdo.specs.declared.tpdo.Occasion.{Occasion}
 use Rattle.co_pdo.specs.declared.tpdo.Part.{Part}
 use Rattle.co_pdo.specs.declared.tpdo.Part.TheVariants.{Whole, Timer}
 
--- one thing that happened, with what the dictionary said of the TPDO then
+-- an entry of the log, with the settings of the TPDO in the dictionary then
 pub data LogEntry : Type 0 where
-  -- it was started, the whole TPDO or its event timer alone
+  -- the whole TPDO, or its event timer alone, was started
   Started : Part → Settings → LogEntry
   -- a SYNC, an event or a tick came, and whether the TPDO was sent then
   Happened : Occasion → Settings → Bool → LogEntry
@@ -16,7 +16,7 @@ pub data LogEntry : Type 0 where
 abbrev pub Log : Type 0
 Log = List LogEntry
 
--- what the dictionary said at the last whole start
+-- the settings at the last whole start
 abbrev pub started_with : Log → Option Settings
 started_with [] = None
 started_with (Started Whole s ∷ log) = Some s

@@ -1,5 +1,5 @@
--- What an object dictionary says of one PDO, of either side: its communication and mapping parameter
--- (CiA 301, 7.5.2.35 to 7.5.2.38).
+-- The communication and the mapping parameter of one PDO of either side (CiA 301, 7.5.2.35 to
+-- 7.5.2.38).
 use Rattle.std.specs.Prelude.{ℕ, ◌==◌, ◌&&◌, Bool, not}
 use Rattle.co_value.specs.declared.key.Key.{Key}
 use Rattle.co_profile.specs.TransmissionTypes.{is_supported_type}
@@ -12,11 +12,12 @@ use Rattle.co_pdo.specs.Mappings.{communication_of, count_of}
 abbrev pub communication_key : Side → ℕ → ℕ → Key
 communication_key side k sub = record { index = communication_of side k; sub = sub }
 
--- the COB-ID word of PDO k, 0 where there is none
+-- the COB-ID word of PDO k, 0 if there is none
 abbrev pub cob_id_of : Side → Contents → ℕ → ℕ
 cob_id_of side contents k = number_at contents (communication_key side k 1)
 
--- PDO k is active: its COB-ID word is valid, something is mapped, and its transmission type is supported
+-- PDO k is active: its COB-ID word is valid, something is mapped, and its transmission type is
+-- supported
 abbrev pub is_pdo_active : Side → Contents → ℕ → Bool
 is_pdo_active side contents k =
     is_valid (cob_id_of side contents k)

@@ -1,4 +1,4 @@
--- What a schedule was asked and answered, the newest first, and which TPDOs are due after that.
+-- The calls of a schedule with their results, newest first, and which TPDOs are due after them.
 use Rattle.std.specs.Prelude.{◌≡◌, ℕ, zero, suc, ◌<◌, ◌≤◌, ◌==◌, ◌&&◌, Bool, Option, List, [], ◌∷◌, ◌++◌, length, map, if◌then◌else◌}
 use Rattle.std.specs.List.{filter, list_any, slice_index_or}
 use Rattle.co_dict.specs.Rows.{Contents, number_at}
@@ -39,11 +39,11 @@ History = List Moment
 abbrev pub sync_with : Option ℕ → Contents → Occasion
 sync_with counter contents = Sync (number_at contents counter_overflow_key) counter
 
--- a number is one of those
+-- a number is among these
 abbrev pub is_among : ℕ → List ℕ → Bool
 is_among k numbers = list_any (λ j. j == k) numbers
 
--- what one call is to TPDO k
+-- the part of one call in the log of TPDO k
 abbrev pub part_of : ℕ → Call → Contents → List ℕ → Log
 part_of k (Start j part) contents sent = if j == k then Started part (settings_of contents k) ∷ [] else []
 part_of k StartAll contents sent = Started Whole (settings_of contents k) ∷ []
@@ -57,23 +57,27 @@ abbrev pub log_of : ℕ → History → Log
 log_of k [] = []
 log_of k (m ∷ history) = part_of k m.call m.contents m.sent ++ log_of k history
 
--- a history with one more call: a start of TPDO k or of all, a SYNC with a counter or none, an event for TPDO k that was
--- sent or not, one for each of some, or a tick
+-- a history with one more call: a start of TPDO k
 abbrev pub with_start : ℕ → Part → Contents → History → History
 with_start k part contents history = record { call = Start k part; contents = contents; sent = [] } ∷ history
 
+-- a history with one more call: a start of all TPDOs
 abbrev pub with_all_started : Contents → History → History
 with_all_started contents history = record { call = StartAll; contents = contents; sent = [] } ∷ history
 
+-- a history with one more call: a SYNC, with or without a counter
 abbrev pub with_sync : Option ℕ → Contents → List ℕ → History → History
 with_sync counter contents sent history = record { call = OnSync counter; contents = contents; sent = sent } ∷ history
 
+-- a history with one more call: an event of TPDO k, which was sent or not
 abbrev pub with_event : ℕ → Contents → Bool → History → History
 with_event k contents is_sent history = record { call = OnEvent k; contents = contents; sent = if is_sent then k ∷ [] else [] } ∷ history
 
+-- a history with one more call: an event of each of these TPDOs
 abbrev pub with_events : List ℕ → Contents → List ℕ → History → History
 with_events numbers contents sent history = record { call = OnEvents numbers; contents = contents; sent = sent } ∷ history
 
+-- a history with one more call: a tick
 abbrev pub with_tick : Contents → List ℕ → History → History
 with_tick contents sent history = record { call = OnTick; contents = contents; sent = sent } ∷ history
 
@@ -89,12 +93,12 @@ all_due contents history occasion = filter (λ k. is_tpdo_due contents history o
 abbrev pub all_due_among : List ℕ → Contents → History → List ℕ
 all_due_among numbers contents history = filter (λ k. is_among k numbers && is_tpdo_due contents history Event k) tpdo_numbers
 
--- at none of so many ticks one after another is a TPDO due, where the dictionary has these contents meanwhile
+-- no TPDO is due at any of the next `n` ticks, if the dictionary keeps these contents
 abbrev pub NoTpdoDueFor : Contents → ℕ → History → Type 0
 NoTpdoDueFor contents zero history = Unit {0}
 NoTpdoDueFor contents (suc n) history = (all_due contents history Tick ≡ []) × NoTpdoDueFor contents n (with_tick contents [] history)
 
--- at none of them is one of the first TPDOs due
+-- none of the first `count` TPDOs is due at any of the next `n` ticks
 abbrev pub AreNotDueFor : Contents → ℕ → ℕ → List Tpdo → (ℕ → Log) → Type 0
 AreNotDueFor contents n count tpdos logs = (i : ℕ) (e : Tpdo) → i < count →
     NotDueFor (settings_of contents (slice_index_or tpdos i e).number) n (logs (slice_index_or tpdos i e).number)
@@ -104,7 +108,7 @@ pub record IsTable (tpdos : List Tpdo) : Type 0 where
   pub few : length tpdos ≤ 512
   pub small : (i : ℕ) (d : Tpdo) → i < length tpdos → (slice_index_or tpdos i d).number < 512
 
--- the TPDOs of a schedule, and of each where the dictionary has what it says of it
+-- the TPDOs of a schedule, and the places of each
 pub record Timetable : Type 0 where
   pub tpdos : List Tpdo
   pub places : List Places
@@ -122,7 +126,7 @@ ArePlaces d numbers places = places ≡ map (places_of d) numbers
 abbrev pub AllAfter : List Tpdo → (ℕ → Log) → Type 0
 AllAfter tpdos logs = (i : ℕ) (e : Tpdo) → i < length tpdos → IsAfter (slice_index_or tpdos i e) (logs (slice_index_or tpdos i e).number)
 
--- the last starts of each log took what the dictionary says now
+-- the last starts of each log had the settings of these contents
 abbrev pub AllCurrentAfter : Contents → (ℕ → Log) → Type 0
 AllCurrentAfter contents logs = (k : ℕ) → k < 512 → IsCurrent (settings_of contents k) (logs k)
 
@@ -143,18 +147,19 @@ with_event_if is_there s log = if is_there then Happened Event s (is_due s log E
 abbrev pub with_events_among : List ℕ → Contents → (ℕ → Log) → ℕ → Log
 with_events_among numbers contents logs = λ k. with_event_if (is_among k numbers) (settings_of contents k) (logs k)
 
--- a schedule over a dictionary is one after this history: it has the TPDOs of the dictionary, each with its places there
--- and the countdowns after its log
+-- a schedule is in the state after this history: it has the TPDOs of the dictionary, each with its
+-- places and the countdowns after its log
 pub record IsScheduleAfter (d : Description) (schedule : Timetable) (history : History) : Type 0 where
   pub numbers : map (λ t. t.number) schedule.tpdos ≡ tpdos_of d.rows
   pub places : ArePlaces d (tpdos_of d.rows) schedule.places
   pub countdowns : AllAfter schedule.tpdos (λ k. log_of k history)
 
--- the last starts of TPDO k took what the dictionary says now
+-- the last starts of TPDO k had the settings of these contents
 abbrev pub IsCurrentOn : Contents → ℕ → History → Type 0
 IsCurrentOn contents k history = IsCurrent (settings_of contents k) (log_of k history)
 
--- what the three calls `on_sync`, `on_event` and `on_tick` may find in the dictionary after this history: each TPDO that
--- is active had a whole start with its transmission type and inhibit time, and its event timer was started with its time
+-- the contents that `on_sync`, `on_event`, `on_events` and `on_tick` need after this history: each
+-- active TPDO had a whole start with its transmission type and inhibit time, and each event timer
+-- was started with its time
 abbrev pub AllCurrent : Contents → History → Type 0
 AllCurrent contents history = AllCurrentAfter contents (λ k. log_of k history)

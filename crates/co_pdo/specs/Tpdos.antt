@@ -1,4 +1,4 @@
--- What an object dictionary says of one TPDO: 1800h + k and 1A00h + k (CiA 301, 7.5.2.37 and 7.5.2.38).
+-- The parameters of one TPDO: 1800h + k and 1A00h + k (CiA 301, 7.5.2.37 and 7.5.2.38).
 use Rattle.std.specs.Prelude.{ℕ, Bool, is_some, List}
 use Rattle.std.specs.List.{filter, range_with_len}
 use Rattle.co_value.specs.declared.key.Key.{Key}
@@ -24,8 +24,8 @@ tpdo_count_key k = record { index = nth tpdo_mapping k; sub = 0 }
 abbrev pub is_active : Contents → ℕ → Bool
 is_active contents k = is_pdo_active Tpdo contents k
 
--- the transmission type, the inhibit time in 100 µs, the event timer in ms and the SYNC start value of TPDO k; 0 where
--- there is no such entry
+-- the transmission type, the inhibit time in 100 µs, the event timer in ms and the SYNC start value
+-- of TPDO k; 0 for a missing entry
 abbrev pub settings_of : Contents → ℕ → Settings
 settings_of contents k = record {
   is_active = is_active contents k;
@@ -35,7 +35,7 @@ settings_of contents k = record {
   start_value = number_at contents (tpdo_key k 6);
 }
 
--- where a dictionary has what it says of TPDO k
+-- the places of the parameters of TPDO k in a dictionary
 abbrev pub places_of : Description → ℕ → Places
 places_of d k = record {
   cob_id = place_of d (tpdo_key k 1);
@@ -47,7 +47,7 @@ places_of d k = record {
   counter_overflow = place_of d counter_overflow_key;
 }
 
--- the dictionary has TPDO k: there is its COB-ID word
+-- the dictionary has TPDO k: its COB-ID word exists
 abbrev pub has_tpdo : Rows → ℕ → Bool
 has_tpdo rows k = is_some (rows (tpdo_key k 1))
 

@@ -1,4 +1,4 @@
-//! The data of a PDO.
+//! The data of a PDO: its image of the mapped entries, and the writing of a received one.
 
 ghost use Rattle.std.specs.Prelude.{◌≡◌, ◌≤◌, ◌+◌, ◌++◌, ℕ, true, List, length, map, take};
 ghost use Rattle.std.specs.List.{concat};
@@ -21,18 +21,18 @@ use crate::mapping::{Mapped, Mapping};
 use arrayvec::ArrayVec;
 use co_dict::{ObjectStore, store_laws};
 
-/// What is wrong with the data of an RPDO.
-#[derive(Clone, Copy, Debug, PartialEq, Eq, Hash)]
+/// A fault of the data of an RPDO (CiA 301, 7.2.2 and 7.5.2.36).
+#[derive(Clone, Copy, Debug, PartialEq, Eq)]
 pub enum PdoFault {
-    /// Fewer bytes than are mapped: nothing is written.
+    /// There are fewer bytes than are mapped: nothing is written.
     Short,
     /// A value is outside the limits of its entry: nothing is written.
     OutOfLimits,
-    /// More bytes than are mapped: the first ones are written.
+    /// There are more bytes than are mapped: the first ones are written.
     Long,
 }
 
-/// Appends the bytes of what is mapped.
+/// Appends the bytes of a mapped object.
 fn append<S: ObjectStore>(store: &S, mapped: Mapped, image: &mut ArrayVec<u8, 8>)
     requires there { is_there (S.description store.now).rows mapped ≡ true }
     requires room { length image.old.items + width_in mapped ≤ 8 }
@@ -48,7 +48,8 @@ fn append<S: ObjectStore>(store: &S, mapped: Mapped, image: &mut ArrayVec<u8, 8>
     let _ = image.try_extend_from_slice(bytes);
 }
 
-/// The data of a PDO: the bytes of what it maps, in the mapping's order; those of a dummy entry are 0.
+/// The data of a PDO, at most 8 bytes: the values of the mapped objects, in the order of the
+/// mapping. The bytes of a dummy entry are 0 (CiA 301, 7.2.2).
 pub fn image<S: ObjectStore>(store: &S, mapping: &Mapping) -> ArrayVec<u8, 8>
     requires { all_there (S.description store.now).rows mapping.now ≡ true }
     ensures image { result.items ≡ image_of (S.contents store.now) mapping.now }
@@ -58,7 +59,7 @@ pub fn image<S: ObjectStore>(store: &S, mapping: &Mapping) -> ArrayVec<u8, 8>
     joined(store, mapping.entries())
 }
 
-/// The bytes of what is mapped, joined.
+/// The bytes of the mapped objects, joined.
 fn joined<S: ObjectStore>(store: &S, entries: &[Mapped]) -> ArrayVec<u8, 8>
     requires there { all_there (S.description store.now).rows entries.now ≡ true }
     requires small { total_of entries.now ≤ 8 }
@@ -123,15 +124,17 @@ fn write_parts<S: ObjectStore>(store: &mut S, entries: &[Mapped], bytes: &[u8])
     }
 }
 
-/// The parts of data, joined, are as many of their first bytes as are mapped. A law, which does nothing when called.
+/// The parts of data, joined, are their first bytes, as many as are mapped. This is a law: a call
+/// of it changes nothing.
 pub fn parts_joined()
     ensures { (mapping : List Mapped) (bytes : List ℕ) →
         concat (parts_of mapping bytes) ≡ take (total_of mapping) bytes }
 {}
 
-/// Takes the data of an RPDO: writes each part into the entry that it is mapped to, in the mapping's order, and passes
-/// over those of dummy entries. `Short` where there are fewer bytes than are mapped and `OutOfLimits` where a value is
-/// outside the limits of its entry: nothing is written then. `Long` where there are more: the first ones are written.
+/// Writes the data of an RPDO: each part into its entry, in the order of the mapping; the bytes of
+/// dummy entries are skipped (CiA 301, 7.2.2). `Short` if there are fewer bytes than are mapped,
+/// and `OutOfLimits` if a value is outside the limits of its entry: nothing is written then. `Long`
+/// if there are more bytes: the first ones are written.
 pub fn apply<S: ObjectStore>(store: &mut S, mapping: &Mapping, bytes: &[u8]) -> Result<(), PdoFault>
     requires { all_there (S.description store.old).rows mapping.now ≡ true }
     ensures fault { answered result ≡

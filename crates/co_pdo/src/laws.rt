@@ -1,4 +1,4 @@
-//! Laws of PDOs. Each is the contract of a function that does nothing when it is called.
+//! Laws of PDOs: a call of one changes nothing.
 
 ghost use Rattle.std.specs.Prelude.{◌≡◌, ◌<◌, ℕ, List, true};
 ghost use Rattle.co_value.specs.declared.key.Key.{Key};
@@ -12,8 +12,8 @@ ghost use Rattle.co_pdo.specs.Tpdos.{tpdo_key, tpdo_count_key, settings_of};
 
 use co_dict::ObjectStore;
 
-/// What the dictionary says of TPDO k depends on six of its numbers: sub-indices 1, 2, 3, 5 and 6 of its communication
-/// parameter, and how many objects are mapped.
+/// The settings of TPDO k depend on six numbers of the dictionary: sub-indices 1, 2, 3, 5 and 6 of
+/// its communication parameter, and the number of mapped objects.
 pub fn settings_by_numbers()
     ensures { (c e : Contents) (k : ℕ) →
         number_at c (tpdo_key k 1) ≡ number_at e (tpdo_key k 1) →
@@ -25,7 +25,7 @@ pub fn settings_by_numbers()
         settings_of c k ≡ settings_of e k }
 {}
 
-/// A dictionary has each PDO that is active.
+/// Every active PDO exists in the dictionary.
 pub fn active_is_there<S: ObjectStore>(store: &S)
     ensures { (side : Side) (k : ℕ) → is_pdo_active side (S.contents store.now) k ≡ true →
         has_pdo side (S.description store.now).rows k ≡ true }

@@ -1,4 +1,5 @@
-//! PDOs of a CANopen device: which TPDOs are due, and the bytes of mapped entries.
+//! PDOs of a CANopen device: when its TPDOs are due, and the bytes of the mapped entries (CiA 301,
+//! 7.2.2).
 #![tactic(auto)]
 
 mod data;

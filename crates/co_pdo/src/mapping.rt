@@ -1,4 +1,4 @@
-//! What is mapped into a PDO.
+//! The objects mapped into a PDO.
 
 ghost use Rattle.std.specs.Prelude.{◌≡◌, ◌≤◌, true, None, IfSome};
 ghost use Rattle.co_dict.specs.MappingCounts.{is_mapping_index, count_refusal};
@@ -13,12 +13,12 @@ use co_dict::{
 use co_value::Key;
 use std::marker::Model;
 
-/// What a mapping word of a PDO maps, with its width in bytes, 1 to 8.
-#[derive(Clone, Copy, Debug, PartialEq, Eq, Hash)]
+/// An object mapped into a PDO, with its width in bytes, 1 to 8.
+#[derive(Clone, Copy, Debug, PartialEq, Eq)]
 pub enum Mapped {
     /// An entry.
     Entry(Key, u8),
-    /// A dummy entry of an RPDO, whose bytes are passed over (CiA 306, dummy usage).
+    /// A dummy entry of an RPDO, whose bytes are skipped (CiA 306, dummy usage).
     Dummy(u8),
 }
 
@@ -32,7 +32,7 @@ impl Mapped {
         }
     }
 
-    /// What a word maps on a side.
+    /// The object that a mapping word maps on a side, if it is valid there.
     fn by_word<S: ObjectStore>(store: &S, side: Side, word: MappingWord) -> Option<Mapped>
         ensures value { result ≡ mapped_by side (S.description store.now) word.0 }
         ensures width { IfSome result (λ mapped. 1 ≤ width_in mapped) }
@@ -45,7 +45,7 @@ impl Mapped {
     }
 }
 
-/// The blank element of a list of fixed room: a dummy entry of no bytes.
+/// The blank element of a list of fixed capacity: a dummy entry of no bytes.
 impl Default for Mapped {
     ghost use Rattle.std.specs.Prelude.{◌≡◌};
     ghost use Rattle.co_pdo.specs.declared.mapping.Mapped.TheVariants.{Dummy};
@@ -57,7 +57,8 @@ impl Default for Mapped {
     }
 }
 
-/// What a PDO maps, in the order of its data: at most 8 bytes in all (CiA 301, 7.5.2.36, 7.5.2.38).
+/// The objects mapped into a PDO, in the order of its data: at most 8 bytes in all (CiA 301,
+/// 7.5.2.36 and 7.5.2.38).
 #[derive(Drop)]
 pub struct Mapping {
     entries: ArrayVec<Mapped, 8>,
@@ -75,7 +76,8 @@ impl Model for Mapping {
     ghost invariant = { λ m. total_of m.entries.items ≤ 8 };
 }
 
-/// What the first words of a mapping parameter map, where it may count so many.
+/// The objects of the first `count` words of a mapping parameter, if its own rule permits that
+/// count.
 fn read_words<S: ObjectStore>(store: &S, side: Side, index: u16, count: u8) -> ArrayVec<Mapped, 8>
     requires index { is_mapping_index side index ≡ true }
     requires count { count_refusal side (S.description store.now) (S.contents store.now) index count
@@ -96,8 +98,9 @@ fn read_words<S: ObjectStore>(store: &S, side: Side, index: u16, count: u8) -> A
 }
 
 impl Mapping {
-    /// What PDO k of a side maps: what its counted words map. Nothing where there is no such PDO, where its
-    /// count is 0, and where the count's own rule would refuse it on a PDO that is not valid.
+    /// The mapping of PDO k of a side: the objects of its counted words. It is empty if there is no
+    /// such PDO, if its count is 0, and if the rule of that count would refuse it on a PDO that is
+    /// not valid.
     pub fn read<S: ObjectStore>(store: &S, side: Side, k: PdoNumber) -> Mapping
         ensures mapping { result ≡
             mapping_of side (S.description store.now) (S.contents store.now) k }
@@ -113,7 +116,7 @@ impl Mapping {
         Mapping { entries }
     }
 
-    /// What is mapped, in the order of the data: at most 8, since each is at least 1 byte wide.
+    /// The mapped objects, in the order of the data: at most 8, since each is at least 1 byte wide.
     pub fn entries(&self) -> &[Mapped]
         ensures entries { result.now ≡ self.now }
         ensures small { total_of self.now ≤ 8 }

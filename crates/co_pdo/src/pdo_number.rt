@@ -4,9 +4,9 @@ ghost use Rattle.std.specs.Prelude.{◌≡◌, ◌<◌, ◌≤◌, MatchOption};
 
 use std::marker::Model;
 
-/// The number of a PDO of either side, 0 to 511: k of 1400h + k and of 1800h + k (CiA 301, 7.5.2.35 and 7.5.2.37).
-/// Contracts see the number. The default is 0.
-#[derive(Clone, Copy, Debug, PartialEq, Eq, Hash)]
+/// The number of a PDO of either side, 0 to 511: k of 1400h + k and of 1800h + k (CiA 301, 7.5.2.35
+/// and 7.5.2.37). Contracts see the number. The default is 0.
+#[derive(Clone, Copy, Debug, PartialEq, Eq)]
 pub struct PdoNumber {
     number: u16,
 }
@@ -24,7 +24,7 @@ impl Model for PdoNumber {
 }
 
 impl PdoNumber {
-    /// The PDO number that a number is; `None` from 512 on, where there is no PDO.
+    /// Makes a PDO number of a number below 512; `None` from 512 on.
     pub fn new(number: u16) -> Option<PdoNumber>
         ensures { MatchOption result (512 ≤ number) (λ k. (k ≡ number) × (number < 512)) }
     {
@@ -35,7 +35,7 @@ impl PdoNumber {
         }
     }
 
-    /// The PDO number that a number below 512 is.
+    /// Makes a PDO number of a number below 512.
     pub fn of(number: u16) -> PdoNumber
         requires { number < 512 }
         ensures { result ≡ number }

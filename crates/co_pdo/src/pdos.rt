@@ -1,4 +1,4 @@
-//! The communication and mapping parameter of a PDO.
+//! The communication and the mapping parameter of a PDO.
 
 ghost use Rattle.std.specs.Prelude.{◌≡◌, Some, true};
 ghost use Rattle.co_value.specs.declared.data_type.DataType.TheVariants.{Unsigned8, Unsigned32};
@@ -43,7 +43,7 @@ pub fn has_pdo<S: ObjectStore>(store: &S, side: Side, k: PdoNumber) -> bool
     store.row(Key { index, sub: 1 }).is_some()
 }
 
-/// The COB-ID word of PDO k of a side; 0 where there is no such PDO (CiA 301, 7.5.2.35 and 7.5.2.37).
+/// The COB-ID word of PDO k of a side; 0 if there is no such PDO (CiA 301, 7.5.2.35 and 7.5.2.37).
 pub fn cob_id<S: ObjectStore>(store: &S, side: Side, k: PdoNumber) -> CobId
     ensures { result.0 ≡ cob_id_of side (S.contents store.now) k }
 {
@@ -51,8 +51,8 @@ pub fn cob_id<S: ObjectStore>(store: &S, side: Side, k: PdoNumber) -> CobId
     CobId(number_u32(store, Key { index, sub: 1 }))
 }
 
-/// Whether PDO k of a side is active: its COB-ID word is valid, something is mapped, and its transmission
-/// type is 0 to 240, 254 or 255 (CiA 301, 7.5.2.35 to 7.5.2.38).
+/// Whether PDO k of a side is active: its COB-ID word is valid, something is mapped, and its
+/// transmission type is 0 to 240, 254 or 255 (CiA 301, 7.5.2.35 to 7.5.2.38).
 pub fn is_active<S: ObjectStore>(store: &S, side: Side, k: PdoNumber) -> bool
     ensures { result ≡ is_pdo_active side (S.contents store.now) k }
 {

@@ -1,4 +1,4 @@
-//! Where the dictionary has what it says of one TPDO.
+//! The places of the parameters of one TPDO in the dictionary.
 
 ghost use Rattle.std.specs.Prelude.{◌≡◌, ◌<◌, ℕ, Some, option_map, IfSome, length};
 ghost use Rattle.co_value.specs.declared.key.Key.{Key};
@@ -20,8 +20,8 @@ use co_dict::{CobId, ObjectStore, place_laws, store_laws};
 use co_profile::{IndexRange, TransmissionType, keys};
 use co_value::{Key, read_u8, read_u16, read_u32};
 
-/// The places of the entries that say when a TPDO is due, `None` where there is no such entry. No call of a dictionary
-/// changes a place, so they are looked up once.
+/// The places of the entries that decide when a TPDO is due; `None` for a missing entry. No call of
+/// a dictionary changes a place, so they are looked up once.
 #[derive(Clone, Copy, Debug)]
 pub struct Places {
     /// Of 1800h + k, sub-index 1.
@@ -60,7 +60,7 @@ fn bytes_at<S: ObjectStore>(store: &S, place: Option<u32>) -> Option<&[u8]>
     store.bytes_at(place?)
 }
 
-/// The bytes at a place, if there is one of so many bytes.
+/// The bytes at a place, if they are `width` bytes.
 fn bytes_of_width<S: ObjectStore>(store: &S, place: Option<u32>, width: usize) -> Option<&[u8]>
     ensures bytes { (key : Key) (t : DataType) → fixed_type_of key ≡ Some t →
         width_of t ≡ Some width → place ≡ place_of (S.description store.now) key →
@@ -76,7 +76,7 @@ fn bytes_of_width<S: ObjectStore>(store: &S, place: Option<u32>, width: usize) -
     }
 }
 
-/// The number of one byte at a place, 0 where there is none.
+/// The UNSIGNED8 at a place, 0 if there is none.
 fn number_u8<S: ObjectStore>(store: &S, place: Option<u32>) -> u8
     ensures { (key : Key) → fixed_type_of key ≡ Some Unsigned8 →
         place ≡ place_of (S.description store.now) key →
@@ -88,7 +88,7 @@ fn number_u8<S: ObjectStore>(store: &S, place: Option<u32>) -> u8
     }
 }
 
-/// The number of two bytes at a place, 0 where there is none.
+/// The UNSIGNED16 at a place, 0 if there is none.
 fn number_u16<S: ObjectStore>(store: &S, place: Option<u32>) -> u16
     ensures { (key : Key) → fixed_type_of key ≡ Some Unsigned16 →
         place ≡ place_of (S.description store.now) key →
@@ -100,7 +100,7 @@ fn number_u16<S: ObjectStore>(store: &S, place: Option<u32>) -> u16
     }
 }
 
-/// The number of four bytes at a place, 0 where there is none.
+/// The UNSIGNED32 at a place, 0 if there is none.
 fn number_u32<S: ObjectStore>(store: &S, place: Option<u32>) -> u32
     ensures { (key : Key) → fixed_type_of key ≡ Some Unsigned32 →
         place ≡ place_of (S.description store.now) key →
@@ -113,7 +113,7 @@ fn number_u32<S: ObjectStore>(store: &S, place: Option<u32>) -> u32
 }
 
 impl Places {
-    /// Those of TPDO k.
+    /// The places of TPDO k.
     pub(crate) fn of<S: ObjectStore>(store: &S, k: PdoNumber) -> Places
         ensures { result ≡ places_of (S.description store.now) k }
     {
@@ -169,7 +169,7 @@ impl Places {
         self.transmission_type(store).is_supported()
     }
 
-    /// What the dictionary says of the TPDO of these places.
+    /// The settings of the TPDO of these places.
     pub(crate) fn settings<S: ObjectStore>(&self, store: &S) -> Settings
         ensures { (k : ℕ) → k < 512 → self.now ≡ places_of (S.description store.now) k →
             result ≡ settings_of (S.contents store.now) k }
@@ -191,7 +191,7 @@ impl Places {
         number_u8(store, self.start_value)
     }
 
-    /// The synchronous counter overflow value, 0 where no counter is used (CiA 301, 7.5.2.22).
+    /// The synchronous counter overflow value; 0 if no counter is used (CiA 301, 7.5.2.22).
     pub(crate) fn counter_overflow<S: ObjectStore>(&self, store: &S) -> u8
         ensures { (k : ℕ) → self.now ≡ places_of (S.description store.now) k →
             result ≡ number_at (S.contents store.now) counter_overflow_key }

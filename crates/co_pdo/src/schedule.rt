@@ -1,4 +1,4 @@
-//! Which TPDOs are due.
+//! When TPDOs are due.
 
 ghost use Rattle.std.specs.Prelude.{◌≡◌, ℕ, ◌≤◌, ◌==◌, false, [], length, IfOk};
 ghost use Rattle.co_dict.specs.declared.side.Side.{Side};
@@ -38,18 +38,18 @@ use std::alloc::{AllocError, Global};
 use std::boxed::BoxedSlice;
 use std::marker::Model;
 
-/// Which TPDOs are due, by their transmission types, inhibit times and event timers (CiA 301, 7.2.2 and 7.5.2.37). It
-/// counts for the TPDOs that the dictionary has. All memory is asked for by `new`.
+/// The schedule of the TPDOs of a dictionary: when each is due, by its transmission type, inhibit
+/// time and event timer (CiA 301, 7.2.2 and 7.5.2.37). `new` allocates all memory.
 ///
-/// Each call has the contents of the dictionary then, and reads them by their places, which `new` looks up. What the
-/// dictionary says of a TPDO has to be current when a SYNC, an event or a tick comes: after a write of its COB-ID,
-/// transmission type, inhibit time or mapping it was started whole if it is active, and after a write of its event
-/// timer it was started, whole or its timer alone. Its SYNC start value and 1019h are read at each SYNC before its
-/// count begins.
+/// Each call gets the dictionary and reads it by the places that `new` looked up. Before the next
+/// SYNC, event or tick the caller has to start a TPDO whose parameters were written: after a write
+/// of its COB-ID, transmission type, inhibit time or mapping the whole TPDO, if it is active; after
+/// a write of its event timer the timer at least. The SYNC start value and 1019h are read at each
+/// SYNC before the count begins.
 #[derive(Drop)]
 pub struct Schedule {
     tpdos: BoxedSlice<Tpdo>,
-    // of each TPDO where the dictionary has what it says of it, apart from what each tick counts
+    // the places of each TPDO, apart from the countdowns, which are all that most ticks read
     places: BoxedSlice<Places>,
 }
 
@@ -68,7 +68,8 @@ impl Model for Schedule {
 }
 
 impl Schedule {
-    /// A schedule for the TPDOs of a dictionary, none of them started. `AllocError` where there is no memory.
+    /// A schedule for the TPDOs of a dictionary, none of them started. `AllocError` if memory can't
+    /// be allocated.
     pub fn new<S: ObjectStore>(alloc: Global, store: &S) -> Result<Schedule, AllocError>
         ensures { IfOk result (λ schedule. IsScheduleAfter (S.description store.now) schedule []) }
     {
@@ -88,8 +89,8 @@ impl Schedule {
         self.tpdos.len()
     }
 
-    /// The COB-ID word of TPDO k; 0 where there is no such TPDO (CiA 301, 7.5.2.37). Where the dictionary has
-    /// each TPDO before it, it is read by its place, without a search.
+    /// The COB-ID word of TPDO k; 0 if there is no such TPDO (CiA 301, 7.5.2.37). It costs no
+    /// search if the dictionary has each TPDO before it.
     pub fn cob_id<S: ObjectStore>(&self, store: &S, k: PdoNumber) -> CobId
         ensures { (history : History) →
             IsScheduleAfter (S.description store.now) self.now history →
@@ -103,8 +104,9 @@ impl Schedule {
         }
     }
 
-    /// Starts TPDO k: the whole TPDO, as it enters NMT state operational and after a write of its COB-ID or
-    /// transmission type, or its event timer alone, after a write of that. Nothing happens where there is no such TPDO.
+    /// Starts TPDO k: the whole TPDO when the device enters NMT state operational, and after a
+    /// write of its COB-ID, transmission type, inhibit time or mapping; or its event timer alone,
+    /// after a write of that. Nothing happens if there is no such TPDO.
     pub fn start<S: ObjectStore>(&mut self, store: &S, k: PdoNumber, part: Part)
         ensures after { (history : History) →
             IsScheduleAfter (S.description store.now) self.old history →
@@ -128,7 +130,7 @@ impl Schedule {
         }
     }
 
-    /// Starts each TPDO whole, as NMT state operational is entered.
+    /// Starts each whole TPDO, when the device enters NMT state operational.
     pub fn start_all<S: ObjectStore>(&mut self, store: &S)
         ensures after { (history : History) →
             IsScheduleAfter (S.description store.now) self.old history →
@@ -141,10 +143,10 @@ impl Schedule {
         all_start(&mut self.tpdos, &self.places, store);
     }
 
-    /// A SYNC came, with the counter in its one byte or with none: leaves in `sent` the numbers of the TPDOs that are
-    /// due, increasing. They count as sent. A TPDO of type 1 to 240 with a SYNC start value of 1 to 240 counts from the
-    /// SYNC whose counter is that value, unless 1019h is 0 or absent; each other one from the first SYNC after its
-    /// start (CiA 301, 7.5.2.37).
+    /// A SYNC was received, with or without its counter. Leaves the numbers of the TPDOs that are
+    /// due in `sent`, in increasing order; these count as sent. A TPDO of type 1 to 240 with a SYNC
+    /// start value of 1 to 240 counts from the SYNC with that counter, unless 1019h is 0 or absent;
+    /// any other from the first SYNC after its start (CiA 301, 7.5.2.37).
     #[inline(always)]
     pub fn on_sync<S: ObjectStore>(&mut self, store: &S, counter: Option<u8>, sent: &mut Due)
         ensures due { (history : History) →
@@ -168,7 +170,8 @@ impl Schedule {
         all_happen(&mut self.tpdos, &self.places, sync, store, sent);
     }
 
-    /// An event came for TPDO k: whether the TPDO is due, and then counts as sent. False where there is none.
+    /// An event of TPDO k. Returns whether the TPDO is due; it then counts as sent. False if there
+    /// is no such TPDO.
     pub fn on_event<S: ObjectStore>(&mut self, store: &S, k: PdoNumber) -> bool
         ensures due { (history : History) →
             IsScheduleAfter (S.description store.now) self.old history →
@@ -190,8 +193,8 @@ impl Schedule {
         }
     }
 
-    /// An event came for each TPDO whose number is among these: leaves in `sent` the numbers of those that are due,
-    /// increasing. They count as sent.
+    /// An event of each TPDO among `numbers`. Leaves the numbers of those that are due in `sent`,
+    /// in increasing order; these count as sent.
     pub fn on_events<S: ObjectStore>(&mut self, store: &S, numbers: &[u16], sent: &mut Due)
         ensures due { (history : History) →
             IsScheduleAfter (S.description store.now) self.old history →
@@ -211,7 +214,8 @@ impl Schedule {
         all_happen_among(&mut self.tpdos, &self.places, numbers, store, sent);
     }
 
-    /// A tick of 1 ms: leaves in `sent` the numbers of the TPDOs that are due, increasing. They count as sent.
+    /// 1 ms elapsed. Leaves the numbers of the TPDOs that are due in `sent`, in increasing order;
+    /// these count as sent.
     #[inline(always)]
     pub fn on_tick<S: ObjectStore>(&mut self, store: &S, sent: &mut Due)
         ensures due { (history : History) →
@@ -232,7 +236,7 @@ impl Schedule {
         all_happen(&mut self.tpdos, &self.places, Occasion::Tick, store, sent);
     }
 
-    /// For at least so many ticks no TPDO is due, if nothing else happens; `u32::MAX` if none ever is.
+    /// During this many ticks (1 ms each) no TPDO is due, if nothing else happens: a lower bound.
     pub fn idle<S: ObjectStore>(&self, store: &S) -> u32
         ensures { (history : History) (n : ℕ) →
             IsScheduleAfter (S.description store.now) self.now history →

@@ -1,4 +1,4 @@
-//! One TPDO: what is counted for it.
+//! The countdowns of one TPDO.
 
 ghost use Rattle.std.specs.Prelude.{◌≡◌, ℕ, ◌<◌, ◌≤◌, ◌&&◌, [], ◌∷◌};
 ghost use Rattle.co_pdo.specs.declared.settings.Settings.{Settings};
@@ -15,27 +15,30 @@ use crate::settings::{Settings, begins_count};
 use co_dict::ObjectStore;
 use co_profile::TransmissionType;
 
-/// What may happen to a TPDO.
+/// An occasion at which a TPDO may be due.
 #[derive(Clone, Copy, Debug)]
 pub enum Occasion {
-    /// A SYNC came: the counter overflow value then, 0 for none, and the counter of the SYNC, if it has one.
+    /// A SYNC: the synchronous counter overflow value then, 0 for none, and the counter of the
+    /// SYNC, if it has one.
     Sync(u8, Option<u8>),
-    /// Something mapped into it changed, or the application asks for it.
+    /// A mapped entry changed, or the application requests the TPDO.
     Event,
     /// 1 ms elapsed.
     Tick,
 }
 
-/// What of a TPDO is started.
-#[derive(Clone, Copy, Debug, PartialEq, Eq, Hash)]
+/// Which part of a TPDO is started.
+#[derive(Clone, Copy, Debug, PartialEq, Eq)]
 pub enum Part {
-    /// All of it: the count of SYNCs is 0, no event waits, the inhibit time is over, and the event timer begins.
+    /// The whole TPDO: the count of SYNCs is 0, no event waits, the inhibit time is over, and the
+    /// event timer begins.
     Whole,
     /// The event timer alone: it begins.
     Timer,
 }
 
-/// What is counted for one TPDO, in 16 bytes. A tick reads more of it only where these countdowns make it due.
+/// The countdowns of one TPDO, in 16 bytes. A tick reads nothing else of a TPDO, unless its
+/// countdowns make it due.
 #[derive(Clone, Copy, Debug)]
 pub struct Tpdo {
     /// k of 1800h + k.
@@ -48,7 +51,7 @@ pub struct Tpdo {
     pub timer: u16,
     /// A SYNC began its count.
     pub has_begun: bool,
-    /// How many SYNCs that count are left to the one that sends it, at types 1 to 240.
+    /// At types 1 to 240: how many counted SYNCs are left up to the one that sends it.
     pub syncs_left: u8,
     /// An event came since the last SYNC.
     pub event_since_sync: bool,
@@ -56,7 +59,7 @@ pub struct Tpdo {
     pub event_waits: bool,
     /// How many ticks of the inhibit time are left.
     pub inhibit_left: u16,
-    /// How many ticks are left to the event of the timer; 0 where it came already.
+    /// How many ticks are left to the event of the timer; 0 once it came.
     pub timer_left: u16,
 }
 
@@ -87,7 +90,7 @@ impl Tpdo {
         }
     }
 
-    /// Starts all of it, or its event timer alone.
+    /// Starts the whole TPDO, or its event timer alone.
     pub(crate) fn start(&mut self, settings: &Settings, part: Part)
         ensures number { self.new.number ≡ self.old.number }
         ensures after { (log : Log) → IsAfter self.old log →
@@ -115,7 +118,7 @@ impl Tpdo {
         }
     }
 
-    /// Whether it is a SYNC at a transmission type at which none counts.
+    /// Whether this is a SYNC, and the transmission type is not synchronous.
     #[inline(always)]
     fn passes_over(&self, occasion: Occasion) -> bool
         ensures { result ≡ passes_over occasion self.now }
@@ -126,7 +129,7 @@ impl Tpdo {
         }
     }
 
-    /// Whether it is a SYNC that counts: the count has begun, or begins with it.
+    /// Whether this is a SYNC that counts: the count has begun, or begins with it.
     #[inline(always)]
     fn counts<S: ObjectStore>(&self, occasion: Occasion, store: &S, places: &Places) -> bool
         requires { self.now.number < 512 }
@@ -141,7 +144,8 @@ impl Tpdo {
         }
     }
 
-    /// Counts a SYNC, if it is one that counts, an event or a tick, and answers whether the countdowns make it due.
+    /// Counts a SYNC that counts, an event or a tick. Returns whether the countdowns make the TPDO
+    /// due.
     #[inline(always)]
     fn count(&mut self, occasion: Occasion, counts: bool) -> bool
         ensures state { self.new ≡ counted occasion counts self.old }
@@ -182,7 +186,7 @@ impl Tpdo {
         }
     }
 
-    /// Takes note that it is sent.
+    /// Notes that the TPDO is sent.
     #[inline(always)]
     fn mark_sent(&mut self)
         ensures { self.new ≡ marked self.old }
@@ -192,8 +196,9 @@ impl Tpdo {
         self.timer_left = self.timer;
     }
 
-    /// A SYNC, an event or a tick; answers whether the TPDO is sent, which it is exactly if it is due. Its places are
-    /// read where a SYNC may begin its count, and where the countdowns make it due.
+    /// A SYNC, an event or a tick. Returns whether the TPDO is sent, which it is if and only if it
+    /// is due. Its places are read only if a SYNC may begin its count, or the countdowns make it
+    /// due.
     #[inline(always)]
     pub(crate) fn happens<S: ObjectStore>(
         &mut self,
@@ -222,7 +227,8 @@ impl Tpdo {
         due
     }
 
-    /// For at least so many ticks its countdowns don't make it due, if nothing else happens; `u32::MAX` if they never do.
+    /// During this many ticks the countdowns don't make it due, if nothing else happens: a lower
+    /// bound.
     fn ticks_left(&self) -> u32
         ensures { (log : Log) (n : ℕ) (s : Settings) → IsAfter self.now log → IsCurrent s log →
             n ≤ result → NotDueFor s n log }
@@ -243,7 +249,7 @@ impl Tpdo {
         timer.max(inhibit) - 1
     }
 
-    /// For at least so many ticks it isn't due, if nothing else happens; `u32::MAX` if it never is.
+    /// During this many ticks it isn't due, if nothing else happens: a lower bound.
     pub(crate) fn idle<S: ObjectStore>(&self, store: &S, places: &Places) -> u32
         requires { self.now.number < 512 }
         ensures { places.now ≡ places_of (S.description store.now) self.now.number →
@@ -257,7 +263,7 @@ impl Tpdo {
         self.ticks_left()
     }
 
-    /// An event, if the TPDO's number is among these; answers whether the TPDO is sent.
+    /// An event, if the TPDO's number is among these. Returns whether the TPDO is sent.
     pub(crate) fn happens_among<S: ObjectStore>(
         &mut self,
         numbers: &[u16],

@@ -64,7 +64,8 @@ pub(crate) fn places_in<S: ObjectStore>(
     Ok(places)
 }
 
-/// The synchronous counter overflow value, by the place of it that each TPDO has; 0 where there is no TPDO.
+/// The synchronous counter overflow value, by the place that each TPDO has of it; 0 if there is no
+/// TPDO.
 pub(crate) fn counter_overflow<S: ObjectStore>(places: &[Places], store: &S) -> u8
     ensures { (numbers : List ℕ) → ArePlaces (S.description store.now) numbers places.now →
         0 < length numbers → result ≡ number_at (S.contents store.now) counter_overflow_key }
@@ -75,7 +76,7 @@ pub(crate) fn counter_overflow<S: ObjectStore>(places: &[Places], store: &S) -> 
     }
 }
 
-/// A SYNC or a tick for each of them, and in `sent` the numbers of those that are sent.
+/// A SYNC or a tick for each of them; leaves the numbers of those that are sent in `sent`.
 #[inline(always)]
 pub(crate) fn all_happen<S: ObjectStore>(
     tpdos: &mut [Tpdo],
@@ -111,7 +112,8 @@ pub(crate) fn all_happen<S: ObjectStore>(
     }
 }
 
-/// An event for each of them whose number is among these, and in `sent` the numbers of those that are sent.
+/// An event for each of them whose number is among these; leaves the numbers of those that are sent
+/// in `sent`.
 pub(crate) fn all_happen_among<S: ObjectStore>(
     tpdos: &mut [Tpdo],
     places: &[Places],
@@ -146,7 +148,7 @@ pub(crate) fn all_happen_among<S: ObjectStore>(
     }
 }
 
-/// For at least so many ticks none of them is due, if nothing else happens; `u32::MAX` if none ever is.
+/// During this many ticks none of them is due, if nothing else happens: a lower bound.
 pub(crate) fn idle_among<S: ObjectStore>(tpdos: &[Tpdo], places: &[Places], store: &S) -> u32
     requires table { IsTable tpdos.now }
     requires places { length places.now ≡ length tpdos.now }

@@ -11,8 +11,9 @@ use co_dict::{ObjectStore, Side};
 use co_pdo::{Mapped, Mapping, PdoNumber};
 use std::marker::Model;
 
-/// What a PDO maps, in the order of its data, with the places and the rows of the entries (CiA 301, 7.5.2.36,
-/// 7.5.2.38). It holds as long as the mapping parameter isn't written: no call of a dictionary changes places or rows.
+/// The objects mapped into a PDO, in the order of its data, with the places and rows of their
+/// entries (CiA 301, 7.5.2.36 and 7.5.2.38). It is valid until the mapping parameter is written: no
+/// call of a dictionary changes places or rows.
 #[derive(Drop)]
 pub struct Compiled {
     parts: ArrayVec<Part, 8>,
@@ -56,7 +57,8 @@ fn parts_of<S: ObjectStore>(store: &S, entries: &[Mapped]) -> ArrayVec<Part, 8>
 }
 
 impl Compiled {
-    /// The compiled form of what PDO k of a side maps: of `Mapping::read` as the dictionary is now.
+    /// The compiled form of the mapping of PDO k of a side, as `Mapping::read` reads it from the
+    /// dictionary now.
     pub fn of<S: ObjectStore>(store: &S, side: Side, k: PdoNumber) -> Compiled
         ensures { IsCompiledForm (S.description store.now)
             (mapping_of side (S.description store.now) (S.contents store.now) k) result }
@@ -72,7 +74,7 @@ impl Compiled {
         }
     }
 
-    /// What is mapped, in the order of the data.
+    /// The mapped objects, in the order of the data.
     pub fn mapped(&self) -> ArrayVec<Mapped, 8>
         ensures { result.items ≡ mapping_in self.now }
     {
@@ -91,7 +93,7 @@ impl Compiled {
         self.width
     }
 
-    /// Whether any part maps an entry with limits: where none does, no data are outside them.
+    /// Whether any part maps an entry with limits; if none does, no data are out of limits.
     pub(crate) fn is_limited(&self) -> bool
         ensures { result ≡ list_any is_limited self.now }
     {

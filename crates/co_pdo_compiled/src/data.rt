@@ -39,7 +39,7 @@ fn bytes_of<'a, S: ObjectStore>(store: &'a S, entry: &PlacedEntry) -> &'a [u8]
     }
 }
 
-/// Appends the bytes of what is mapped.
+/// Appends the bytes of a mapped object.
 #[inline(always)]
 fn append<S: ObjectStore>(store: &S, part: &Part, image: &mut PackedBytes)
     requires has { HasPart (S.description store.now) part.now }
@@ -54,7 +54,7 @@ fn append<S: ObjectStore>(store: &S, part: &Part, image: &mut PackedBytes)
     }
 }
 
-/// The bytes of what is mapped, joined.
+/// The bytes of the mapped objects, joined.
 #[inline(always)]
 fn joined<S: ObjectStore>(store: &S, parts: &[Part]) -> PackedBytes
     requires has { HasParts (S.description store.now) parts.now }
@@ -68,9 +68,9 @@ fn joined<S: ObjectStore>(store: &S, parts: &[Part]) -> PackedBytes
     image
 }
 
-/// The data of a PDO: what `image` gives of the mapping that was compiled, packed for a frame. The dictionary has to
-/// have the mapped entries, with the rows and at the places that they were compiled with, as it has after every call of
-/// its own.
+/// The data of a PDO, as `image` makes them of the compiled mapping, packed for a frame (CiA 301,
+/// 7.2.2). The dictionary has to have the mapped entries with the rows and at the places that they
+/// were compiled with: no call of a dictionary changes these.
 #[inline(always)]
 pub fn image_at<S: ObjectStore>(store: &S, compiled: &Compiled) -> PackedBytes
     requires { HasParts (S.description store.now) compiled.now }
@@ -100,8 +100,8 @@ fn number_of_two(bytes: &[u8]) -> i128
     }
 }
 
-/// Whether one byte is outside the limits of an entry of UNSIGNED8. It is here because most mapped entries have that
-/// type, and for `check_limits` to look up the width and the sign of a type takes longer than to compare.
+/// Whether one byte is outside the limits of an UNSIGNED8 entry. Most mapped entries have that
+/// type, and `check_limits` takes longer to look up width and sign of a type than to compare.
 #[inline(always)]
 fn is_byte_outside(row: &Row, bytes: &[u8]) -> bool
     requires kind { row.now.data_type ≡ Unsigned8 }
@@ -115,7 +115,7 @@ fn is_byte_outside(row: &Row, bytes: &[u8]) -> bool
     number < row.low
 }
 
-/// The same of two bytes of INTEGER16, which most analogue values are.
+/// The same for two bytes of INTEGER16, the type of most analogue values.
 #[inline(always)]
 fn are_two_outside(row: &Row, bytes: &[u8]) -> bool
     requires kind { row.now.data_type ≡ Integer16 }
@@ -163,7 +163,8 @@ fn any_outside<S: ObjectStore>(store: &S, parts: &[Part], bytes: &[u8]) -> bool
     false
 }
 
-/// Whether data are outside the limits of what a mapping maps. They aren't looked at where no entry has limits.
+/// Whether any part of the data is outside the limits of its entry. The data aren't read if no
+/// entry has limits.
 fn is_any_outside<S: ObjectStore>(store: &S, compiled: &Compiled, bytes: &[u8]) -> bool
     requires has { HasParts (S.description store.now) compiled.now }
     requires enough { total_of (mapping_in compiled.now) ≤ length bytes.now }
@@ -204,11 +205,12 @@ fn write_parts<S: ObjectStore>(store: &mut S, parts: &[Part], bytes: &[u8])
     }
 }
 
-/// Takes the data of an RPDO as `apply` does with the mapping that was compiled: writes each part into the entry that
-/// it is mapped to, in the mapping's order, and passes over those of dummy entries. `Short` where there are fewer bytes
-/// than are mapped and `OutOfLimits` where a value is outside the limits of its entry: nothing is written then. `Long`
-/// where there are more: the first ones are written. The dictionary has to have the mapped entries, with the rows and
-/// at the places that they were compiled with, as it has after every call of its own.
+/// Writes the data of an RPDO, as `apply` does with the compiled mapping: each part into its entry,
+/// in the order of the mapping; the bytes of dummy entries are skipped (CiA 301, 7.2.2). `Short` if
+/// there are fewer bytes than are mapped, and `OutOfLimits` if a value is outside the limits of its
+/// entry: nothing is written then. `Long` if there are more bytes: the first ones are written. The
+/// dictionary has to have the mapped entries with the rows and at the places that they were
+/// compiled with: no call of a dictionary changes these.
 pub fn apply_at<S: ObjectStore>(
     store: &mut S,
     compiled: &Compiled,

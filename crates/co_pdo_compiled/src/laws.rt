@@ -1,4 +1,4 @@
-//! Laws of compiled mappings. Each is the contract of a function that does nothing when it is called.
+//! Laws of compiled mappings: a call of one changes nothing.
 
 ghost use Rattle.std.specs.Prelude.{◌≡◌, ℕ, List};
 ghost use Rattle.co_value.specs.declared.key.Key.{Key};
@@ -11,8 +11,9 @@ ghost use Rattle.co_pdo.specs.Mappings.{mapping_of};
 ghost use Rattle.co_pdo_compiled.specs.declared.part.Part.{Part};
 ghost use Rattle.co_pdo_compiled.specs.CompiledMappings.{HasParts, IsCompiledForm, AgreeOnMapping};
 
-/// What a compiled mapping asks of a dictionary are rows and places, which no call of a store changes: so it may be
-/// used after each `set`, `set_at` and `reset`, and on every other store with the same rows and places.
+/// A compiled mapping needs rows and places alone, which no call of a store changes. So it stays
+/// valid after each `set`, `set_at` and `reset`, and on every other store with the same rows and
+/// places.
 pub fn compiled_stays()
     ensures parts { (d e : Description) (parts : List Part) →
         ((key : Key) → d.rows key ≡ e.rows key) → ((key : Key) → place_of d key ≡ place_of e key) →
@@ -22,8 +23,8 @@ pub fn compiled_stays()
         IsCompiledForm d mapping parts → IsCompiledForm e mapping parts }
 {}
 
-/// What a PDO maps depends on its mapping parameter alone, 1600h + k or 1A00h + k: it is enough to compile it anew
-/// after one of these entries was written, and after a reset.
+/// The mapping of a PDO depends on its mapping parameter alone, 1600h + k or 1A00h + k. So it is
+/// enough to compile it again after a write of one of these entries, and after a reset.
 pub fn mapping_by_words()
     ensures { (side : Side) (d : Description) (contents others : Contents) (k : ℕ) →
         AgreeOnMapping side k contents others →

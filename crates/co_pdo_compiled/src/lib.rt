@@ -1,5 +1,5 @@
-//! Mappings of PDOs compiled: the places and the limits of the mapped entries are looked up once, so that the data of a
-//! frame cost no look-up by key.
+//! Compiled PDO mappings: the places and limits of the mapped entries are looked up once, so that a
+//! frame costs no search by key.
 #![tactic(auto)]
 
 mod compiled;

@@ -10,27 +10,29 @@ use co_pdo::Mapped;
 use co_value::{DataType, Key};
 
 /// A mapped entry with its place and its row.
-#[derive(Clone, Copy, Debug)]
+#[derive(Clone, Copy)]
 pub struct PlacedEntry {
+    /// The key of the entry.
     pub key: Key,
     /// In bytes, 1 to 8.
     pub width: u8,
-    /// Its place in the dictionary, by which its bytes are read and set without a search.
+    /// Its place in the dictionary: its bytes are read and set without a search.
     pub place: u32,
-    /// Its row, by which its limits are known.
+    /// Its row, with its limits.
     pub row: Row,
 }
 
 /// One part of a compiled mapping.
-#[derive(Clone, Copy, Debug)]
+#[derive(Clone, Copy)]
 pub enum Part {
     /// An entry.
     Placed(PlacedEntry),
-    /// A dummy entry of an RPDO with its width in bytes, whose bytes are passed over (CiA 306, dummy usage).
+    /// A dummy entry of an RPDO with its width in bytes; these bytes are skipped (CiA 306, dummy
+    /// usage).
     PassedOver(u8),
 }
 
-/// Whether bytes of an entry with this row may be outside its limits.
+/// Whether any value of this row's type is outside its limits.
 fn has_limits(row: &Row) -> bool
     ensures { result ≡ has_limits row.now }
 {
@@ -49,7 +51,7 @@ fn has_limits(row: &Row) -> bool
 }
 
 impl Part {
-    /// What is mapped, with its place and its row looked up.
+    /// The part of a mapped object: its place and its row are looked up.
     pub(crate) fn of<S: ObjectStore>(store: &S, mapped: Mapped) -> Part
         requires { is_there (S.description store.now).rows mapped ≡ true }
         ensures mapped { mapped_in result ≡ mapped }
@@ -81,7 +83,7 @@ impl Part {
         }
     }
 
-    /// What is mapped.
+    /// The mapped object.
     pub(crate) fn mapped(&self) -> Mapped
         ensures { result ≡ mapped_in self.now }
     {
@@ -102,7 +104,7 @@ impl Part {
     }
 }
 
-/// The blank element of a list of fixed room: no bytes, which are passed over.
+/// The blank element of a list of fixed capacity: a dummy entry of no bytes.
 impl Default for Part {
     ghost use Rattle.std.specs.Prelude.{◌≡◌};
     ghost use Rattle.co_pdo_compiled.specs.declared.part.Part.TheVariants.{PassedOver};

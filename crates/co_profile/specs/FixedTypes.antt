@@ -34,7 +34,7 @@ fixed_types =
     ∷ (Unsigned32, tpdo_mapping, 1, 64)
     ∷ []
 
--- the type that an entry of this key has to have, if it is fixed
+-- the data type that is fixed for the entry of this key, if one is
 abbrev pub fixed_type_of : Key → Option DataType
 fixed_type_of key =
     option_map (λ f. f.0)

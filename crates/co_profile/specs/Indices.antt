@@ -28,11 +28,11 @@ store_parameters = 0x1010
 abbrev pub restore_parameters : ℕ
 restore_parameters = 0x1011
 
--- 1014h, the COB-ID of emergencies
+-- 1014h, the COB-ID of EMCY
 abbrev pub emergency_cob_id : ℕ
 emergency_cob_id = 0x1014
 
--- 1015h, the inhibit time of emergencies
+-- 1015h, the inhibit time of EMCY, in 100 µs
 abbrev pub emergency_inhibit_time : ℕ
 emergency_inhibit_time = 0x1015
 
@@ -66,7 +66,7 @@ only index = from_to index index
 abbrev pub is_within : IndexRange → ℕ → Bool
 is_within range index = nat_le range.0 index && nat_le index range.1
 
--- the index of the object of a number, counted from 0
+-- the index of an object of the range by its number, counted from 0
 abbrev pub nth : IndexRange → ℕ → ℕ
 nth range number = range.0 + number
 
@@ -104,11 +104,11 @@ pdo_cob_id = 1
 abbrev pub transmission_type : ℕ
 transmission_type = 2
 
--- the inhibit time, of a TPDO
+-- the inhibit time, of a TPDO, in 100 µs
 abbrev pub inhibit_time : ℕ
 inhibit_time = 3
 
--- the event timer, of a TPDO
+-- the event timer, of a TPDO, in ms
 abbrev pub event_timer : ℕ
 event_timer = 5
 

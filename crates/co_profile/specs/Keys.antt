@@ -1,4 +1,5 @@
--- The entries of the communication profile that a device itself reads or writes, by their keys (CiA 301, 7.5.2).
+-- The entries of the communication profile that a device itself reads or writes, by their keys
+-- (CiA 301, 7.5.2).
 use Rattle.co_value.specs.declared.key.Key.{Key}
 use Rattle.co_profile.specs.Indices.{error_register, sync_cob_id, emergency_cob_id, emergency_inhibit_time, producer_heartbeat, sync_counter_overflow, error_behaviour}
 

@@ -9,6 +9,7 @@ is_synchronous kind = nat_le kind 240
 abbrev pub is_event_driven : ℕ → Bool
 is_event_driven kind = kind == 254 || kind == 255
 
--- the types that are supported: 0 to 240, 254 and 255; 241 to 251 are reserved, 252 and 253 need remote frames
+-- the types that are supported: 0 to 240, 254 and 255; 241 to 251 are reserved, 252 and 253 need
+-- remote frames
 abbrev pub is_supported_type : ℕ → Bool
 is_supported_type kind = is_synchronous kind || is_event_driven kind

@@ -1,7 +1,7 @@
 //! The access of entries.
 
 /// How an entry may be accessed, by the word of its AccessType (CiA 306, object description).
-#[derive(Clone, Copy, Debug, PartialEq, Eq, Hash)]
+#[derive(Clone, Copy, Debug, PartialEq, Eq)]
 pub enum Access {
     /// `ro`: read only.
     Ro,

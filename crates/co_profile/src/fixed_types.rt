@@ -107,10 +107,10 @@ const FIXED_TYPES: [FixedType; 23] = [
     FixedType(Unsigned32, IndexRange::TPDO_MAPPING, 1, 64),
 ];
 
-// most entries of a large data sheet are past it
+// most entries of a large data sheet are past this index, and need no search
 const LAST_FIXED_INDEX: u16 = IndexRange::TPDO_MAPPING.1;
 
-/// The type that the entry of this key has to have, if it is fixed (CiA 301, object dictionary).
+/// The data type that CiA 301 fixes for the entry of this key, if it fixes one (object dictionary).
 pub fn fixed_type(key: Key) -> Option<DataType>
     ensures { result ≡ fixed_type_of key }
 {

@@ -1,4 +1,5 @@
-//! The objects of the communication profile by their indices, and the sub-indices of PDO communication parameters.
+//! The objects of the communication profile by their indices, and the sub-indices of PDO
+//! communication parameters.
 
 ghost use Rattle.std.specs.Prelude.{◌≡◌, ◌≤◌, ◌+◌, true};
 ghost use Rattle.co_profile.specs.Indices as indices;
@@ -16,13 +17,13 @@ pub const SYNC_COB_ID: u16 = 0x1005;
 pub const STORE_PARAMETERS: u16 = 0x1010;
 /// Restore default parameters (CiA 301, 7.5.2.14).
 pub const RESTORE_PARAMETERS: u16 = 0x1011;
-/// The COB-ID of emergencies (CiA 301, 7.5.2.17).
+/// The COB-ID of EMCY (CiA 301, 7.5.2.17).
 pub const EMERGENCY_COB_ID: u16 = 0x1014;
-/// The inhibit time of emergencies (CiA 301, 7.5.2.18).
+/// The inhibit time of EMCY, in 100 µs (CiA 301, 7.5.2.18).
 pub const EMERGENCY_INHIBIT_TIME: u16 = 0x1015;
 /// The consumer heartbeat time (CiA 301, 7.5.2.19).
 pub const CONSUMER_HEARTBEAT: u16 = 0x1016;
-/// The producer heartbeat time (CiA 301, 7.5.2.20).
+/// The producer heartbeat time, in ms (CiA 301, 7.5.2.20).
 pub const PRODUCER_HEARTBEAT: u16 = 0x1017;
 /// The synchronous counter overflow value (CiA 301, 7.5.2.22).
 pub const SYNC_COUNTER_OVERFLOW: u16 = 0x1019;
@@ -31,17 +32,19 @@ pub const ERROR_BEHAVIOUR: u16 = 0x1029;
 
 /// The sub-index of the COB-ID in a PDO communication parameter (CiA 301, 7.5.2.35, 7.5.2.37).
 pub const PDO_COB_ID: u8 = 1;
-/// The sub-index of the transmission type in a PDO communication parameter.
+/// The sub-index of the transmission type in a PDO communication parameter (CiA 301, 7.5.2.35,
+/// 7.5.2.37).
 pub const TRANSMISSION_TYPE: u8 = 2;
-/// The sub-index of the inhibit time in a TPDO communication parameter.
+/// The sub-index of the inhibit time, in 100 µs, in a TPDO communication parameter
+/// (CiA 301, 7.5.2.37).
 pub const INHIBIT_TIME: u8 = 3;
-/// The sub-index of the event timer in a TPDO communication parameter.
+/// The sub-index of the event timer, in ms, in a TPDO communication parameter (CiA 301, 7.5.2.37).
 pub const EVENT_TIMER: u8 = 5;
-/// The sub-index of the SYNC start value in a TPDO communication parameter.
+/// The sub-index of the SYNC start value in a TPDO communication parameter (CiA 301, 7.5.2.37).
 pub const SYNC_START_VALUE: u8 = 6;
 
-/// The indices of objects of one kind: the first and the last.
-#[derive(Clone, Copy, Debug, PartialEq, Eq, Hash)]
+/// The indices of objects of one kind: the first and the last, both included.
+#[derive(Clone, Copy, Debug, PartialEq, Eq)]
 pub struct IndexRange(pub u16, pub u16);
 
 impl IndexRange {
@@ -65,7 +68,7 @@ impl IndexRange {
         self.0 <= index && index <= self.1
     }
 
-    /// The index of the object of a number, counted from 0.
+    /// The index of an object of the range by its number, counted from 0.
     pub fn nth(self, number: u16) -> u16
         requires { self.0 + number ≤ self.1 }
         ensures value { result ≡ nth self number }
@@ -74,7 +77,8 @@ impl IndexRange {
         self.0 + number
     }
 
-    /// Each range is the one that the standard gives its objects. This is a law: a call of it changes nothing.
+    /// Each range is the one that the standard gives its objects. This is a law: a call of it
+    /// changes nothing.
     pub fn ranges()
         ensures communication_profile { IndexRange.COMMUNICATION_PROFILE
             ≡ indices.communication_profile }
@@ -86,7 +90,8 @@ impl IndexRange {
     {}
 }
 
-/// Each index and sub-index is the one that the standard gives its object. This is a law: a call of it changes nothing.
+/// Each index and sub-index is the one that the standard gives its object. This is a law: a call of
+/// it changes nothing.
 pub fn index_numbers()
     ensures device_type { DEVICE_TYPE ≡ indices.device_type }
     ensures error_register { ERROR_REGISTER ≡ indices.error_register }

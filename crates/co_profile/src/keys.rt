@@ -42,7 +42,8 @@ pub const COMMUNICATION_ERROR: Key = Key {
     sub: 1,
 };
 
-/// Each key is the one that the standard gives its entry. This is a law: a call of it changes nothing.
+/// Each key is the one that the standard gives its entry. This is a law: a call of it changes
+/// nothing.
 pub fn key_numbers()
     ensures error_register { ERROR_REGISTER ≡ keys.error_register_key }
     ensures sync { SYNC_COB_ID ≡ keys.sync_key }

@@ -1,4 +1,5 @@
-//! The communication profile of CANopen: access of entries, the objects from 1000h to 1FFFh, and transmission types.
+//! The communication profile of CANopen: access of entries, the objects from 1000h to 1FFFh, and
+//! transmission types.
 #![tactic(auto)]
 
 mod access;

@@ -3,12 +3,13 @@
 ghost use Rattle.std.specs.Prelude.{◌≡◌};
 ghost use Rattle.co_profile.specs.TransmissionTypes as types;
 
-/// The transmission type of a PDO: what it is sent, or takes effect, by (CiA 301, 7.5.2.35 and 7.5.2.37).
-#[derive(Clone, Copy, Debug, PartialEq, Eq, Hash)]
+/// The transmission type of a PDO: whether SYNCs or events trigger it (CiA 301, 7.5.2.35 and
+/// 7.5.2.37).
+#[derive(Clone, Copy, Debug, PartialEq, Eq)]
 pub struct TransmissionType(pub u8);
 
 impl TransmissionType {
-    /// By SYNCs: 0 to 240.
+    /// Whether SYNCs trigger it: 0 to 240.
     #[inline(always)]
     pub fn is_synchronous(self) -> bool
         ensures { result ≡ types.is_synchronous self.0 }
@@ -16,7 +17,7 @@ impl TransmissionType {
         self.0 <= 240
     }
 
-    /// By events: 254 and 255.
+    /// Whether events trigger it: 254 and 255.
     #[inline(always)]
     pub fn is_event_driven(self) -> bool
         ensures { result ≡ types.is_event_driven self.0 }

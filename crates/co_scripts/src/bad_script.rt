@@ -1,5 +1,5 @@
-//! Why a text can't be used.
+//! The error of a text that can't be used.
 
-/// A text that is no part of a script, or a device that it can't make.
+/// A text isn't part of a script, or its device can't be built.
 #[derive(Clone, Copy, Debug, PartialEq, Eq)]
 pub struct BadScript;

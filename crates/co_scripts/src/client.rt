@@ -1,4 +1,4 @@
-//! A client as an end of a dialogue.
+//! A client as one end of a dialogue.
 
 use crate::bad_script::BadScript;
 use crate::dialogue::{End, follows};
@@ -6,22 +6,22 @@ use crate::frames::frame_of;
 use co_frame::{Frame, Outbox};
 use co_sdo_client::Client;
 
-/// What a client sends when it begins.
+/// Begins a client: the frames that it sends.
 pub fn begun(client: &mut Client<'_>) -> Outbox {
     let mut sent = Outbox::new();
     client.begin(&mut sent);
     sent
 }
 
-/// What it sends on a frame.
+/// Hands a frame to a client: the frames that it sends.
 pub fn answered(client: &mut Client<'_>, frame: &Frame) -> Outbox {
     let mut sent = Outbox::new();
     client.take(frame, &mut sent);
     sent
 }
 
-/// Lets so many ms go by. Whether the client sends nothing before the last, whose frames are put into the place of
-/// what was sent.
+/// Lets `ticks` ms elapse at the client. `sent` is replaced by the frames of the last one. False if
+/// an earlier one sends frames.
 fn elapsed(client: &mut Client<'_>, ticks: u16, sent: &mut Outbox) -> bool {
     sent.clear();
     for _ in 0..ticks {
@@ -44,7 +44,8 @@ impl End for Client<'_> {
     }
 }
 
-/// Begins, and then does what a dialogue says: `Ok` with the number of its requests, else the first word that isn't so.
+/// Begins a client, and runs it through a dialogue: `Ok` with the number of its requests, or the
+/// first word at which it differs.
 pub fn client_follows<'a>(client: &mut Client<'_>, dialogue: &'a str) -> Result<u64, &'a str> {
     let mut sent = begun(client);
     follows(client, "605#", dialogue, &mut sent)

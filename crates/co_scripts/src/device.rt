@@ -1,4 +1,4 @@
-//! A device out of a table, and single inputs of it.
+//! A device from a table, and single inputs of it.
 
 use crate::bad_script::BadScript;
 use crate::sheet::{COUNTER, MANUFACTURER, PDOS, PROFILE, sheet_of};
@@ -10,8 +10,8 @@ use co_value::Key;
 use std::alloc::{AllocError, Global};
 use std::string::String;
 
-/// The device of a sheet at node-ID 5, with room for strings of 16 bytes and domains of 889, and with this SDO
-/// timeout in ms.
+/// The device of a sheet at node-ID 5, with room for strings of 16 bytes and domains of 889; `time`
+/// is the SDO timeout in ms.
 pub fn node_of(alloc: Global, text: &str, time: u16) -> Result<Node, BadScript> {
     let sheet = read(alloc, text.as_bytes()).ok().ok_or(BadScript)?;
     let config = Config {
@@ -25,7 +25,7 @@ pub fn node_of(alloc: Global, text: &str, time: u16) -> Result<Node, BadScript> 
     Node::build(alloc, &sheet, 5, &config).ok().ok_or(BadScript)
 }
 
-/// The sheet that most scripts are of, by the words of a line `new`.
+/// The sheet of most scripts, by the words of a line `new`.
 pub fn sheet_by(alloc: Global, words: &str) -> Result<String, AllocError> {
     if words.contains('+') {
         sheet_of(alloc, &[PROFILE, PDOS, COUNTER], &[MANUFACTURER], words)
@@ -34,7 +34,7 @@ pub fn sheet_by(alloc: Global, words: &str) -> Result<String, AllocError> {
     }
 }
 
-/// The device that a line `new` makes.
+/// The device of a line `new`.
 pub(crate) fn node_by(alloc: Global, words: &str) -> Result<Node, BadScript> {
     let time = words.split_whitespace().next().ok_or(BadScript)?;
     let time = time.parse().ok().ok_or(BadScript)?;
@@ -42,7 +42,7 @@ pub(crate) fn node_by(alloc: Global, words: &str) -> Result<Node, BadScript> {
     node_of(alloc, text.as_str(), time)
 }
 
-// Puts what an input gives into the place of what was sent: a frame; else an event of the application; else a tick.
+// Replaces `sent` by the frames of an input: a frame, else an application event, else a tick.
 fn step(node: &mut Node, frame: Option<Frame>, event: Option<AppEvent<'_>>, sent: &mut Outbox) {
     match (frame, event) {
         (Some(frame), _) => node.step(Input::Frame(frame), sent),
@@ -51,22 +51,22 @@ fn step(node: &mut Node, frame: Option<Frame>, event: Option<AppEvent<'_>>, sent
     }
 }
 
-/// Puts what a frame gives into the place of what was sent.
+/// Replaces `sent` by the frames that a received frame causes.
 pub(crate) fn take(node: &mut Node, frame: Frame, sent: &mut Outbox) {
     step(node, Some(frame), None, sent);
 }
 
-/// The same of a tick.
+/// The same for a tick.
 pub(crate) fn elapse(node: &mut Node, sent: &mut Outbox) {
     step(node, None, None, sent);
 }
 
-/// The same of an event of the application.
+/// The same for an application event.
 pub(crate) fn apply(node: &mut Node, event: AppEvent<'_>, sent: &mut Outbox) {
     step(node, None, Some(event), sent);
 }
 
-/// The same of a write of the application.
+/// The same for a write by the application.
 pub fn write(node: &mut Node, key: Key, bytes: &[u8], sent: &mut Outbox) {
     step(node, None, Some(AppEvent::Write(key, bytes)), sent);
 }

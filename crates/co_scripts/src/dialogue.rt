@@ -1,9 +1,10 @@
-//! Dialogues in text, of a client with the requests 605h and a server with the answers 585h.
+//! Dialogues as text, of a client with requests 605h and a server with answers 585h.
 //!
-//! The words of a dialogue are their frames, as `605#4001200000000000`, and what else comes to the end that is tried:
-//! `ticks` are ten of 1 ms, of which the last alone makes it send something. To a channel also: a number is how many
-//! bytes it holds; `x3` are the segments 1 to 3 of a sub-block, all zeros, of which the last alone may be answered;
-//! `write` sets 2001h to `abc`.
+//! The words of a dialogue are frames of both ends, such as `605#4001200000000000`, and other
+//! inputs of the end under test. `ticks` are ten ticks of 1 ms, of which only the last makes it
+//! send frames. For a channel there are three more: a number is how many bytes it holds; `x3` are
+//! the segments 1 to 3 of a sub-block, all zeros, of which only the last may be answered; `write`
+//! sets 2001h to `abc`.
 
 use crate::bad_script::BadScript;
 use crate::frames::frame_of;
@@ -11,11 +12,12 @@ use co_frame::Outbox;
 
 /// One end of a dialogue.
 pub(crate) trait End {
-    /// Puts what it sends on a word into the place of what was sent. False where it isn't as the word says.
+    /// Takes a word, and replaces `sent` by the frames that it sends then. False if it differs from
+    /// the word.
     fn hear(&mut self, word: &str, sent: &mut Outbox) -> Result<bool, BadScript>;
 }
 
-// Whether the frame that a word spells was sent at this place.
+// Whether the frame of a word was sent at this place.
 fn is_at(sent: &Outbox, place: usize, word: &str) -> bool {
     match frame_of(word) {
         Ok(frame) => sent.get(place) == Some(&frame),
@@ -23,9 +25,10 @@ fn is_at(sent: &Outbox, place: usize, word: &str) -> bool {
     }
 }
 
-/// Whether an end does what a dialogue says: it hears each word that doesn't begin as its own frames do, and sends
-/// those that come next, and no other. What it sends before the first word is in the outbox. How many frames it sent;
-/// else the first word that isn't so, or the dialogue where more is sent at its end.
+/// Runs an end through a dialogue: it hears each word that isn't one of its own frames, and has to
+/// send those that come next, and no other. The outbox has the frames sent before the first word.
+/// Returns how many frames it sent; or the first word at which it differs, or the dialogue if it
+/// sends more at the end.
 pub(crate) fn follows<'a, E: End>(
     end: &mut E,
     own: &str,

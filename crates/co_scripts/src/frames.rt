@@ -1,10 +1,10 @@
-//! Frames in text.
+//! Frames as text.
 
 use crate::bad_script::BadScript;
 use co_frame::Frame;
 use co_text::HexPairs;
 
-/// The frame that a text spells, as `080#01`.
+/// The frame of a text such as `080#01`.
 pub fn frame_of(text: &str) -> Result<Frame, BadScript> {
     let (id, digits) = text.split_once('#').ok_or(BadScript)?;
     let id = u16::from_str_radix(id, 16).ok().ok_or(BadScript)?;
@@ -21,7 +21,7 @@ pub fn frame_of(text: &str) -> Result<Frame, BadScript> {
     Frame::new(id, data).ok().ok_or(BadScript)
 }
 
-/// Whether these are the frames of a text, in order.
+/// Whether frames are those of a text, in order.
 pub fn are_frames(sent: &[Frame], text: &str) -> Result<bool, BadScript> {
     let mut frames = sent.iter();
     for word in text.split_whitespace() {

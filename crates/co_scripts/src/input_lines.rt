@@ -1,4 +1,4 @@
-//! The inputs of a script's line.
+//! The inputs of a line of a script.
 
 use crate::bad_script::BadScript;
 use crate::device::{apply, elapse, take, write};
@@ -7,7 +7,7 @@ use co_frame::{Frame, Outbox};
 use co_node::{AppEvent, Node};
 use conode_trace::{AppLine, EventLine, TraceLine};
 
-// An event line of the application.
+// An event line.
 fn apply_line(node: &mut Node, event: &AppLine<'_>, sent: &mut Outbox) -> bool {
     let event = match event {
         AppLine::Write(key, bytes) => {
@@ -26,7 +26,7 @@ fn apply_line(node: &mut Node, event: &AppLine<'_>, sent: &mut Outbox) -> bool {
     true
 }
 
-// So many ticks; false where one before the last sends something.
+// `count` ticks; false if one before the last sends frames.
 fn tick(node: &mut Node, count: u32, sent: &mut Outbox) -> bool {
     for left in (0..count).rev() {
         elapse(node, sent);
@@ -37,7 +37,7 @@ fn tick(node: &mut Node, count: u32, sent: &mut Outbox) -> bool {
     true
 }
 
-// The segments of a sub-block up to this one; false where one before the last is answered.
+// The segments of a sub-block up to number `last`; false if one before it is answered.
 fn send_segments(node: &mut Node, last: u8, sent: &mut Outbox) -> Result<bool, BadScript> {
     for sequence in 1..=last {
         let data = [sequence, 0, 0, 0, 0, 0, 0, 0];
@@ -50,7 +50,7 @@ fn send_segments(node: &mut Node, last: u8, sent: &mut Outbox) -> Result<bool, B
     Ok(true)
 }
 
-/// Gives a device the inputs of a line. False where one before the last sends something.
+/// Hands the inputs of a line to a device. False if one before the last sends frames.
 pub(crate) fn give(node: &mut Node, line: &str, sent: &mut Outbox) -> Result<bool, BadScript> {
     if let Some(last) = line.strip_prefix("segments ") {
         let last = last.parse().ok().ok_or(BadScript)?;

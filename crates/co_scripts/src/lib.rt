@@ -1,6 +1,7 @@
-//! What tests are made of: data sheets out of tables, readers that give little at once, fail, or never end; worked dialogues
-//! of an SDO client and a channel of a server, and worked sequences of a whole device, as texts, with what runs them; and a
-//! table of what a channel answers in each of its states. The program that a test refuses memory to runs them too.
+//! Material for tests: data sheets made from tables; readers that return few bytes at a time, fail,
+//! or never end; worked dialogues of an SDO client and a server's channel, and worked sequences of
+//! a whole device, as texts, with the code that runs them; and a table of the answers of a channel
+//! in each of its states. The program whose allocations a test refuses runs them too.
 #![tactic(auto)]
 
 mod bad_script;

@@ -1,4 +1,4 @@
-//! Questions to a device.
+//! Questions about a device.
 
 use crate::bad_script::BadScript;
 use co_frame::AbortCode;
@@ -6,7 +6,7 @@ use co_node::{AppAnswer, Node, NodeState};
 use co_text::HexPairs;
 use co_value::Key;
 
-// Whether an entry has the bytes of a text, as `2001:00 3031`.
+// Whether an entry has the bytes of a text such as `2001:00 3031`.
 fn has_value(node: &Node, words: &str) -> Result<bool, BadScript> {
     let (key, bytes) = words.split_once(' ').ok_or(BadScript)?;
     let key = Key::parse(key.as_bytes()).ok_or(BadScript)?;
@@ -20,7 +20,7 @@ fn has_value(node: &Node, words: &str) -> Result<bool, BadScript> {
     })
 }
 
-// Whether a channel holds so many bytes, as `0 7`.
+// Whether a channel holds a number of bytes: `0 7`.
 fn holds(node: &Node, words: &str) -> Result<bool, BadScript> {
     let (channel, held) = words.split_once(' ').ok_or(BadScript)?;
     let channel = channel.parse().ok().ok_or(BadScript)?;
@@ -37,13 +37,13 @@ fn state_of(word: &str) -> Result<NodeState, BadScript> {
     }
 }
 
-// Whether the application was refused with this code.
+// Whether the last application event was refused with this code.
 fn is_refused(node: &Node, code: &str) -> Result<bool, BadScript> {
     let code = u32::from_str_radix(code, 16).ok().ok_or(BadScript)?;
     Ok(node.last_app() == AppAnswer::Refused(AbortCode(code)))
 }
 
-/// Whether a question is answered by yes; None where a line is no question.
+/// Whether the answer to a question is yes; `None` if a line is no question.
 pub(crate) fn answer(node: &Node, line: &str) -> Result<Option<bool>, BadScript> {
     let (question, words) = line.split_once(' ').unwrap_or((line, ""));
     Ok(Some(match question.as_bytes() {

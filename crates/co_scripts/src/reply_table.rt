@@ -1,21 +1,24 @@
-//! What a channel answers to a frame whose bytes 2 to 7 are 0, in each of its states: written by hand from the
-//! protocol (CiA 301, 7.2.4.3), by the command specifier (bits 7..5 of byte 0), the rest of byte 0, and byte 1.
+//! The answers of a channel, in each of its states, to a frame whose bytes 2 to 7 are 0. They are
+//! written by hand from the protocol (CiA 301, 7.2.4.3), by the command specifier (bits 7 to 5 of
+//! byte 0), the rest of byte 0, and byte 1.
 //!
-//! A frame that begins a transfer has its key in bytes 1 to 3: here an index up to 00FFh, and sub-index 0. There is
-//! no such entry, since a data sheet's indices below 1000h are passed over. So each begin is refused as `NO_OBJECT`,
-//! and nothing else about it is asked. It drops what is open, as each abort does.
+//! An initiate request has its key in bytes 1 to 3: here an index up to 00FFh, and sub-index 0.
+//! There is no such entry, since indices below 1000h of a data sheet are ignored. So each initiate
+//! is refused as `NO_OBJECT`, before any other check. It drops the open transfer, as each abort
+//! does.
 
-/// What the entries of the device begin with, as `sheet_of` reads it. Its sheet has the objects of `MANUFACTURER`.
+/// The defaults of the device's entries, for `sheet_of`. Its sheet has the objects of
+/// `MANUFACTURER`.
 pub const DEFAULTS: &str = "2001=0123456789 2002=0xDEADBEEF";
 
-/// What a frame leads to.
+/// The outcome of a frame.
 #[derive(Clone, Copy, Debug, PartialEq, Eq)]
 pub struct Outcome {
     /// The data of the frames that answer it.
     pub answers: [Option<[u8; 8]>; 2],
     /// The bytes held after it.
     pub held: usize,
-    /// The bytes that 2001h is set to.
+    /// The bytes to which 2001h is set.
     pub set: Option<[u8; 10]>,
 }
 
@@ -40,10 +43,10 @@ const TOO_LONG: u32 = 0x0607_0012;
 // Length of service parameter too low.
 const TOO_SHORT: u32 = 0x0607_0013;
 
-// The index of the entry that is open.
+// The index of the entry of the open transfer.
 const OPEN: u16 = 0x2001;
 
-// No answer, with so many bytes held.
+// No answer, with `held` bytes held.
 fn silent(held: usize) -> Outcome {
     Outcome {
         answers: [None, None],
@@ -52,7 +55,7 @@ fn silent(held: usize) -> Outcome {
     }
 }
 
-// One answer, with so many bytes held.
+// One answer, with `held` bytes held.
 fn answered(answer: [u8; 8], held: usize) -> Outcome {
     Outcome {
         answers: [Some(answer), None],
@@ -61,19 +64,19 @@ fn answered(answer: [u8; 8], held: usize) -> Outcome {
     }
 }
 
-// An abort of a transfer of an index, sub-index 0.
+// An abort with an index, and sub-index 0.
 fn abort(index: u16, code: u32) -> Outcome {
     let [low, high] = index.to_le_bytes();
     let [a, b, c, d] = code.to_le_bytes();
     answered([0x80, low, high, 0, a, b, c, d], 0)
 }
 
-// An answer that is its byte 0 alone.
+// An answer with byte 0 alone, the others 0.
 fn confirmed(command: u8, held: usize) -> Outcome {
     answered([command, 0, 0, 0, 0, 0, 0, 0], held)
 }
 
-// The acknowledge of a sub-block: so many segments were taken, and the next may have 127.
+// The acknowledgement of a sub-block: `taken` segments were taken, and the next may have 127.
 fn acknowledged(taken: u8, held: usize) -> Outcome {
     answered([0xA2, taken, 127, 0, 0, 0, 0, 0], held)
 }
@@ -87,12 +90,12 @@ fn set(command: u8, bytes: [u8; 10]) -> Outcome {
     }
 }
 
-// So many bytes without the unused ones.
+// A number of bytes without the unused ones.
 fn less(bytes: usize, unused: u8) -> usize {
     bytes.saturating_sub(usize::from(unused))
 }
 
-// The rows that states have in common, for an open transfer of this index, or 0 where none is open.
+// The rows that states have in common, for an open transfer of index `open`, 0 if none is open.
 fn common(first: u8, second: u8, open: u16) -> Outcome {
     let own = u16::from(second);
     match (first >> 5, first & 3) {
@@ -109,13 +112,13 @@ fn common(first: u8, second: u8, open: u16) -> Outcome {
     }
 }
 
-/// Nothing is open.
+/// No transfer is open.
 pub(crate) fn idle(first: u8, second: u8) -> Outcome {
     common(first, second, 0)
 }
 
-/// A segmented download into an entry with room for twelve bytes. Ten are indicated and seven held, `abcdefg`; the
-/// next segment has toggle 1.
+/// A segmented download into an entry with a capacity of twelve bytes. Ten are indicated and seven
+/// held, `abcdefg`; the next segment has toggle 1.
 pub(crate) fn segmented_download(first: u8, second: u8) -> Outcome {
     let toggle = first >> 4 & 1;
     let unused = first >> 1 & 7;
@@ -141,7 +144,8 @@ pub(crate) fn segmented_upload(first: u8, second: u8) -> Outcome {
     }
 }
 
-/// Inside a sub-block of a block download into an entry with room for twelve bytes, after the first segment.
+/// Inside a sub-block of a block download into an entry with a capacity of twelve bytes, after the
+/// first segment.
 pub(crate) fn sub_block(first: u8) -> Outcome {
     match first {
         0x80 => silent(0), // abort SDO transfer
@@ -153,7 +157,7 @@ pub(crate) fn sub_block(first: u8) -> Outcome {
     }
 }
 
-/// The same after two segments, when more bytes are held than there is room for.
+/// The same after two segments, when more bytes are held than the capacity.
 pub(crate) fn full_sub_block(first: u8) -> Outcome {
     match first {
         0x80 => silent(0), // abort SDO transfer
@@ -165,7 +169,8 @@ pub(crate) fn full_sub_block(first: u8) -> Outcome {
     }
 }
 
-/// A block download of ten bytes after its last segment, with fourteen held: `abcdefghij` and four unused.
+/// A block download of ten bytes after its last segment, with fourteen held: `abcdefghij` and four
+/// unused.
 pub(crate) fn last_segment_taken(first: u8, second: u8) -> Outcome {
     match (first >> 5, first & 1, first >> 2 & 7) {
         (6, 1, 0..=3) => abort(OPEN, TOO_LONG), // end SDO block download, 14 to 11 bytes
@@ -191,8 +196,8 @@ pub(crate) fn block_upload_initiated(first: u8, second: u8) -> Outcome {
     }
 }
 
-/// The same after its sub-block of two segments. An acknowledge has their number in byte 1, and block size 0 in
-/// byte 2.
+/// The same after its sub-block of two segments. An acknowledgement has their number in byte 1, and
+/// block size 0 in byte 2.
 pub(crate) fn block_upload_sent(first: u8, second: u8) -> Outcome {
     match (first >> 5, first & 3, second) {
         (5, 2, 0 | 1) => abort(OPEN, BLOCK_SIZE), // upload SDO block, not all acknowledged
@@ -202,7 +207,7 @@ pub(crate) fn block_upload_sent(first: u8, second: u8) -> Outcome {
     }
 }
 
-/// The same after the server's end: the client's is awaited.
+/// The same after the server's end: the client's end is awaited.
 pub(crate) fn block_upload_ended(first: u8, second: u8) -> Outcome {
     match (first >> 5, first & 3) {
         (5, 1) => silent(0), // end SDO block upload

@@ -1,11 +1,12 @@
-//! Scripts of what comes to a device and what it then sends.
+//! Scripts of the inputs of a device and the frames that it sends.
 //!
-//! A line of a script is an input and, after ` = `, the frames that are then sent and no other; or a question. Inputs
-//! are a frame, as `605#4000100000000000`, and the event lines of a trace, as `!event 0`; of several ticks the last
-//! alone may send something. `segments 127` are the segments 1 to 127 of a sub-block, all zeros, of which again the
-//! last alone may. Questions are `value 2001:00 3031`, `held 0 7`, `state Stopped`, `done`, and `refused 06020000`.
-//! `new 1000 1017=10`, with which a script begins, is a new device with an SDO timeout of 1000 ms and that default of
-//! 1017h; with `+` after the time it has a SYNC counter.
+//! A line of a script is an input and, after ` = `, exactly the frames that are then sent; or a
+//! question. Inputs are a frame, such as `605#4000100000000000`, and the event lines of a trace,
+//! such as `!event 0`; of several ticks only the last may send frames. `segments 127` are the
+//! segments 1 to 127 of a sub-block, all zeros, of which only the last may be answered. Questions
+//! are `value 2001:00 3031`, `held 0 7`, `state Stopped`, `done`, and `refused 06020000`. A script
+//! begins with `new 1000 1017=10`: a new device with an SDO timeout of 1000 ms and that default of
+//! 1017h. With `+` after the time it has a SYNC counter.
 
 use crate::bad_script::BadScript;
 use crate::device::node_by;
@@ -28,7 +29,7 @@ pub fn devices_of(alloc: Global, script: &str) -> Result<Vec<Node>, BadScript> {
     Ok(devices)
 }
 
-// Whether a device does what a line says.
+// Whether a device acts as a line states.
 fn is_shown(node: &mut Node, line: &str, sent: &mut Outbox) -> Result<bool, BadScript> {
     if let Some(is_right) = answer(node, line)? {
         return Ok(is_right);
@@ -38,8 +39,8 @@ fn is_shown(node: &mut Node, line: &str, sent: &mut Outbox) -> Result<bool, BadS
     Ok(give(node, input, sent)? && are_frames(sent.as_slice(), frames)?)
 }
 
-/// The first line of a script that its devices don't do, or that is no line of a script; what was sent last is in the
-/// outbox. It takes no memory.
+/// The first line at which the devices of a script differ, or that is no line of a script; the
+/// outbox has the frames sent last. It allocates no memory.
 pub fn first_wrong<'a>(
     devices: &mut [Node],
     script: &'a str,

@@ -1,6 +1,6 @@
 //! SDO transfers with a whole device.
 
-/// What one frame answers, and segmented transfers.
+/// Single frames with their answers, and segmented transfers.
 pub const SEGMENTED: &str = "\
 new 1000
 605#4000100000000000 = 585#4300100091010000

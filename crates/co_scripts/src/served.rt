@@ -20,8 +20,8 @@ pub struct Served<S: ObjectStore> {
 }
 
 impl<S: ObjectStore + Drop> Served<S> {
-    /// A channel over a dictionary, with room for the greatest entry there is; `time` is that of a transfer, in ms.
-    /// `AllocError` where there is no memory for its buffer.
+    /// A channel over a dictionary, with room for its greatest entry; `time` is the SDO timeout in
+    /// ms. `AllocError` if its buffer can't be allocated.
     pub fn over(alloc: Global, store: S, time: u16) -> Result<Served<S>, AllocError> {
         capacity_law(&store);
         let ids = Ids {
@@ -32,7 +32,7 @@ impl<S: ObjectStore + Drop> Served<S> {
         Ok(Served { channel, store })
     }
 
-    /// Puts the frames that answer a request in the place of what was sent, and gives the key that it set.
+    /// Replaces `sent` by the answers to a request, and returns the key that it set.
     pub fn take_into(&mut self, request: &Frame, sent: &mut Outbox) -> Option<Key> {
         sent.clear();
         self.channel.take(&mut self.store, request, sent)
@@ -55,7 +55,7 @@ impl<S: ObjectStore + Drop> Served<S> {
         self.channel.drop_transfer();
     }
 
-    /// The application writes an entry. `BadScript` where it may not.
+    /// The application writes an entry. `BadScript` if this is refused.
     pub fn write(&mut self, index: u16, bytes: &[u8]) -> Result<(), BadScript> {
         let key = Key { index, sub: 0 };
         app_store(&self.store, key, bytes).ok().ok_or(BadScript)?;
@@ -63,7 +63,7 @@ impl<S: ObjectStore + Drop> Served<S> {
         Ok(())
     }
 
-    /// All entries get their initial bytes again.
+    /// Restores the initial bytes of all entries.
     pub fn restore(&mut self) {
         self.store.reset(Area::All);
     }

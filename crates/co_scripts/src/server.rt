@@ -1,4 +1,4 @@
-//! A channel as an end of a dialogue.
+//! A channel as one end of a dialogue.
 
 use crate::bad_script::BadScript;
 use crate::dialogue::{End, follows};
@@ -7,7 +7,8 @@ use crate::served::Served;
 use co_dict::ObjectStore;
 use co_frame::{Frame, Outbox};
 
-// Sends the segments of a sub-block up to this one, all zeros; false where one before the last is answered.
+// Sends the segments of a sub-block up to number `last`, all zeros; false if one before it is
+// answered.
 fn send_segments<S: ObjectStore + Drop>(
     served: &mut Served<S>,
     last: u8,
@@ -23,7 +24,7 @@ fn send_segments<S: ObjectStore + Drop>(
     Ok(true)
 }
 
-// Lets 10 ms go by, after which the transfer is given up; false where its time is over before, or isn't then.
+// Lets 10 ms elapse, at which the transfer times out; false if it times out earlier, or not then.
 fn give_up<S: ObjectStore + Drop>(served: &mut Served<S>, sent: &mut Outbox) -> bool {
     for _ in 0..10 {
         if served.channel.expired() {
@@ -60,7 +61,8 @@ impl<S: ObjectStore + Drop> End for Served<S> {
     }
 }
 
-/// Does what a dialogue says: `Ok` with the number of the answers, else the first word that isn't so.
+/// Runs a channel through a dialogue: `Ok` with the number of its answers, or the first word at
+/// which it differs.
 pub fn server_follows<'a, S: ObjectStore + Drop>(
     served: &mut Served<S>,
     dialogue: &'a str,

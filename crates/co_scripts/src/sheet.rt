@@ -1,6 +1,6 @@
-//! Data sheets out of tables with a line for each section: `1018 9` is an object with sub-indices, of object type 9,
-//! and `1018sub0 5 ro 1` an entry of data type 5, access ro and default 1. A word with `=` is a further line of the
-//! section.
+//! Data sheets made from tables with a line for each section: `1018 9` is an object with
+//! sub-indices, of object type 9, and `1018sub0 5 ro 1` an entry of data type 5, access ro and
+//! default 1. A word with `=` is one more line of the section.
 
 use std::alloc::{AllocError, Global};
 use std::string::String;
@@ -13,7 +13,7 @@ const MANDATORY: &str = "\
 1018sub1 7 ro
 ";
 
-/// The communication objects of the device that most tests are of, PDOs aside.
+/// The communication objects of the device of most tests, without PDOs.
 pub const PROFILE: &str = "\
 1003 8
 1003sub0 5 rw
@@ -68,7 +68,7 @@ pub const PDOS: &str = "\
 1A01sub2 7 rw 0
 ";
 
-/// Its SYNC counter, and the start value of a TPDO, which it has in some tests.
+/// Its SYNC counter, and the SYNC start value of a TPDO, for some tests.
 pub const COUNTER: &str = "\
 1019 5 rw
 1800sub6 5 rw
@@ -83,7 +83,7 @@ pub const MANUFACTURER: &str = "\
 2100 2
 ";
 
-// The default that changes such as `1017=10 1800sub2=3` give a section.
+// The default of a section by changes such as `1017=10 1800sub2=3`.
 fn default_in<'a>(changes: &'a str, name: &str) -> Option<&'a str> {
     for change in changes.split_whitespace() {
         if let Some((section, default)) = change.split_once('=')
@@ -127,7 +127,7 @@ fn push_table(text: &mut String, table: &str, changes: &str) -> Result<(), Alloc
     Ok(())
 }
 
-// Appends the objects of a table to a list that has so many; how many it has then.
+// Appends the objects of a table to a list of `before` objects; returns how many it has then.
 fn push_names(text: &mut String, table: &str, before: u16) -> Result<u16, AllocError> {
     let mut count = before;
     for row in table.lines() {
@@ -140,7 +140,8 @@ fn push_names(text: &mut String, table: &str, before: u16) -> Result<u16, AllocE
     Ok(count)
 }
 
-// Appends the sections of tables, with changed defaults, and the list of their objects, if there are tables.
+// Appends the sections of tables, with changed defaults, and the list of their objects, if there
+// are tables.
 fn push_objects(
     text: &mut String,
     list: &str,
@@ -161,8 +162,8 @@ fn push_objects(
     write!(text, "SupportedObjects={count}\n")
 }
 
-/// A data sheet: the mandatory objects, and those of tables of optional and of manufacturer objects, with changed
-/// defaults, as `1017=10 1800sub2=3`.
+/// A data sheet: the mandatory objects, and those of tables of optional and manufacturer objects,
+/// with changed defaults such as `1017=10 1800sub2=3`.
 pub fn sheet_of(
     alloc: Global,
     optional: &[&str],

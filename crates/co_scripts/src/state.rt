@@ -9,7 +9,7 @@ use crate::reply_table::{
 use arrayvec::ArrayVec;
 use co_frame::Frame;
 
-/// A state of a channel. What is open is a transfer of 2001h.
+/// A state of a channel. The open transfer is one of 2001h.
 #[derive(Clone, Copy, Debug, PartialEq, Eq)]
 pub enum State {
     Idle,
@@ -17,7 +17,7 @@ pub enum State {
     SegmentedUpload,
     /// Inside a sub-block of a block download.
     SubBlock,
-    /// The same, when more bytes are held than the entry has room for.
+    /// The same, when more bytes are held than the capacity of the entry.
     FullSubBlock,
     /// After the last segment of a block download.
     LastSegmentTaken,
@@ -26,7 +26,7 @@ pub enum State {
     BlockUploadEnded,
 }
 
-/// All of them.
+/// All states.
 pub const STATES: [State; 9] = [
     State::Idle,
     State::SegmentedDownload,
@@ -73,7 +73,7 @@ impl State {
         }
     }
 
-    /// Those requests alone.
+    /// These requests without their answers.
     pub fn requests(self) -> Result<ArrayVec<Frame, 4>, BadScript> {
         let mut requests = ArrayVec::new();
         for text in self.opening().split_whitespace() {
@@ -85,7 +85,7 @@ impl State {
         Ok(requests)
     }
 
-    /// What a frame leads to whose first bytes are these, and whose others are 0.
+    /// The outcome of a frame with these first two bytes; the others are 0.
     pub fn outcome(self, first: u8, second: u8) -> Outcome {
         match self {
             State::Idle => idle(first, second),

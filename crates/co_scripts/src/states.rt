@@ -1,6 +1,7 @@
 //! NMT states, heartbeats and emergencies of a whole device.
 
-/// All that a tick sends, and what keeps what back; heartbeats of another node; the list of errors; the queue.
+/// All frames of a tick, and which of them is delayed by which; heartbeats of another node; the
+/// pre-defined error field; the queue of emergencies.
 pub const EMERGENCIES: &str = "\
 new 10 1017=10 1800sub5=10 1801sub5=10 1015=100
 000#0105
@@ -38,7 +39,7 @@ new 1000 1015=1000
 !tick 100 = 085#0310010000000000
 ";
 
-/// What the application is answered: each event once, and each refusal.
+/// The answers to the application: each event once, and each refusal.
 pub const APPLICATION: &str = "\
 new 1000
 !raise 0000 01 0000000000

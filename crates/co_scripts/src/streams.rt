@@ -1,24 +1,24 @@
-//! Readers in memory that give little at once, fail, or never end.
+//! Readers in memory that return few bytes at a time, fail, or never end.
 
 use std::io;
 use std::io::Read;
 
-/// A reader that is interrupted by a signal so many times, and then gives a text, so many bytes at a time at most.
-/// Asked more often than so many times it fails.
+/// A reader that is interrupted by a signal a number of times, and then returns a text, at most a
+/// number of bytes at a time. It fails after a number of calls.
 #[derive(Drop)]
 pub struct Pieces<'a> {
-    /// What is left of the text.
+    /// The rest of the text.
     pub text: &'a [u8],
-    /// The greatest number of bytes that it gives at a time.
+    /// The most bytes that it returns at a time.
     pub size: usize,
     /// How many more times it is interrupted.
     pub interruptions: u32,
-    /// How many more times it can be asked, interruptions aside.
+    /// Remaining calls before it fails, without the interruptions.
     pub calls: u32,
 }
 
 impl<'a> Pieces<'a> {
-    /// One that is not interrupted and doesn't fail.
+    /// A reader that is never interrupted and doesn't fail.
     pub fn new(text: &'a [u8], size: usize) -> Self {
         Pieces {
             text,
@@ -46,7 +46,8 @@ impl Read for Pieces<'_> {
     }
 }
 
-/// A reader that is interrupted by a signal so many times, and then gives a line feed in each call, for ever.
+/// A reader that is interrupted by a signal a number of times, and then returns a line feed at each
+/// call, without end.
 #[derive(Drop)]
 pub struct Endless {
     /// How many more times it is interrupted.

@@ -1,6 +1,6 @@
-//! Worked transfers of 2001h, for either end. The frames are worked out by hand from CiA 301.
+//! Worked transfers of 2001h, for either end. The frames are made by hand from CiA 301, 7.2.4.3.
 
-/// A segmented download of ten bytes, which the server gives up 10 ms after the first segment.
+/// A segmented download of ten bytes, which the server aborts 10 ms after the first segment.
 pub const TIMED_OUT: &str = "
     605#210120000A000000 585#6001200000000000
     605#0030313233343536 585#2000000000000000 7
@@ -13,7 +13,7 @@ pub const UPLOAD: &str = "
     605#6000000000000000 585#0030313233343536
     605#7000000000000000 585#1937383900000000";
 
-/// The same, where the client has less room.
+/// The same, with less room at the client.
 pub const UPLOAD_TOO_LONG: &str = "
     605#4001200000000000 585#410120000A000000
     605#8001200005000405";

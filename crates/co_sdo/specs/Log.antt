@@ -22,7 +22,7 @@ answer_bytes (Segment segment) = block_segment_bytes segment
 abbrev pub frames_on : ℕ → List Answer → List FrameContent
 frames_on id answers = map (λ answer. record { id = id; bytes = answer_bytes answer }) answers
 
--- an answer gives the transfer up
+-- an answer is an abort
 abbrev pub is_abort : Answer → Bool
 is_abort (Response (Abort key code)) = true
 is_abort _ = false
@@ -31,18 +31,20 @@ is_abort _ = false
 abbrev pub is_request_on : ℕ → FrameContent → Bool
 is_request_on id frame = (frame.id == id) && (length frame.bytes == 8)
 
--- the eight bytes of a request, the bytes of the entries when it came, and the answers to it
+-- a request with its answers: its eight bytes, the contents of the entries when it came, and what
+-- was answered
 pub record Exchange : Type 0 where
   pub request : List ℕ
   pub contents : Contents
   pub answers : List Answer
 
+-- an event of a channel
 pub data Event : Type 0 where
   -- a request came and was answered
   Exchanged : Exchange → Event
-  -- a millisecond passed
+  -- 1 ms elapsed
   Ticked : Event
-  -- the time of the transfer was over, and this was sent
+  -- the transfer timed out, and this was sent
   TimedOut : List Answer → Event
   -- the transfer was dropped without an abort
   Dropped : Event

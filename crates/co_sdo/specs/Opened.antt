@@ -1,4 +1,4 @@
--- How far an open transfer is, and the bytes that are held for it (CiA 301, 7.2.4.3).
+-- The progress of an open transfer, and the bytes held for it (CiA 301, 7.2.4.3).
 use Rattle.std.specs.Prelude.{◌≡◌, ℕ, zero, suc, ◌+◌, ◌&&◌, Bool, true, false, nat_lt, nat_le, is_some, List, [], ◌∷◌, length, Option, Some, None, if◌then◌else◌}
 use Rattle.std.specs.List.{list_any}
 use Rattle.std.specs.Option.{option_map_or}
@@ -15,8 +15,8 @@ use Rattle.co_sdo.specs.Downloads.{is_odd, segments_joined}
 use Rattle.co_sdo.specs.Uploads.{value_at}
 use Rattle.co_sdo.specs.OpenTransfers.{Transfer, open_transfer}
 
--- an open transfer as the next request finds it: its key, how far it is, and its bytes: the data so far of a download, the
--- value that the entry had at the begin of an upload
+-- an open transfer as the next request finds it: its key, its progress, and its bytes. Those of a
+-- download are its data so far, those of an upload the value of the entry at initiate
 pub record OpenTransfer : Type 0 where
   pub key : Key
   pub stage : Stage
@@ -27,6 +27,7 @@ abbrev pub acknowledged_by : Option SdoRequest → ℕ
 acknowledged_by (Some (BlockUploadAcknowledge sequence block_size)) = sequence
 acknowledged_by _ = 0
 
+-- how many segments of a block upload these requests, newest first, have acknowledged
 abbrev pub acknowledged : List (List ℕ) → ℕ
 acknowledged [] = 0
 acknowledged (frame ∷ older) = acknowledged older + acknowledged_by (request_in frame)
@@ -43,10 +44,11 @@ block_upload_stage block_size (x ∷ older) =
     if list_any is_end_sent x.answers then BlockUploadEnded
     else BlockUpload (acknowledged (requests (x ∷ older))) (length x.answers)
 
--- a block download: inside a sub-block, or after the segment with c
+-- a block download: inside a sub-block, or after the segment with c = 1
 abbrev pub block_download_stage : Option ℕ → List (List ℕ) → Stage
 block_download_stage size later = if has_last later then LastTaken size else SubBlock size (length (taken_segments (sub_block later)))
 
+-- the progress of a transfer and its bytes, by its initiate request
 abbrev pub opened_by : Option SdoRequest → Transfer → Option OpenTransfer
 opened_by (Some (DownloadInitiate key size)) t = Some (record { key = key; stage = Download size (is_odd (length (requests t.later))); bytes = segments_joined (requests t.later) })
 opened_by (Some (Upload key)) t = Some (record { key = key; stage = Uploading (length t.later); bytes = value_at t.begin.contents key })
@@ -54,7 +56,7 @@ opened_by (Some (BlockUploadInitiate key block_size threshold)) t = Some (record
 opened_by (Some (BlockDownloadInitiate key size)) t = Some (record { key = key; stage = block_download_stage size (requests t.later); bytes = block_bytes (requests t.later) })
 opened_by _ t = None
 
--- how far a transfer is
+-- the progress of a transfer, and its bytes
 abbrev pub opened : Option Transfer → Option OpenTransfer
 opened None = None
 opened (Some t) = opened_by (request_in t.begin.request) t
@@ -71,11 +73,11 @@ bytes_held current = option_map_or (λ o. length o.bytes) current 0
 abbrev pub held_bytes : Log → ℕ
 held_bytes log = bytes_held (opened_after log)
 
--- a transfer is open and its time is over; time 0 is none
+-- a transfer is open and has timed out; a time of 0 disables it
 abbrev pub is_time_over : ℕ → Log → Bool
 is_time_over time log = is_some (opened_after log) && (nat_lt 0 time && nat_le time (ticks_quiet log))
 
--- after none of so many ticks one after another is it so
+-- no transfer times out within the next `n` ticks, if nothing else happens
 abbrev pub NotOverFor : ℕ → ℕ → Log → Type 0
 NotOverFor time zero log = Unit {0}
 NotOverFor time (suc n) log = (is_time_over time (Ticked ∷ log) ≡ false) × NotOverFor time n (Ticked ∷ log)

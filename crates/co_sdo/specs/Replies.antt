@@ -22,20 +22,21 @@ use Rattle.co_sdo.specs.Uploads.{value_at, upload_initiated, upload_segment, seg
 use Rattle.co_sdo.specs.OpenTransfers.{is_initiate}
 use Rattle.co_sdo.specs.Opened.{OpenTransfer, opened_after}
 
+-- an abort with a key and a code (7.2.4.3.17)
 abbrev pub aborted : Key → ℕ → List Answer
 aborted key code = Response (Aborted key (record { 0 = code })) ∷ []
 
--- an abort where something is refused
+-- the answers, or an abort after a refusal
 abbrev pub unless_refused : Option ℕ → Key → List Answer → List Answer
 unless_refused None key answers = answers
 unless_refused (Some code) key answers = aborted key code
 
--- the key of what is open; index 0 and sub-index 0 where nothing is
+-- the key of the open transfer; index 0 and sub-index 0 if none is open
 abbrev pub open_key : Option OpenTransfer → Key
 open_key None = record { index = 0; sub = 0 }
 open_key (Some o) = o.key
 
--- a request that nothing else answers
+-- a request that fits no open transfer: command specifier not valid or unknown
 abbrev pub unexpected : Option OpenTransfer → List Answer
 unexpected current = aborted (open_key current) unknown_command
 
@@ -53,7 +54,8 @@ block_size_refusal size = refused_if (not (nat_le 1 size && nat_le size segments
 
 -- ---- downloads
 
--- why a segment of a segmented download is refused: toggle, room, and with c what refuses the completion
+-- why a segment of a segmented download is refused: its toggle, its room, and if c = 1 the
+-- completion
 abbrev pub segment_refusal : Description → Contents → OpenTransfer → Option ℕ → Bool → Bool → List ℕ → Bool → Option ℕ
 segment_refusal d contents o indicated expected toggle part last = first_refusal (toggle_refusal toggle expected
     ∷ room_refusal d.rows o.key (o.bytes ++ part)
@@ -66,7 +68,8 @@ segment_answers d contents o (Download indicated expected) toggle part last =
     unless_refused (segment_refusal d contents o indicated expected toggle part last) o.key (Response (DownloadSegmentDone toggle) ∷ [])
 segment_answers d contents o _ toggle part last = unexpected (Some o)
 
--- the end of a sub-block is refused where no segment with c was taken and there isn't room for the bytes held
+-- the end of a sub-block is refused if the entry has no room for the bytes held, unless the last
+-- segment was taken
 abbrev pub sub_block_refusal : Rows → OpenTransfer → ℕ → List ℕ → Option ℕ
 sub_block_refusal rows o taken frame =
     if is_last_taken (segment_next taken frame) then None else room_refusal rows o.key (held_with o.bytes taken frame)
@@ -96,7 +99,8 @@ abbrev pub start_answers : OpenTransfer → Stage → List Answer
 start_answers o (Begun block_size) = sub_block_sent o.bytes 0 block_size
 start_answers o _ = unexpected (Some o)
 
--- what follows after so many acknowledged segments: the end after the last, else the next sub-block
+-- the answers after the first `position` segments are acknowledged: the end after the last, else
+-- the next sub-block
 abbrev pub next_sub_block : OpenTransfer → ℕ → ℕ → List Answer
 next_sub_block o position block_size =
     if position == segment_count o.bytes then block_upload_end o.bytes
@@ -115,7 +119,7 @@ upload_end_answers o _ = unexpected (Some o)
 
 -- ---- the table
 
--- the answers to an initiate: its first refusal, or its confirmation; those to an abort: none
+-- the answers to an initiate request: its first refusal, or its confirmation
 abbrev pub initiate_answers : Description → Contents → SdoRequest → List Answer
 initiate_answers d contents (DownloadExpedited key expedited) =
     unless_refused (completion_refusal d contents key None (expedited_part d.rows key expedited)) key (Response (DownloadDone key) ∷ [])
@@ -126,11 +130,12 @@ initiate_answers d contents (BlockUploadInitiate key block_size threshold) =
 initiate_answers d contents (BlockDownloadInitiate key size) = unless_refused (initiate_refusal d key size) key (Response (BlockDownloadInitiated key segments_per_sub_block) ∷ [])
 initiate_answers d contents _ = []
 
--- the answers to a request that goes on with what is open
+-- the answers to a request that continues the open transfer
 abbrev pub on_open : Option OpenTransfer → (OpenTransfer → Stage → List Answer) → List Answer
 on_open None answers = unexpected None
 on_open (Some o) answers = answers o o.stage
 
+-- the answers to a request that initiates no transfer
 abbrev pub later_answers : Description → Contents → Option OpenTransfer → SdoRequest → List Answer
 later_answers d contents current (DownloadSegment toggle segment last) = on_open current (λ o stage. segment_answers d contents o stage toggle segment.items last)
 later_answers d contents current (UploadSegment toggle) = on_open current (λ o stage. upload_answers o stage toggle)
@@ -146,19 +151,22 @@ request_answers d contents current None = unexpected current
 request_answers d contents current (Some request) =
     if is_initiate (Some request) then initiate_answers d contents request else later_answers d contents current request
 
+-- a block download is inside a sub-block
 abbrev pub is_sub_block : Stage → Bool
 is_sub_block (SubBlock indicated taken) = true
 is_sub_block _ = false
 
--- what is open is a block download, and the next frame falls inside a sub-block
+-- the open transfer is a block download, and the next frame falls inside a sub-block
 abbrev pub is_in_sub_block : Option OpenTransfer → Bool
 is_in_sub_block current = option_map_or (λ o. is_sub_block o.stage) current false
 
+-- the answers to a frame inside a sub-block, by the progress of the transfer
 abbrev pub frame_answers : Rows → OpenTransfer → Stage → List ℕ → List Answer
 frame_answers rows o (SubBlock indicated taken) frame = sub_block_answers rows o taken frame
 frame_answers rows o _ frame = unexpected (Some o)
 
--- the answers to a frame while this is open: inside a sub-block as a segment, elsewhere as a request
+-- the answers to a frame with this transfer open: inside a sub-block as a segment, elsewhere as a
+-- request
 abbrev pub answers_to : Description → Contents → Option OpenTransfer → List ℕ → List Answer
 answers_to d contents current frame =
     if is_in_sub_block current then on_open current (λ o stage. frame_answers d.rows o stage frame)
@@ -168,9 +176,10 @@ answers_to d contents current frame =
 abbrev pub reply_to : Description → Contents → Log → List ℕ → List Answer
 reply_to d contents log frame = answers_to d contents (opened_after log) frame
 
--- what is sent when the time of a transfer is over
+-- what is sent when a transfer times out
 abbrev pub time_out_answers : Option OpenTransfer → List Answer
 time_out_answers current = aborted (open_key current) timed_out
 
+-- what is sent when the transfer that is open after a log times out
 abbrev pub time_out_reply : Log → List Answer
 time_out_reply log = time_out_answers (opened_after log)

@@ -1,5 +1,5 @@
--- What an upload sends of a value: segments, and the sub-blocks of a block upload (CiA 301, 7.2.4.3.6, 7.2.4.3.7 and
--- 7.2.4.3.13 to 7.2.4.3.15).
+-- What an upload sends of a value: segments, and the sub-blocks of a block upload (CiA 301,
+-- 7.2.4.3.6, 7.2.4.3.7 and 7.2.4.3.13 to 7.2.4.3.15).
 use Rattle.std.specs.Prelude.{ℕ, ◌&&◌, Bool, nat_le, List, [], ◌∷◌, length, map, Some, if◌then◌else◌, unwrap_or}
 use Rattle.std.specs.List.{range_with_len}
 use Rattle.co_value.specs.declared.key.Key.{Key}
@@ -20,12 +20,12 @@ upload_initiated key value =
     then Response (UploadExpedited key (Indicated (record { items = value }))) ∷ []
     else Response (UploadInitiated key (Some (length value))) ∷ []
 
--- the segment after so many, with c where no bytes remain
+-- the segment after the first `count`; c = 1 if no bytes remain after it
 abbrev pub upload_segment : Bool → ℕ → List ℕ → List Answer
 upload_segment toggle count value =
     Response (UploadSegment toggle (record { items = part_after count value }) (is_last_after count value)) ∷ []
 
--- the sub-block after so many segments, numbered from 1
+-- the sub-block after the first `position` segments, numbered from 1
 abbrev pub sub_block_sent : List ℕ → ℕ → ℕ → List Answer
 sub_block_sent value position size = map (λ number. Segment (block_segment value position number)) (range_with_len 1 (sub_block_length value position size))
 

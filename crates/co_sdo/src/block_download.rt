@@ -1,4 +1,4 @@
-//! Block downloads.
+//! SDO block download (CiA 301, 7.2.4.3.9 to 7.2.4.3.11).
 
 ghost use Rattle.std.specs.Prelude.{◌≡◌, ◌+◌, ◌*◌, ◌<◌, ◌≤◌, ◌++◌, Some, None, length};
 ghost use Rattle.arrayvec.specs.ArrayVec.{array_vec_len};
@@ -102,7 +102,7 @@ impl Channel {
         let bytes = segment_data(frame);
         let count = self.buffer.append_next(taken, &segment, bytes);
         if !segment.last && segment.sequence != SEGMENTS_PER_SUB_BLOCK {
-            // the rest of what is open stays, and isn't copied
+            // the rest of the open transfer stays, without a copy
             if let Some(ongoing) = &mut self.current {
                 if let Stage::SubBlock {
                     indicated: _,

@@ -1,4 +1,4 @@
-//! Block uploads.
+//! SDO block upload (CiA 301, 7.2.4.3.13 to 7.2.4.3.15).
 
 ghost use Rattle.std.specs.Prelude.{◌≡◌, ◌+◌, ◌-◌, ◌*◌, ◌^◌, ◌<◌, ◌≤◌, ◌++◌, Some, None, length};
 ghost use Rattle.arrayvec.specs.ArrayVec.{array_vec_len};
@@ -49,7 +49,7 @@ impl Channel {
               store.now) (S.contents store.now) (BlockUploadInitiate key block_size threshold);
         } }
     {
-        // the switch to another protocol is not supported
+        // the protocol switch threshold is ignored: a block upload stays one
         let _ = threshold;
         self.current = None;
         let value = match readable_value(store, key) {
@@ -74,7 +74,7 @@ impl Channel {
             .send(SdoResponse::BlockUploadInitiated { key, size }, outbox);
     }
 
-    // The start of a block upload: cs = 3.
+    // The start of a block upload, ccs = 5, cs = 3.
     #[inline(never)]
     pub(crate) fn start_block_upload(&mut self, outbox: &mut Outbox)
         requires room { HasRoomFor segments_per_sub_block outbox.old }
@@ -108,7 +108,7 @@ impl Channel {
         });
     }
 
-    // An acknowledgement of a sub-block: cs = 2.
+    // The acknowledgement of a sub-block, ccs = 5, cs = 2.
     #[inline(never)]
     pub(crate) fn acknowledge_block_upload(
         &mut self,
@@ -165,7 +165,7 @@ impl Channel {
         });
     }
 
-    // The client's end of a block upload: cs = 1.
+    // The client's end of a block upload: end SDO block upload, ccs = 5, cs = 1.
     #[inline(never)]
     pub(crate) fn end_block_upload(&mut self, outbox: &mut Outbox)
         requires room { HasRoomFor 1 outbox.old }

@@ -63,9 +63,10 @@ impl Model for Channel {
 }
 
 impl Channel {
-    /// A channel that has received nothing. It asks for a buffer of `greatest` + 889 bytes, where `greatest` is the
-    /// greatest capacity of an entry: 889 is a sub-block of 127 segments of 7 bytes. `time` is how long the client may
-    /// take for its next request, in ms; 0 is for ever. `AllocError` where there is no memory for the buffer.
+    /// A channel that has received nothing. It allocates a buffer of `greatest` + 889 bytes:
+    /// `greatest` is the greatest capacity of an entry, and 889 a sub-block of 127 segments of 7
+    /// bytes. `time` is the SDO timeout between two requests, in ms; 0 disables it. `AllocError` if
+    /// the buffer can't be allocated.
     pub fn new(alloc: Global, ids: Ids, greatest: u32, time: u16) -> Result<Channel, AllocError>
         requires request { ids.request < 2048 }
         requires answer { ids.answer < 2048 }
@@ -104,8 +105,8 @@ impl Channel {
         }
     }
 
-    /// An entry is set only where the dictionary permits the download: nothing refuses its completion. This is a law: a
-    /// call of it changes nothing.
+    /// An entry is set only by a download that the dictionary permits. This is a law: a call of it
+    /// changes nothing.
     pub fn set_is_permitted()
         ensures permitted { (id : ℕ) (d : Description) (contents : Contents) (log : Log)
             (frame : FrameContent) (download : Download) →
@@ -113,9 +114,10 @@ impl Channel {
             completion_refusal d contents download.key download.indicated download.bytes ≡ None }
     {}
 
-    /// Takes a frame. One that hasn't eight bytes, or has another identifier than the channel's requests, is passed
-    /// over. Else the answers are put into the outbox, at most 127 frames. Where the frame completes a download that
-    /// the dictionary permits, its entry is set, and its key is given; nothing else in the store changes.
+    /// Takes a frame (CiA 301, 7.2.4.3). A frame that hasn't eight bytes, or has another identifier
+    /// than the channel's requests, is ignored. Else the answers are put into the outbox, at most
+    /// 127 frames. If the frame completes a download that the dictionary permits, this sets its
+    /// entry and returns its key; nothing else in the store changes.
     pub fn take<S: ObjectStore>(
         &mut self,
         store: &mut S,
@@ -152,7 +154,7 @@ impl Channel {
         self.step(store, frame, outbox)
     }
 
-    // Drops what is open with an abort.
+    // Aborts the open transfer. Without one the abort has index 0 and sub-index 0.
     #[cold]
     #[inline(never)]
     pub(crate) fn give_up(&mut self, code: AbortCode, outbox: &mut Outbox)

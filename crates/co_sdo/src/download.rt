@@ -1,4 +1,4 @@
-//! Downloads: expedited and segmented.
+//! SDO download, expedited and segmented (CiA 301, 7.2.4.3.3 and 7.2.4.3.4).
 
 ghost use Rattle.std.specs.Prelude.{◌≡◌, ◌+◌, ◌<◌, ◌≤◌, ◌++◌, [], ◌∷◌, Some, None, false, length};
 ghost use Rattle.arrayvec.specs.ArrayVec.{array_vec_len};
@@ -31,7 +31,7 @@ use co_dict::ObjectStore;
 use co_frame::{AbortCode, ExpeditedData, Outbox, SdoResponse};
 use co_value::Key;
 
-// How many bytes an entry has room for.
+// The capacity of an entry, in bytes.
 pub(crate) fn capacity<S: ObjectStore>(store: &S, key: Key) -> usize
     ensures { result ≡ capacity_at (S.description store.now).rows key }
 {
@@ -41,7 +41,7 @@ pub(crate) fn capacity<S: ObjectStore>(store: &S, key: Key) -> usize
     }
 }
 
-// The data of an expedited download into an entry with so much room.
+// The data of an expedited download into an entry of this capacity.
 fn expedited_bytes(data: &ExpeditedData, capacity: usize) -> &[u8]
     ensures { result.now ≡ expedited_within capacity data.now }
 {
@@ -58,7 +58,7 @@ fn expedited_bytes(data: &ExpeditedData, capacity: usize) -> &[u8]
 }
 
 impl Sender {
-    // Sets an entry and answers with this response, or refuses.
+    // Sets an entry, sends this response and returns the key; or sends an abort.
     #[inline(never)]
     pub(crate) fn complete<S: ObjectStore>(
         self,
@@ -126,7 +126,7 @@ impl Channel {
         self.sender.complete(store, key, None, bytes, done, outbox)
     }
 
-    // Initiate SDO download, ccs = 1, e = 0: a segmented one.
+    // A segmented download: initiate SDO download, ccs = 1, e = 0.
     #[inline(never)]
     pub(crate) fn initiate_download<S: ObjectStore>(
         &mut self,
@@ -166,8 +166,8 @@ impl Channel {
         }
     }
 
-    // A segment of a download: download SDO segment, ccs = 0. What is said of it holds where the room that the channel
-    // knows is that of the entry.
+    // A segment of a download: download SDO segment, ccs = 0. Its contract needs `room` to be the
+    // capacity of the entry, as it is after initiate.
     pub(crate) fn take_segment<S: ObjectStore>(
         &mut self,
         store: &mut S,

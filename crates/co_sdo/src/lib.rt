@@ -1,4 +1,4 @@
-//! The SDO server of a CANopen device: one channel over an object dictionary.
+//! The SDO server of a CANopen device: one channel over an object dictionary (CiA 301, 7.2.4.3).
 #![tactic(auto)]
 
 mod block_download;

@@ -1,4 +1,5 @@
-//! What the dictionary refuses, as the channel answers it, and the value that it lets be read.
+//! The abort code of a read or a write that the dictionary refuses, and the value of a permitted
+//! read.
 
 ghost use Rattle.std.specs.Prelude.{◌≡◌, ◌≤◌, true, length, None, option_map, IfOk};
 ghost use Rattle.co_dict.specs.Rows.{takes};
@@ -10,7 +11,7 @@ use co_dict::{ObjectStore, may_begin, may_complete, place_laws, readable, store_
 use co_frame::AbortCode;
 use co_value::Key;
 
-// The value of an entry that may be read, from one search for it, or why it can't be read.
+// The value of an entry, or why it can't be read, after a single search for it.
 #[tactic(auto, unfolding(crate::specs::Refused::reading_refusal))]
 pub(crate) fn readable_value<S: ObjectStore>(store: &S, key: Key) -> Result<&[u8], AbortCode>
     ensures refusal { refusal_in result
@@ -28,7 +29,7 @@ pub(crate) fn readable_value<S: ObjectStore>(store: &S, key: Key) -> Result<&[u8
     Ok(value)
 }
 
-// Why an entry can't be written, as far as is known when a transfer begins.
+// Why an entry can't be written, as far as initiate shows.
 #[tactic(auto, unfolding(crate::specs::Refused::initiate_refusal))]
 pub(crate) fn initiate_refusal<S: ObjectStore>(
     store: &S,
@@ -44,7 +45,7 @@ pub(crate) fn initiate_refusal<S: ObjectStore>(
     }
 }
 
-// Why an entry can't be written with these bytes, when a transfer completes.
+// Why these bytes can't be written to an entry when the download completes.
 #[tactic(auto, unfolding(crate::specs::Refused::completion_refusal))]
 pub(crate) fn completion_refusal<S: ObjectStore>(
     store: &S,

@@ -1,5 +1,5 @@
-//! One request, or one frame inside a sub-block, against what is open. What comes once a transfer is kept out of line,
-//! so that the way of a segment is short.
+//! What a request, or a frame inside a sub-block, does to the open transfer. Code that runs once
+//! per transfer is not inlined, to keep the path of a segment small.
 
 ghost use Rattle.std.specs.Prelude.{◌≡◌, ◌+◌, ◌<◌, ◌≤◌, ◌++◌, Some, None, true, false, length, drop};
 ghost use Rattle.arrayvec.specs.ArrayVec.{array_vec_len};
@@ -20,7 +20,7 @@ use co_dict::ObjectStore;
 use co_frame::{AbortCode, Frame, Outbox, SdoRequest};
 use co_value::Key;
 
-// The data of a segment, where they lie in its frame: they are copied once, from there.
+// The data of a block segment, borrowed from its frame.
 pub(crate) fn segment_data(frame: &Frame) -> &[u8]
     requires { length frame.now.bytes ≡ 8 }
     ensures data { result.now ≡ drop 1 frame.now.bytes }
@@ -30,7 +30,7 @@ pub(crate) fn segment_data(frame: &Frame) -> &[u8]
 }
 
 impl Channel {
-    // A request outside a sub-block, and the frame that spells it.
+    // Takes a request outside a sub-block; `frame` is the frame it was read from.
     fn take_request<S: ObjectStore>(
         &mut self,
         store: &mut S,

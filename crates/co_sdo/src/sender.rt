@@ -1,4 +1,4 @@
-//! The answers of a channel, as they are sent.
+//! How a channel sends its answers.
 
 ghost use Rattle.std.specs.Prelude.{◌≡◌, ◌+◌, ◌^◌, ◌≤◌, ◌<◌, ◌++◌, [], ◌∷◌, length};
 ghost use Rattle.arrayvec.specs.ArrayVec.{array_vec_len};
@@ -13,7 +13,7 @@ use co_frame::{AbortCode, Outbox, SdoResponse};
 use co_sdo_segments::send_sub_block;
 use co_value::Key;
 
-/// What a channel sends its answers by.
+/// Sends the answers of a channel.
 #[derive(Clone, Copy)]
 pub(crate) struct Sender {
     /// The identifier of the answers.
@@ -35,7 +35,7 @@ impl Sender {
         outbox.push(response.write(self.answer));
     }
 
-    // Refuses a request with this key.
+    // Refuses a request with an abort of this key.
     #[cold]
     #[inline(never)]
     pub(crate) fn refuse(self, key: Key, code: AbortCode, outbox: &mut Outbox)
@@ -49,7 +49,8 @@ impl Sender {
         self.send(SdoResponse::Abort { key, code }, outbox);
     }
 
-    // Sends the sub-block of a value that begins after so many segments, and gives the number of its segments.
+    // Sends the sub-block of a value that begins after the first `position` segments, and returns
+    // the number of its segments.
     pub(crate) fn send_sub_block(
         self,
         value: &[u8],

@@ -1,11 +1,12 @@
-//! How far an open transfer is.
+//! Progress of an open transfer.
 
 use co_value::Key;
 
-/// How far an open transfer is (CiA 301, 7.2.4.3).
-#[derive(Clone, Copy, Debug, PartialEq, Eq)]
+/// Progress of an open transfer (CiA 301, 7.2.4.3). A size is the one indicated at initiate, if
+/// any.
+#[derive(Clone, Copy, PartialEq, Eq)]
 pub(crate) enum Stage {
-    /// A segmented download, with the size where it was indicated and the toggle of the next segment.
+    /// A segmented download, with the toggle of the next segment.
     Download {
         indicated: Option<u32>,
         toggle: bool,
@@ -14,7 +15,7 @@ pub(crate) enum Stage {
     Upload {
         sent: u32,
     },
-    /// Inside a sub-block of a block download, with the number of segments taken in it.
+    /// Inside a sub-block of a block download, with the number of its segments taken so far.
     SubBlock {
         indicated: Option<u32>,
         taken: u8,
@@ -23,11 +24,12 @@ pub(crate) enum Stage {
     LastTaken {
         indicated: Option<u32>,
     },
-    /// A block upload before its start, with the number of segments in its first sub-block.
+    /// A block upload before its start, with the most segments that its first sub-block may have.
     BlockUploadInitiated {
         block_size: u8,
     },
-    /// A sub-block of a block upload was sent: the number of segments acknowledged, and of those sent in it.
+    /// A sub-block of a block upload was sent, with the number of segments acknowledged before it,
+    /// and of its own.
     BlockUpload {
         acknowledged: u32,
         sent: u8,
@@ -37,7 +39,7 @@ pub(crate) enum Stage {
 }
 
 /// An open transfer without its bytes.
-#[derive(Clone, Copy, Debug, PartialEq, Eq)]
+#[derive(Clone, Copy, PartialEq, Eq)]
 pub(crate) struct Ongoing {
     pub(crate) key: Key,
     pub(crate) stage: Stage,

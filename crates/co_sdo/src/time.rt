@@ -1,4 +1,4 @@
-//! The time of a transfer, and what ends it from outside.
+//! The timeout of a transfer, and how the device drops it.
 
 ghost use Rattle.std.specs.Prelude.{◌≡◌, ℕ, ◌+◌, ◌-◌, ◌≤◌, ◌++◌, ◌∷◌, Some, None, true};
 ghost use Rattle.arrayvec.specs.ArrayVec.{array_vec_len};
@@ -14,7 +14,7 @@ use crate::channel::Channel;
 use co_frame::{AbortCode, Outbox};
 
 impl Channel {
-    /// A tick of 1 ms. What is left of the time of an open transfer goes down.
+    /// 1 ms elapsed: the remaining time of an open transfer decreases. `time_out` sends the abort.
     pub fn tick(&mut self)
         ensures stands { (d : Description) (log : Log) → Stands d self.old log → Stands d self.new
             (Ticked ∷ log) }
@@ -23,7 +23,8 @@ impl Channel {
         self.left = self.left.saturating_sub(1);
     }
 
-    /// Whether a transfer is open and its time is over: so many ticks came since its last request.
+    /// Whether a transfer is open and has timed out: no request came for as many ticks as the SDO
+    /// timeout.
     pub fn expired(&self) -> bool
         ensures shown { result ≡ is_expired self.now }
         ensures over { (d : Description) (log : Log) → Stands d self.now log → result ≡
@@ -32,8 +33,8 @@ impl Channel {
         self.current.is_some() && self.time > 0 && self.left == 0
     }
 
-    /// For at least so many ticks the time of a transfer isn't over, if nothing else happens; `u32::MAX` if none is open, or its
-    /// time is 0.
+    /// During this many ticks (1 ms each) no transfer times out, if nothing else happens: a lower
+    /// bound.
     pub fn idle(&self) -> u32
         ensures { (d : Description) (log : Log) (n : ℕ) → Stands d self.now log → n ≤ result →
             NotOverFor self.now.time n log }
@@ -44,7 +45,7 @@ impl Channel {
         u32::from(self.left).saturating_sub(1)
     }
 
-    /// Gives up the transfer whose time is over, with an abort (05040000h, SDO protocol timed out).
+    /// Aborts the transfer that has timed out (05040000h, SDO protocol timed out).
     pub fn time_out(&mut self, outbox: &mut Outbox)
         requires room { HasRoomFor 1 outbox.old }
         requires expired { is_expired self.old ≡ true }
@@ -68,7 +69,8 @@ impl Channel {
         self.current = None;
     }
 
-    /// How many bytes are held for an open transfer: those of a download so far, the value of an upload; else 0.
+    /// How many bytes are held for the open transfer: the data of a download so far, or the value
+    /// of an upload; 0 if none is open.
     pub fn held(&self) -> usize
         ensures shown { result ≡ bytes_held self.now.current }
         ensures held { (d : Description) (log : Log) → Stands d self.now log → result ≡ held_bytes

@@ -1,4 +1,4 @@
-//! Uploads: expedited and segmented.
+//! SDO upload, expedited and segmented (CiA 301, 7.2.4.3.6 and 7.2.4.3.7).
 
 ghost use Rattle.std.specs.Prelude.{◌≡◌, ◌+◌, ◌*◌, ◌<◌, ◌≤◌, ◌++◌, Some, None, length};
 ghost use Rattle.arrayvec.specs.ArrayVec.{array_vec_len};

@@ -22,13 +22,13 @@ settings_of c = record {
 abbrev pub all_settings : List NumberedChannel → List ChannelSettings
 all_settings bank = map settings_of bank
 
--- these are the channels, and each stands after the log of its number
+-- these are the channels, and each is in the state after the log of its number
 pub record BankStands (d : Description) (channels : List ChannelSettings) (bank : List NumberedChannel) (logs : ℕ → Log) : Type 0 where
   pub settings : all_settings bank ≡ channels
   pub each : (i : ℕ) (e : NumberedChannel) → i < length bank →
       Stands d (slice_index_or bank i e).channel (logs (slice_index_or bank i e).number)
 
--- after none of so many ticks is the time of one of the first channels over
+-- none of the first `count` channels times out within `n` ticks
 abbrev pub AreInTimeFor : ℕ → ℕ → List NumberedChannel → (ℕ → Log) → Type 0
 AreInTimeFor n count bank logs = (i : ℕ) (e : NumberedChannel) → i < count →
     NotOverFor (slice_index_or bank i e).channel.time n (logs (slice_index_or bank i e).number)
@@ -37,7 +37,7 @@ AreInTimeFor n count bank logs = (i : ℕ) (e : NumberedChannel) → i < count �
 unfoldable pub places_below : ℕ → List ChannelSettings → List (Option ℕ)
 places_below end channels = map (λ id. position (λ c. c.request == id) channels) (range_with_len 0 end)
 
--- the channels are in order, and the table is that of their places
+-- the channels are in order, and the table has their places
 pub record IsBank (table : List (Option ℕ)) (channels : List ChannelSettings) : Type 0 where
   pub order : AreInOrder channels
   pub places : table ≡ places_below 2048 channels

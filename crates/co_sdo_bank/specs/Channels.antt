@@ -7,7 +7,7 @@ use Rattle.co_dict.specs.Stores.{Description}
 use Rattle.co_dict.specs.SdoChannels.{is_channel, request_id, answer_id}
 
 -- what never changes of a channel: its number, the identifiers of its requests and responses, the
--- greatest capacity of an entry that it has room for, and the time of a transfer in ms
+-- greatest capacity of an entry that it has room for, and the SDO timeout in ms (0 disables it)
 pub record ChannelSettings : Type 0 where
   pub number : ℕ
   pub request : ℕ

@@ -1,4 +1,4 @@
--- What one call does to all SDO channels: an event of one of them, or of each (CiA 301, 7.2.4.3).
+-- The events of one call for all SDO channels: of one of them, or of each (CiA 301, 7.2.4.3).
 use Rattle.std.specs.Prelude.{◌≡◌, ℕ, zero, suc, ◌==◌, List, [], ◌∷◌, length, Option, Some, None, option_map, if◌then◌else◌}
 use Rattle.std.specs.List.{find}
 use Rattle.std.specs.Option.{option_map_or}
@@ -59,7 +59,7 @@ exchange_at None d contents logs frame = None
 exchange_at (Some c) d contents logs frame =
     if length frame.bytes == 8 then Some (exchange_on c d contents (logs c.number) frame.bytes) else None
 
--- the exchange that a frame is: of its receiver, where it has eight bytes
+-- the exchange at a frame: of its receiver, if the frame has eight bytes
 abbrev pub exchange_of : List ChannelSettings → Description → Contents → (ℕ → Log) → FrameContent → Option ChannelEvent
 exchange_of channels d contents logs frame = exchange_at (receiver channels frame.id) d contents logs frame
 
@@ -74,19 +74,19 @@ set_of channels d contents logs frame = set_at (exchange_of channels d contents 
 
 -- ---- the time of a transfer
 
--- the channel with the lowest number whose time is over
+-- the channel with the lowest number that has timed out
 abbrev pub expired_in : List ChannelSettings → (ℕ → Log) → Option ChannelSettings
 expired_in channels logs = find (λ c. is_time_over c.time (logs c.number)) channels
 
--- a channel gives up its transfer
+-- a channel aborts its transfer
 abbrev pub time_out_on : ChannelSettings → Log → ChannelEvent
 time_out_on c log = record { channel = c; event = TimedOut (time_out_reply log); responses = time_out_reply log }
 
--- the time-out after a tick: of the lowest channel whose time is over. The others stay open
+-- the time-out after a tick: of the lowest channel that has timed out. The others stay open
 abbrev pub time_out_of : List ChannelSettings → (ℕ → Log) → Option ChannelEvent
 time_out_of channels logs = option_map (λ c. time_out_on c (logs c.number)) (expired_in channels logs)
 
--- at none of so many ticks one after another is there one
+-- no transfer times out within the next `n` ticks
 abbrev pub NoTimeOutFor : List ChannelSettings → ℕ → (ℕ → Log) → Type 0
 NoTimeOutFor channels zero logs = Unit {0}
 NoTimeOutFor channels (suc n) logs =
@@ -94,6 +94,6 @@ NoTimeOutFor channels (suc n) logs =
 
 -- ---- the bytes that are held
 
--- those of the channel with a number, none without it
+-- how many bytes the channel with a number holds; 0 if there is none
 abbrev pub held_on : List ChannelSettings → (ℕ → Log) → ℕ → ℕ
 held_on channels logs number = option_map_or (λ c. held_bytes (logs c.number)) (find (λ c. c.number == number) channels) 0

@@ -36,13 +36,13 @@ use std::alloc::{AllocError, Global};
 use std::boxed::BoxedSlice;
 use std::marker::Model;
 
-/// All SDO channels of a device: those that exist, in increasing number, each with a buffer of its own (CiA 301,
-/// 7.2.4.3). It asks for no memory after `new`. Contracts see the channels with their numbers.
+/// All SDO channels of a device, in increasing number, each with a buffer of its own (CiA 301,
+/// 7.2.4.3). It allocates no memory after `new`. Contracts see the channels with their numbers.
 #[derive(Drop)]
 pub struct Bank {
     channels: BoxedSlice<NumberedChannel>,
-    // for each identifier the place of the first channel whose requests have it, so that no frame is
-    // searched for among the channels
+    // the place of the first channel whose requests have an identifier, by identifier: no frame
+    // costs a search
     places: BoxedSlice<Option<u8>>,
 }
 
@@ -61,10 +61,11 @@ impl Model for Bank {
 }
 
 impl Bank {
-    /// The channels that exist in a dictionary: channel 0, and channel j where the COB-ID words 1200h + j, sub-index 1
-    /// and 2, are valid (CiA 301, 7.5.2.33). None of them has received anything. Each asks for a buffer of `greatest` +
-    /// 889 bytes, where `greatest` is the greatest capacity of an entry. `time` is the SDO timeout between two
-    /// requests, in ms; 0 disables it. `AllocError` where there is no memory.
+    /// The channels that exist in a dictionary: channel 0, and channel j if the COB-ID words 1200h
+    /// + j, sub-index 1 and 2, are valid (CiA 301, 7.5.2.33). None of them has received anything.
+    /// Each allocates a buffer of `greatest` + 889 bytes, where `greatest` is the greatest capacity
+    /// of an entry. `time` is the SDO timeout between two requests, in ms; 0 disables it.
+    /// `AllocError` if memory can't be allocated.
     pub fn new<S: ObjectStore>(
         alloc: Global,
         store: &S,
@@ -84,7 +85,8 @@ impl Bank {
         })
     }
 
-    /// The number of the channel whose requests have an identifier, 0 to 7FFh; the lowest, if several have it.
+    /// The number of the channel whose requests have an identifier, 0 to 7FFh; the lowest, if
+    /// several have it.
     pub fn channel_for(&self, id: u16) -> Option<u8>
         requires { id < 2048 }
         ensures number { (d : Description) (channels : List ChannelSettings) (logs : ℕ → Log) →
@@ -97,10 +99,11 @@ impl Bank {
         }
     }
 
-    /// Takes a frame, for the channel whose requests have its identifier (the lowest, if several have it). One that is
-    /// no request of a channel, or hasn't eight bytes, is passed over. Else the responses are put into the outbox, at
-    /// most 127 frames. Where the frame completes a download that the dictionary permits, its entry is set, and its key
-    /// is given; nothing else in the store changes.
+    /// Takes a frame, for the channel whose requests have its identifier (the lowest, if several
+    /// have it). A frame that is no request of a channel, or hasn't eight bytes, is ignored. Else
+    /// the responses are put into the outbox, at most 127 frames. If the frame completes a download
+    /// that the dictionary permits, this sets its entry and returns its key; nothing else in the
+    /// store changes.
     pub fn take<S: ObjectStore>(
         &mut self,
         store: &mut S,
@@ -138,8 +141,9 @@ impl Bank {
         }
     }
 
-    /// 1 ms elapsed on every channel. Of the channels whose time is over the one with the lowest number then gives up
-    /// its transfer, with an abort (05040000h, SDO protocol timed out): its number. The others stay open.
+    /// 1 ms elapsed on every channel. Of the channels whose transfer has timed out, the one with
+    /// the lowest number then aborts it (05040000h, SDO protocol timed out). Returns its number.
+    /// The other transfers stay open.
     pub fn tick(&mut self, outbox: &mut Outbox) -> Option<u8>
         requires outbox { HasRoomFor 1 outbox.old }
         ensures count { MatchOption result (array_vec_len outbox.new ≡ array_vec_len outbox.old)
@@ -162,7 +166,8 @@ impl Bank {
         }
     }
 
-    /// The channel with the lowest number whose time is over gives up its transfer: its number.
+    /// Aborts the timed-out transfer of the channel with the lowest number, and returns that
+    /// number.
     #[cold]
     #[inline(never)]
     fn time_out_lowest(&mut self, outbox: &mut Outbox) -> Option<u8>
@@ -189,7 +194,8 @@ impl Bank {
         }
     }
 
-    /// For at least so many ticks no transfer is given up, if nothing else happens; `u32::MAX` if no time runs.
+    /// During this many ticks (1 ms each) no transfer times out, if nothing else happens: a lower
+    /// bound.
     pub fn idle(&self) -> u32
         ensures { (d : Description) (channels : List ChannelSettings) (logs : ℕ → Log) (n : ℕ) →
             BankStands d channels self.now logs → n ≤ result → NoTimeOutFor channels n logs }
@@ -208,7 +214,8 @@ impl Bank {
         drop_each(&mut self.channels);
     }
 
-    /// How many bytes are held for the open transfer of the channel with a number; 0 where there is no such channel.
+    /// How many bytes are held for the open transfer of the channel with a number; 0 if there is no
+    /// such channel.
     pub fn held(&self, number: u8) -> usize
         ensures held { (d : Description) (channels : List ChannelSettings) (logs : ℕ → Log) →
             BankStands d channels self.now logs → result ≡ held_on channels logs number }

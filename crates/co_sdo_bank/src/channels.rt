@@ -65,7 +65,7 @@ pub(crate) fn existing_channels<S: ObjectStore>(
     Ok(bank)
 }
 
-/// 1 ms elapsed on each channel. Whether the time of one of them is then over.
+/// 1 ms elapsed on each channel. Returns false only if none has timed out then.
 pub(crate) fn tick_each(bank: &mut [NumberedChannel]) -> bool
     ensures settings { all_settings bank.new ≡ all_settings bank.old }
     ensures stands { (d : Description) (channels : List ChannelSettings) (logs : ℕ → Log) →
@@ -80,7 +80,7 @@ pub(crate) fn tick_each(bank: &mut [NumberedChannel]) -> bool
     is_over
 }
 
-/// For at least so many ticks the time of none of them is over; `u32::MAX` if no time runs.
+/// During this many ticks none of them times out, if nothing else happens: a lower bound.
 pub(crate) fn idle_among(bank: &[NumberedChannel]) -> u32
     ensures { (d : Description) (channels : List ChannelSettings) (logs : ℕ → Log) (n : ℕ) →
         BankStands d channels bank.now logs → n ≤ result →
@@ -105,7 +105,7 @@ pub(crate) fn drop_each(bank: &mut [NumberedChannel])
     }
 }
 
-/// The place of the first channel whose time is over.
+/// The place of the first channel that has timed out.
 pub(crate) fn expired_place(bank: &[NumberedChannel]) -> Option<usize>
     ensures { result ≡ position (λ c. is_expired c.channel) bank.now }
 {
@@ -127,7 +127,7 @@ fn receiver_place(bank: &[NumberedChannel], id: u16) -> Option<usize>
         .position(|numbered| numbered.channel.ids().request == id)
 }
 
-/// The same, in a byte.
+/// The same as a byte.
 fn receiver_byte(bank: &[NumberedChannel], id: u16) -> Option<u8>
     requires { length bank.now ≤ 128 }
     ensures { result ≡ position (λ c. c.channel.request == id) bank.now }

@@ -16,9 +16,9 @@ use crate::bank::Bank;
 use co_sdo::Channel;
 
 impl Bank {
-    /// What is found first of the channels is that with the lowest number, 0 to 127, that exists and passes: the one
-    /// that takes a frame, the one whose time is over, the one with a number. This is a law: a call of it changes
-    /// nothing.
+    /// The first channel in the list that passes a test is the one with the lowest number, 0 to
+    /// 127, that exists and passes it: the one that takes a frame, has timed out, or has a number.
+    /// This is a law: a call of it changes nothing.
     #[tactic(auto, using(crate::proofs::Numbers::lowest_found))]
     pub fn first_is_lowest()
         ensures { (d : Description) (contents : Contents) (greatest time : ℕ)
@@ -28,8 +28,8 @@ impl Bank {
             && passes (settings_for d contents greatest time n)) (range_with_len 0 128)) }
     {}
 
-    /// An entry is set only where the dictionary permits the download: nothing refuses its completion. This is a law: a
-    /// call of it changes nothing.
+    /// An entry is set only by a download that the dictionary permits. This is a law: a call of it
+    /// changes nothing.
     pub fn set_is_permitted()
         ensures { (channels : List ChannelSettings) (d : Description) (contents : Contents)
             (logs : ℕ → Log) (frame : FrameContent) (download : Download) →

@@ -1,4 +1,4 @@
--- What a client is to do, and what happens to it (CiA 301, 7.2.4.3).
+-- The transfer that a client is called for, and the events that it sees (CiA 301, 7.2.4.3).
 use Rattle.std.specs.Prelude.{ℕ, ◌+◌, ◌&&◌, Bool, nat_lt, nat_le, List, [], ◌∷◌, map, Option, Some, None}
 use Rattle.co_value.specs.declared.key.Key.{Key}
 use Rattle.co_frame.specs.FrameContent.{FrameContent}
@@ -8,13 +8,14 @@ use Rattle.co_frame.specs.declared.block_segment.BlockSegment.{BlockSegment}
 use Rattle.co_frame.specs.declared.sdo_request.SdoRequest.{SdoRequest}
 use Rattle.co_sdo_client.specs.declared.mode.Mode.{Mode}
 
+-- what a client is to do
 pub data Job : Type 0 where
-  -- these bytes are written; their number is indicated at initiate, or not
+  -- these bytes are written; their number is indicated at initiate if the flag is set
   Download : List ℕ → Bool → Job
-  -- a value is read, of at most so many bytes
+  -- a value is read, of at most this many bytes
   Upload : ℕ → Job
 
--- the entry, by which protocol, how long an answer may take (in ms; 0 is for ever), and what to do
+-- the entry, the mode, the SDO timeout for an answer (in ms; 0 disables it), and the job
 pub record Call : Type 0 where
   pub key : Key
   pub mode : Mode
@@ -35,11 +36,11 @@ message_bytes (Segment segment) = block_segment_bytes segment
 abbrev pub frames_on : ℕ → List Message → List FrameContent
 frames_on id messages = map (λ message. record { id = id; bytes = message_bytes message }) messages
 
--- what happens to a client after its begin
+-- an event at a client that has begun
 pub data Event : Type 0 where
   -- a frame of eight bytes on the answer identifier came
   Answered : List ℕ → Event
-  -- a millisecond passed
+  -- 1 ms elapsed
   Ticked : Event
 
 -- the answers among events; both are newest first
@@ -48,13 +49,13 @@ answers [] = []
 answers (Answered frame ∷ older) = frame ∷ answers older
 answers (Ticked ∷ older) = answers older
 
--- how many ticks came since the last answer, or since the begin
+-- how many ticks came since the last answer, or since the client began
 abbrev pub ticks_quiet : List Event → ℕ
 ticks_quiet [] = 0
 ticks_quiet (Answered frame ∷ older) = 0
 ticks_quiet (Ticked ∷ older) = ticks_quiet older + 1
 
--- no answer came in time; time 0 is for ever
+-- no answer came in time; a time of 0 disables it
 abbrev pub is_time_over : ℕ → List Event → Bool
 is_time_over time events = nat_lt 0 time && nat_le time (ticks_quiet events)
 
@@ -63,6 +64,7 @@ pub record Answers : Type 0 where
   pub first : List ℕ
   pub later : List (List ℕ)
 
+-- the first answer and those after it, with one more
 abbrev pub with_answer : List ℕ → Option Answers → Answers
 with_answer frame None = record { first = frame; later = [] }
 with_answer frame (Some a) = record { first = a.first; later = frame ∷ a.later }

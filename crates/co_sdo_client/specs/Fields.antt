@@ -1,4 +1,4 @@
--- What the fields of a client are seen as, and what holds of them.
+-- How contracts see the fields of a client, and the invariant of these fields.
 use Rattle.std.specs.Prelude.{◌≡◌, ℕ, ◌+◌, ◌*◌, ◌≤◌, ◌<◌, List, [], length}
 use Rattle.co_value.specs.declared.key.Key.{Key}
 use Rattle.co_frame.specs.SegmentSizes.{bytes_per_segment, segments_per_sub_block, bytes_per_sub_block}
@@ -12,15 +12,16 @@ use Rattle.co_sdo_client.specs.declared.transfer.Transfer.TheVariants.{Segmented
 use Rattle.co_sdo_client.specs.Calls.{Job, Download as Write, Upload as Read, Call}
 use Rattle.co_sdo_client.specs.Segments.{bytes_of, cap_of, segments_for, transfer_of}
 
--- which way the bytes go, and those of a download
+-- the job, by its direction and the bytes of a download
 abbrev pub job_of : Direction → List ℕ → Job
 job_of (Writes tells) bytes = Write bytes tells
 job_of (Reads cap) bytes = Read cap
 
+-- the call, by the fields of a client
 abbrev pub call_of : Key → Mode → ℕ → Direction → List ℕ → Call
 call_of key mode time direction bytes = record { key = key; mode = mode; time = time; job = job_of direction bytes }
 
--- the bytes that a transfer needs room for
+-- how many bytes a transfer needs room for
 abbrev pub room_for : Transfer → ℕ → ℕ
 room_for SegmentedUpload cap = cap
 room_for BlockUpload cap = cap + bytes_per_sub_block
@@ -41,7 +42,7 @@ stage_room call BlockDownloadEnded held room = held ≡ []
 stage_room call (SubBlock size taken) held room = (length held ≤ cap_of call.job + bytes_per_segment * taken) × (taken < segments_per_sub_block) × (cap_of call.job + bytes_per_sub_block ≤ room)
 stage_room call (LastTaken size) held room = length held ≤ cap_of call.job + bytes_per_sub_block
 
--- the bytes are those of the call, and exactly the room for what it may bring is reserved
+-- the bytes are those of the call, and the buffer has exactly the room that the transfer needs
 pub record IsFit (call : Call) (bytes : List ℕ) (stage : Stage) (held : List ℕ) (room : ℕ) : Type 0 where
   pub len : length bytes ≤ 65535
   pub given : bytes ≡ bytes_of call.job

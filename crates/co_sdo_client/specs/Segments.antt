@@ -1,4 +1,4 @@
--- The segments that a client sends of its bytes (CiA 301, 7.2.4.3.4 and 7.2.4.3.10).
+-- The requests and segments in which a client sends its bytes (CiA 301, 7.2.4.3.4 and 7.2.4.3.10).
 use Rattle.std.specs.Prelude.{ℕ, ◌+◌, ◌/◌, ◌&&◌, Bool, max, nat_le, List, [], ◌∷◌, length, map, Option, Some, None, if◌then◌else◌}
 use Rattle.std.specs.List.{range_with_len}
 use Rattle.co_frame.specs.SegmentSizes.{bytes_per_segment, segments_per_sub_block}
@@ -16,7 +16,7 @@ abbrev pub bytes_of : Job → List ℕ
 bytes_of (Download bytes tells) = bytes
 bytes_of (Upload cap) = []
 
--- how many bytes an upload may have
+-- the most bytes that an upload may have
 abbrev pub cap_of : Job → ℕ
 cap_of (Download bytes tells) = 0
 cap_of (Upload cap) = cap
@@ -30,6 +30,7 @@ size_sent (Upload cap) = None
 abbrev pub plain_download : List ℕ → Transfer
 plain_download bytes = if nat_le 1 (length bytes) && nat_le (length bytes) 4 then ExpeditedDownload else SegmentedDownload
 
+-- the protocol of a job, by the mode
 abbrev pub transfer_by : Mode → Job → Transfer
 transfer_by Plain (Download bytes tells) = plain_download bytes
 transfer_by Segmented (Download bytes tells) = SegmentedDownload
@@ -38,10 +39,11 @@ transfer_by Plain (Upload cap) = SegmentedUpload
 transfer_by Segmented (Upload cap) = SegmentedUpload
 transfer_by Block (Upload cap) = BlockUpload
 
--- by which protocol the bytes go
+-- the protocol that carries the bytes
 abbrev pub transfer_of : Call → Transfer
 transfer_of call = transfer_by call.mode call.job
 
+-- the initiate request of a protocol
 abbrev pub initiate_request : Call → Transfer → Message
 initiate_request call ExpeditedDownload = Request (DownloadExpedited call.key (Indicated (record { items = bytes_of call.job })))
 initiate_request call SegmentedDownload = Request (DownloadInitiate call.key (size_sent call.job))
@@ -53,21 +55,21 @@ initiate_request call BlockUpload = Request (BlockUploadInitiate call.key segmen
 abbrev pub initiate_messages : Call → List Message
 initiate_messages call = initiate_request call (transfer_of call) ∷ []
 
--- how many requests a segmented download of so many bytes needs: initiate, and one for each seven bytes or fewer (in the
--- plain mode 1 to 4 bytes need one request alone)
+-- how many requests a segmented download of `size` bytes needs: initiate, and one for each seven
+-- bytes or fewer, at least one
 abbrev pub requests_needed : ℕ → ℕ
 requests_needed size = 1 + max 1 ((size + 6) / bytes_per_segment)
 
--- the segment after so many, with their parity as its toggle
+-- the segment after the first `count`; its toggle is their parity
 abbrev pub segment_after : ℕ → List ℕ → Message
 segment_after count bytes = Request (DownloadSegment (is_odd count) (record { items = part_after count bytes }) (is_last_after count bytes))
 
 -- ---- block downloads
 
--- the sub-block after so many segments, numbered from 1
+-- the sub-block after the first `position` segments, numbered from 1
 abbrev pub sub_block_sent : List ℕ → ℕ → ℕ → List Message
 sub_block_sent bytes position size = map (λ number. Segment (block_segment bytes position number)) (range_with_len 1 (sub_block_length bytes position size))
 
--- the end of a block download, with the number of bytes that its last segment leaves unused
+-- the end of a block download, with the number of bytes of its last segment that contain no data
 abbrev pub block_download_end : List ℕ → List Message
 block_download_end bytes = Request (BlockDownloadEnd (unused_after bytes)) ∷ []

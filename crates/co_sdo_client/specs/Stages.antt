@@ -1,5 +1,5 @@
--- How far a transfer is after the answers so far, and what is held for it, while the client waits (CiA 301, 7.2.4.3): sums
--- and parities over the answers, newest first.
+-- The progress of a transfer after the answers so far, and the bytes held for it, while the client
+-- waits (CiA 301, 7.2.4.3): sums and parities over the answers, newest first.
 use Rattle.std.specs.Prelude.{ℕ, ◌+◌, ◌==◌, List, [], ◌∷◌, ◌++◌, length, Option, Some, None, if◌then◌else◌}
 use Rattle.co_frame.specs.declared.sdo_response.SdoResponse.{SdoResponse}
 use Rattle.co_frame.specs.declared.sdo_response.SdoResponse.TheVariants.{UploadInitiated, UploadSegment, BlockDownloadInitiated, BlockDownloadAcknowledge, BlockUploadInitiated}
@@ -57,10 +57,11 @@ abbrev pub block_download_stage : List ℕ → ℕ → ℕ → Stage
 block_download_stage bytes count block_size =
     if count == segment_count bytes then BlockDownloadEnded else BlockDownload count (sub_block_length bytes count block_size)
 
--- a block upload: inside a sub-block, or after the segment with c
+-- a block upload: inside a sub-block, or after the segment with c = 1
 abbrev pub block_upload_stage : Option ℕ → List (List ℕ) → Stage
 block_upload_stage size later = if has_last later then LastTaken size else SubBlock size (length (taken_segments (sub_block later)))
 
+-- the progress after these answers, by the protocol
 abbrev pub stage_by : Call → Transfer → Answers → Stage
 stage_by call ExpeditedDownload a = Begun
 stage_by call SegmentedDownload a = Download (length a.later)
@@ -68,23 +69,27 @@ stage_by call InBlocks a = block_download_stage (bytes_of call.job) (acknowledge
 stage_by call SegmentedUpload a = Upload (size_by (response_in a.first)) (is_odd (length a.later))
 stage_by call BlockUpload a = block_upload_stage (size_by (response_in a.first)) a.later
 
+-- the progress after these answers, if there are any
 abbrev pub stage_since : Call → Option Answers → Stage
 stage_since call None = Begun
 stage_since call (Some a) = stage_by call (transfer_of call) a
 
--- how far the transfer is after events
+-- the progress of the transfer after events
 abbrev pub stage_after : Call → List Event → Stage
 stage_after call events = stage_since call (since_first (answers events))
 
+-- the bytes held after these answers, by the protocol
 abbrev pub held_by : Transfer → Answers → List ℕ
 held_by SegmentedUpload a = segments_joined a.later
 held_by BlockUpload a = block_bytes a.later
 held_by _ a = []
 
+-- the bytes held after these answers, if there are any
 abbrev pub held_since : Call → Option Answers → List ℕ
 held_since call None = []
 held_since call (Some a) = held_by (transfer_of call) a
 
--- the bytes that are held for an upload after events: the data of the segments taken, in their order
+-- the bytes that are held for an upload after events: the data of the segments taken, in their
+-- order
 abbrev pub held_after : Call → List Event → List ℕ
 held_after call events = held_since call (since_first (answers events))

@@ -1,4 +1,4 @@
--- What one more event makes a waiting client do (CiA 301, 7.2.4.3).
+-- What a waiting client does at one more event (CiA 301, 7.2.4.3).
 use Rattle.std.specs.Prelude.{ℕ, ◌+◌, ◌==◌, ◌&&◌, Bool, false, not, nat_lt, nat_le, List, [], ◌∷◌, ◌++◌, length, Option, Some, None, if◌then◌else◌}
 use Rattle.std.specs.Option.{option_map_or}
 use Rattle.co_value.specs.declared.key.Key.{Key}
@@ -24,17 +24,18 @@ pub use Rattle.co_sdo_segments.specs.Taken.{segment_next, taken_with, held_with}
 use Rattle.co_sdo_client.specs.Stages.{stage_after, held_after}
 pub use Rattle.co_frame.specs.Segments.{same_bool, without}
 
+-- the reaction of a client to an event
 pub data Verdict : Type 0 where
   -- the client goes on waiting, and sends these
   GoesOn : List Message → Verdict
   -- the transfer is complete: it sends these; the bytes are those of an upload
   Ends : List Message → List ℕ → Verdict
-  -- it finds a fault: it gives up, with an abort
+  -- it finds a fault, and aborts the transfer with this code
   GivesUp : ℕ → Verdict
-  -- the server gave up: nothing is sent
+  -- the server aborted the transfer with this code: nothing is sent
   IsAborted : ℕ → Verdict
 
--- the first fault of those looked at in turn, else the verdict
+-- the first fault that these checks find, in their order, else the verdict
 abbrev pub unless_fault : List (Bool × ℕ) → Verdict → Verdict
 unless_fault [] verdict = verdict
 unless_fault (check ∷ checks) verdict = if check.0 then GivesUp check.1 else unless_fault checks verdict
@@ -51,7 +52,7 @@ other_key call key = (not (same_key key call.key), unknown_command)
 abbrev pub other_toggle : Bool → Bool → Bool × ℕ
 other_toggle toggle expected = (not (same_bool toggle expected), toggle_not_alternated)
 
--- so many bytes are more than the call has room for
+-- `size` bytes are more than the call has room for
 abbrev pub no_room : Call → ℕ → Bool × ℕ
 no_room call size = (nat_lt (cap_of call.job) size, out_of_memory)
 
@@ -59,17 +60,19 @@ no_room call size = (nat_lt (cap_of call.job) size, out_of_memory)
 abbrev pub no_room_indicated : Call → Option ℕ → Bool × ℕ
 no_room_indicated call size = no_room call (option_map_or (λ s. s) size 0)
 
--- there are more bytes than the indicated size
+-- more bytes than the indicated size
 abbrev pub is_above_size : Option ℕ → ℕ → Bool
 is_above_size size total = option_map_or (λ s. nat_lt s total) size false
 
+-- the fault of more bytes than the indicated size
 abbrev pub above_indicated : Option ℕ → ℕ → Bool × ℕ
 above_indicated size total = (is_above_size size total, too_long)
 
--- there are fewer bytes than the indicated size
+-- fewer bytes than the indicated size
 abbrev pub is_below_size : Option ℕ → ℕ → Bool
 is_below_size size total = option_map_or (λ s. nat_lt total s) size false
 
+-- the fault of fewer bytes than the indicated size
 abbrev pub below_indicated : Option ℕ → ℕ → Bool × ℕ
 below_indicated size total = (is_below_size size total, too_short)
 
@@ -89,7 +92,8 @@ download_confirmed call ExpeditedDownload key = unless_fault (other_key call key
 download_confirmed call SegmentedDownload key = unless_fault (other_key call key ∷ []) (GoesOn (segment_after 0 (bytes_of call.job) ∷ []))
 download_confirmed call _ key = unexpected
 
--- the segment after so many is confirmed: the download is done after the last, else the next is sent
+-- the segment after the first `count` is confirmed: the download is done after the last, else the
+-- next is sent
 abbrev pub segment_confirmed : List ℕ → ℕ → Verdict
 segment_confirmed bytes count = if is_last_after count bytes then Ends [] [] else GoesOn (segment_after (count + 1) bytes ∷ [])
 
@@ -99,7 +103,7 @@ block_download_confirmed call InBlocks key block_size =
     unless_fault (other_key call key ∷ bad_block_size block_size ∷ []) (GoesOn (sub_block_sent (bytes_of call.job) 0 block_size))
 block_download_confirmed call _ key block_size = unexpected
 
--- after so many acknowledged segments: the end after the last, else the next sub-block
+-- the first `count` segments are acknowledged: the end follows the last, else the next sub-block
 abbrev pub next_sub_block : List ℕ → ℕ → ℕ → Verdict
 next_sub_block bytes count block_size =
     if count == segment_count bytes then GoesOn (block_download_end bytes)
@@ -117,13 +121,13 @@ abbrev pub upload_expedited : Call → Transfer → Key → List ℕ → Verdict
 upload_expedited call SegmentedUpload key value = unless_fault (other_key call key ∷ no_room call (length value) ∷ []) (Ends [] value)
 upload_expedited call _ key value = unexpected
 
--- the confirmation of initiate SDO upload: the first segment is asked for
+-- the confirmation of initiate SDO upload: the first segment is requested
 abbrev pub upload_confirmed : Call → Transfer → Key → Option ℕ → Verdict
 upload_confirmed call SegmentedUpload key size =
     unless_fault (other_key call key ∷ no_room_indicated call size ∷ []) (GoesOn (Request (NextSegment false) ∷ []))
 upload_confirmed call _ key size = unexpected
 
--- the last segment's data is there: the total is compared with the indicated size
+-- the last segment was taken: the total is compared with the indicated size
 abbrev pub upload_complete : Option ℕ → List ℕ → Verdict
 upload_complete size value = unless_fault (above_indicated size (length value) ∷ below_indicated size (length value) ∷ []) (Ends [] value)
 
@@ -139,19 +143,20 @@ block_upload_confirmed call BlockUpload key size =
     unless_fault (other_key call key ∷ no_room_indicated call size ∷ []) (GoesOn (Request BlockUploadStart ∷ []))
 block_upload_confirmed call _ key size = unexpected
 
--- the end of a sub-block: it is acknowledged, unless more follows and the bytes held are more than there is room for
+-- the end of a sub-block: it is acknowledged, unless more segments follow and the call has no room
+-- for the bytes held
 abbrev pub sub_block_end : Call → ℕ → List ℕ → List ℕ → Verdict
 sub_block_end call taken held frame =
     unless_fault ((if is_last_taken (segment_next taken frame) then (false, 0) else no_room call (length (held_with held taken frame))) ∷ [])
     (GoesOn (Request (BlockUploadAcknowledge (taken_with taken frame) segments_per_sub_block) ∷ []))
 
--- a frame inside a sub-block: 80h is an abort, all others are segments, or nothing
+-- a frame inside a sub-block: command 80h is an abort, any other frame a segment or ignored
 abbrev pub sub_block_verdict : Call → ℕ → List ℕ → List ℕ → Verdict
 sub_block_verdict call taken held frame =
     if is_abort_in_sub_block frame then IsAborted (code_in frame).0
     else (if ends_sub_block frame then sub_block_end call taken held frame else GoesOn [])
 
--- the end of a block upload: the total is compared with the indicated size, and then with the room
+-- the end of a block upload: the total is compared with the indicated size, then with the room
 abbrev pub block_upload_complete : Call → Option ℕ → List ℕ → Verdict
 block_upload_complete call size value =
     unless_fault (above_indicated size (length value) ∷ below_indicated size (length value) ∷ no_room call (length value) ∷ [])
@@ -159,7 +164,7 @@ block_upload_complete call size value =
 
 -- ---- the table: by how far the transfer is and by the answer
 
--- an answer to the begin
+-- an answer to the initiate request
 abbrev pub initiate_verdict : Call → SdoResponse → Verdict
 initiate_verdict call (DownloadDone key) = download_confirmed call (transfer_of call) key
 initiate_verdict call (BlockDownloadInitiated key block_size) = block_download_confirmed call (transfer_of call) key block_size
@@ -192,7 +197,7 @@ abbrev pub answer_verdict : Call → Stage → List ℕ → List ℕ → Verdict
 answer_verdict call (SubBlock size taken) held frame = sub_block_verdict call taken held frame
 answer_verdict call stage held frame = response_verdict call stage held (response_in frame)
 
--- what one more event makes of a client that waits after older events
+-- what a client that waits after older events does at one more event
 abbrev pub verdict : Call → List Event → Event → Verdict
 verdict call older (Answered frame) = answer_verdict call (stage_after call older) (held_after call older) frame
 verdict call older Ticked = if is_time_over call.time (Ticked ∷ older) then GivesUp timed_out else GoesOn []

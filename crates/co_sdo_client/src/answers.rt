@@ -1,4 +1,4 @@
-//! What a client does with an answer.
+//! How a client handles an answer.
 
 ghost use Rattle.std.specs.Prelude.{◌≡◌, ◌+◌, ◌-◌, ◌<◌, ◌≤◌, ◌++◌, None, Some, length};
 ghost use Rattle.arrayvec.specs.ArrayVec.{array_vec_len};
@@ -13,7 +13,7 @@ use crate::state::ClientState;
 use co_frame::{AbortCode, Frame, Outbox, SdoResponse};
 
 impl<'a> Client<'a> {
-    // An answer outside a sub-block.
+    // Takes an answer outside a sub-block.
     fn take_response(&mut self, response: &SdoResponse, outbox: &mut Outbox)
         requires room { HasRoomFor segments_per_sub_block outbox.old }
         ensures few { array_vec_len outbox.new ≤ array_vec_len outbox.old + segments_per_sub_block }

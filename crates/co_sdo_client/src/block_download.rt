@@ -1,4 +1,4 @@
-//! Block downloads.
+//! SDO block download (CiA 301, 7.2.4.3.9 to 7.2.4.3.11).
 
 ghost use Rattle.std.specs.Prelude.{◌≡◌, ◌+◌, ◌*◌, ◌<◌, ◌≤◌, ◌++◌, [], Some, length};
 ghost use Rattle.arrayvec.specs.ArrayVec.{array_vec_len};
@@ -28,7 +28,8 @@ use co_frame::{AbortCode, Outbox, SEGMENTS_PER_SUB_BLOCK, SdoRequest};
 use co_sdo_segments::{segment_count, send_sub_block, unused_after};
 use co_value::Key;
 
-// Sends a sub-block on an identifier, and gives the number of its segments.
+// Sends the sub-block that begins after the first `position` segments, and returns the number of
+// its segments.
 fn send_segments(id: u16, bytes: &[u8], position: usize, block_size: u8, outbox: &mut Outbox) -> u8
     requires id { id < 2048 }
     requires room { HasRoomFor segments_per_sub_block outbox.old }
@@ -47,7 +48,7 @@ fn send_segments(id: u16, bytes: &[u8], position: usize, block_size: u8, outbox:
 }
 
 impl<'a> Client<'a> {
-    // Sends the sub-block after so many acknowledged segments.
+    // Sends the sub-block that begins after the first `position` segments.
     fn send_sub_block(&mut self, position: usize, block_size: u8, outbox: &mut Outbox)
         requires room { HasRoomFor segments_per_sub_block outbox.old }
         requires size { block_size ≤ segments_per_sub_block }

@@ -1,4 +1,4 @@
-//! Block uploads.
+//! SDO block upload (CiA 301, 7.2.4.3.13 to 7.2.4.3.15).
 
 ghost use Rattle.std.specs.Prelude.{◌≡◌, ◌+◌, ◌*◌, ◌<◌, ◌≤◌, ◌++◌, Some, length};
 ghost use Rattle.arrayvec.specs.ArrayVec.{array_vec_len};

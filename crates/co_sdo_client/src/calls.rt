@@ -1,4 +1,4 @@
-//! The calls of a client: its begin, the answers and the time.
+//! The calls of a client: begin, take and tick.
 
 ghost use Rattle.std.specs.Prelude.{◌≡◌, ◌+◌, ◌-◌, ◌<◌, ◌≤◌, ◌++◌, [], ◌∷◌, true, false, length, List};
 ghost use Rattle.arrayvec.specs.ArrayVec.{array_vec_len};
@@ -81,7 +81,8 @@ impl<'a> Client<'a> {
         }
     }
 
-    /// Begins the transfer, with one frame. A second call does nothing.
+    /// Begins the transfer: the initiate request is put into the outbox, one frame. A second call
+    /// does nothing.
     pub fn begin(&mut self, outbox: &mut Outbox)
         requires room { HasRoomFor 1 outbox.old }
         ensures few { array_vec_len outbox.new ≤ array_vec_len outbox.old + segments_per_sub_block }
@@ -101,9 +102,10 @@ impl<'a> Client<'a> {
         self.send(request, outbox);
     }
 
-    /// Takes a frame. Before the begin, when the transfer is done or has failed, and where it hasn't eight bytes or has
-    /// another identifier than the client's answers, it is passed over. Else what is asked next is put into the outbox,
-    /// at most 127 frames; for an answer that isn't the awaited one that is an abort.
+    /// Takes a frame (CiA 301, 7.2.4.3). A frame that hasn't eight bytes, or has another identifier
+    /// than the client's answers, is ignored; so is every frame before `begin` and after the
+    /// transfer is done or has failed. Else the next requests are put into the outbox, at most 127
+    /// frames; an unexpected answer is answered by an abort.
     pub fn take(&mut self, frame: &Frame, outbox: &mut Outbox)
         requires room { HasRoomFor segments_per_sub_block outbox.old }
         ensures few { array_vec_len outbox.new ≤ array_vec_len outbox.old + segments_per_sub_block }
@@ -125,8 +127,9 @@ impl<'a> Client<'a> {
         self.take_answer(frame, outbox);
     }
 
-    /// A tick of 1 ms. Where the time for an answer is over, the transfer is given up with an abort (05040000h, SDO
-    /// protocol timed out). Before the begin, and when the transfer is done or has failed, it does nothing.
+    /// 1 ms elapsed. If the SDO timeout has passed without an answer, the transfer is aborted
+    /// (05040000h, SDO protocol timed out). Nothing happens before `begin`, and after the transfer
+    /// is done or has failed.
     pub fn tick(&mut self, outbox: &mut Outbox)
         requires room { HasRoomFor segments_per_sub_block outbox.old }
         ensures few { array_vec_len outbox.new ≤ array_vec_len outbox.old + segments_per_sub_block }

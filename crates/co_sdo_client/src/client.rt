@@ -26,7 +26,7 @@ pub struct Client<'a> {
     pub(crate) mode: Mode,
     pub(crate) time: u16,
     pub(crate) direction: Direction,
-    /// Those of a download; none of an upload.
+    /// The bytes to download; empty for an upload.
     pub(crate) bytes: &'a [u8],
     pub(crate) buffer: Buffer,
     pub(crate) begun: bool,
@@ -60,8 +60,9 @@ impl<'a> Model for Client<'a> {
 }
 
 impl<'a> Client<'a> {
-    /// A client that downloads bytes, at most 65,535, to an entry. Their number is indicated at initiate if
-    /// `tell_size`. `time` is how long the server may take for an answer, in ms; 0 is for ever. It asks for no memory.
+    /// A client that downloads bytes, at most 65,535, to an entry. Their number is indicated at
+    /// initiate if `tell_size`. `time` is the SDO timeout for an answer, in ms; 0 disables it. It
+    /// allocates no memory.
     pub fn download(
         ids: Ids,
         key: Key,
@@ -97,9 +98,10 @@ impl<'a> Client<'a> {
         }
     }
 
-    /// A client that uploads the value of an entry, of at most `cap` bytes. Room for them is asked for here; by blocks
-    /// for 889 bytes more, a sub-block of 127 segments of 7 bytes. `AllocError` where there is no memory for it. `time`
-    /// is how long the server may take for an answer, in ms; 0 is for ever.
+    /// A client that uploads the value of an entry, of at most `cap` bytes. It allocates a buffer
+    /// of `cap` bytes; in block mode of 889 more, a sub-block of 127 segments of 7 bytes.
+    /// `AllocError` if the buffer can't be allocated. `time` is the SDO timeout for an answer, in
+    /// ms; 0 disables it.
     pub fn upload(
         alloc: Global,
         ids: Ids,
@@ -138,7 +140,7 @@ impl<'a> Client<'a> {
         })
     }
 
-    /// By which protocol the bytes go.
+    /// The protocol that carries the bytes.
     pub(crate) fn transfer(&self) -> Transfer
         ensures { result ≡ transfer_of self.now.call }
     {
@@ -161,7 +163,7 @@ impl<'a> Client<'a> {
         }
     }
 
-    /// How the transfer stands.
+    /// The state of the transfer.
     pub fn state(&self) -> ClientState
         ensures shown { result ≡ self.now.state }
         ensures ready { (call : Call) → IsReady call self.now → result ≡ Waiting }
@@ -171,7 +173,7 @@ impl<'a> Client<'a> {
         self.state
     }
 
-    /// How many frames the client has sent, aborts too. The count stays at 2^64 - 1 once there.
+    /// How many frames the client has sent, aborts included. The count saturates at 2^64 - 1.
     pub fn sent(&self) -> u64
         ensures shown { result ≡ self.now.sent }
         ensures sent { (call : Call) (events : List Event) → ClientStands call events self.now →

@@ -1,4 +1,4 @@
-//! Downloads: expedited and segmented.
+//! SDO download, expedited and segmented (CiA 301, 7.2.4.3.3 and 7.2.4.3.4).
 
 ghost use Rattle.std.specs.Prelude.{◌≡◌, ◌+◌, ◌*◌, ◌<◌, ◌≤◌, ◌++◌, [], ◌∷◌, Some, length};
 ghost use Rattle.arrayvec.specs.ArrayVec.{array_vec_len};
@@ -19,7 +19,7 @@ use co_sdo_segments::{is_last_after, part_after, segment_data};
 use co_value::Key;
 
 impl<'a> Client<'a> {
-    // Sends the segment after so many: download SDO segment, ccs = 0.
+    // Sends the segment after the first `count`: download SDO segment, ccs = 0.
     fn send_segment(&mut self, count: u16, outbox: &mut Outbox)
         requires room { HasRoomFor 1 outbox.old }
         requires within { bytes_per_segment * count ≤ length (bytes_of self.old.call.job) }

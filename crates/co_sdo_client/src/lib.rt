@@ -1,4 +1,5 @@
-//! The SDO client of a CANopen device: one download or upload over a server's channel.
+//! The SDO client of a CANopen device: one download or upload over a server's channel (CiA 301,
+//! 7.2.4.3).
 #![tactic(auto)]
 
 mod answers;

@@ -1,4 +1,4 @@
-//! How a client transfers.
+//! The mode of a client.
 
 /// By which of the SDO protocols a client transfers (CiA 301, 7.2.4.2).
 #[derive(Clone, Copy, Debug, PartialEq, Eq)]

@@ -1,4 +1,4 @@
-//! What a client sends.
+//! How a client sends its requests.
 
 ghost use Rattle.std.specs.Prelude.{◌≡◌, ◌+◌, ◌<◌, ◌≤◌, ◌++◌, [], ◌∷◌};
 ghost use Rattle.arrayvec.specs.ArrayVec.{array_vec_len};
@@ -31,7 +31,7 @@ impl<'a> Client<'a> {
         self.sent = self.sent.saturating_add(1);
     }
 
-    // Gives the transfer up, with an abort.
+    // Aborts the transfer.
     pub(crate) fn give_up(&mut self, code: AbortCode, outbox: &mut Outbox)
         requires room { HasRoomFor 1 outbox.old }
         ensures few { array_vec_len outbox.new ≤ array_vec_len outbox.old + segments_per_sub_block }

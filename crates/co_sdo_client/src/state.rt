@@ -1,14 +1,14 @@
-//! How a client stands.
+//! The state of a client's transfer.
 
 use co_frame::AbortCode;
 
-/// How a transfer stands at its client.
+/// The state of a client's transfer.
 #[derive(Clone, Copy, Debug, PartialEq, Eq)]
 pub enum ClientState {
-    /// Not begun, or an answer is awaited.
+    /// Not begun, or waiting for an answer.
     Waiting,
     /// The transfer is complete.
     Done,
-    /// It was given up: the code of the abort received or sent.
+    /// The transfer failed, with the code of the abort that was received or sent.
     Failed(AbortCode),
 }

@@ -1,4 +1,4 @@
-//! Uploads: expedited and segmented.
+//! SDO upload, expedited and segmented (CiA 301, 7.2.4.3.6 and 7.2.4.3.7).
 
 ghost use Rattle.std.specs.Prelude.{◌≡◌, ◌+◌, ◌<◌, ◌≤◌, ◌++◌, [], None, Some, if◌then◌else◌, nat_lt, not};
 ghost use Rattle.co_value.specs.Keys.{same_key};
@@ -56,7 +56,7 @@ pub(crate) fn is_below_size(indicated: Option<u32>, total: usize) -> bool
 }
 
 impl<'a> Client<'a> {
-    // How many bytes an upload may have.
+    // The most bytes that an upload may have.
     pub(crate) fn cap(&self) -> usize
         ensures { result ≡ cap_of self.now.call.job }
     {
@@ -66,8 +66,8 @@ impl<'a> Client<'a> {
         }
     }
 
-    // Why an upload of this key, with this many bytes, isn't taken: another key than the call's, or more than it has
-    // room for.
+    // Why the client aborts an upload of this key and size: another key than its own (command
+    // specifier not valid), or more than `cap` bytes (out of memory).
     pub(crate) fn upload_fault(&self, key: Key, size: usize) -> Option<AbortCode>
         ensures { result ≡ if not (same_key key self.now.call.key) then Some (record { 0 = unknown_command })
             else if nat_lt (cap_of self.now.call.job) size then Some (record { 0 = out_of_memory }) else None }
@@ -81,7 +81,7 @@ impl<'a> Client<'a> {
         None
     }
 
-    // A whole upload: initiate SDO upload, scs = 2, e = 1.
+    // An expedited upload: initiate SDO upload, scs = 2, e = 1.
     pub(crate) fn take_expedited(&mut self, key: Key, value: &ExpeditedData, outbox: &mut Outbox)
         requires room { HasRoomFor 1 outbox.old }
         ensures few { array_vec_len outbox.new ≤ array_vec_len outbox.old + segments_per_sub_block }

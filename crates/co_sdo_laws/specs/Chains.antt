@@ -18,24 +18,24 @@ use Rattle.co_sdo_laws.specs.Undisturbed.{AreCalm, IsJob, IsPermitted, rounds_af
 
 -- ---- what happens
 
--- a channel between two clients: its time (in ms; 0 is for ever), the dictionary, its contents, and
--- the channel's past
+-- a channel between two clients: its SDO timeout (in ms; 0 disables it), the dictionary, its
+-- contents, and the channel's past
 pub record Server : Type 0 where
   pub time : ℕ
   pub description : Description
   pub contents : Contents
   pub past : Log
 
--- a transfer: what its client is called for, and what has happened since it began, newest first
+-- a transfer: the call of its client, and the events since it began, newest first
 pub record Transfer : Type 0 where
   pub call : Call
   pub events : List WorldEvent
 
--- what these clients are called for
+-- the calls of these transfers
 abbrev pub calls : List Transfer → List Call
 calls transfers = map (λ t. t.call) transfers
 
--- a client begins
+-- a client that begins, at a server
 abbrev pub initiate_at : Server → Call → Setup
 initiate_at server call = record {
   call = call;
@@ -45,7 +45,7 @@ initiate_at server call = record {
   past = server.past;
 }
 
--- what its transfer comes to
+-- the world at the end of its transfer
 abbrev pub end_of : Server → Transfer → World
 end_of server t = world_after (initiate_at server t.call) t.events
 
@@ -56,24 +56,24 @@ server_after server t = record server {
   past = (end_of server t).log;
 }
 
--- the channel after all of these, the first one first
+-- the server after all these transfers, the first one first
 abbrev pub server_after_all : Server → List Transfer → Server
 server_after_all server [] = server
 server_after_all server (t ∷ later) = server_after_all (server_after server t) later
 
--- how each client stands at the end of its transfer
+-- the state of each client at the end of its transfer
 abbrev pub outcomes : Server → List Transfer → List ClientState
 outcomes server [] = []
 outcomes server (t ∷ later) =
     outcome t.call (end_of server t).events ∷ outcomes (server_after server t) later
 
--- the bytes that each client gives then
+-- the bytes that each client returns then
 abbrev pub results : Server → List Transfer → List (List ℕ)
 results server [] = []
 results server (t ∷ later) =
     result t.call (end_of server t).events ∷ results (server_after server t) later
 
--- ---- what is to come of it, by the bytes of the entries alone
+-- ---- the expected results, by the bytes of the entries alone
 
 -- the contents after a job: the bytes of a download are in its entry
 abbrev pub contents_after : Contents → Key → Job → Contents
@@ -86,44 +86,44 @@ contents_after_all contents [] = contents
 contents_after_all contents (call ∷ later) =
     contents_after_all (contents_after contents call.key call.job) later
 
--- what a job gives: an upload the bytes of its entry, a download none
+-- what a job returns: an upload the bytes of its entry, a download none
 abbrev pub bytes_given : Contents → Key → Job → List ℕ
 bytes_given contents key (Download bytes tells) = []
 bytes_given contents key (Upload cap) = value_at contents key
 
--- what each of these gives: an upload the bytes that its entry has after those before it
+-- what each of these calls returns: an upload the bytes of its entry after the earlier calls
 abbrev pub all_bytes_given : Contents → List Call → List (List ℕ)
 all_bytes_given contents [] = []
 all_bytes_given contents (call ∷ later) =
     bytes_given contents call.key call.job
     ∷ all_bytes_given (contents_after contents call.key call.job) later
 
--- ---- what is asked
+-- ---- the conditions
 
--- what a client writes are bytes; it has room for what it reads
+-- a client writes bytes, and has room for the value that it reads
 abbrev pub Fits : Contents → Key → Job → Type 0
 Fits contents key (Download bytes tells) = AreBytes bytes
 Fits contents key (Upload cap) = length (value_at contents key) ≤ cap
 
--- a client can be called for it, and the dictionary doesn't refuse it
+-- a call that a client can have, and that the dictionary permits
 pub record MayCall (d : Description) (contents : Contents) (call : Call) : Type 0 where
   pub key : call.key.index < 65536
   pub job : IsJob call.job
   pub permitted : IsPermitted d contents call.key call.job
   pub fits : Fits contents call.key call.job
 
--- the same of all of these, each with the contents after those before it
+-- the same for each of these calls, with the contents after the earlier ones
 abbrev pub MayCallAll : Description → Contents → List Call → Type 0
 MayCallAll d contents [] = Unit {0}
 MayCallAll d contents (call ∷ later) =
     MayCall d contents call × MayCallAll d (contents_after contents call.key call.job) later
 
--- nothing disturbs a transfer, and it goes on until no frame is on its way
+-- an undisturbed transfer that goes on until no frame is on its way
 pub record IsWhole (server : Server) (t : Transfer) : Type 0 where
   pub calm : AreCalm (initiate_at server t.call) t.events
   pub rests : on_their_way (end_of server t) ≡ 0
 
--- the same of all of these, one after the other
+-- the same for each of these transfers, one after the other
 abbrev pub AreWhole : Server → List Transfer → Type 0
 AreWhole server [] = Unit {0}
 AreWhole server (t ∷ later) = IsWhole server t × AreWhole (server_after server t) later
@@ -133,7 +133,7 @@ pub record IsReady (server : Server) : Type 0 where
   pub idle : open_transfer server.past ≡ None
   pub dictionary : IsDictionary server.description server.contents
 
--- permitted transfers one after the other, which nothing disturbs
+-- permitted, undisturbed transfers one after the other
 pub record IsChain (server : Server) (transfers : List Transfer) : Type 0 where
   pub ready : IsReady server
   pub permitted : MayCallAll server.description server.contents (calls transfers)
@@ -158,7 +158,7 @@ in_rounds contents call = record {
   events = rounds_after (frames_needed call.mode contents call.key call.job) [];
 }
 
--- all of these, one after the other
+-- these transfers, one after the other
 abbrev pub all_in_rounds : Contents → List Call → List Transfer
 all_in_rounds contents [] = []
 all_in_rounds contents (call ∷ later) =

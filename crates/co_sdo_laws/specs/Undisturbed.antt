@@ -1,5 +1,5 @@
--- Undisturbed transfers (CiA 301, 7.2.4.2): each frame arrives once and in order, and no end's time
--- is over.
+-- Undisturbed transfers (CiA 301, 7.2.4.2): each frame arrives once and in order, and neither end
+-- times out.
 use Rattle.std.specs.Prelude.{◌≡◌, ℕ, zero, suc, ◌+◌, ◌*◌, ◌/◌, ◌≤◌, ◌<◌, ◌==◌, ◌&&◌, nat_le, Bool, true, false, not, List, [], ◌∷◌, length, None, if◌then◌else◌}
 use Rattle.co_value.specs.declared.key.Key.{Key}
 use Rattle.co_sdo_client.specs.declared.mode.Mode.{Mode}
@@ -17,10 +17,10 @@ use Rattle.co_sdo.specs.OpenTransfers.{open_transfer}
 use Rattle.co_sdo.specs.Opened.{is_time_over}
 use Rattle.co_sdo_laws.specs.World.{Setup, World, Requests, Answers, WorldEvent, Delivered, Lost, Repeated, ClientTicked, ChannelTicked, world_after}
 
--- ---- what disturbs nothing
+-- ---- undisturbed events
 
--- an event that loses and repeats no frame, and at which no end's time is over: the client's while
--- it waits, the channel's while a transfer is open
+-- an event that loses and repeats no frame, and at which neither end times out: not the client
+-- while it waits, not the channel while a transfer is open
 abbrev pub IsCalm : Setup → WorldEvent → World → Type 0
 IsCalm s (Delivered queue) w = Unit {0}
 IsCalm s (Lost queue) w = ⊥
@@ -29,22 +29,22 @@ IsCalm s ClientTicked w =
     outcome s.call w.events ≡ Waiting → is_client_over s.call.time (TickedAtClient ∷ w.events) ≡ false
 IsCalm s ChannelTicked w = is_time_over s.time (Ticked ∷ w.log) ≡ false
 
--- each of these events, newest first, in the world that it came to
+-- each of these events, newest first, is calm in the world before it
 abbrev pub AreCalm : Setup → List WorldEvent → Type 0
 AreCalm s [] = Unit {0}
 AreCalm s (event ∷ older) = IsCalm s event (world_after s older) × AreCalm s older
 
--- a client can be called for it: at most 65,535 bytes
+-- a job that a client can have: at most 65,535 bytes
 abbrev pub IsJob : Job → Type 0
 IsJob (Download bytes tells) = length bytes ≤ 65535
 IsJob (Upload cap) = cap ≤ 65535
 
--- the dictionary doesn't refuse it: the bytes may be written, or the entry may be read
+-- the dictionary permits the job: the bytes may be written, or the entry may be read
 abbrev pub IsPermitted : Description → Contents → Key → Job → Type 0
 IsPermitted d contents key (Download bytes tells) = completion_refusal d contents key None bytes ≡ None
 IsPermitted d contents key (Upload cap) = reading_refusal d contents key ≡ None
 
--- a permitted transfer that nothing disturbs; the channel has no other open when the client begins
+-- a permitted, undisturbed transfer; the channel has no other open when the client begins
 pub record IsUndisturbed (s : Setup) (events : List WorldEvent) : Type 0 where
   pub dictionary : IsDictionary s.description s.contents
   pub key : s.call.key.index < 65536
@@ -53,14 +53,14 @@ pub record IsUndisturbed (s : Setup) (events : List WorldEvent) : Type 0 where
   pub idle : open_transfer s.past ≡ None
   pub calm : AreCalm s events
 
--- so many rounds after events: in each the oldest request arrives, and then the oldest answer
+-- events followed by `n` rounds: in each the oldest request arrives, and then the oldest answer
 abbrev pub rounds_after : ℕ → List WorldEvent → List WorldEvent
 rounds_after zero events = events
 rounds_after (suc n) events = Delivered Answers ∷ Delivered Requests ∷ rounds_after n events
 
--- ---- how far a transfer is
+-- ---- the progress of a transfer
 
--- how many frames have arrived since the client's begin, at both ends
+-- how many frames have arrived since the client began, at both ends
 abbrev pub arrived : World → ℕ
 arrived w = w.received + length (answers w.events)
 
@@ -68,8 +68,7 @@ arrived w = w.received + length (answers w.events)
 abbrev pub on_their_way : World → ℕ
 on_their_way w = length w.requests + length w.answers
 
--- how many frames a channel has sent: its answers, and its abort where the time of a transfer was
--- over
+-- how many frames a channel has sent: its answers, and the abort of each transfer that timed out
 abbrev pub answers_sent : Log → ℕ
 answers_sent [] = 0
 answers_sent (Exchanged x ∷ older) = answers_sent older + length x.answers
@@ -77,17 +76,17 @@ answers_sent (Ticked ∷ older) = answers_sent older
 answers_sent (TimedOut answers ∷ older) = answers_sent older + length answers
 answers_sent (Dropped ∷ older) = answers_sent older
 
--- how many frames each end has sent since the client's begin
+-- how many frames each end has sent since the client began
 pub record HaveSent (s : Setup) (requests answers : ℕ) (w : World) : Type 0 where
   pub client : sent s.call w.events ≡ requests
   pub channel : answers_sent w.log ≡ answers_sent s.past + answers
 
--- a client that has not failed
+-- the state of a client that has not failed
 abbrev pub done_or_waiting : Bool → ClientState
 done_or_waiting done = if done then Done else Waiting
 
--- a transfer in turns: after each of so many requests its answer. The client is done exactly when
--- all have arrived. Before that one frame is on its way, and after it none.
+-- a transfer in turns: `needed` requests, each followed by its answer. The client is done exactly
+-- when all these frames have arrived. Before that one frame is on its way, and after it none.
 pub record GoesInTurns (call : Call) (needed : ℕ) (w : World) : Type 0 where
   pub within : arrived w ≤ 2 * needed
   pub state : outcome call w.events ≡ done_or_waiting (arrived w == 2 * needed)
@@ -101,7 +100,7 @@ pub record IsOver (s : Setup) (w : World) : Type 0 where
   pub idle : open_transfer w.log ≡ None
   pub dictionary : IsDictionary s.description w.contents
 
--- ---- how a client transfers, by its mode and what it is to do (CiA 301, 7.2.4.2)
+-- ---- the protocol of a client, by its mode and its job (CiA 301, 7.2.4.2)
 
 -- 1 to 4 bytes are transferred at once
 abbrev pub is_short : ℕ → Bool
@@ -118,7 +117,7 @@ is_segmented_download Plain (Download bytes tells) = not (is_short (length bytes
 is_segmented_download Segmented (Download bytes tells) = true
 is_segmented_download mode job = false
 
--- an upload that isn't in blocks: at once, or in segments
+-- an upload that isn't in blocks: expedited or segmented
 abbrev pub is_plain_upload : Mode → Job → Bool
 is_plain_upload Block (Upload cap) = false
 is_plain_upload mode (Upload cap) = true
@@ -134,36 +133,36 @@ abbrev pub is_block_upload : Mode → Job → Bool
 is_block_upload Block (Upload cap) = true
 is_block_upload mode job = false
 
--- how many requests an upload of so many bytes needs: the begin, and unless they are sent at once
--- one for each seven or fewer
+-- how many requests an upload of this many bytes needs: initiate, and unless it is expedited one
+-- for each seven bytes or fewer, at least one
 abbrev pub upload_requests : ℕ → ℕ
 upload_requests size = if is_short size then 1 else requests_needed size
 
 -- ---- transfers in blocks (CiA 301, 7.2.4.3.9 to 7.2.4.3.15)
 
--- how many sub-blocks so many bytes have: one for each 127 segments or fewer
+-- how many sub-blocks this many bytes have: one for each 127 segments or fewer
 abbrev pub sub_blocks_for : ℕ → ℕ
 sub_blocks_for size = (segments_for size + 126) / 127
 
--- how many frames the client of a block download sends: the begin, the segments and the end
+-- how many frames the client of a block download sends: initiate, the segments and the end
 abbrev pub block_download_requests : ℕ → ℕ
 block_download_requests size = 1 + segments_for size + 1
 
--- and the server: the begin's confirmation, an acknowledgement for each sub-block, and the end's
--- confirmation
+-- and the server: the confirmation of initiate, an acknowledgement for each sub-block, and the
+-- confirmation of the end
 abbrev pub block_download_answers : ℕ → ℕ
 block_download_answers size = 1 + sub_blocks_for size + 1
 
--- how many frames the client of a block upload sends: the begin, the start, an acknowledgement for
--- each sub-block, and its end
+-- how many frames the client of a block upload sends: initiate, start, an acknowledgement for each
+-- sub-block, and its end
 abbrev pub block_upload_requests : ℕ → ℕ
 block_upload_requests size = 1 + 1 + sub_blocks_for size + 1
 
--- and the server: the begin's confirmation, the segments and its end
+-- and the server: the confirmation of initiate, the segments and its end
 abbrev pub block_upload_answers : ℕ → ℕ
 block_upload_answers size = 1 + segments_for size + 1
 
--- how many frames a block download of so many bytes takes, both ways
+-- how many frames a block download of this many bytes takes, both ways
 abbrev pub block_frames : ℕ → ℕ
 block_frames size = block_download_requests size + block_download_answers size
 
@@ -172,8 +171,8 @@ block_frames size = block_download_requests size + block_download_answers size
 abbrev pub block_upload_frames : ℕ → ℕ
 block_upload_frames size = block_upload_requests size + block_upload_answers size
 
--- a transfer in blocks of so many frames in all. The client is done exactly when so many of them
--- have arrived; before the last has arrived one is on its way, and after it none.
+-- a transfer in blocks, of `frames` frames in all. The client is done exactly when `needed` of them
+-- have arrived. Until the last has arrived at least one is on its way, and after it none.
 pub record GoesInBlocks (call : Call) (needed frames : ℕ) (w : World) : Type 0 where
   pub within : arrived w ≤ frames
   pub state : outcome call w.events ≡ done_or_waiting (nat_le needed (arrived w))

@@ -1,5 +1,5 @@
--- A client and a channel with a queue of frames each way (CiA 301, 7.2.4.2): what is on its way, and what each end has
--- received. All frames have eight bytes.
+-- A client and a channel with a queue of frames each way (CiA 301, 7.2.4.2): the frames on their
+-- way, and the events at each end. All frames have eight bytes.
 use Rattle.std.specs.Prelude.{ℕ, ◌+◌, Bool, true, false, List, [], ◌∷◌, ◌++◌, drop, map, if◌then◌else◌}
 use Rattle.co_sdo_client.specs.Calls.{Call, message_bytes, Event as ClientEvent, Answered, Ticked as TickedAtClient}
 use Rattle.co_sdo_client.specs.Outcomes.{asked}
@@ -10,8 +10,9 @@ use Rattle.co_sdo.specs.Opened.{is_time_over}
 use Rattle.co_sdo.specs.Replies.{reply_to, time_out_reply}
 use Rattle.co_sdo.specs.Completed.{set_by, contents_with}
 
--- what the client is called for, the channel's time (in ms; 0 is for ever), the dictionary, and at the client's begin its
--- contents and what has happened to the channel, newest first
+-- the call of the client, the SDO timeout of the channel (in ms; 0 disables it), and the
+-- dictionary; its contents and the events of the channel, newest first, are those when the client
+-- begins
 pub record Setup : Type 0 where
   pub call : Call
   pub time : ℕ
@@ -25,7 +26,7 @@ pub record World : Type 0 where
   pub events : List ClientEvent
   -- what happened to the channel, newest first
   pub log : Log
-  -- how many requests have come to it since the client's begin
+  -- how many requests it has received since the client began
   pub received : ℕ
   -- the bytes of the entries
   pub contents : Contents
@@ -39,7 +40,7 @@ pub data Queue : Type 0 where
   Requests : Queue
   Answers : Queue
 
--- what may happen
+-- an event
 pub data WorldEvent : Type 0 where
   -- the oldest frame of a queue arrives
   Delivered : Queue → WorldEvent
@@ -47,12 +48,12 @@ pub data WorldEvent : Type 0 where
   Lost : Queue → WorldEvent
   -- it arrives, and will arrive again
   Repeated : Queue → WorldEvent
-  -- a millisecond passes at the client
+  -- 1 ms elapses at the client
   ClientTicked : WorldEvent
-  -- a millisecond passes at the channel
+  -- 1 ms elapses at the channel
   ChannelTicked : WorldEvent
 
--- a frame comes, and will come again
+-- an event at which a frame arrives, and will arrive again
 abbrev pub is_repeat : WorldEvent → Bool
 is_repeat (Repeated queue) = true
 is_repeat event = false
@@ -61,18 +62,18 @@ is_repeat event = false
 abbrev pub first_world : Setup → World
 first_world s = record { events = []; log = s.past; received = 0; contents = s.contents; requests = map message_bytes (asked s.call []); answers = [] }
 
--- something happens to the client: what it sends then follows the requests that are on their way
+-- an event at the client: the requests that it sends then follow those on their way
 abbrev pub at_client : Setup → ClientEvent → World → World
 at_client s event w = record w {
   events = event ∷ w.events;
   requests = w.requests ++ map message_bytes (asked s.call (event ∷ w.events));
 }
 
--- answers follow those that are on their way
+-- new answers follow those on their way
 abbrev pub with_answers : List Answer → World → World
 with_answers answers w = record w { answers = w.answers ++ map answer_bytes answers }
 
--- a request comes to the channel: its answers follow those that are on their way
+-- a request arrives at the channel: its answers follow those on their way
 abbrev pub at_channel : Setup → List ℕ → World → World
 at_channel s frame w =
     let answers = reply_to s.description w.contents w.log frame in
@@ -82,7 +83,7 @@ at_channel s frame w =
       contents = contents_with w.contents (set_by s.description w.contents w.log frame);
     })
 
--- the channel's time is over: it gives the transfer up
+-- the channel aborts a transfer that has timed out
 abbrev pub timed_out : World → World
 timed_out w = with_answers (time_out_reply w.log) (record w { log = TimedOut (time_out_reply w.log) ∷ w.log })
 
@@ -90,7 +91,7 @@ timed_out w = with_answers (time_out_reply w.log) (record w { log = TimedOut (ti
 abbrev pub ticked : World → World
 ticked w = record w { log = Ticked ∷ w.log }
 
--- a millisecond passes at the channel
+-- 1 ms elapses at the channel
 abbrev pub channel_ticked : Setup → World → World
 channel_ticked s w = if is_time_over s.time (Ticked ∷ w.log) then timed_out (ticked w) else ticked w
 
@@ -104,12 +105,12 @@ abbrev pub without_front : Queue → World → World
 without_front Requests w = record w { requests = drop 1 w.requests }
 without_front Answers w = record w { answers = drop 1 w.answers }
 
--- a frame comes to the end that its queue leads to
+-- a frame arrives at the end that its queue leads to
 abbrev pub arrives : Setup → Queue → List ℕ → World → World
 arrives s Requests frame w = at_channel s frame w
 arrives s Answers frame w = at_client s (Answered frame) w
 
--- the oldest of these frames arrives; where there is none nothing happens
+-- the oldest of these frames arrives; if there is none, nothing happens
 abbrev pub front_arrives : Setup → Queue → List (List ℕ) → World → World
 front_arrives s queue [] w = w
 front_arrives s queue (frame ∷ later) w = arrives s queue frame w

@@ -1,5 +1,4 @@
-//! Transfers one after the other over one channel, each by a client of its own, none of them
-//! disturbed.
+//! Undisturbed transfers one after the other over one channel, each by a client of its own.
 
 ghost use Rattle.std.specs.Prelude.{◌≡◌, List, map};
 ghost use Rattle.co_sdo_client.specs.Calls.{Call};
@@ -19,12 +18,13 @@ ghost use Rattle.co_sdo_laws.specs.Chains.{
   all_in_rounds,
 };
 
-/// Permitted transfers, any mix of downloads and uploads, one after the other over one channel (CiA
-/// 301, 7.2.4.2). Nothing disturbs them, and each goes on until no frame is on its way. Then every
-/// client is done. The contents are those at the beginning with the downloads put in, in their
-/// order. Each upload gives the bytes that its entry had then. After them another client may begin.
-/// Any permitted calls become such a chain where the frames of each are delivered, in as many
-/// rounds as it has frames. This is a law: a call of it changes nothing.
+/// Permitted transfers, any mix of downloads and uploads, one after the other over one channel
+/// (CiA 301, 7.2.4.2). No frame is lost or repeated, nothing times out, and each transfer goes on
+/// until no frame is on its way. Then every client is done (`done`). The final contents are the
+/// first ones with the bytes of the downloads, in their order (`contents`). Each upload returns the
+/// bytes that its entry had when it began (`values`). Another client may then begin (`ready`). Any
+/// permitted calls become such a chain if the frames of each are delivered in as many rounds as it
+/// has frames (`rounds`). This is a law: a call of it changes nothing.
 pub fn successive_transfers()
     ensures done { (server : Server) (transfers : List Transfer) → IsChain server transfers →
         outcomes server transfers ≡ map (λ t. Done) transfers }

@@ -1,5 +1,6 @@
-//! The two ends of an SDO transfer: a client and a server's channel, with a queue of frames each
-//! way. A module of laws about both: a call of one changes nothing.
+//! Laws about the client and the server's channel of an SDO transfer together, with a queue of
+//! frames each way: a transfer without loss, repetition or timeout completes. A call of a law
+//! changes nothing.
 #![tactic(auto)]
 
 mod chain;

@@ -1,9 +1,10 @@
-//! Transfers that nothing disturbs: each frame arrives once and in order, and no end's time is
-//! over. The channel may have had transfers before; none of them is open when the client begins.
+//! Undisturbed transfers: each frame arrives once and in order, and neither end times out. The
+//! channel may have had transfers before; none of them is open when the client begins.
 //!
-//! Each law says how far the transfer is after any such events, what it sets or gives, and how many
-//! frames each end sends. It also says that the transfer is over when no frame is on its way, so that
-//! another client may begin (`over`), and how many rounds are enough for that (`ends`, `rests`).
+//! Each law states the progress of the transfer after any such events, what it sets or returns, and
+//! how many frames each end sends. When no frame is on its way the transfer is over, and another
+//! client may begin (`over`). The laws also state how many rounds are enough for that (`ends`,
+//! `rests`).
 
 ghost use Rattle.std.specs.Prelude.{◌≡◌, ◌*◌, ◌≤◌, true, List, length};
 ghost use Rattle.co_value.specs.Numbers.{AreBytes};
@@ -35,10 +36,10 @@ ghost use Rattle.co_sdo_laws.specs.Undisturbed.{
   block_upload_answers,
 };
 
-/// A permitted expedited download that nothing disturbs (CiA 301, 7.2.4.3.3): 1 to 4 bytes in one
-/// request. The client is done exactly when the request and its answer have arrived, and it never
-/// gives up. When it is done the entry has the bytes, and no other entry was changed. This is a
-/// law: a call of it changes nothing.
+/// A permitted, undisturbed expedited download (CiA 301, 7.2.4.3.3): 1 to 4 bytes in one request.
+/// The client is done exactly when the request and its answer have arrived, and it never aborts.
+/// When it is done the entry has the bytes, and no other entry was changed. This is a law: a call
+/// of it changes nothing.
 pub fn expedited_download()
     ensures turns { (s : Setup) (events : List WorldEvent) → IsUndisturbed s events →
         is_expedited_download s.call.mode s.call.job ≡ true →
@@ -64,11 +65,11 @@ pub fn expedited_download()
         on_their_way (world_after s (rounds_after 2 events)) ≡ 0 }
 {}
 
-/// A permitted segmented download that nothing disturbs (CiA 301, 7.2.4.3.3 and 7.2.4.3.4). The
-/// client is done exactly when each request and its answer have arrived, and it never gives up.
-/// Until then one frame is on its way, so that it can go on. It needs one request, and one for each
-/// seven bytes or fewer. When it is done the entry has the bytes, and no other entry was changed.
-/// This is a law: a call of it changes nothing.
+/// A permitted, undisturbed segmented download (CiA 301, 7.2.4.3.3 and 7.2.4.3.4). The client is
+/// done exactly when each request and its answer have arrived, and it never aborts. Until then one
+/// frame is on its way, so that the transfer can go on. It needs one request, and one for each
+/// seven bytes or fewer, at least one. When it is done the entry has the bytes, and no other entry
+/// was changed. This is a law: a call of it changes nothing.
 pub fn segmented_download()
     ensures turns { (s : Setup) (events : List WorldEvent) → IsUndisturbed s events →
         is_segmented_download s.call.mode s.call.job ≡ true →
@@ -97,11 +98,11 @@ pub fn segmented_download()
         (2 * requests_needed (length (bytes_of s.call.job))) events)) ≡ 0 }
 {}
 
-/// A permitted upload that nothing disturbs, of a value that the client has room for (CiA 301,
-/// 7.2.4.3.6 and 7.2.4.3.7). The client is done exactly when each request and its answer have
-/// arrived, and it never gives up. It needs one request for 1 to 4 bytes, and else one more for
-/// each seven bytes or fewer. When it is done it gives the entry's value. No entry is changed. This
-/// is a law: a call of it changes nothing.
+/// A permitted, undisturbed upload, expedited or segmented, of a value that the client has room for
+/// (CiA 301, 7.2.4.3.6 and 7.2.4.3.7). The client is done exactly when each request and its answer
+/// have arrived, and it never aborts. It needs one request for 1 to 4 bytes; else one, and one more
+/// for each seven bytes or fewer, at least one. When it is done it returns the entry's value. No
+/// entry is changed. This is a law: a call of it changes nothing.
 pub fn upload()
     ensures turns { (s : Setup) (events : List WorldEvent) → IsUndisturbed s events →
         is_plain_upload s.call.mode s.call.job ≡ true →
@@ -140,12 +141,12 @@ pub fn upload()
         (2 * upload_requests (length (value_at s.contents s.call.key))) events)) ≡ 0 }
 {}
 
-/// A permitted block download that nothing disturbs (CiA 301, 7.2.4.3.9 to 7.2.4.3.11). The client
-/// is done exactly when all its frames and the answers to them have arrived, and it never gives up.
-/// Until then a frame is on its way, so that it can go on. It sends its begin, a segment for each
-/// seven bytes or fewer, and its end; the channel confirms the begin and the end, and acknowledges
-/// each 127 segments or fewer. When it is done the entry has the bytes, and no other entry was
-/// changed. This is a law: a call of it changes nothing.
+/// A permitted, undisturbed block download (CiA 301, 7.2.4.3.9 to 7.2.4.3.11). The client is done
+/// exactly when all its frames and the answers to them have arrived, and it never aborts. Until
+/// then a frame is on its way, so that the transfer can go on. The client sends initiate, a segment
+/// for each seven bytes or fewer, and the end; the channel confirms initiate and the end, and
+/// acknowledges each sub-block of 127 segments or fewer. When it is done the entry has the bytes,
+/// and no other entry was changed. This is a law: a call of it changes nothing.
 pub fn block_download()
     ensures blocks { (s : Setup) (events : List WorldEvent) → IsUndisturbed s events →
         is_block_download s.call.mode s.call.job ≡ true →
@@ -175,13 +176,13 @@ pub fn block_download()
         (block_frames (length (bytes_of s.call.job))) events)) ≡ 0 }
 {}
 
-/// A permitted block upload that nothing disturbs, of a value that the client has room for (CiA
-/// 301, 7.2.4.3.13 to 7.2.4.3.15). The client is done exactly when all the server's frames have
-/// arrived, and it never gives up; its own end is on its way then. Until that has arrived a frame
-/// is on its way, so that the transfer can go on. The client sends its begin, its start, an
-/// acknowledgement for each 127 segments or fewer, and its end; the channel confirms the begin, and
-/// sends a segment for each seven bytes or fewer, and its end. When the client is done it gives the
-/// entry's value. No entry is changed. This is a law: a call of it changes nothing.
+/// A permitted, undisturbed block upload of a value that the client has room for (CiA 301,
+/// 7.2.4.3.13 to 7.2.4.3.15). The client is done exactly when all frames of the server have
+/// arrived, and it never aborts; its own end is on its way then. Until that end has arrived a frame
+/// is on its way, so that the transfer can go on. The client sends initiate, start, an
+/// acknowledgement for each sub-block of 127 segments or fewer, and its end; the channel confirms
+/// initiate, sends a segment for each seven bytes or fewer, and its end. When the client is done it
+/// returns the entry's value. No entry is changed. This is a law: a call of it changes nothing.
 pub fn block_upload()
     ensures blocks { (s : Setup) (events : List WorldEvent) → IsUndisturbed s events →
         is_block_upload s.call.mode s.call.job ≡ true →

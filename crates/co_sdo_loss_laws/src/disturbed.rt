@@ -1,4 +1,4 @@
-//! What a transfer that came to its end has done, whatever happened on its way.
+//! A transfer that its client reports as done has moved exactly the bytes, whatever disturbed it.
 
 ghost use Rattle.std.specs.Prelude.{◌≡◌, true, false, List, Some};
 ghost use Rattle.std.specs.List.{list_any};
@@ -10,9 +10,9 @@ ghost use Rattle.co_sdo_laws.specs.World.{Setup, WorldEvent, world_after};
 ghost use Rattle.co_sdo_laws.specs.Undisturbed.{is_plain_upload, is_block_download, is_block_upload};
 ghost use Rattle.co_sdo_loss_laws.specs.Disturbed.{IsAlone, is_plain_download, is_repeat};
 
-/// A download at once or in segments (CiA 301, 7.2.4.3.3 and 7.2.4.3.4). Whatever is lost, comes again or is
-/// given up on its way: if the client is done, the entry has exactly its bytes. This is a law: a call of it
-/// changes nothing.
+/// A download, expedited or segmented (CiA 301, 7.2.4.3.3 and 7.2.4.3.4), in which frames may be
+/// lost or repeated, and either end may time out. If the client is done, the entry has exactly its
+/// bytes. This is a law: a call of it changes nothing.
 pub fn download()
     ensures entry { (s : Setup) (events : List WorldEvent) → IsAlone s →
         is_plain_download s.call.mode s.call.job ≡ true →
@@ -20,9 +20,9 @@ pub fn download()
         (world_after s events).contents s.call.key ≡ Some (bytes_of s.call.job) }
 {}
 
-/// An upload at once or in segments (CiA 301, 7.2.4.3.6 and 7.2.4.3.7). Whatever is lost, comes again or is
-/// given up on its way: if the client is done, it gives exactly the bytes that the entry had at its begin.
-/// This is a law: a call of it changes nothing.
+/// An upload, expedited or segmented (CiA 301, 7.2.4.3.6 and 7.2.4.3.7), in which frames may be
+/// lost or repeated, and either end may time out. If the client is done, it returns exactly the
+/// bytes that the entry had when it began. This is a law: a call of it changes nothing.
 pub fn upload()
     ensures value { (s : Setup) (events : List WorldEvent) → IsAlone s →
         is_plain_upload s.call.mode s.call.job ≡ true →
@@ -30,9 +30,9 @@ pub fn upload()
         given s.call (world_after s events).events ≡ value_at s.contents s.call.key }
 {}
 
-/// An upload in blocks (CiA 301, 7.2.4.3.13 to 7.2.4.3.15) of which no frame comes again. Whatever is lost or
-/// given up on its way: if the client is done, it gives exactly the bytes that the entry had at its begin.
-/// This is a law: a call of it changes nothing.
+/// A block upload (CiA 301, 7.2.4.3.13 to 7.2.4.3.15) in which no frame is repeated; frames may be
+/// lost, and either end may time out. If the client is done, it returns exactly the bytes that the
+/// entry had when it began. This is a law: a call of it changes nothing.
 pub fn block_upload()
     ensures value { (s : Setup) (events : List WorldEvent) → IsAlone s →
         is_block_upload s.call.mode s.call.job ≡ true → list_any is_repeat events ≡ false →
@@ -40,9 +40,9 @@ pub fn block_upload()
         given s.call (world_after s events).events ≡ value_at s.contents s.call.key }
 {}
 
-/// A download in blocks (CiA 301, 7.2.4.3.9 to 7.2.4.3.11) of which no frame comes again. Whatever is lost or
-/// given up on its way: if the client is done, the entry has exactly its bytes. This is a law: a call of it
-/// changes nothing.
+/// A block download (CiA 301, 7.2.4.3.9 to 7.2.4.3.11) in which no frame is repeated; frames may be
+/// lost, and either end may time out. If the client is done, the entry has exactly its bytes. This
+/// is a law: a call of it changes nothing.
 pub fn block_download()
     ensures entry { (s : Setup) (events : List WorldEvent) → IsAlone s →
         is_block_download s.call.mode s.call.job ≡ true → list_any is_repeat events ≡ false →

@@ -1,5 +1,5 @@
-//! SDO transfers that anything may disturb: frames are lost and come again, and each end's time may be over. A module
-//! of laws about the client and the server's channel: a call of one changes nothing.
+//! Laws about SDO transfers in which frames are lost or repeated, and either end may time out:
+//! client and server's channel together. A call of a law changes nothing.
 #![tactic(auto)]
 
 mod disturbed;

@@ -1,4 +1,4 @@
-//! The bytes of a transfer at its receiver, or a copy of those that a server sends.
+//! The bytes of a transfer: those received so far, or a copy of the value that a server sends.
 
 ghost use Rattle.std.specs.Prelude.{◌≡◌, ◌+◌, ◌*◌, ◌<◌, ◌≤◌, ◌++◌, [], Some, length, take, IfOk};
 ghost use Rattle.std.specs.Option.{option_map_or};
@@ -10,11 +10,12 @@ use std::alloc::{AllocError, Global};
 use std::boxed::BoxedSlice;
 use std::marker::Model;
 
-/// Bytes in memory that is asked for once, when the buffer is made: it never grows. Contracts see the bytes, and how
-/// many it has room for, which no method changes.
+/// Bytes in memory that is allocated once, when the buffer is made: it never grows. Contracts see
+/// the bytes and its room in bytes, which no method changes.
 #[derive(Drop)]
 pub struct Buffer {
-    // as many as there is room for, none where no room was asked for; the first `len` are the bytes
+    // the first `len` cells are the bytes; there are as many cells as room, and none for a buffer
+    // without room
     cells: Option<BoxedSlice<u8>>,
     len: usize,
 }
@@ -35,7 +36,7 @@ impl Model for Buffer {
     ghost invariant = { λ b. b.len ≤ length (option_map_or boxed_slice_items b.cells []) };
 }
 
-// Copies bytes into cells that have room for them, from a place on.
+// Copies bytes into cells, from cell `start` on.
 fn copy_at(cells: &mut [u8], start: usize, bytes: &[u8])
     requires { start + length bytes.now ≤ length cells.old }
     ensures front { take (start + length bytes.now) cells.new ≡ take start cells.old ++ bytes.now }
@@ -45,7 +46,7 @@ fn copy_at(cells: &mut [u8], start: usize, bytes: &[u8])
 }
 
 impl Buffer {
-    /// A buffer without room, which takes no memory.
+    /// A buffer without room, which needs no memory.
     pub fn none() -> Buffer
         ensures { result ≡ record { bytes = []; room = 0 } }
     {
@@ -55,7 +56,7 @@ impl Buffer {
         }
     }
 
-    /// A buffer without bytes, with room for so many. `AllocError` where there is no memory for it.
+    /// An empty buffer with room for `room` bytes. `AllocError` if they can't be allocated.
     pub fn with_room(alloc: Global, room: usize) -> Result<Buffer, AllocError>
         ensures { IfOk result (λ buffer. buffer ≡ record { bytes = []; room = room }) }
     {
@@ -66,7 +67,7 @@ impl Buffer {
         })
     }
 
-    /// How many bytes there are.
+    /// The number of bytes.
     pub fn len(&self) -> usize
         ensures len { result ≡ length self.now.bytes }
         ensures few { result ≤ self.now.room }
@@ -100,7 +101,7 @@ impl Buffer {
         self.len = 0;
     }
 
-    /// Takes these bytes in place of those that it has.
+    /// Replaces the bytes of the buffer by these.
     pub fn fill(&mut self, bytes: &[u8])
         requires { length bytes.now ≤ self.old.room }
         ensures { self.new ≡ record self.old { bytes = bytes.now } }
@@ -109,13 +110,14 @@ impl Buffer {
         self.append(bytes);
     }
 
-    /// Takes more bytes after those that it has.
+    /// Appends bytes to those of the buffer.
     pub fn append(&mut self, bytes: &[u8])
         requires { length self.old.bytes + length bytes.now ≤ self.old.room }
         ensures { self.new ≡ record self.old { bytes = self.old.bytes ++ bytes.now } }
     {
         if let Some(cells) = &mut self.cells {
-            // most segments have seven bytes, and a copy of a length that the compiler knows is quicker
+            // most segments have seven bytes, and a copy of a length that the compiler knows is
+            // quicker
             match bytes.as_array::<7>() {
                 Some(seven) => copy_at(cells, self.len, seven),
                 None => copy_at(cells, self.len, bytes),
@@ -124,8 +126,9 @@ impl Buffer {
         self.len += bytes.len();
     }
 
-    /// Takes the data of a segment of a block transfer, which are `bytes`, if it is the next of its sub-block, and
-    /// gives how many are then taken in it (CiA 301, 7.2.4.3.10 and 7.2.4.3.14).
+    /// Appends the data of a segment of a block transfer, `bytes`, if its sequence number is
+    /// `taken` + 1, where `taken` segments of its sub-block were taken before. Returns how many are
+    /// taken then (CiA 301, 7.2.4.3.10 and 7.2.4.3.14).
     pub fn append_next(&mut self, taken: u8, segment: &BlockSegment, bytes: &[u8]) -> u8
         requires bytes { bytes.now ≡ segment.now.bytes }
         requires seven { length bytes.now ≡ bytes_per_segment }

@@ -1,5 +1,5 @@
-//! What both ends of an SDO transfer do with its bytes: the sender cuts them into segments and sub-blocks, the receiver
-//! takes the segments into a buffer (CiA 301, 7.2.4.3).
+//! What both ends of an SDO transfer do with its bytes: the sender cuts them into segments and
+//! sub-blocks, the receiver collects the segments in a buffer (CiA 301, 7.2.4.3).
 #![tactic(auto)]
 
 mod buffer;

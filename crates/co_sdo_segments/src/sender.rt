@@ -17,7 +17,7 @@ ghost use Rattle.co_sdo_segments.specs.Sent.{
 use arrayvec::ArrayVec;
 use co_frame::{BYTES_PER_SEGMENT, BlockSegment, Outbox};
 
-/// The data of an expedited transfer: one to four bytes.
+/// The data of an expedited transfer: at most four bytes.
 pub fn expedited_data(bytes: &[u8]) -> ArrayVec<u8, 4>
     requires { length bytes.now ≤ 4 }
     ensures { result.items ≡ bytes.now }
@@ -30,7 +30,7 @@ pub fn expedited_data(bytes: &[u8]) -> ArrayVec<u8, 4>
     data
 }
 
-/// The data of a segment: seven bytes or fewer.
+/// The data of a segment: at most seven bytes.
 pub fn segment_data(part: &[u8]) -> ArrayVec<u8, 7>
     requires { length part.now ≤ bytes_per_segment }
     ensures { result.items ≡ part.now }
@@ -43,7 +43,7 @@ pub fn segment_data(part: &[u8]) -> ArrayVec<u8, 7>
     data
 }
 
-/// The seven bytes after so many segments, fewer at the end.
+/// The data of the segment after the first `count`: seven bytes, fewer at the end.
 pub fn part_after(bytes: &[u8], count: usize) -> &[u8]
     requires { bytes_per_segment * count ≤ length bytes.now }
     ensures part { result.now ≡ part_after count bytes.now }
@@ -53,7 +53,7 @@ pub fn part_after(bytes: &[u8], count: usize) -> &[u8]
     &rest[..rest.len().min(BYTES_PER_SEGMENT)]
 }
 
-/// Whether no bytes remain after one segment more than so many.
+/// Whether no bytes remain after the segment that follows the first `count`.
 pub fn is_last_after(bytes: &[u8], count: usize) -> bool
     requires { bytes_per_segment * count ≤ length bytes.now }
     ensures { result ≡ is_last_after count bytes.now }
@@ -61,7 +61,8 @@ pub fn is_last_after(bytes: &[u8], count: usize) -> bool
     bytes.len() <= BYTES_PER_SEGMENT * count + BYTES_PER_SEGMENT
 }
 
-/// How many segments a block transfer has: one for each seven bytes or fewer, at least one.
+/// How many segments a block transfer of these bytes has: one for each seven bytes or fewer, at
+/// least one.
 pub fn segment_count(bytes: &[u8]) -> usize
     requires { length bytes.now < 2 ^ 40 }
     ensures count { result ≡ segment_count bytes.now }
@@ -72,7 +73,7 @@ pub fn segment_count(bytes: &[u8]) -> usize
     ((bytes.len() + 6) / BYTES_PER_SEGMENT).max(1)
 }
 
-/// How many bytes of its last segment a block transfer leaves unused.
+/// How many bytes of the last segment of a block transfer contain no data (n of its end).
 pub fn unused_after(bytes: &[u8]) -> u8
     requires { length bytes.now < 2 ^ 40 }
     ensures unused { result ≡ unused_after bytes.now }
@@ -81,7 +82,8 @@ pub fn unused_after(bytes: &[u8]) -> u8
     (BYTES_PER_SEGMENT * segment_count(bytes) - bytes.len()) as u8
 }
 
-/// The segment with this number of a sub-block that begins after so many segments.
+/// Segment `number` of the sub-block that begins after the first `position` segments; zeros fill up
+/// its seven bytes.
 pub fn block_segment(bytes: &[u8], position: usize, number: u8) -> BlockSegment
     requires len { length bytes.now < 2 ^ 40 }
     requires first { 1 ≤ number }
@@ -101,8 +103,9 @@ pub fn block_segment(bytes: &[u8], position: usize, number: u8) -> BlockSegment
     }
 }
 
-/// Sends the sub-block that begins after so many segments, on an identifier, and gives the number of its segments: as
-/// many as it may have, or as are left (CiA 301, 7.2.4.3.10 and 7.2.4.3.14).
+/// Sends the sub-block that begins after the first `position` segments, on an identifier. It has
+/// `block_size` segments, or as many as are left; returns their number (CiA 301, 7.2.4.3.10 and
+/// 7.2.4.3.14).
 pub fn send_sub_block(
     id: u16,
     bytes: &[u8],

@@ -38,6 +38,6 @@ first_fault text =
 abbrev pub IsAccepted : List ℕ → Type 0
 IsAccepted text = first_fault text ≡ None
 
--- a fault that is answered: the first, or out of memory, which has no line
+-- a fault that is returned: the first, or out of memory, which has no line
 abbrev pub IsAnswered : Option SheetFault → SheetFault → Type 0
 IsAnswered first fault = (fault ≡ fault_at 0 Memory) ⊎ (first ≡ Some fault)

@@ -1,5 +1,5 @@
--- What makes a text no data sheet, beside its lines: each check finds the lines at fault
--- (CiA 306, object lists, object description).
+-- What makes a text no data sheet, besides faults of single lines: each check finds the lines at
+-- fault (CiA 306, object lists, object description).
 use Rattle.std.specs.Prelude.{ℕ, Bool, true, false, ◌&&◌, ◌||◌, not, ◌==◌, nat_lt, if◌then◌else◌, List, [], ◌∷◌, ◌++◌, length, filter, map, flat_map, codes, Option, Some, is_none, Result, Ok, Err, ℤ}
 use Rattle.std.specs.List.{list_any, list_all}
 use Rattle.std.specs.Option.{option_map_or, option_or}
@@ -23,7 +23,7 @@ use Rattle.co_profile.specs.FixedTypes.{fixed_type_of}
 use Rattle.co_sheet.specs.Entries.{object_code, single_codes, compound_codes, ListedObject, listed_objects, Entry, sub_indices, entries_of, is_domain, data_type_with, type_code, data_type_of, access_with, is_other_than_zero}
 use Rattle.co_sheet.specs.Limits.{Default, number, pairs, number_at_type, numeric_default, is_pairs, is_numeric, low_limit, high_limit, at_most, is_in_type, is_in_limits, stated_default}
 
--- a fault at a line, where a test says so
+-- a fault at a line, if a test holds
 abbrev pub fault_if : Bool → FaultKind → ℕ → List SheetFault
 fault_if test kind line = if test then fault_at line kind ∷ [] else []
 
@@ -31,7 +31,7 @@ fault_if test kind line = if test then fault_at line kind ∷ [] else []
 abbrev pub at_key : (Property → List SheetFault) → List ℕ → TextSection → List SheetFault
 at_key found name section = option_map_or found (property_at name section) []
 
--- a number that can't be read, and one that has to be unsigned
+-- a number that can't be read, and one that must be unsigned
 abbrev pub numeral_fault : NumeralFault → FaultKind
 numeral_fault Malformed = BadNumber
 numeral_fault Ambiguous = AmbiguousNumber
@@ -218,8 +218,8 @@ bad_limits t e =
     ++ at_key (limit_outside t (high_limit t e)) (codes "HighLimit") e.section
     ++ option_map_or (limits_crossed t e) (last_limit e) []
 
--- check 17: DefaultValue or ParameterValue, each by itself, is a number outside the type or the limits, or an
--- OCTET_STRING's that isn't pairs of digits
+-- check 17: DefaultValue or ParameterValue, each by itself, is a number outside the type or the
+-- limits, or an OCTET_STRING's that isn't pairs of digits
 abbrev pub is_bad_default : DataType → Entry → Default → Bool
 is_bad_default t e (number value) = not (is_in_limits t e value)
 is_bad_default t e (pairs value) = not (is_pairs value)

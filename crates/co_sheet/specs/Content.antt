@@ -1,5 +1,5 @@
--- What a sheet holds, by the sections of its text: its objects, entries, section lines, notes, dummies and node-ID
--- (CiA 306).
+-- What a sheet holds, by the sections of its text: its objects, entries, section lines, notes,
+-- dummies and node-ID (CiA 306).
 use Rattle.std.specs.Prelude.{◌≡◌, ℕ, ◌-◌, Bool, false, ◌&&◌, nat_lt, nat_le, if◌then◌else◌, List, [], ◌∷◌, map, filter_map, codes, ℤ, Option, option_map, option_and_then, slice_get, unwrap_or}
 use Rattle.co_value.specs.declared.key.Key.{Key}
 use Rattle.co_value.specs.declared.data_type.DataType.{DataType}
@@ -58,7 +58,7 @@ abbrev pub in_order : {X : Type 0} → (X → X → Bool) → List X → List X
 in_order is_before [] = []
 in_order is_before (x ∷ xs) = insert_before is_before x (in_order is_before xs)
 
--- rows in increasing key, and the rows of the entries so
+-- rows in increasing key, and those of all entries
 abbrev pub rows_in_order : List Row → List Row
 rows_in_order rows = in_order (λ r s. is_key_before r.key s.key) rows
 
@@ -82,7 +82,7 @@ abbrev pub object_row_of : ListedObject → Option ObjectRow
 object_row_of o =
     option_map (object_row_with o) (option_and_then object_type_with (object_code o.section))
 
--- objects in increasing index, and the rows of the listed objects so
+-- objects in increasing index, and the rows of all listed objects
 abbrev pub objects_in_order : List ObjectRow → List ObjectRow
 objects_in_order objects = in_order (λ o p. nat_lt o.index p.index) objects
 
@@ -103,7 +103,7 @@ abbrev pub is_dummy_key : List TextSection → List ℕ → Bool
 is_dummy_key sections name =
     is_one_of (1 ∷ []) (option_and_then (number_at name) (section_at DummyUsage sections))
 
--- of the dummy entries 0002h to 0007h, which may be mapped (CiA 306, dummy usage)
+-- which of the dummy entries 0002h to 0007h may be mapped (CiA 306, dummy usage)
 abbrev pub dummies_in : List TextSection → List Bool
 dummies_in sections =
     is_dummy_key sections (codes "Dummy0002") ∷ is_dummy_key sections (codes "Dummy0003")
@@ -154,7 +154,8 @@ keys_of text = in_order is_key_before (map (λ e. e.key) (entries_of (sections_i
 abbrev pub indices_of : List ℕ → List ℕ
 indices_of text = in_order nat_lt (map (λ l. l.index) (listings (sections_in text)))
 
--- nothing is left out: each entry of a text has its row, and each index that its lists name an object
+-- nothing is left out: each entry of a text has its row, and each index that its lists name an
+-- object
 pub record IsWhole (text : List ℕ) (sheet : SheetContent) : Type 0 where
   pub keys : map (λ r. r.key) sheet.rows ≡ keys_of text
   pub indices : map (λ o. o.index) sheet.objects ≡ indices_of text

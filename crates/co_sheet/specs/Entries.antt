@@ -30,8 +30,8 @@ abbrev pub object_code : TextSection → Option ℕ
 object_code section =
     option_map_or property_number (property_at (codes "ObjectType") section) (Some 7)
 
--- a DOMAIN or a VAR has one entry, sub-index 0, in its own section; an ARRAY's or a RECORD's are its
--- sub-index sections
+-- a DOMAIN or a VAR has one entry, sub-index 0, in its own section; an ARRAY's or a RECORD's are
+-- its sub-index sections
 abbrev pub single_codes : List ℕ
 single_codes = 2 ∷ 7 ∷ []
 

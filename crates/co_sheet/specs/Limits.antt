@@ -1,4 +1,5 @@
--- The limits of an entry and the value that it begins with (CiA 306, object description, device configuration file).
+-- The limits of an entry and the value that it begins with (CiA 306, object description, device
+-- configuration file).
 use Rattle.std.specs.Prelude.{ℕ, ◌%◌, Bool, true, ◌&&◌, ◌==◌, if◌then◌else◌, ℤ, int_le, List, length, codes, Option, Some, None, is_some, option_and_then, unwrap_or, Result, Ok, Err}
 use Rattle.std.specs.List.{list_any, list_all, before_first, after_first}
 use Rattle.std.specs.Option.{option_map_or, option_or}
@@ -14,8 +15,8 @@ use Rattle.co_sheet_text.specs.Sections.{Property, property_at}
 use Rattle.co_sheet_text.specs.Numerals.{result_map, signed_numeral, unsigned_number, value_at}
 use Rattle.co_sheet.specs.Entries.{Entry}
 
--- A default, without where its bytes lie in memory: none; a number; the node-ID plus a number; bytes;
--- pairs of hexadecimal digits.
+-- A default, without where its bytes lie in memory: none; a number; the node-ID plus a number;
+-- bytes; pairs of hexadecimal digits.
 pub data Default : Type 0 where
   absent : Default
   number : ℤ → Default
@@ -96,7 +97,8 @@ default_with t value = if is_numeric t then result_ok (numeric_default t value) 
 abbrev pub stated_default : DataType → Property → Default
 stated_default t k = unwrap_or (default_with t k.value) absent
 
--- what states the value that an entry begins with: ParameterValue, or where it is absent DefaultValue
+-- what states the value that an entry begins with: ParameterValue, or where it is absent
+-- DefaultValue
 abbrev pub value_property : Entry → Option Property
 value_property e =
     option_or (property_at (codes "ParameterValue") e.section)

@@ -1,4 +1,4 @@
--- What is odd in a data sheet, and no fault (CiA 306, object description, device commissioning).
+-- What is odd in a data sheet, but accepted (CiA 306, object description, device commissioning).
 use Rattle.std.specs.Prelude.{ℕ, Bool, not, ◌&&◌, nat_le, if◌then◌else◌, List, [], ◌∷◌, ◌++◌, length, flat_map, codes, is_some}
 use Rattle.std.specs.Option.{option_map_or}
 use Rattle.co_sheet_text.specs.declared.section_kind.SectionKind.{SectionKind}

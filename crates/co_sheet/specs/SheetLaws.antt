@@ -1,4 +1,4 @@
--- What every sheet keeps, for whoever builds from one (CiA 301, object dictionary; CiA 306).
+-- What holds of every sheet, for those who build from one (CiA 301, object dictionary; CiA 306).
 use Rattle.std.specs.Prelude.{◌≡◌, ℕ, ◌<◌, ◌≤◌, Bool, true, false, ◌==◌, List, length, map, filter_map, ℤ, pos, ◌≤ℤ◌, unwrap_or, Option, Some, None, IfSome, All, AllPairs}
 use Rattle.std.specs.List.{list_any, list_all}
 use Rattle.std.specs.Option.{option_map_or}
@@ -13,7 +13,8 @@ use Rattle.co_sheet.specs.Content.{Row, row_of, ObjectRow, SheetContent}
 use Rattle.co_sheet_text.specs.Sections.{TextSection}
 use Rattle.co_sheet.specs.Entries.{entries_of}
 
--- a limit that is stated, else the end of the type; 0 where there is neither, at strings and domains
+-- a limit that is stated, else the end of the type; 0 where there is neither, at strings and
+-- domains
 abbrev pub limit_or : Option ℤ → Option ℤ → ℤ
 limit_or stated end = option_map_or (unwrap_or stated) end (pos 0)
 
@@ -30,8 +31,9 @@ pub record IsWithinRow (row : Row) (value : ℤ) : Type 0 where
   pub above_low : IfSome row.low (λ low. low ≤ℤ value)
   pub below_high : IfSome row.high (λ high. value ≤ℤ high)
 
--- What each entry of a sheet keeps: its index is from 1000h on; limits are numbers of its type, in order; a default is of its
--- type's form, a number within the limits, and as short as a line; a type that is fixed is that one.
+-- What holds of each entry of a sheet: its index is 1000h or above; limits are numbers of its type,
+-- in order; a default has its type's form, is within the limits if it is a number, and has at most
+-- 512 bytes of text; a type that is fixed is that one.
 pub record IsSheetRow (row : Row) : Type 0 where
   pub from_1000 : 0x1000 ≤ row.key.index
   pub low_in_type : IfSome row.low (InRange row.data_type)
@@ -66,8 +68,8 @@ IsObjectBefore o p = o.index < p.index
 abbrev pub has_object : List ObjectRow → ℕ → Bool
 has_object objects index = list_any (λ o. o.index == index) objects
 
--- What every sheet keeps: each entry by itself; keys and indices increase, so none is there twice;
--- the mandatory objects are there (CiA 301, communication profile); a node-ID is 1 to 127.
+-- What holds of every sheet: each entry is as above; keys and indices increase, so none is there
+-- twice; the mandatory objects are there (CiA 301, communication profile); a node-ID is 1 to 127.
 pub record IsSheetContent (sheet : SheetContent) : Type 0 where
   pub each_row : All IsSheetRow sheet.rows
   pub keys_increase : AllPairs IsRowBefore sheet.rows

@@ -1,5 +1,5 @@
-//! What is checked of a data sheet, in the order of the checks: its lists, their objects, the
-//! entries. Each step gives what it has read, or the fault that its checks find first.
+//! The checks of a data sheet, in their order: its lists, their objects, the entries. Each step
+//! returns what it has read, or the fault that its checks find first.
 
 pub(crate) mod entries;
 pub(crate) mod faults;

@@ -7,7 +7,8 @@ ghost use Rattle.co_sheet.specs.Commissioning.{node_id_of, node_id_in};
 use crate::sections::section_at;
 use co_sheet_text::{Property, SectionKind, TextSection};
 
-/// The node-ID that a NodeID is: its number, where that is 1 to 127 (CiA 306, device commissioning).
+/// The node-ID that a property NodeID states: its number, where that is 1 to 127 (CiA 306, device
+/// commissioning).
 pub(crate) fn node_id_of(given: &Property) -> Option<u8>
     ensures { result ≡ node_id_of (property_view given.now) }
 {

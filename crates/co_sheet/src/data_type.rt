@@ -7,7 +7,8 @@ ghost use Rattle.co_sheet.specs.Checks.{left_out_codes};
 
 use co_value::DataType;
 
-/// The data type with this code; `None` for those that are left out, and for every other code (CiA 301, 7.4.7.1).
+/// The data type with this code; `None` for those that are left out, and for every other code
+/// (CiA 301, 7.4.7.1).
 pub fn data_type_with(code: u64) -> Option<DataType>
     ensures { result ≡ data_type_with code }
 {
@@ -17,8 +18,8 @@ pub fn data_type_with(code: u64) -> Option<DataType>
     DataType::from_code(code as u16)
 }
 
-/// Whether the code is REAL32's, UNICODE_STRING's, TIME_OF_DAY's, TIME_DIFFERENCE's or REAL64's, which are left out
-/// (CiA 301, 7.4.7.1).
+/// Whether the code is REAL32's, UNICODE_STRING's, TIME_OF_DAY's, TIME_DIFFERENCE's or REAL64's,
+/// which are left out (CiA 301, 7.4.7.1).
 pub fn is_left_out(code: u64) -> bool
     ensures { result ≡ is_one_of left_out_codes (Some code) }
 {

@@ -33,8 +33,9 @@ pub fn access_with(word: &[u8]) -> Option<Access>
     }
 }
 
-/// Reads the default of a numeric type: a number, `$NODEID`, or a sum of both with blanks allowed round `+`
-/// (CiA 306, object description). The fault is that of the number; another form is `Malformed`.
+/// Reads the default of a numeric type: a number, `$NODEID`, or a sum of both with blanks allowed
+/// round `+` (CiA 306, object description). The fault is that of the number; another form is
+/// `Malformed`.
 pub fn numeric_default(data_type: DataType, text: &[u8]) -> Result<Preset<'static>, NumeralFault>
     ensures { result_map default_view result ≡ numeric_default data_type text.now }
 {

@@ -19,9 +19,10 @@ use std::alloc::Global;
 /// The greatest number of bytes of a data sheet.
 pub const GREATEST_SIZE: usize = 1_048_576;
 
-/// Reads a data sheet (CiA 306). The texts of the sheet are parts of the text. The fault is the first that the text
-/// has, by its lines and then by the checks in their order; or `Memory` with line 0, where memory ran out. A text of
-/// more than 1,048,576 bytes is `TooLarge` with line 0 before any memory is asked for.
+/// Reads a data sheet (CiA 306). Its names and strings are borrowed from the text. The fault is the
+/// first one, by the lines and then by the checks in their order; or `Memory` with line 0: out of
+/// memory. A text of more than 1,048,576 bytes is `TooLarge` with line 0, and needs no memory for
+/// that.
 pub fn read(alloc: Global, text: &[u8]) -> Result<Sheet<'_>, SheetFault>
     ensures sheet { IfOk result (IsSheet text.now) }
     ensures whole { IfOk result (IsWhole text.now) }
@@ -40,8 +41,8 @@ pub fn read(alloc: Global, text: &[u8]) -> Result<Sheet<'_>, SheetFault>
     sheet_of(alloc, sections.as_slice())
 }
 
-/// A text is accepted exactly where it is not too large, no line has a fault, and no check finds anything. This is a
-/// law: a call of it changes nothing.
+/// A text is accepted exactly where it is not too large, no line has a fault, and no check finds
+/// anything. This is a law: a call of it changes nothing.
 pub fn accepted_texts()
     ensures faultless { (text : List ℕ) → IsAccepted text → IsFaultless text }
     ensures accepted { (text : List ℕ) → IsFaultless text → IsAccepted text }

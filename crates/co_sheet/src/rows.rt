@@ -86,7 +86,7 @@ fn is_one_at(section: &TextSection, name: &[u8]) -> bool
     matches!(section.number_at(name), Some(1))
 }
 
-// of the dummy entries 0002h to 0007h, which may be mapped
+// which of the dummy entries 0002h to 0007h may be mapped
 pub(crate) fn dummies(sections: &[TextSection]) -> [bool; 6]
     ensures { result ≡ dummies_in (map section_view sections.now) }
 {

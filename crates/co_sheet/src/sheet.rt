@@ -41,8 +41,7 @@ use indexmap::IndexSet;
 use std::alloc::{AllocError, Global};
 use std::marker::Model;
 
-/// What a text that is a data sheet says (CiA 306).
-#[derive(Drop)]
+/// The contents of a data sheet (CiA 306).
 pub struct Sheet<'a> {
     pub(crate) objects: Vec<Object<'a>>,
     pub(crate) entries: Vec<EntryRow<'a>>,
@@ -50,6 +49,24 @@ pub struct Sheet<'a> {
     pub(crate) notes: Vec<Note>,
     pub(crate) dummies: [bool; 6],
     pub(crate) node_id: Option<u8>,
+}
+
+// Not derived: else each function that drops a sheet would contain the drop of each of its lists.
+impl<'a> Drop for Sheet<'a> {
+    fn drop(self) {
+        let Sheet {
+            objects,
+            entries,
+            sections,
+            notes,
+            dummies: _,
+            node_id: _,
+        } = self;
+        drop(objects);
+        drop(entries);
+        drop(sections);
+        drop(notes);
+    }
 }
 
 impl<'a> Model for Sheet<'a> {
@@ -77,9 +94,10 @@ impl<'a> Sheet<'a> {
         self.objects.as_slice()
     }
 
-    /// The entries of these objects, in increasing key. Limits are numbers of the entry's type, in order. A default, by
-    /// ParameterValue or else DefaultValue, is of its type's form, a number within the limits, and of at most 512 bytes
-    /// of text. A type that is fixed is that one (CiA 301, object dictionary).
+    /// The entries of these objects, in increasing key. Limits are numbers of the entry's type, in
+    /// order. A default, by ParameterValue or else DefaultValue, is of its type's form, a number
+    /// within the limits, and of at most 512 bytes of text. A data type that CiA 301 fixes for a
+    /// key is that one (object dictionary).
     pub fn entries(&self) -> &[EntryRow<'a>]
         ensures view { map row_view result.now ≡ self.now.rows }
         ensures each { All (λ e. IsSheetRow (row_view e)) result.now }
@@ -104,7 +122,8 @@ impl<'a> Sheet<'a> {
         self.notes.as_slice()
     }
 
-    /// Whether a dummy entry, 0002h to 0007h, may be mapped: DummyUsage has 1 for it (CiA 306, dummy usage).
+    /// Whether a dummy entry, 0002h to 0007h, may be mapped: DummyUsage has 1 for it (CiA 306,
+    /// dummy usage).
     pub fn dummy(&self, index: u16) -> bool
         ensures { result ≡ is_dummy self.now.dummies index }
     {
@@ -116,8 +135,8 @@ impl<'a> Sheet<'a> {
                 .unwrap_or(false)
     }
 
-    /// The node-ID that a device configuration file has for its node: NodeID of DeviceComissioning, where it is
-    /// 1 to 127 (CiA 306, device commissioning).
+    /// The node-ID that a device configuration file has for its node: NodeID of DeviceComissioning,
+    /// where it is 1 to 127 (CiA 306, device commissioning).
     pub fn node_id(&self) -> Option<u8>
         ensures value { result ≡ self.now.node_id }
         ensures range { IfSome result (λ id. (1 ≤ id) × (id ≤ 127)) }
@@ -158,8 +177,8 @@ fn contents<'a>(
     })
 }
 
-// The sheet that the sections of a text say, or the first fault that the checks find; out of
-// memory has no line.
+// The sheet of a text's sections, or the first fault that the checks find; out of memory has no
+// line.
 pub(crate) fn sheet_of<'a>(
     alloc: Global,
     sections: &[TextSection<'_, 'a>],

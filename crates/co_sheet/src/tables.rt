@@ -108,7 +108,7 @@ impl<'s, 'a> Model for Tables<'s, 'a> {
 }
 
 impl<'s, 'a> Tables<'s, 'a> {
-    /// Goes over the sections once. It fails out of memory.
+    /// Indexes the sections in one pass. `Err`: out of memory.
     pub fn new(
         alloc: Global,
         sections: &'s [TextSection<'s, 'a>],
@@ -132,7 +132,8 @@ impl<'s, 'a> Tables<'s, 'a> {
         self.sections
     }
 
-    /// The section of the object with this index, the first if there are several; `None` where there is none.
+    /// The section of the object with this index, the first if there are several; `None` where
+    /// there is none.
     pub fn object(&self, index: u64) -> Option<ListedSection<'s, 'a>>
         ensures { option_map object_view result ≡ object_at index self.now }
     {

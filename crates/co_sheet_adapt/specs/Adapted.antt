@@ -1,5 +1,5 @@
--- What is written of a text: a comment that says who adapted it, then the text as it was where it is accepted, else its
--- pieces.
+-- What is written of a text: a comment that says who adapted it, then the text as it was where it
+-- is accepted, else its pieces.
 use Rattle.std.specs.Prelude.{ℕ, ◌+◌, nat_lt, is_none, if◌then◌else◌, List, [], ◌∷◌, ◌++◌, map, take, codes}
 use Rattle.std.specs.List.{flat_map}
 use Rattle.co_sheet_text.specs.Text.{lines_of, without_mark}

@@ -1,5 +1,6 @@
--- The sub-indices of an object in compact form, each with a section of its own (CiA 306, compact storage): sub-index 0
--- is an UNSIGNED8 that is read, with their number; the others are as the object's own keys say.
+-- The sub-indices of an object in compact form, each with a section of its own (CiA 306, compact
+-- storage): sub-index 0 is an UNSIGNED8 that is read, with their number; the others are as the
+-- object's own keys say.
 use Rattle.std.specs.Prelude.{ℕ, zero, suc, Bool, ◌||◌, nat_lt, if◌then◌else◌, List, [], ◌∷◌, ◌++◌, flat_map, codes, decimal, Option, Some, None, is_some, unwrap_or}
 use Rattle.std.specs.Option.{option_map_or}
 use Rattle.co_text.specs.Printed.{digits_text, byte_text, printed_digit}
@@ -26,7 +27,7 @@ is_copied name =
     || same_name name (codes "LowLimit") || same_name name (codes "HighLimit")
     || same_name name (codes "DefaultValue") || same_name name (codes "PDOMapping")
 
--- what a name and its value are in the section of an entry, and where they aren't changed with this value
+-- a name and its value in the section of an entry, changed if need be; else with this value
 unfoldable pub written_as : Facts → List ℕ → List ℕ → List ℕ → List ℕ
 written_as facts name value kept =
     option_map_or (λ m. m.new) (entry_change facts name value) (assigned name kept)
@@ -53,7 +54,8 @@ unfoldable pub name_line : (Key → Option (List ℕ)) → Group → Key → Lis
 name_line names g key =
     assigned (codes "ParameterName") (unwrap_or (names key) (default_name (own_name g) key.sub))
 
--- a value that can't be written at the type that stands for its own becomes one that is none
+-- a value that can't be written at the type that stands for its own gets a `?` in front, so that it
+-- isn't accepted
 abbrev pub kept_value : Facts → List ℕ → List ℕ
 kept_value facts value =
     option_map_or (λ t. if is_some (value_in_place t value) then value else 63 ∷ value) facts.left_out

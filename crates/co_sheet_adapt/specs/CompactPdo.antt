@@ -1,6 +1,7 @@
--- PDOs in compact form (CiA 306, compact storage): the communication and mapping objects that no section describes. By its
--- bits CompactPDO says which sub-indices a communication object has; the sheet says no more, so the PDOs aren't valid, their
--- timers are 0, and their mappings have no entries.
+-- PDOs in compact form (CiA 306, compact storage): the communication and mapping objects that no
+-- section describes. By its bits CompactPDO says which sub-indices a communication object has; the
+-- sheet says no more, so the PDOs aren't valid, their timers are 0, and their mappings have no
+-- entries.
 use Rattle.std.specs.Prelude.{ℕ, ◌+◌, ◌*◌, ◌%◌, ◌/◌, Bool, ◌&&◌, ◌||◌, not, ◌==◌, nat_le, nat_lt, if◌then◌else◌, List, [], ◌∷◌, ◌++◌, length, filter, find, flat_map, codes, decimal, Option, Some, None, option_and_then, option_map}
 use Rattle.std.specs.List.{list_any, range_with_len}
 use Rattle.co_text.specs.Printed.{digits_text}
@@ -16,8 +17,8 @@ use Rattle.co_sheet_adapt.specs.declared.compact_pdo.Part.{Part}
 use Rattle.co_sheet_adapt.specs.declared.compact_pdo.Part.TheVariants.{Communication, Mapping, CobId, TransmissionType, InhibitTime, Reserved, EventTimer, SyncStart, MappingCount, MappingWord}
 use Rattle.co_sheet_adapt.specs.Compact.{first_section, sub_head, sub_sections}
 
--- what sections say of PDOs: the sub-indices of their communication objects, bit 0 for sub-index 1, the number of optional
--- objects, and the objects that get sections
+-- what sections say of PDOs: the sub-indices of their communication objects, bit 0 for sub-index 1,
+-- the number of optional objects, and the objects that get sections
 pub record PdoForm : Type 0 where
   pub subs : ℕ
   pub listed : ℕ
@@ -26,7 +27,7 @@ pub record PdoForm : Type 0 where
 abbrev pub is_object_of : ℕ → Group → Bool
 is_object_of index g = same_kind g.kind (Object index)
 
--- of so many objects from an index on those that have no section
+-- of this many objects from an index on, those that have no section
 abbrev pub absent_of : List Group → ℕ → ℕ → List ℕ
 absent_of groups first count =
     filter (λ index. not (list_any (is_object_of index) groups)) (range_with_len first count)
@@ -57,8 +58,9 @@ has_needed subs = (subs % 4 == 3) && nat_lt subs 64
 abbrev pub ends_reserved : ℕ → Bool
 ends_reserved subs = (subs / 8 % 2 == 1) && (subs / 16 % 2 == 0)
 
--- some sheets count the bits from sub-index 1, others from sub-index 0. Where CiA 301 allows both, it is from sub-index 1; a
--- reserved sub-index 4 in the place of the event timer tells that it is from sub-index 0. None: it is neither
+-- some sheets count the bits from sub-index 1, others from sub-index 0. Where CiA 301 allows both,
+-- it is from sub-index 1; a reserved sub-index 4 in the place of the event timer tells that it is
+-- from sub-index 0. None: it is neither
 abbrev pub subs_of : ℕ → Option ℕ
 subs_of bits =
     if has_needed bits && not (ends_reserved bits) then Some bits
@@ -106,7 +108,8 @@ pdo_change form kind name = None
 unfoldable pub object_head : ℕ → List ℕ
 object_head index = codes "[" ++ digits_text 16 4 index ++ codes "]\n"
 
--- the keys of a communication or a mapping object, and of their sub-indices (CiA 301, 7.5.2.35 to 7.5.2.38)
+-- the keys of a communication or a mapping object, and of their sub-indices (CiA 301, 7.5.2.35 to
+-- 7.5.2.38)
 unfoldable pub keys_of : Part → List ℕ
 keys_of Communication = codes "ParameterName=PDO communication parameter\nObjectType=0x9\n\n"
 keys_of Mapping = codes "ParameterName=PDO mapping parameter\nObjectType=0x9\n\n"

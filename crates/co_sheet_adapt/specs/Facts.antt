@@ -1,4 +1,5 @@
--- What a section says of its entry, as far as its lines are changed by it (CiA 306, object description, compact storage).
+-- What a section says of its entry, as far as changes of its lines depend on it (CiA 306, object
+-- description, compact storage).
 use Rattle.std.specs.Prelude.{ℕ, Bool, true, false, ◌&&◌, ◌||◌, nat_le, if◌then◌else◌, List, codes, Option, Some, None, is_some, option_and_then}
 use Rattle.std.specs.Option.{option_map_or}
 use Rattle.std.specs.Result.{result_ok}
@@ -42,7 +43,8 @@ abbrev pub is_entry : Group → Bool
 is_entry g =
     is_entry_of g.kind (is_one_of single_codes (object_code g) || is_some (compact_count g))
 
--- a type that is left out, where its default and its value can be written at the type that stands for it
+-- a type that is left out, where its default and its value can be written at the type that stands
+-- for it
 abbrev pub converts : LeftOut → Option (List ℕ) → Bool
 converts t value = option_map_or (λ v. is_some (value_in_place t v)) value true
 

@@ -1,4 +1,5 @@
--- Data types that are left out, and the types of as many bytes that stand for them (CiA 301, data types).
+-- Data types that are left out, and the types of as many bytes that stand for them (CiA 301, data
+-- types).
 use Rattle.std.specs.Prelude.{ℕ, Bool, true, false, ◌==◌, nat_lt, if◌then◌else◌, List, ◌++◌, flat_map, codes, Option, Some, None, option_map, option_and_then, is_ok}
 use Rattle.std.specs.List.{list_all}
 use Rattle.std.specs.Float.{float_is_finite}

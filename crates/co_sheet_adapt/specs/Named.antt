@@ -14,7 +14,7 @@ abbrev pub object_index : SectionKind → Option ℕ
 object_index (Object index) = Some index
 object_index kind = None
 
--- the object that a section's name has in front of a word: `2300Name`
+-- the index of an object that a section's name has before a word: `2300Name`
 abbrev pub index_named : List ℕ → List ℕ → Option ℕ
 index_named word name =
     if same_name (drop (length name - length word) name) word

@@ -1,5 +1,5 @@
--- A text in pieces: what each line becomes, and what is added (CiA 306, structure of an EDS, object lists, object
--- description, compact storage). A line that isn't changed stays as it is.
+-- A text in pieces: what each line becomes, and what is added (CiA 306, structure of an EDS, object
+-- lists, object description, compact storage). A line that isn't changed stays as it is.
 use Rattle.std.specs.Prelude.{ℕ, Bool, ◌&&◌, ◌||◌, not, ◌==◌, nat_le, nat_lt, if◌then◌else◌, List, [], ◌∷◌, ◌++◌, length, map, flat_map, codes, Option, Some, None, is_none, option_and_then}
 use Rattle.std.specs.List.{list_all}
 use Rattle.std.specs.Option.{option_map_or, option_or}
@@ -23,12 +23,12 @@ use Rattle.co_sheet_adapt.specs.CompactPdo.{PdoForm, pdo_form, pdo_change, pdo_a
 
 -- ---- object lists
 
--- digits without the zeros in front
+-- digits without leading zeros
 abbrev pub stripped : List ℕ → List ℕ
 stripped [] = []
 stripped (b ∷ bs) = if b == 48 then stripped bs else b ∷ bs
 
--- a place in an object list, but for zeros in front
+-- a place in an object list, but for leading zeros
 abbrev pub is_padded : List ℕ → Bool
 is_padded name =
     list_all (λ c. is_digit c 10) name && not (is_empty (stripped name))
@@ -109,7 +109,7 @@ given_change (Object index) facts name value =
     (other_change (Object index) facts name value)
 given_change k facts name value = other_change k facts name value
 
--- PDOs in compact form change lines of two sections beside
+-- PDOs in compact form also change lines of two sections
 abbrev pub line_change : Option PdoForm → SectionKind → Facts → List ℕ → List ℕ → Option Mended
 line_change pdos k facts name value =
     option_or (pdo_change pdos k name) (given_change k facts name value)

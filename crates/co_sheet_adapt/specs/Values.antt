@@ -1,4 +1,5 @@
--- Values and limits that are written at another type than the entry has (CiA 306, object description).
+-- Values and limits that are written at another type than the entry has (CiA 306, object
+-- description).
 use Rattle.std.specs.Prelude.{ℕ, ◌+◌, ◌-◌, ◌*◌, ◌^◌, Bool, true, false, ◌&&◌, ◌||◌, ◌==◌, nat_le, nat_lt, if◌then◌else◌, List, [], ◌∷◌, Option, Some, None, option_and_then, Result, Ok}
 use Rattle.std.specs.Option.{option_map_or}
 use Rattle.co_text.specs.Texts.{is_blank, hex_pair}
@@ -21,7 +22,7 @@ hexadecimal_of other = None
 abbrev pub hexadecimal_in : List ℕ → Option ℕ
 hexadecimal_in text = hexadecimal_of (signed_numeral text)
 
--- a number of so many bits is a negative one of a smaller width, in bytes, with its sign extended
+-- a number of this many bits is a negative one of a smaller width, in bytes, with its sign extended
 abbrev pub is_extended_to : ℕ → ℕ → ℕ → Bool
 is_extended_to bits width n =
     nat_lt (8 * width) bits && nat_le (2 ^ bits) (n + 2 ^ (8 * width - 1)) && nat_lt n (2 ^ bits)

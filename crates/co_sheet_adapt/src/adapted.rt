@@ -55,7 +55,7 @@ fn shown_byte(byte: u8) -> u8
     if byte < 32 { b'?' } else { byte }
 }
 
-// how many bytes of a name the comment has
+// the most bytes of a name in the comment
 const LONGEST_NAME: usize = 256;
 
 fn first_bytes(text: &[u8]) -> &[u8]
@@ -99,7 +99,8 @@ fn rewritten<'a>(alloc: Global, text: &'a [u8]) -> Result<Vec<Piece<'a>>, AdaptF
     pieces_of(alloc, lines.as_slice())
 }
 
-// appends a text, as it is where it is accepted, else by its pieces; those, and whether it stays
+// appends a text: as it is if it is accepted, else in its pieces; returns these, and whether it
+// stays
 fn push_body<'a>(
     alloc: Global,
     made: &mut Vec<u8>,
@@ -119,12 +120,14 @@ fn push_body<'a>(
     Ok((pieces, false))
 }
 
-/// Rewrites a data sheet (CiA 306) to one that is accepted, as far as rules say how; `by` is who does so and what it is
-/// made from. A text that is accepted stays as it is, after a first line that says so. Each line that is changed is a
-/// piece with its number and why; all others stay. What is written is read again: where it isn't accepted, something
-/// remains that no rule mends.
+/// Rewrites a data sheet (CiA 306) to one that is accepted, as far as there are rules for it; `by`
+/// says who adapts it and what it is made from. A text that is accepted stays as it is, after a
+/// first line that says so. Each line that is changed is a piece with its number and why; all
+/// others stay. What is written is read again: if it isn't accepted, something remains that no rule
+/// changes.
 ///
-/// `TooLarge` where the text has more than 1,048,576 bytes, or what is added to it has; `Memory` where memory ran out.
+/// `TooLarge`: the text, or what is added to it, has more than 1,048,576 bytes. `Memory`: out of
+/// memory.
 pub fn adapt<'a>(alloc: Global, text: &'a [u8], by: &[u8]) -> Result<Adapted<'a>, AdaptFault>
     ensures pieces { IfOk result (λ made.
         map piece_view made.pieces.items ≡ pieces_in text.entry.now) }
@@ -146,9 +149,10 @@ pub fn adapt<'a>(alloc: Global, text: &'a [u8], by: &[u8]) -> Result<Adapted<'a>
     })
 }
 
-/// A text that is accepted stays as it is, after the first line that says who adapted it and but for a byte order mark: it
-/// has the same sections with the same properties, the same objects and the same entries with their values, each one line
-/// later, and the same node-ID. This is a law: a call of it changes nothing.
+/// A text that is accepted stays as it is, after the first line that says who adapted it and but
+/// for a byte order mark: it has the same sections with the same properties, the same objects and
+/// the same entries with their values, each one line later, and the same node-ID. This is a law: a
+/// call of it changes nothing.
 pub fn accepted_text_stays()
     ensures text { (by text : List ℕ) → first_fault text ≡ None →
         adapted_text by text ≡ commented by text }

@@ -1,4 +1,5 @@
-//! The sub-indices of an object in compact form, each with a section of its own (CiA 306, compact storage).
+//! The sub-indices of an object in compact form, each with a section of its own (CiA 306, compact
+//! storage).
 
 ghost use Rattle.std.specs.Prelude.{◌≡◌, ◌++◌, ◌∷◌, [], codes, map, IfOk, OnOk, decimal, string_bytes};
 ghost use Rattle.std.specs.List.{flat_map};
@@ -57,7 +58,7 @@ pub(crate) fn push_head(alloc: Global, text: &mut Vec<u8>, key: Key) -> Result<(
     text.extend_from_slice(head.as_bytes())
 }
 
-// whether a key of the object's section is one of each sub-index
+// whether a key of the object's section is copied to each sub-index
 fn is_copied(name: &[u8]) -> bool
     ensures { result ≡ is_copied name.now }
 {
@@ -108,7 +109,7 @@ fn push_copied(
     }
 }
 
-// what the object's section says of each of its sub-indices
+// the lines of the object's section that are copied to each of its sub-indices
 fn copied_lines(alloc: Global, facts: &Facts, group: &Group) -> Result<Vec<u8>, AllocError>
     ensures { IfOk result (λ made.
         made.items ≡ copied_lines facts.now (group_view group.now)) }
@@ -182,7 +183,8 @@ impl Compact<'_, '_, '_> {
         text.extend_from_slice(line.as_slice())
     }
 
-    // a value that can't be written at the type that stands for its own becomes one that is none
+    // a value that can't be written at the type that stands for its own gets a `?` in front, so
+    // that it isn't accepted
     fn kept_value(&self, alloc: Global, value: &[u8]) -> Result<Vec<u8>, AllocError>
         ensures { IfOk result (λ made. made.items ≡ kept_value self.now.facts.now value.now) }
     {

@@ -75,7 +75,7 @@ fn has_object(groups: &[Group], index: u16) -> bool
     false
 }
 
-// those of so many objects that have no section
+// of this many objects from an index on, those that have no section
 fn absent_of(
     alloc: Global,
     groups: &[Group],
@@ -170,7 +170,7 @@ fn subs_in(info: &Group) -> Option<u64>
     subs_of(number_within(1, 127, b"CompactPDO", info)?)
 }
 
-// the objects of so many PDOs that have no section
+// the objects of this many PDOs that have no section
 fn absent_objects(
     alloc: Global,
     groups: &[Group],

@@ -39,7 +39,7 @@ fn type_lines(alloc: Global, left_out: LeftOut, name: &[u8]) -> Result<Vec<u8>, 
     Ok(made)
 }
 
-// why a value is written otherwise at the type that stands for its own; a time's isn't
+// why a value is changed for the type that stands for its own; that of a time isn't
 fn preset_kind(left_out: LeftOut) -> Option<ChangeKind>
     ensures { result ≡ preset_kind left_out }
 {

@@ -1,4 +1,4 @@
-//! What a section says of its entry, as far as its lines are changed by it.
+//! What a section says of its entry, as far as changes of its lines depend on it.
 
 ghost use Rattle.std.specs.Prelude.{◌≡◌};
 ghost use Rattle.std.specs.Option.{option_copied};
@@ -19,16 +19,16 @@ use co_sheet_changes::{Group, data_type_of, has_unsigned_limits};
 use co_sheet_text::{SectionKind, unsigned_number};
 use co_value::DataType;
 
-/// What the lines of a section are changed by.
+/// What the changes of a section's lines depend on.
 #[derive(Clone, Copy)]
 pub(crate) struct Facts {
     /// Of an ARRAY or a RECORD in compact form, how many sub-indices it has after sub-index 0.
     pub(crate) compact: Option<u8>,
     /// Whether the section describes an entry, or all sub-indices of an object in compact form.
     pub(crate) is_entry: bool,
-    /// The data type that is left out, where its values can be converted.
+    /// Its data type, if that isn't supported and its values can be converted.
     pub(crate) left_out: Option<LeftOut>,
-    /// The data type that is supported.
+    /// Its data type, if that is supported.
     pub(crate) data_type: Option<DataType>,
     /// Whether the limits of a signed number are those of the unsigned type.
     pub(crate) has_unsigned_limits: bool,

@@ -1,4 +1,5 @@
-//! Data types that are left out, and the types of as many bytes that stand for them (CiA 301, 7.4.7.1).
+//! Data types that are left out, and the types of as many bytes that stand for them
+//! (CiA 301, 7.4.7.1).
 
 ghost use Rattle.std.specs.Prelude.{◌≡◌, is_some, nat_lt, IfOk, option_map};
 ghost use Rattle.std.specs.List.{list_all};
@@ -89,8 +90,9 @@ impl LeftOut {
         }
     }
 
-    /// A value of the type as it is written at the type that stands for it: bits of a REAL, bytes of a UNICODE_STRING in
-    /// UTF-16, others as they are. `None` where it can't be told: a text that is no number, or one that isn't ASCII.
+    /// A value of the type as it is written at the type that stands for it: bits of a REAL, bytes
+    /// of a UNICODE_STRING in UTF-16, others as they are. `None` where there is no such form: for a
+    /// text that is no number, or that isn't ASCII. `Err`: out of memory.
     pub(crate) fn value_in_place(
         self,
         alloc: Global,
@@ -131,7 +133,7 @@ fn real64_bits(value: &[u8]) -> Option<u64>
     }
 }
 
-// bits in so many hexadecimal digits, where there are some
+// bits in this many hexadecimal digits, if there are any
 fn bits_text(alloc: Global, count: u8, bits: Option<u64>) -> Result<Option<Vec<u8>>, AllocError>
     ensures { IfOk result (λ made.
         option_map (λ v. v.items) made ≡ option_map (hexadecimal count) bits) }

@@ -1,4 +1,5 @@
-//! A vendor's data sheet (CiA 306) rewritten to one that is accepted: each change with its line, and what no rule mends.
+//! A vendor's data sheet (CiA 306) rewritten to one that is accepted: each change with its line,
+//! and what no rule changes.
 #![tactic(auto)]
 
 mod adapted;

@@ -1,5 +1,5 @@
-//! The names and values of the sub-indices of objects in compact form, `[2300Name]` and `[2300Value]` (CiA 306, compact
-//! storage).
+//! The names and values of the sub-indices of objects in compact form, `[2300Name]` and
+//! `[2300Value]` (CiA 306, compact storage).
 
 ghost use Rattle.std.specs.Prelude.{◌≡◌, ℕ, Some, None, map, option_map, IfOk, OnOk, codes};
 ghost use Rattle.std.specs.Option.{option_copied, option_or};
@@ -32,7 +32,7 @@ fn object_index(kind: SectionKind) -> Option<u16>
     }
 }
 
-// the index of an object that such a section's name has in front of a word
+// the index of an object that such a section's name has before a word
 fn index_named(name: &[u8], word: &[u8]) -> Option<u16>
     ensures { result ≡ index_named word.now name.now }
 {
@@ -53,7 +53,7 @@ fn sub_named(name: &[u8]) -> Option<u8>
     }
 }
 
-/// What sections give sub-indices, by their keys; of two the first.
+/// The names or values that sections give sub-indices, by key; if there are two, the first counts.
 #[derive(Drop)]
 pub(crate) struct Texts<'a> {
     texts: IndexMap<Key, &'a [u8]>,
@@ -119,7 +119,7 @@ impl<'a> Texts<'a> {
         Ok(texts)
     }
 
-    /// What a sub-index is given.
+    /// The name or value of a sub-index.
     pub(crate) fn at(&self, key: Key) -> Option<&'a [u8]>
         ensures { option_copied result ≡ texts_at self.now key }
     {

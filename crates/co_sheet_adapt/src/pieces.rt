@@ -41,7 +41,7 @@ use co_sheet_changes::{
 use co_sheet_text::{SectionKind, all_digits, same_name};
 use std::alloc::{AllocError, Global};
 
-// digits without the zeros in front
+// digits without leading zeros
 fn stripped(digits: &[u8]) -> &[u8]
     ensures { result.now ≡ stripped digits.now }
 {
@@ -55,7 +55,7 @@ fn stripped(digits: &[u8]) -> &[u8]
     rest
 }
 
-// whether a name is a place in an object list, but for zeros in front
+// whether a name is a place in an object list, but for leading zeros
 fn is_padded(name: &[u8]) -> bool
     ensures { result ≡ is_padded name.now }
 {
@@ -82,7 +82,7 @@ fn is_renamed(group: &Group) -> bool
     group.kind.is_read() && !SectionKind::of_name(group.name).is_read()
 }
 
-// the section line, ended by LF
+// the section line without blanks in its name where that is needed, ended by LF
 fn head_text(alloc: Global, group: &Group) -> Result<Vec<u8>, AllocError>
     ensures { IfOk result (λ made. made.items ≡ head_text (group_view group.now)) }
 {
@@ -226,7 +226,8 @@ fn push_line<'a>(
     Ok(())
 }
 
-/// The names and the values that the sections of a text give sub-indices, and what they say of PDOs in compact form.
+/// The names and the values that the sections of a text give sub-indices, and what they say of PDOs
+/// in compact form.
 #[derive(Drop)]
 pub(crate) struct Tables<'a> {
     pub(crate) names: Texts<'a>,
@@ -371,7 +372,8 @@ fn push_sections<'a>(
     tables.push_groups(alloc, pieces, groups)
 }
 
-/// The pieces of a text of lines. It fails out of memory, and where what is added alone is too large for a data sheet.
+/// The pieces of a text of lines. `Err`: out of memory, or more is added than a data sheet may
+/// have.
 pub(crate) fn pieces_of<'a>(alloc: Global, lines: &[Line<'a>]) -> Result<Vec<Piece<'a>>, AdaptFault>
     ensures { IfOk result (λ pieces.
         map piece_view pieces.items ≡ all_pieces (map line_view lines.now)) }

@@ -1,4 +1,5 @@
-//! Values and limits that are written at another type than the entry has (CiA 306, object description).
+//! Values and limits that are written at another type than the entry has (CiA 306, object
+//! description).
 
 ghost use Rattle.std.specs.Prelude.{◌≡◌, ◌≤◌, ◌<◌, ◌^◌, length, IfOk, IfSome, IfNone, option_map};
 ghost use Rattle.co_sheet_text.specs.Text.{is_empty};
@@ -28,7 +29,8 @@ fn hexadecimal_in(text: &[u8]) -> Option<u64>
     }
 }
 
-// whether a number of so many bits is a negative one of a smaller width, in bytes, with its sign extended
+// whether a number of this many bits is a negative one of a smaller width, in bytes, with its sign
+// extended
 fn is_extended_to(bits: usize, width: usize, number: u64) -> bool
     requires bits { bits ≤ 64 }
     requires some { 1 ≤ width }
@@ -95,7 +97,8 @@ fn is_spaced(text: &[u8]) -> bool
     rest.is_empty()
 }
 
-/// The pairs of hexadecimal digits that a text is without the blanks between them, where it has some.
+/// The pairs of hexadecimal digits that a text is without the blanks between them, where it has
+/// some.
 pub(crate) fn pairs_without_blanks(
     alloc: Global,
     value: &[u8],

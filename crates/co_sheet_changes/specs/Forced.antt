@@ -1,5 +1,5 @@
--- What only `--force` mends: limits against their type, mappings at fault, and a SYNC that the device would produce (CiA
--- 306, object description; CiA 301, 7.5.2.5, 7.5.2.36 and 7.5.2.38).
+-- What only `--force` changes: limits against their type, mappings at fault, and a SYNC that the
+-- device would produce (CiA 306, object description; CiA 301, 7.5.2.5, 7.5.2.36 and 7.5.2.38).
 use Rattle.std.specs.Prelude.{ℕ, ◌-◌, ◌%◌, ◌/◌, ◌^◌, ℤ, Bool, true, false, ◌&&◌, not, ◌==◌, nat_lt, if◌then◌else◌, List, [], ◌∷◌, ◌++◌, codes, Option, Some, None, option_map, option_and_then, Result, Ok, Err}
 use Rattle.std.specs.List.{list_any}
 use Rattle.std.specs.Option.{option_map_or}
@@ -18,7 +18,8 @@ use Rattle.co_sheet_changes.specs.Groups.{Group}
 use Rattle.co_sheet_changes.specs.Limits.{data_type_of, has_unsigned_limits, is_limit, is_preset}
 use Rattle.co_sheet_changes.specs.Pieces.{Mended, mended, assigned}
 
--- the type that the limits of a section are held against; limits of the unsigned type aren't: they have a rule of their own
+-- the data type to which the limits of a section must belong; limits of the unsigned type have a
+-- rule of their own
 abbrev pub limited_type : Group → Option DataType
 limited_type g = if has_unsigned_limits g then None else data_type_of g
 
@@ -49,7 +50,7 @@ sync_change name value =
     option_map (λ v. mended ForcedSync (assigned name v))
     (option_and_then without_bit_30 (result_ok (unsigned_number value)))
 
--- how many entries a mapping at fault has becomes 0
+-- the number of entries of a mapping at fault becomes 0
 abbrev pub is_count : List ℕ → List ℕ → Bool
 is_count name value = is_preset name && not (is_one_of (0 ∷ []) (result_ok (unsigned_number value)))
 

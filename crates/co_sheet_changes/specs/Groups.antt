@@ -47,14 +47,15 @@ section_in line = section_at_text (trim line.bytes)
 abbrev pub without_blanks : List ℕ → List ℕ
 without_blanks text = filter (λ byte. not (is_blank byte)) text
 
--- a section: what its name says without blanks, the name, its section line, and the lines up to the next one
+-- a section: what its name says without blanks, the name, its section line, and the lines up to the
+-- next one
 pub record Group : Type 0 where
   pub kind : SectionKind
   pub name : List ℕ
   pub head : Line
   pub body : List Line
 
--- the lines in front of the next section line
+-- the lines before the next section line
 abbrev pub body_count : List Line → ℕ
 body_count [] = 0
 body_count (line ∷ lines) = if is_some (section_in line) then 0 else suc (body_count lines)

@@ -1,4 +1,5 @@
--- The type, the limits and the values of the entry that a section describes (CiA 306, object description).
+-- The type, the limits and the values of the entry that a section describes (CiA 306, object
+-- description).
 use Rattle.std.specs.Prelude.{ℕ, ◌+◌, ◌*◌, ◌^◌, Bool, false, ◌&&◌, ◌||◌, ◌==◌, if◌then◌else◌, List, codes, Option, Some, None, option_and_then}
 use Rattle.std.specs.Option.{option_map_or}
 use Rattle.co_value.specs.declared.data_type.DataType.{DataType}
@@ -21,7 +22,8 @@ data_type_of g = option_and_then data_type_with (number_in_group (codes "DataTyp
 abbrev pub signed_width : DataType → Option ℕ
 signed_width t = if is_signed t then width_of t else None
 
--- two limits are 0 and the greatest number of the unsigned type of as many bytes as a signed one has
+-- two limits are 0 and the greatest number of the unsigned type of as many bytes as a signed one
+-- has
 abbrev pub is_whole_at : Option ℕ → Option ℕ → Option ℕ → Bool
 is_whole_at (Some width) (Some low) (Some high) = (low == 0) && (high + 1 == 2 ^ (8 * width))
 is_whole_at width low high = false

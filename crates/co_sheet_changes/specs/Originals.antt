@@ -1,12 +1,13 @@
--- The original data types of a sheet that was adapted: what `OriginalDataType` says of a section (CiA 306, object
--- description; the key is our own).
+-- The original data types of a sheet that was adapted: what `OriginalDataType` says of a section
+-- (CiA 306, object description; the key is our own).
 use Rattle.std.specs.Prelude.{ℕ, ◌&&◌, ◌==◌, if◌then◌else◌, List, [], ◌∷◌, codes, Option, Some, None, option_and_then}
 use Rattle.std.specs.Option.{option_or}
 use Rattle.co_sheet_text.specs.Text.{lines_of}
 use Rattle.co_sheet_changes.specs.Groups.{Group, groups_of, number_in_group}
 
--- the code of an original type, as it is written, where the type that stands for it has its bytes: REAL32 by UNSIGNED32,
--- UNICODE_STRING by OCTET_STRING, TIME_OF_DAY and TIME_DIFFERENCE by UNSIGNED48, REAL64 by UNSIGNED64
+-- the code of an original type, as it is written, where the type that stands for it has its bytes:
+-- REAL32 by UNSIGNED32, UNICODE_STRING by OCTET_STRING, TIME_OF_DAY and TIME_DIFFERENCE by
+-- UNSIGNED48, REAL64 by UNSIGNED64
 abbrev pub original_text : ℕ → ℕ → Option (List ℕ)
 original_text original given =
     if (original == 0x08) && (given == 0x07) then Some (codes "0x0008")

@@ -1,4 +1,5 @@
--- A text in pieces: lines that stay, lines that are changed, and lines that are added (CiA 306, structure of an EDS).
+-- A text in pieces: lines that stay, lines that are changed, and lines that are added (CiA 306,
+-- structure of an EDS).
 use Rattle.std.specs.Prelude.{ℕ, List, [], ◌∷◌, ◌++◌, Option, Some, None}
 use Rattle.co_sheet_text.specs.Text.{Line}
 use Rattle.co_sheet_changes.specs.declared.change.ChangeKind.{ChangeKind}

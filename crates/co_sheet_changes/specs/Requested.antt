@@ -1,4 +1,4 @@
--- What a text becomes on request, line by line: of each line one line.
+-- What a text becomes on request, line by line: each line becomes one line.
 use Rattle.std.specs.Prelude.{ℕ, Bool, true, false, if◌then◌else◌, List, [], ◌∷◌, ◌++◌, map, flat_map, Option, option_and_then}
 use Rattle.std.specs.List.{list_any}
 use Rattle.std.specs.Option.{option_map_or}
@@ -21,7 +21,7 @@ abbrev pub request_view : CodeRequest → Request
 request_view (asked.LeadingZeros zeros) = read_zeros zeros
 request_view (asked.Force mappings) = force_with mappings.now
 
--- what its lines are changed by in a section
+-- what the changes of a section's lines depend on
 abbrev pub numbers_of : Request → Group → Bool
 numbers_of (read_zeros zeros) g = has_numbers zeros g
 numbers_of (force_with mappings) g = false

@@ -1,5 +1,5 @@
--- Numbers with a leading zero (CiA 306, numerals), which some tools read as octal and others as decimal: written anew, by
--- the base that is asked for.
+-- Numbers with a leading zero (CiA 306, numerals), which some tools read as octal and others as
+-- decimal: written anew, by the base that is asked for.
 use Rattle.std.specs.Prelude.{ℕ, Bool, true, false, ◌==◌, if◌then◌else◌, List, [], ◌∷◌, ◌++◌, decimal, Option, Some, None, option_map, Result, Err}
 use Rattle.std.specs.List.{list_any, before_first, after_first}
 use Rattle.co_sheet_text.specs.declared.numeral.NumeralFault.{NumeralFault}
@@ -25,7 +25,7 @@ abbrev pub is_ambiguous : Result ℕ NumeralFault → Bool
 is_ambiguous (Err Ambiguous) = true
 is_ambiguous other = false
 
--- the number that digits are in the base; None: they have a digit that it hasn't
+-- the number that digits are in the base; None where one isn't a digit of the base
 abbrev pub number_of : LeadingZeros → List ℕ → Option ℕ
 number_of zeros text =
     if is_number_in (base_of zeros) text then Some (number_in (base_of zeros) text) else None

@@ -9,20 +9,21 @@ pub enum ChangeKind {
     ListKey,
     /// DataType or AccessType of a sub-index 0, which is missing.
     SubIndex0,
-    /// CompactSubObj: the sub-indices of an object of this index, from 0 to this number, get sections.
+    /// CompactSubObj: the sub-indices of an object of this index, from 0 to this number, get
+    /// sections.
     CompactSubObj { index: u16, count: u8 },
-    /// CompactPDO: so many communication and mapping objects of PDOs get sections. Bit 0 of `subs` is sub-index 1 of the
-    /// communication objects.
+    /// CompactPDO: this many communication and mapping objects of PDOs get sections. Bit 0 of
+    /// `subs` is sub-index 1 of the communication objects.
     CompactPdo { count: u64, subs: u64 },
-    /// SupportedObjects of the list that gets these objects.
+    /// SupportedObjects of the list that gets these communication and mapping objects.
     ListCount,
-    /// A data type that is left out, by one of as many bytes.
+    /// A data type that isn't supported, replaced by one of as many bytes.
     DataType,
     /// A limit of a REAL32 or a REAL64, which has no order as bits.
     RealLimit,
-    /// A value of a REAL32 or a REAL64, by its bits.
+    /// A value of a REAL32 or a REAL64, replaced by its bits.
     RealValue,
-    /// A value of a UNICODE_STRING, by its bytes in UTF-16.
+    /// A value of a UNICODE_STRING, replaced by its bytes in UTF-16.
     UnicodeValue,
     /// A limit of a signed number; both are those of the unsigned type.
     UnsignedLimit,
@@ -30,17 +31,18 @@ pub enum ChangeKind {
     SignExtended,
     /// Blanks between the bytes of an OCTET_STRING.
     OctetBlanks,
-    /// A number with a leading zero, by the base that is asked for.
+    /// A number with a leading zero, written anew by the base that is requested.
     LeadingZero,
     /// A limit that is no number of its type.
     ForcedLimit,
-    /// The number of a mapping's entries, which is at fault.
+    /// The number of entries of a mapping at fault.
     ForcedMapping,
     /// Bit 30 of the COB-ID of the SYNC.
     ForcedSync,
 }
 
-/// A line that is changed: its number, from 1, what it was, and what comes in its place: lines, each ended by LF.
+/// A line that is changed: its number, from 1, what it was, and what comes in its place: lines,
+/// each ended by LF.
 #[derive(Drop)]
 pub struct Change<'a> {
     pub line: usize,

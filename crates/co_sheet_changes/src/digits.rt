@@ -19,7 +19,7 @@ fn push_hexadecimal(text: &mut String, count: u8, number: u64) -> Result<(), All
     push_digit(text, (number % 16) as u8)
 }
 
-/// The last digits of a number after `0x`, as many as are asked for.
+/// `0x` and the last `count` hexadecimal digits of a number. `Err`: out of memory.
 pub fn hexadecimal(alloc: Global, count: u8, number: u64) -> Result<Vec<u8>, AllocError>
     ensures { IfOk result (λ made. made.items ≡ codes "0x" ++ digits_text 16 count number) }
 {
@@ -29,7 +29,7 @@ pub fn hexadecimal(alloc: Global, count: u8, number: u64) -> Result<Vec<u8>, All
     Ok(text.into_bytes())
 }
 
-/// Appends a number in decimal digits.
+/// Appends a number in decimal digits. `Err`: out of memory.
 pub fn push_number(alloc: Global, text: &mut Vec<u8>, number: u64) -> Result<(), AllocError>
     ensures { OnOk result (text.new.items ≡ text.old.items ++ decimal number) }
 {

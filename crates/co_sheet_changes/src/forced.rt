@@ -1,4 +1,4 @@
-//! What only force mends.
+//! What is changed by force only.
 
 ghost use Rattle.std.specs.Prelude.{◌≡◌, ◌∷◌, codes, option_map, IfOk};
 ghost use Rattle.co_sheet_changes.specs.Pieces.{mended, mended_view};
@@ -28,7 +28,7 @@ use co_sheet_text::{NumeralFault, SectionKind, signed_numeral, unsigned_number};
 use co_value::DataType;
 use std::alloc::{AllocError, Global};
 
-/// The type that the limits of a section are held against.
+/// The data type to which the limits of a section must belong.
 pub(crate) fn limited_type(group: &Group) -> Option<DataType>
     ensures { result ≡ limited_type (group_view group.now) }
 {
@@ -141,7 +141,8 @@ fn is_sync(kind: SectionKind) -> bool
     matches!(kind, SectionKind::Object(0x1005))
 }
 
-/// What a name and its value become in a section by force; `mappings` are the mapping objects at fault.
+/// What a name and its value become in a section by force; `mappings` are the mapping objects at
+/// fault.
 pub(crate) fn forced_change(
     alloc: Global,
     mappings: &[u16],

@@ -11,7 +11,8 @@ use co_sheet_text::{SectionKind, same_name, unsigned_number};
 use co_text::is_blank;
 use std::alloc::{AllocError, Global};
 
-/// A section: what its name says without blanks, its section line, and the lines up to the next one.
+/// A section: what its name says without blanks, its section line, and the lines up to the next
+/// one.
 #[derive(Clone, Copy)]
 pub struct Group<'s, 'a> {
     pub kind: SectionKind,
@@ -20,7 +21,7 @@ pub struct Group<'s, 'a> {
     pub body: &'s [Line<'a>],
 }
 
-/// A text without its blanks.
+/// A text without its blanks. `Err`: out of memory.
 pub fn without_blanks(alloc: Global, text: &[u8]) -> Result<Vec<u8>, AllocError>
     ensures { IfOk result (λ made. made.items ≡ without_blanks text.now) }
 {
@@ -37,7 +38,7 @@ fn kind_without_blanks(alloc: Global, name: &[u8]) -> Result<SectionKind, AllocE
     Ok(SectionKind::of_name(name.as_slice()))
 }
 
-// how many lines are in front of the next section line
+// the number of lines before the next section line
 fn body_count(lines: &[Line]) -> usize
     ensures count { result ≡ body_count (map line_view lines.now) }
 {
@@ -83,7 +84,7 @@ fn push_begun<'s, 'a>(
     Ok(())
 }
 
-/// The sections of lines, in their order.
+/// The sections of lines, in their order. `Err`: out of memory.
 pub fn groups_in<'s, 'a>(
     alloc: Global,
     lines: &'s [Line<'a>],

@@ -1,6 +1,6 @@
-//! The lines and sections of a data sheet's text (CiA 306), what becomes of them where the text is rewritten, what is
-//! changed only on request (numbers with a leading zero, and what has to be forced), and the original types of a text that
-//! was adapted.
+//! The lines and sections of a data sheet's text (CiA 306), what becomes of them where the text is
+//! rewritten, what is changed only on request (numbers with a leading zero, and what has to be
+//! forced), and the original types of a text that was adapted.
 #![tactic(auto)]
 
 mod change;

@@ -1,4 +1,5 @@
-//! The type, the limits and the values of the entry that a section describes (CiA 306, object description).
+//! The type, the limits and the values of the entry that a section describes (CiA 306, object
+//! description).
 
 ghost use Rattle.std.specs.Prelude.{◌≡◌, ◌≤◌, ◌^◌};
 ghost use Rattle.co_sheet_changes.specs.Limits.{
@@ -37,7 +38,7 @@ pub fn data_type_of(group: &Group) -> Option<DataType>
     data_type_with(group.number(b"DataType")?)
 }
 
-/// The number of values of so many bits.
+/// 2 to the power of `bits`.
 pub fn power_of_two(bits: usize) -> u128
     requires { bits ≤ 64 }
     ensures { result ≡ 2 ^ bits }
@@ -45,7 +46,7 @@ pub fn power_of_two(bits: usize) -> u128
     1u128 << bits
 }
 
-/// The bytes of a type in two's complement.
+/// The width in bytes of a signed type; `None` for every other type.
 pub fn signed_width(data_type: DataType) -> Option<usize>
     ensures { result ≡ signed_width data_type }
 {

@@ -19,7 +19,7 @@ pub struct Line<'a> {
     pub bytes: &'a [u8],
 }
 
-/// The lines of a text.
+/// The lines of a text of at most 1,048,576 bytes. `Err`: out of memory.
 pub fn lines_in(alloc: Global, text: &[u8]) -> Result<Vec<Line<'_>>, AllocError>
     requires { length text.now ≤ 1048576 }
     ensures { IfOk result (λ lines. map line_view lines.items ≡ lines_of text.now) }

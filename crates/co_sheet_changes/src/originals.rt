@@ -31,15 +31,16 @@ fn original_of(group: &Group) -> Option<&'static [u8]>
     original_text(original, group.number(b"DataType")?)
 }
 
-/// The original data types of a sheet: of a section that says by `OriginalDataType` which one its DataType stands for, the
-/// code of that one, as it is written, as `0x0008`; by the number of its section line, from 1.
+/// The original data types of an adapted sheet. A section's `OriginalDataType` names the type that
+/// its DataType stands for: its code, as `0x0008`, is found by the number of the section line, from
+/// 1.
 #[derive(Drop)]
 pub struct Originals {
     pub(crate) texts: IndexMap<usize, &'static [u8]>,
 }
 
 impl Originals {
-    // adds that of a section, unless there is one already
+    // adds the original type of a section, unless its line has one already
     fn add(&mut self, group: &Group) -> Result<(), AllocError>
         ensures { OnOk result ((line : _) → text_at self.new line
             ≡ option_or (text_at self.old line) (original_here line (group_view group.now))) }
@@ -54,7 +55,7 @@ impl Originals {
         Ok(())
     }
 
-    // those of sections
+    // the original types of sections
     #[tactic(auto, using(crate::proofs::OriginalLemmas::or_assoc))]
     fn of(alloc: Global, groups: &[Group]) -> Result<Originals, AllocError>
         ensures { IfOk result (λ made. (line : _) →
@@ -69,7 +70,7 @@ impl Originals {
         Ok(made)
     }
 
-    /// Those of a text, in one pass.
+    /// The original types of a text, in one pass. `Err`: out of memory.
     #[tactic(auto, unfolding(crate::specs::Originals::original_at))]
     pub fn in_text(alloc: Global, text: &[u8]) -> Result<Originals, AllocError>
         requires { length text.now ≤ 1048576 }
@@ -80,7 +81,7 @@ impl Originals {
         Originals::of(alloc, groups.as_slice())
     }
 
-    /// That of the section with this section line.
+    /// The code of the original type of the section with this section line.
     pub fn at(&self, line: usize) -> Option<&'static [u8]>
         ensures { option_copied result ≡ text_at self.now line }
     {

@@ -9,7 +9,7 @@ use crate::change::{Change, ChangeKind, Mended, Piece};
 use crate::line::Line;
 use std::alloc::{AllocError, Global};
 
-/// Three texts, one after another.
+/// Three texts, one after another. `Err`: out of memory.
 pub fn joined(
     alloc: Global,
     first: &[u8],
@@ -25,7 +25,7 @@ pub fn joined(
     Ok(made)
 }
 
-/// A line with a name and a value.
+/// A line `NAME=VALUE`, ended by LF. `Err`: out of memory.
 #[tactic(auto, unfolding(crate::specs::Pieces::assigned))]
 pub fn assigned(alloc: Global, name: &[u8], value: &[u8]) -> Result<Vec<u8>, AllocError>
     ensures { IfOk result (λ made. made.items ≡ assigned name.now value.now) }
@@ -35,7 +35,7 @@ pub fn assigned(alloc: Global, name: &[u8], value: &[u8]) -> Result<Vec<u8>, All
     Ok(made)
 }
 
-/// A line with a value in another's place, if there is one.
+/// A line with a value in place of the old one, if there is a value. `Err`: out of memory.
 pub fn with_value(
     alloc: Global,
     kind: ChangeKind,
@@ -67,7 +67,7 @@ pub fn piece_of<'a>(line: &Line<'a>, mended: Option<Mended>) -> Piece<'a>
     }
 }
 
-/// Adds lines that stay.
+/// Adds lines that stay. `Err`: out of memory.
 pub fn push_kept<'a>(pieces: &mut Vec<Piece<'a>>, lines: &[Line<'a>]) -> Result<(), AllocError>
     ensures { OnOk result (map piece_view pieces.new.items
         ≡ map piece_view pieces.old.items ++ map kept_piece (map line_view lines.now)) }
@@ -92,7 +92,7 @@ fn push_piece(text: &mut Vec<u8>, piece: &Piece) -> Result<(), AllocError>
     }
 }
 
-/// Appends pieces as they are written.
+/// Appends pieces as they are written. `Err`: out of memory.
 pub fn push_pieces(text: &mut Vec<u8>, pieces: &[Piece]) -> Result<(), AllocError>
     ensures { OnOk result
         (text.new.items ≡ text.old.items ++ flat_map written (map piece_view pieces.now)) }

@@ -12,7 +12,7 @@ pub enum LeadingZeros {
 pub enum Request<'m> {
     /// To write numbers with a leading zero anew, read in this base.
     LeadingZeros(LeadingZeros),
-    /// To mend by force: limits that are no numbers of their type, bit 30 of 1005h, and the mapping objects with these
-    /// indices, which are at fault.
+    /// To change by force: limits that are no numbers of their type, bit 30 of 1005h, and the
+    /// mapping objects with these indices, which are at fault.
     Force(&'m [u16]),
 }

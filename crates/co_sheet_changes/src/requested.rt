@@ -1,4 +1,4 @@
-//! A text as it is requested.
+//! A text, rewritten on request.
 
 ghost use Rattle.std.specs.Prelude.{◌≡◌, ◌++◌, ◌≤◌, ◌∷◌, [], length, map, option_map, IfOk, OnOk};
 ghost use Rattle.std.specs.List.{flat_map};
@@ -33,10 +33,10 @@ use co_sheet_text::SectionKind;
 use co_value::DataType;
 use std::alloc::{AllocError, Global};
 
-/// A text as it is requested.
+/// A text, rewritten on request.
 #[derive(Drop)]
 pub struct Requested<'a> {
-    /// What it becomes; it has as many lines, each in the place of the one with its number.
+    /// The rewritten text. Each of its lines is in the place of the old line with the same number.
     pub text: Vec<u8>,
     /// Its lines, kept or changed; none where nothing is requested.
     pub pieces: Vec<Piece<'a>>,
@@ -44,13 +44,13 @@ pub struct Requested<'a> {
     pub has_changes: bool,
 }
 
-/// What the lines of a section are changed by.
+/// What the changes of a section's lines depend on.
 #[derive(Clone, Copy)]
 pub(crate) struct Facts {
     pub(crate) kind: SectionKind,
     /// Whether the values of its entry are numbers.
     pub(crate) numbers: bool,
-    /// The type that its limits are held against.
+    /// The data type to which its limits must belong.
     pub(crate) data_type: Option<DataType>,
 }
 
@@ -235,9 +235,9 @@ fn text_with(alloc: Global, pieces: &[Piece<'_>], text: &[u8]) -> Result<Vec<u8>
     Ok(made)
 }
 
-/// Rewrites a data sheet (CiA 306) as it is requested, each line by one line, and all others as they are.
+/// Rewrites a data sheet (CiA 306) on request: each line stays, or is replaced by one line.
 ///
-/// `TooLarge` where the text has more than 1,048,576 bytes, `Memory` where memory ran out.
+/// `TooLarge`: the text has more than 1,048,576 bytes. `Memory`: out of memory.
 pub fn on_request<'a>(
     alloc: Global,
     text: &'a [u8],

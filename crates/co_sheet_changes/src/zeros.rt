@@ -67,12 +67,12 @@ fn digits_anew(zeros: LeadingZeros, text: &[u8]) -> Option<u64>
     }
 }
 
-/// What is beside a number.
+/// What a value contains besides its number.
 #[derive(Clone, Copy)]
 pub(crate) enum Beside<'v> {
     Nothing,
     Minus,
-    /// In a sum, what is in front of `+`.
+    /// In a sum, what comes before `+`.
     Left(&'v [u8]),
     /// In a sum, what comes after `+`.
     Right(&'v [u8]),
@@ -116,7 +116,7 @@ fn sum_anew<'v>(zeros: LeadingZeros, left: &'v [u8], right: &'v [u8]) -> Option<
     Some(Anew { number, beside })
 }
 
-// a value without its leading zero; `None`: it has none, or a digit that the base hasn't
+// a value without its leading zero; `None` where it has none, or a digit that isn't one of the base
 fn value_anew(zeros: LeadingZeros, value: &[u8]) -> Option<Anew<'_>>
     ensures { option_map anew_text result ≡ value_anew zeros value.now }
 {

@@ -1,6 +1,5 @@
--- What each check finds, everywhere: what it looks for is said in the definitions of a sheet's
--- checks; here nothing is found that rests on a value at fault
--- (CiA 306, object lists, object description).
+-- All that each check finds (CiA 306, object lists, object description). What a check looks for is
+-- defined with the checks of a sheet; here nothing is found that rests on a value at fault.
 use Rattle.std.specs.Prelude.{ℕ, Bool, true, false, not, ◌&&◌, List, [], ◌∷◌, ◌++◌, map, flat_map, codes, Some}
 use Rattle.std.specs.Option.{option_map_or}
 use Rattle.co_value.specs.declared.data_type.DataType.{DataType}
@@ -30,7 +29,7 @@ abbrev pub all_listed_twice : List TextSection → List SheetFault
 all_listed_twice sections =
     flat_map (λ l. unless (not (is_index l.index)) (listed_twice sections l)) (listings sections)
 
--- check 5 too, and is of the first line that names it
+-- check 5 too, and applies to the first line that names the index
 abbrev pub all_missing_sections : List TextSection → List SheetFault
 all_missing_sections sections =
     flat_map (λ l. unless (not (is_sound sections l)) (missing_section sections l))

@@ -1,5 +1,5 @@
--- What all faults of a text keep, beside what is found: against the first fault that is answered for
--- a sheet, and of a text without its lines of one kind (CiA 306).
+-- Laws of all faults of a text: how they relate to the first fault of a sheet, and which remain
+-- when the lines of one kind of fault are emptied (CiA 306).
 use Rattle.std.specs.Prelude.{◌≡◌, ◌⊎◌, ℕ, Bool, true, false, not, ◌&&◌, ◌==◌, ◌<◌, ◌≤◌, length, if◌then◌else◌, List, [], ◌∷◌, ◌++◌, Contains, map, filter}
 use Rattle.std.specs.List.{list_any}
 use Rattle.co_sheet_rows.specs.declared.fault.FaultKind.{FaultKind}

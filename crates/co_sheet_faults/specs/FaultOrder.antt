@@ -1,4 +1,4 @@
--- The order in which the faults of a text are given.
+-- The order in which the faults of a text are returned.
 use Rattle.std.specs.Ordering.{nat_cmp, ordering_then}
 use Rattle.std.specs.declared.cmp.Ordering.{Ordering}
 use Rattle.co_sheet_rows.specs.declared.fault.SheetFault.{SheetFault}

@@ -1,5 +1,5 @@
--- The words of each fault for people: what is wrong, how to fix it, and where the standard says so
--- (by the name of its subject, since the numbers differ by edition).
+-- Each fault in words: what it means, how to fix it, and where the standard says so (by the name of
+-- its subject, since the numbers differ by edition).
 use Rattle.std.specs.Prelude.{ℕ, ◌==◌, if◌then◌else◌, List, [], codes}
 use Rattle.co_sheet_rows.specs.declared.fault.FaultKind.{FaultKind}
 use Rattle.co_sheet_rows.specs.declared.fault.FaultKind.TheVariants.{TooLarge, BadLine, KeyOutsideSection, DuplicateSection, DuplicateKey, MissingSection, BadNumber, AmbiguousNumber, BadList, ListedTwice, MissingKey, BadType, LeftOutType, BadAccess, BadLimits, BadDefault, MissingSub0, CompactForm, MissingMandatory, Memory}
@@ -65,7 +65,7 @@ fix_of CompactForm = codes "have the sheet's editor write each sub-index as a se
 fix_of MissingMandatory = codes "list the three, with their sections"
 fix_of Memory = codes "run it again with more memory"
 
--- the subject of the standard; none of memory
+-- the subject of the standard; none for out of memory
 abbrev pub subject_of : FaultKind → List ℕ
 subject_of TooLarge = codes "CiA 306-1, structure of an EDS"
 subject_of BadLine = codes "CiA 306-1, structure of an EDS"

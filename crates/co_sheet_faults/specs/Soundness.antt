@@ -1,5 +1,5 @@
--- Which value is at fault, so that nothing is said of what rests on it
--- (CiA 306, object lists, object description).
+-- Which values are at fault, so that no fault is reported that rests on them (CiA 306, object
+-- lists, object description).
 use Rattle.std.specs.Prelude.{ℕ, Bool, true, false, not, ◌&&◌, ◌||◌, nat_lt, if◌then◌else◌, List, [], ◌∷◌, filter, filter_map, flat_map, codes, Option, None, ℤ}
 use Rattle.std.specs.Option.{option_map_or}
 use Rattle.co_value.specs.declared.data_type.DataType.{DataType}
@@ -28,7 +28,7 @@ is_unread_at name section =
 
 -- ---- what the lists name
 
--- the object lists as a whole: what they name may not be all that is meant
+-- the object lists as a whole are at fault: objects may be missing in what they name
 abbrev pub unread_in_lists : List TextSection → List SheetFault
 unread_in_lists sections =
     flat_map (λ s. flat_map unread_number s.properties) (object_lists sections)
@@ -43,14 +43,14 @@ are_lists_at_fault sections =
 abbrev pub is_index : ℕ → Bool
 is_index n = not (nat_lt 0xFFFF n)
 
--- what a list names is an index, and the first that names it
+-- a listing names an index of 16 bits, and is the first to name it
 abbrev pub is_sound : List TextSection → Listing → Bool
 is_sound sections l = is_index l.index && not (is_listed_before (listings sections) l)
 
 abbrev pub sound_listings : List TextSection → List Listing
 sound_listings sections = filter (is_sound sections) (listings sections)
 
--- the objects that are named so, each once, and their entries
+-- the objects of these listings, each once, and their entries
 abbrev pub sound_objects : List TextSection → List ListedObject
 sound_objects sections = filter_map (λ l. object_at l.index sections) (sound_listings sections)
 
@@ -65,7 +65,7 @@ is_compact section =
     option_map_or (λ k. not (is_one_of (0 ∷ []) (property_number k)))
     (property_at (codes "CompactSubObj") section) false
 
--- the ObjectType of an entry, which a DOMAIN is by, and its DataType
+-- the ObjectType of an entry, which says whether it is a DOMAIN, or its DataType is at fault
 abbrev pub is_object_type_at_fault : Entry → Bool
 is_object_type_at_fault e = is_found (other_object_type single_codes e.section)
 
@@ -83,7 +83,7 @@ abbrev pub is_high_at_fault : DataType → Entry → Bool
 is_high_at_fault t e =
     is_outside t (high_limit t e) || not (at_most (low_limit t e) (high_limit t e))
 
--- the limits that a default is held against
+-- the limits against which a default is checked
 abbrev pub sound_low : DataType → Entry → Option ℤ
 sound_low t e = if is_low_at_fault t e then None else low_limit t e
 

@@ -46,7 +46,8 @@ fn has_mandatory_list(sections: &[TextSection]) -> bool
     section_at(sections, SectionKind::MandatoryObjects).is_some()
 }
 
-// the object lists and what they name aren't at fault, and 1000h, 1001h or 1018h is missing
+// whether neither the object lists nor what they name is at fault, and 1000h, 1001h or 1018h is
+// missing
 fn is_mandatory_missing(
     has_lists: bool,
     are_lists_bad: bool,
@@ -59,7 +60,8 @@ fn is_mandatory_missing(
     has_lists && !are_lists_bad && !is_listing_bad && lacks_mandatory(named)
 }
 
-/// What the checks find, section by section and listing by listing (CiA 306, object lists, object description).
+/// Adds what the checks find, section by section and listing by listing (CiA 306, object lists,
+/// object description).
 pub(crate) fn collect(
     alloc: Global,
     faults: &mut Vec<SheetFault>,

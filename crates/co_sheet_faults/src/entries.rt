@@ -55,7 +55,7 @@ fn lacks_key(entry: &EntrySection) -> bool
     !entry.is_domain() && (type_given.is_none() || access_given.is_none())
 }
 
-// an entry without DataType or AccessType
+// adds an entry without DataType or AccessType
 fn add_missing_key(faults: &mut Vec<SheetFault>, entry: &EntrySection) -> Result<(), AllocError>
     ensures { OnOk result (faults.new.items ≡ faults.old.items ++ key_found (entry_view entry.now)) }
 {
@@ -112,7 +112,7 @@ fn is_type_left_out(entry: &EntrySection) -> bool
     }
 }
 
-// a DataType that is no number, that is at fault, or that isn't supported
+// adds a DataType that is no number, that is at fault, or that isn't supported
 fn add_type(faults: &mut Vec<SheetFault>, entry: &EntrySection) -> Result<(), AllocError>
     ensures { OnOk result
         (faults.new.items ≡ faults.old.items ++ type_collected (entry_view entry.now)) }
@@ -126,7 +126,7 @@ fn add_type(faults: &mut Vec<SheetFault>, entry: &EntrySection) -> Result<(), Al
     add_if(faults, is_left_out, FaultKind::LeftOutType, line)
 }
 
-// an AccessType that is no access
+// adds an AccessType that is no access
 fn add_access(faults: &mut Vec<SheetFault>, entry: &EntrySection) -> Result<(), AllocError>
     ensures { OnOk result (faults.new.items ≡ faults.old.items ++ bad_access (entry_view entry.now)) }
 {
@@ -137,7 +137,7 @@ fn add_access(faults: &mut Vec<SheetFault>, entry: &EntrySection) -> Result<(), 
     add_if(faults, is_bad, FaultKind::BadAccess, given.line)
 }
 
-// a limit of a numeric type that is no number
+// adds a limit of a numeric type that is no number
 fn add_unread_limit(
     faults: &mut Vec<SheetFault>,
     section: &TextSection,
@@ -210,7 +210,7 @@ fn limits_of(entry: &EntrySection, data_type: DataType) -> Limits
     }
 }
 
-// the limit at a key, if it is at fault
+// adds the limit at a key, if it is at fault
 fn add_limit(
     faults: &mut Vec<SheetFault>,
     section: &TextSection,
@@ -242,7 +242,7 @@ fn is_default_bad(data_type: DataType, limits: &Limits, preset: Preset) -> bool
     }
 }
 
-// the default at a key of a numeric entry, where it is no number or is at fault
+// adds the default at a key of a numeric entry, where it is no number or is at fault
 fn add_default(
     faults: &mut Vec<SheetFault>,
     entry: &EntrySection,
@@ -268,7 +268,7 @@ fn add_default(
     }
 }
 
-// the limits and the defaults of a numeric entry
+// adds the limits and the defaults of a numeric entry that are at fault
 fn add_numeric(
     faults: &mut Vec<SheetFault>,
     entry: &EntrySection,
@@ -289,7 +289,7 @@ fn add_numeric(
     add_default(faults, entry, data_type, &limits, b"ParameterValue")
 }
 
-// the default at a key of an OCTET_STRING, where it isn't pairs of digits
+// adds the default at a key of an OCTET_STRING, where it isn't pairs of digits
 fn add_pairs(
     faults: &mut Vec<SheetFault>,
     entry: &EntrySection,
@@ -333,7 +333,7 @@ fn data_type_of(entry: &EntrySection) -> Option<DataType>
     data_type_with(type_code(entry)?)
 }
 
-// the limits and the defaults, where the data type isn't at fault
+// adds the limits and the defaults that are at fault, where the data type isn't
 fn add_typed_values(faults: &mut Vec<SheetFault>, entry: &EntrySection) -> Result<(), AllocError>
     ensures { OnOk result (faults.new.items
         ≡ faults.old.items ++ of_sound_type values_collected (entry_view entry.now)) }
@@ -347,7 +347,7 @@ fn add_typed_values(faults: &mut Vec<SheetFault>, entry: &EntrySection) -> Resul
     }
 }
 
-/// All that is at fault in an entry (CiA 306, object description).
+/// Adds all faults of an entry (CiA 306, object description).
 pub(crate) fn add_entry(
     faults: &mut Vec<SheetFault>,
     entry: &EntrySection,

@@ -9,7 +9,7 @@ use co_sheet::{FaultKind, SheetFault};
 use co_sheet_text::{NumeralFault, Property, TextSection, unsigned_number};
 use std::alloc::AllocError;
 
-/// A fault at a line, where a test says so.
+/// Adds a fault at a line, if a test holds.
 pub(crate) fn add_if(
     faults: &mut Vec<SheetFault>,
     test: bool,
@@ -24,7 +24,7 @@ pub(crate) fn add_if(
     Ok(())
 }
 
-// what is wrong with a text that is no number
+// the fault of a text that is no number
 fn unread_kind(fault: NumeralFault) -> FaultKind
     ensures { result ≡ numeral_fault fault }
 {
@@ -34,7 +34,7 @@ fn unread_kind(fault: NumeralFault) -> FaultKind
     }
 }
 
-/// A number that can't be read.
+/// Adds a number that can't be read.
 pub(crate) fn add_unread(
     faults: &mut Vec<SheetFault>,
     fault: NumeralFault,
@@ -50,7 +50,7 @@ pub(crate) fn add_unread(
     Ok(())
 }
 
-/// A property that is no number.
+/// Adds a property that is no number.
 pub(crate) fn add_unread_number(
     faults: &mut Vec<SheetFault>,
     given: &Property,
@@ -64,7 +64,7 @@ pub(crate) fn add_unread_number(
     }
 }
 
-/// The property of this name, where it is no number.
+/// Adds the property of this name, where it is no number.
 pub(crate) fn add_unread_at(
     faults: &mut Vec<SheetFault>,
     section: &TextSection,
@@ -79,7 +79,7 @@ pub(crate) fn add_unread_at(
     }
 }
 
-/// The property of this name, where it states a compact form.
+/// Adds the property of this name, where it states a compact form.
 pub(crate) fn add_compact_form(
     faults: &mut Vec<SheetFault>,
     section: &TextSection,

@@ -15,8 +15,9 @@ use co_sheet::{FaultKind, GREATEST_SIZE, SheetFault, sheet_fault};
 use co_sheet_text::{ParsedText, TextFault, all_sections_in};
 use std::alloc::{AllocError, Global};
 
-/// The sections of a text in spite of its lines at fault (CiA 306, structure of an EDS): a section line at fault begins
-/// a section that nothing reads, and any other line at fault is passed over. It fails out of memory.
+/// The sections of a text in spite of its lines at fault (CiA 306, structure of an EDS): a section
+/// line at fault begins a section that nothing reads, and any other line at fault is passed over.
+/// `Err`: out of memory.
 pub fn read_sections(alloc: Global, text: &[u8]) -> Result<ParsedText<'_>, AllocError>
     requires { length text.now ≤ 1048576 }
     ensures { IfOk result (λ sections. sections ≡ sections_read (lines_of text.now)) }
@@ -61,14 +62,15 @@ fn put_in_order(faults: &mut Vec<SheetFault>) -> Result<(), AllocError>
     Ok(())
 }
 
-/// All faults of a text (CiA 306), where `co_sheet::read` answers the first: of its lines, and what each check finds in
-/// what can be read.
+/// All faults of a text (CiA 306), where `co_sheet::read` returns the first only: those of its
+/// lines, and what each check finds in what can be read.
 ///
-/// They are sorted by line, then by the number of their kind, and none is there twice. A fault that no line is to blame
-/// for has line 0: the text is more than 1,048,576 bytes (`TooLarge`, which then is alone), MandatoryObjects is missing
-/// (`MissingSection`), or 1000h, 1001h or 1018h is in no list (`MissingMandatory`). The text is a data sheet exactly
-/// where there is no fault. Nothing is found that rests on a value at fault. It fails out of memory, and none of the
-/// faults is `Memory`.
+/// They are sorted by line, then by the number of their kind, and none is there twice. A fault
+/// without a line has line 0: the text is more than 1,048,576 bytes (`TooLarge`, which then is
+/// alone), MandatoryObjects is missing (`MissingSection`), or 1000h, 1001h or 1018h is in no list
+/// (`MissingMandatory`). The text is a data sheet exactly where there is no fault. No fault is
+/// reported that depends on a value at fault. `Err`: out of memory; no fault in the list is
+/// `Memory`.
 pub fn find_faults(alloc: Global, text: &[u8]) -> Result<Vec<SheetFault>, AllocError>
     ensures all { IfOk result (λ found. (fault : Fault) → Contains (faults_of text.now) fault
         → Contains found.items fault) }

@@ -20,11 +20,12 @@ ghost use Rattle.co_sheet_faults.specs.FaultLaws.{
   without,
 };
 
-/// All faults of a text against the reader of a sheet. There is none exactly where the text is accepted. The fault that
-/// the reader answers is among them. Each is a fault by its own definition: the text is too large, or a line has it, or
-/// a check finds it in the sections that are read. A text that is too large has that fault alone. Of any other, the
-/// fault of each line is among them, and every fault that the first check to find any finds in the sections that are
-/// read. This is a law: a call of it changes nothing.
+/// All faults of a text against the reader of a sheet. There are none exactly if the text is
+/// accepted. The fault that the reader returns is among them. Each is a fault by its own
+/// definition: the text is too large, or a line has it, or a check finds it in the sections that
+/// are read. A text that is too large has that fault alone. For any other text, the fault of each
+/// line is among them, and so is every fault of the first check that finds any in the sections that
+/// are read. This is a law: a call of it changes nothing.
 pub fn all_faults()
     ensures accepted { (text : List ℕ) → IsAccepted text → faults_of text ≡ [] }
     ensures none { (text : List ℕ) → faults_of text ≡ [] → IsAccepted text }
@@ -40,19 +41,19 @@ pub fn all_faults()
         IsFirstCheckFault (lines_of text) fault → Contains (faults_of text) fault }
 {}
 
-/// Where the lines whose own fault is of one kind are emptied (`TooLarge`, `BadLine`, `KeyOutsideSection`,
-/// `DuplicateSection`, `DuplicateKey`), exactly the faults of that kind are gone. A section line is emptied to `[]`,
-/// which begins a section that nothing reads. It is of lists of lines, not of texts. This is a law: a call of it
-/// changes nothing.
+/// If the lines whose own fault is of one kind are emptied (`TooLarge`, `BadLine`,
+/// `KeyOutsideSection`, `DuplicateSection`, `DuplicateKey`), exactly the faults of that kind are
+/// gone. A section line is emptied to `[]`, which begins a section that nothing reads. This is
+/// stated for lists of lines, not for texts. This is a law: a call of it changes nothing.
 pub fn emptied_lines()
     ensures gone { (kind : Kind) (lines : List Line) → IsLineKind kind →
         faults_in (emptied_of kind [] lines) ≡ without kind (faults_in lines) }
 {}
 
-/// Where the lines at which limits are at fault are emptied, exactly the faults `BadLimits` are gone, and all others
-/// stay; so it is with `BadDefault`. It is of lines whose numbers rise, as those of a text do (`numbered`), and of
-/// which none has a key that its section has already: with a first `LowLimit` emptied, a second one is no second one
-/// any more. This is a law: a call of it changes nothing.
+/// If the lines with a fault `BadLimits` are emptied, exactly these faults are gone and all others
+/// stay; the same holds for `BadDefault`. The line numbers must rise, as those of a text do
+/// (`numbered`), and no section may have a key twice: with a first `LowLimit` emptied, a second one
+/// would be the first. This is a law: a call of it changes nothing.
 pub fn emptied_values()
     ensures numbered { (text : List ℕ) → AreNumbered (lines_of text) }
     ensures limits { (lines : List Line) → AreNumbered lines → HaveNoKeyTwice lines →

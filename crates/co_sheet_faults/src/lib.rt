@@ -1,4 +1,5 @@
-//! All faults of an electronic data sheet (CiA 306): each line at fault, and what each check finds in what can be read.
+//! All faults of an electronic data sheet (CiA 306): each line at fault, and what each check finds
+//! in what can be read.
 #![tactic(auto)]
 
 mod collect;

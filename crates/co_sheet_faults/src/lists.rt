@@ -27,7 +27,7 @@ use co_sheet_text::{Property, TextSection};
 use indexmap::IndexSet;
 use std::alloc::{AllocError, Global};
 
-// the properties that are no numbers
+// adds the properties that are no numbers
 fn add_unread_numbers(
     faults: &mut Vec<SheetFault>,
     properties: &[Property],
@@ -48,14 +48,14 @@ fn are_unread(properties: &[Property]) -> bool
     properties.iter().any(|given| given.number().is_none())
 }
 
-// the same of a section
+// whether one of the properties of a section is no number
 fn has_unread(section: &TextSection) -> bool
     ensures { result ≡ is_found (flat_map unread_number (section_view section.now).properties) }
 {
     are_unread(section.properties)
 }
 
-// whether a section gives SupportedObjects, and not as a number
+// whether a section has a SupportedObjects that is no number
 fn is_count_unread(section: &TextSection) -> bool
     ensures { result ≡ is_unread_at (codes "SupportedObjects") (section_view section.now) }
 {
@@ -65,7 +65,7 @@ fn is_count_unread(section: &TextSection) -> bool
     }
 }
 
-// the values of a section that have to be numbers and are none
+// adds the values of a section that must be numbers and are none
 fn add_numbers(faults: &mut Vec<SheetFault>, section: &TextSection) -> Result<(), AllocError>
     ensures { OnOk result (faults.new.items
         ≡ faults.old.items ++ numbers_collected (section_view section.now)) }
@@ -76,7 +76,7 @@ fn add_numbers(faults: &mut Vec<SheetFault>, section: &TextSection) -> Result<()
     Ok(())
 }
 
-// a list that is bad, where its SupportedObjects is a number or absent
+// adds a list that is bad, where its SupportedObjects is a number or absent
 fn add_bad_list(
     faults: &mut Vec<SheetFault>,
     section: &TextSection,
@@ -93,7 +93,8 @@ fn add_bad_list(
     add_if(faults, is_bad, FaultKind::BadList, section.line)
 }
 
-// a section by itself, and what it names, after what is there; whether it is an object list at fault
+// adds the faults of a section on its own, and what it names; returns whether it is an object list
+// at fault
 fn add_section(
     faults: &mut Vec<SheetFault>,
     named: &mut Vec<Listing>,
@@ -114,8 +115,8 @@ fn add_section(
     Ok(is_bad || has_unread(section))
 }
 
-/// What is at fault in the sections that state numbers by themselves, and what the object lists name, after what is
-/// there. Whether one of the lists is at fault.
+/// Adds the faults of the object lists, DummyUsage, DeviceInfo and the device commissioning on
+/// their own, and what the lists name. Returns whether one of the lists is at fault.
 pub(crate) fn add_sections(
     faults: &mut Vec<SheetFault>,
     named: &mut Vec<Listing>,
@@ -135,7 +136,7 @@ pub(crate) fn add_sections(
     Ok(is_bad)
 }
 
-// what a list names, and the object with it; whether the listing is at fault
+// adds the faults of a listing and of its object; returns whether the listing is at fault
 fn add_listing(
     faults: &mut Vec<SheetFault>,
     tables: &Tables,
@@ -163,8 +164,8 @@ fn add_listing(
     Ok(is_bad)
 }
 
-/// What is at fault in what the object lists name, each object at the first line that names it. Whether a line names an
-/// index again, or one without a section.
+/// Adds the faults of what the object lists name, those of an object at the first line that names
+/// it. Returns whether a line names an index again, or one without a section.
 pub(crate) fn add_listings(
     alloc: Global,
     faults: &mut Vec<SheetFault>,

@@ -41,7 +41,7 @@ fn object_code(section: &TextSection) -> Option<u64>
     }
 }
 
-// an ObjectType of an object that is no number, or no object type
+// adds an ObjectType of an object that is no number, or no object type
 fn add_object_type(faults: &mut Vec<SheetFault>, section: &TextSection) -> Result<(), AllocError>
     ensures { OnOk result (faults.new.items
         ≡ faults.old.items ++ object_type_collected object_codes (section_view section.now)) }
@@ -58,7 +58,7 @@ fn add_object_type(faults: &mut Vec<SheetFault>, section: &TextSection) -> Resul
     }
 }
 
-// an ObjectType of a sub-index that is no number, or neither VAR's nor DOMAIN's
+// adds an ObjectType of a sub-index that is no number, or neither VAR's nor DOMAIN's
 fn add_part_type(faults: &mut Vec<SheetFault>, section: &TextSection) -> Result<(), AllocError>
     ensures { OnOk result (faults.new.items
         ≡ faults.old.items ++ object_type_collected single_codes (section_view section.now)) }
@@ -77,7 +77,7 @@ fn add_part_type(faults: &mut Vec<SheetFault>, section: &TextSection) -> Result<
     }
 }
 
-// a CompactSubObj that is no number, or another than 0
+// adds a CompactSubObj that is no number, or isn't 0
 fn add_compact(faults: &mut Vec<SheetFault>, section: &TextSection) -> Result<(), AllocError>
     ensures { OnOk result (faults.new.items
         ≡ faults.old.items ++ compact_collected (section_view section.now)) }
@@ -102,7 +102,7 @@ fn has_sub_index_0(parts: &[EntrySection]) -> bool
     parts.iter().any(|part| part.key.sub == 0)
 }
 
-// an ARRAY or a RECORD without sub-index 0
+// adds an ARRAY or a RECORD without sub-index 0
 fn add_missing_sub_index_0(
     faults: &mut Vec<SheetFault>,
     tables: &Tables,
@@ -119,7 +119,7 @@ fn add_missing_sub_index_0(
     add_if(faults, !has_first, FaultKind::MissingSub0, section.line)
 }
 
-// a sub-index section, which is an entry of an ARRAY or a RECORD
+// adds the faults of a sub-index section, which is an entry of an ARRAY or a RECORD
 fn add_part(
     faults: &mut Vec<SheetFault>,
     part: &EntrySection,
@@ -149,7 +149,8 @@ fn add_each_part(
     Ok(())
 }
 
-// the entries of an object, and its sub-index sections; those of a VAR or a DOMAIN are passed over
+// adds the faults of an object's entries and sub-index sections; those sections of a VAR or a
+// DOMAIN are passed over
 fn add_parts(
     faults: &mut Vec<SheetFault>,
     tables: &Tables,
@@ -173,7 +174,7 @@ fn add_parts(
     add_each_part(faults, tables.parts(object.index), is_compound(code))
 }
 
-/// All that is at fault in an object and in its entries (CiA 306, object description).
+/// Adds all faults of an object and of its entries (CiA 306, object description).
 pub(crate) fn add_object(
     faults: &mut Vec<SheetFault>,
     tables: &Tables,

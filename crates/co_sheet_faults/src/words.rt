@@ -1,4 +1,4 @@
-//! The words of a fault for people.
+//! What a fault means and how it is fixed, in words.
 
 ghost use Rattle.std.specs.Prelude.{◌≡◌};
 ghost use Rattle.co_sheet_faults.specs.FaultWords.{
@@ -51,7 +51,7 @@ fn meaning_without_line(kind: FaultKind) -> &'static str
     }
 }
 
-/// What is wrong, in one line.
+/// What a fault means, in one line.
 pub fn meaning_of(fault: &SheetFault) -> &'static str
     ensures { result.now ≡ meaning_of fault.now }
 {
@@ -62,7 +62,7 @@ pub fn meaning_of(fault: &SheetFault) -> &'static str
     }
 }
 
-/// How it is fixed, in one line.
+/// How a fault is fixed, in one line.
 pub fn fix_of(kind: FaultKind) -> &'static str
     ensures { result.now ≡ fix_of kind }
 {

@@ -2,6 +2,6 @@
 use Rattle.co_sheet_rows.specs.declared.fault.FaultKind.TheVariants.{Memory}
 use Rattle.co_sheet_rows.specs.declared.fault.SheetFault.{SheetFault}
 
--- it has no line
+-- line 0: no line is to blame
 abbrev pub out_of_memory : SheetFault
 out_of_memory = record { kind = Memory; line = 0 }

@@ -6,11 +6,12 @@ use std::error::Error;
 use std::fmt;
 
 /// What is wrong with a text.
-#[derive(Clone, Copy, Debug, PartialEq, Eq, Hash)]
+#[derive(Clone, Copy, Debug, PartialEq, Eq)]
 pub enum FaultKind {
     /// More than 1,048,576 bytes of text, or more than 512 in a line.
     TooLarge = 1,
-    /// A section line without `]`, or a line of a section that is read without `=` or without a key before it.
+    /// A section line without `]`, or a line of a section that is read without `=` or without a key
+    /// before it.
     BadLine = 2,
     /// A line before the first section.
     KeyOutsideSection = 3,
@@ -20,18 +21,18 @@ pub enum FaultKind {
     DuplicateKey = 5,
     /// No MandatoryObjects, or no section for a listed object.
     MissingSection = 6,
-    /// A value that has to be a number and is none.
+    /// A value that must be a number and isn't one.
     BadNumber = 7,
-    /// A decimal number that begins with 0 and that octal would not read as the same number.
+    /// A decimal number that begins with 0, and is another number when read as octal.
     AmbiguousNumber = 8,
-    /// An object list whose number of objects is missing or above 65,535, with fewer places than it says, or with an
-    /// index above FFFFh.
+    /// An object list whose number of objects is missing or above 65,535, with fewer places than it
+    /// counts, or with an index above FFFFh.
     BadList = 9,
     /// An index in the object lists twice.
     ListedTwice = 10,
     /// An entry without DataType or AccessType.
     MissingKey = 11,
-    /// An object type or a data type that is none, or isn't the required one.
+    /// An unknown object type or data type, or one that isn't allowed for this object or entry.
     BadType = 12,
     /// A data type that isn't supported.
     LeftOutType = 13,
@@ -105,7 +106,7 @@ impl fmt::Display for FaultKind {
 }
 
 /// What is wrong with a text, and where.
-#[derive(Clone, Copy, Debug, PartialEq, Eq, Hash)]
+#[derive(Clone, Copy, Debug, PartialEq, Eq)]
 pub struct SheetFault {
     pub kind: FaultKind,
     /// From 1; 0 where no line is to blame.

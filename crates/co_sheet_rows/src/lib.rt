@@ -1,5 +1,5 @@
-//! What the electronic data sheet of a CANopen device says (CiA 306): rows for its entries, objects and sections,
-//! notes, and its faults.
+//! What the electronic data sheet of a CANopen device says (CiA 306): rows for its entries, objects
+//! and sections, notes, and its faults.
 #![tactic(auto)]
 
 mod entry;

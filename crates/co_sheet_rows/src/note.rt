@@ -1,11 +1,11 @@
-//! What is odd in a data sheet, and no fault.
+//! What is odd in a data sheet, but accepted.
 
 use arrayvec::ArrayString;
 use co_text::decimal_digits;
 use std::fmt;
 
 /// What is odd.
-#[derive(Clone, Copy, Debug, PartialEq, Eq, Hash)]
+#[derive(Clone, Copy, Debug, PartialEq, Eq)]
 pub enum NoteKind {
     /// SubNumber isn't the number of the object's sub-index sections.
     SubNumber,
@@ -45,7 +45,7 @@ impl fmt::Display for NoteKind {
 }
 
 /// What is odd, and where.
-#[derive(Clone, Copy, Debug, PartialEq, Eq, Hash)]
+#[derive(Clone, Copy, Debug, PartialEq, Eq)]
 pub struct Note {
     pub kind: NoteKind,
     /// From 1.

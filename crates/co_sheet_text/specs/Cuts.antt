@@ -14,7 +14,7 @@ section_with header properties = record {
   properties = map property_view properties;
 }
 
--- each section takes as many as it has from the front
+-- each section takes its number of properties from the front
 abbrev pub cut : List Header → List CodeProperty → List TextSection
 cut [] properties = []
 cut (header ∷ headers) properties =

@@ -17,13 +17,14 @@ is_number_in base text =
     not (is_empty text) && list_all (λ c. is_digit c base) text
     && nat_lt (number_in base text) (2 ^ 64)
 
--- digits of which all but the last are 0, and the last is 0 to 7, in every base the same number
+-- zeros and a last digit from 0 to 7: the same number in octal and in decimal
 abbrev pub is_below_8 : List ℕ → Bool
 is_below_8 [] = true
 is_below_8 (digit ∷ []) = nat_le digit 55
 is_below_8 (digit ∷ next ∷ digits) = (digit == 48) && is_below_8 (next ∷ digits)
 
--- digits that begin with 0 might be meant as octal: they are read only where that is the same number
+-- digits that begin with 0 might be meant as octal: they are read only where that is the same
+-- number
 abbrev pub is_ambiguous : List ℕ → Bool
 is_ambiguous [] = false
 is_ambiguous (digit ∷ digits) = (digit == 48) && not (is_below_8 digits)

@@ -82,7 +82,7 @@ abbrev pub is_section_line : LineForm → Bool
 is_section_line (section_line name) = true
 is_section_line form = false
 
--- the lines in front of the next section line
+-- the lines before the next section line
 abbrev pub body_of : List Line → List Line
 body_of [] = []
 body_of (line ∷ lines) = if is_section_line (line_form line) then [] else line ∷ body_of lines

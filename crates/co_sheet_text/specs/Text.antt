@@ -30,8 +30,8 @@ pub record Line : Type 0 where
   pub number : ℕ
   pub bytes : List ℕ
 
--- LF ends a line, and takes one CR in front of it along; the last line may come without.
--- A byte order mark is part of no line.
+-- LF ends a line, and one CR before it is part of that end; the last line may lack its LF. A byte
+-- order mark is part of no line.
 abbrev pub lines_of : List ℕ → List Line
 lines_of text =
     map (λ l. record { number = l.0; bytes = l.1 }) (enumerate_from 1 (lines (without_mark text)))

@@ -1,11 +1,12 @@
 //! Why the sections of a text can't be read.
 
 /// What is wrong with a line (CiA 306, structure of an EDS).
-#[derive(Clone, Copy, Debug, PartialEq, Eq, Hash)]
+#[derive(Clone, Copy, Debug, PartialEq, Eq)]
 pub enum TextFaultKind {
     /// More than 512 bytes in a line.
     TooLarge,
-    /// A section line without `]`, or in a section that is read a line without `=` or without a name before it.
+    /// A section line without `]`, or in a section that is read a line without `=` or without a
+    /// name before it.
     BadLine,
     /// A line before the first section.
     KeyOutsideSection,
@@ -30,7 +31,7 @@ impl TextFaultKind {
 }
 
 /// The first fault of a text's lines, and its line.
-#[derive(Clone, Copy, Debug, PartialEq, Eq, Hash)]
+#[derive(Clone, Copy, Debug, PartialEq, Eq)]
 pub struct TextFault {
     pub kind: TextFaultKind,
     /// From 1, or 0 where memory ran out.

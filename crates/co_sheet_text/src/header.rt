@@ -2,8 +2,8 @@
 
 use crate::section_kind::SectionKind;
 
-/// A section line, and how many of the text's properties are read in its section. These come after those of the
-/// sections before it.
+/// A section line, and the number of properties of its section. In the text's one list of
+/// properties they come after those of the sections before it.
 #[derive(Clone, Copy, Debug)]
 pub(crate) struct Header<'a> {
     pub(crate) kind: SectionKind,

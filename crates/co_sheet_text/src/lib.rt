@@ -1,5 +1,6 @@
-//! The text of an electronic data sheet (CiA 306): what its lines are, its numerals, its sections and their properties
-//! as they are read, and the first line that is at fault. What CANopen makes of the properties is `co_sheet`'s.
+//! The text of an electronic data sheet (CiA 306): what its lines are, its numerals, its sections
+//! and their properties as they are read, and the first line that is at fault. `co_sheet` says what
+//! the properties mean in CANopen.
 #![tactic(auto)]
 
 mod fault;

@@ -10,7 +10,7 @@ use crate::text::trim;
 use co_text::split_at_first;
 
 /// What a line is, by its bytes alone.
-#[derive(Clone, Copy, Debug, PartialEq, Eq, Hash)]
+#[derive(Clone, Copy, PartialEq, Eq)]
 pub(crate) enum LineForm<'a> {
     /// Empty, or a comment.
     Skipped,
@@ -24,7 +24,8 @@ pub(crate) enum LineForm<'a> {
     Malformed,
 }
 
-/// What a line is: blanks at its ends and around names and values are dropped (CiA 306, structure of an EDS).
+/// What a line is: blanks at its ends and around names and values are dropped (CiA 306, structure
+/// of an EDS).
 pub(crate) fn form_of(line: &[u8]) -> LineForm<'_>
     ensures { form_view result ≡ form_of (trim line.now) }
 {

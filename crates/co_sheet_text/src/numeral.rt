@@ -19,7 +19,7 @@ use crate::text::same_name;
 use co_value::DataType;
 
 /// A number as it is written, of a magnitude below 2^64 (CiA 306, numerals).
-#[derive(Clone, Copy, Debug, PartialEq, Eq, Hash)]
+#[derive(Clone, Copy, Debug, PartialEq, Eq)]
 pub enum Numeral {
     /// Decimal digits, perhaps after `-`.
     Decimal(i128),
@@ -28,11 +28,11 @@ pub enum Numeral {
 }
 
 /// Why a text is no number.
-#[derive(Clone, Copy, Debug, PartialEq, Eq, Hash)]
+#[derive(Clone, Copy, Debug, PartialEq, Eq)]
 pub enum NumeralFault {
     /// It has another form, a sign where none is allowed, or a magnitude of 2^64 or more.
     Malformed,
-    /// It begins with 0, and octal would not read it as the same number.
+    /// It begins with 0, and is another number when read as octal.
     Ambiguous,
 }
 
@@ -54,8 +54,8 @@ pub fn all_digits(text: &[u8], base: u32) -> bool
     text.iter().all(|byte| is_digit(*byte, base))
 }
 
-/// The number that digits of the base, 2 to 36, write; `None` where the text is empty or has another byte, and where
-/// the number is 2^64 or more.
+/// Parses digits of the base, 2 to 36; `None` where the text is empty or has any other byte, and
+/// where the number is 2^64 or more.
 pub fn number_in(base: u32, text: &[u8]) -> Option<u64>
     requires low { 2 ≤ base }
     requires high { base ≤ 36 }
@@ -104,7 +104,9 @@ fn unsigned_numeral(text: &[u8]) -> Result<Numeral, NumeralFault>
     }
 }
 
-/// Reads a number that may be negative: as `unsigned_numeral`, or `-` and decimal digits (CiA 306, numerals).
+/// Reads a number that may be negative: decimal, `-` and decimal, or hexadecimal after `0x`
+/// (CiA 306, numerals). `Malformed` where it has another form or a magnitude of 2^64 or more,
+/// `Ambiguous` where it may be octal.
 pub fn signed_numeral(text: &[u8]) -> Result<Numeral, NumeralFault>
     ensures { result ≡ signed_numeral text.now }
 {
@@ -115,7 +117,9 @@ pub fn signed_numeral(text: &[u8]) -> Result<Numeral, NumeralFault>
     }
 }
 
-/// Reads a number that may not be negative, as a number.
+/// The value of a number that may not be negative: decimal, or hexadecimal after `0x` (CiA 306,
+/// numerals). `Malformed` where it has another form or is 2^64 or more, `Ambiguous` where it may be
+/// octal.
 pub fn unsigned_number(text: &[u8]) -> Result<u64, NumeralFault>
     ensures { result ≡ unsigned_number text.now }
 {
@@ -128,7 +132,8 @@ pub fn unsigned_number(text: &[u8]) -> Result<u64, NumeralFault>
 }
 
 impl Numeral {
-    /// The number that the numeral means at a type: a hexadecimal one of a signed type is in two's complement.
+    /// The value of the numeral at a data type: a hexadecimal one is in two's complement if the
+    /// type is signed.
     pub fn value_at(self, data_type: DataType) -> i128
         ensures { result ≡ value_at data_type self }
     {

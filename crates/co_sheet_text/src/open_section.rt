@@ -37,10 +37,11 @@ use crate::text_section::Property;
 use indexmap::IndexSet;
 use std::alloc::{AllocError, Global};
 
-/// The section that is being read, and the properties of the text so far. Its own begin at a place in the list; the
-/// others are those of the sections before it.
+/// The section that is being read, and the properties of the text so far: from `first` on its own,
+/// before that those of earlier sections.
 ///
-/// Thousands of its names may be numbers, so these are kept in a set too; the others are ten at most.
+/// Thousands of its names may be numbers, so these are in a set too; of others it has at most
+/// eleven.
 #[derive(Drop)]
 pub(crate) struct OpenSection<'a> {
     kind: SectionKind,
@@ -78,7 +79,7 @@ impl<'a> OpenSection<'a> {
         }
     }
 
-    /// What the section is about.
+    /// What the section is about, by its name.
     pub(crate) fn kind(&self) -> SectionKind
         ensures { result ≡ self.now.kind }
     {
@@ -110,7 +111,7 @@ impl<'a> OpenSection<'a> {
         self.name = name;
         self.line = line;
         self.first = self.properties.len();
-        // clearing costs as much as the set was ever large, and few sections have numbers
+        // clearing takes time for the set's largest size so far, and few sections have numbers
         if !self.numbers.is_empty() {
             self.numbers.clear();
         }
@@ -143,7 +144,7 @@ impl<'a> OpenSection<'a> {
         }
     }
 
-    /// Takes one more property, which the section doesn't have yet.
+    /// Adds a property that the section doesn't have yet. `Err`: out of memory.
     pub(crate) fn add(&mut self, property: Property<'a>) -> Result<(), AllocError>
         requires { is_some (property_at property.name.now (open_view self.old)) ≡ false }
         ensures ok { OnOk result (open_view self.new
@@ -159,7 +160,8 @@ impl<'a> OpenSection<'a> {
         Ok(())
     }
 
-    /// Takes a line that has a property, or that is passed over.
+    /// Takes a line with a name and a value: adds the property, or passes over the line. `Err`: the
+    /// line's fault, or out of memory.
     pub(crate) fn take_line(
         &mut self,
         name: &'a [u8],

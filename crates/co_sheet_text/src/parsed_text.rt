@@ -9,8 +9,8 @@ use crate::text_section::{Property, TextSection};
 use std::alloc::{AllocError, Global};
 use std::marker::Model;
 
-/// The sections of a text. The properties of all of them are in one list, so that no section has memory of its own.
-/// Contracts see the sections.
+/// The sections of a text. The properties of all of them are in one list, so that no section has
+/// memory of its own. Contracts see the sections.
 #[derive(Debug, Drop)]
 pub struct ParsedText<'a> {
     pub(crate) headers: Vec<Header<'a>>,
@@ -30,7 +30,8 @@ impl<'a> Model for ParsedText<'a> {
 }
 
 impl<'a> ParsedText<'a> {
-    /// The sections in their order, each with its part of the list. It fails out of memory, which it asks for once.
+    /// The sections in their order, each with its part of the list. It allocates once; `Err`: out
+    /// of memory.
     pub fn sections(&self, alloc: Global) -> Result<Vec<TextSection<'_, 'a>>, AllocError>
         ensures { IfOk result (λ sections. map section_view sections.items ≡ self.now) }
     {

@@ -1,4 +1,5 @@
-//! One pass over the lines of a data sheet's text: to the first line at fault, or in spite of all of them.
+//! One pass over the lines of a data sheet's text: to the first line at fault, or in spite of all
+//! of them.
 
 ghost use Rattle.std.specs.Prelude.{◌≡◌, ◌≤◌, ◌⊎◌, ◌++◌, [], length, Some, None, OnOk, IfOk, IfErr};
 ghost use Rattle.std.specs.List.{cons_option};
@@ -15,11 +16,11 @@ use crate::text::without_mark;
 use co_text::split_line;
 use std::alloc::{AllocError, Global};
 
-/// The sections of a text, in their order, each with its properties, or the fault of the first line that has one
-/// (CiA 306, structure of an EDS).
+/// The sections of a text, in their order, each with its properties, or the fault of the first line
+/// that has one (CiA 306, structure of an EDS).
 ///
-/// A line's fault is `TooLarge`, `BadLine`, `KeyOutsideSection`, `DuplicateSection` or `DuplicateKey`, with the line's
-/// number from 1. Where memory is refused it fails with `Memory`, line 0.
+/// A line's fault is `TooLarge`, `BadLine`, `KeyOutsideSection`, `DuplicateSection` or
+/// `DuplicateKey`, with the line's number from 1. Out of memory is `Memory`, line 0.
 pub fn sections_in(alloc: Global, text: &[u8]) -> Result<ParsedText<'_>, TextFault>
     requires { length text.now ≤ 1048576 }
     ensures ok { IfOk result (λ sections. (first_line_fault [] (lines_of text.now) ≡ None)
@@ -53,11 +54,12 @@ fn add_fault(faults: &mut Vec<TextFault>, fault: Option<TextFault>) -> Result<()
     Ok(())
 }
 
-/// The sections of a text in spite of its lines at fault, and the faults of these lines (CiA 306, structure of an EDS).
+/// The sections of a text in spite of its lines at fault, and the faults of these lines (CiA 306,
+/// structure of an EDS).
 ///
-/// A section line at fault begins a section that nothing reads, and any other line at fault is passed over. The faults
-/// are those of `sections_in` after the lines before as they are read: one a line, in the order of the lines. It fails
-/// out of memory.
+/// A section line at fault begins a section that nothing reads, and any other line at fault is
+/// passed over. Each line at fault has one fault, as in `sections_in`, judged after the lines
+/// before it as they are read; the faults are in the order of the lines. `Err`: out of memory.
 pub fn all_sections_in(
     alloc: Global,
     text: &[u8],

@@ -40,9 +40,9 @@ pub enum SectionKind {
 }
 
 impl SectionKind {
-    /// What a section of this name is about: a list, DummyUsage, DeviceInfo, device commissioning in either spelling,
-    /// an object as `1018`, a sub-index as `1018sub1`, or nothing that is read (CiA 306, object lists, object
-    /// description, device commissioning).
+    /// What a section of this name is about: a list, DummyUsage, DeviceInfo, device commissioning
+    /// in either spelling, an object as `1018`, a sub-index as `1018sub1`, or nothing that is read
+    /// (CiA 306, object lists, object description, device commissioning).
     pub fn of_name(name: &[u8]) -> SectionKind
         ensures { result ≡ kind_of name.now }
     {
@@ -151,7 +151,7 @@ fn is_position(name: &[u8]) -> bool
     }
 }
 
-// the number that at most so many hexadecimal digits write
+// parses at most this many hexadecimal digits
 fn hexadecimal_up_to(most: usize, text: &[u8]) -> Option<u16>
     requires { most ≤ 4 }
     ensures value { result ≡ (if is_hexadecimal_up_to most text.now
@@ -165,7 +165,7 @@ fn hexadecimal_up_to(most: usize, text: &[u8]) -> Option<u16>
     Some(number as u16)
 }
 
-// how many hexadecimal digits are in front
+// the number of hexadecimal digits at the front
 fn hexadecimal_len(text: &[u8]) -> usize
     ensures len { result ≡ prefix_len is_hexadecimal_digit text.now }
     ensures bound { result ≤ length text.now }

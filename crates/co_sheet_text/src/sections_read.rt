@@ -29,10 +29,11 @@ use crate::section_kind::SectionKind;
 use indexmap::IndexSet;
 use std::alloc::{AllocError, Global};
 
-/// A line of a text may have so many bytes, without its end.
+/// The most bytes of a line, its end not counted.
 const LONGEST_LINE: usize = 512;
 
-// what a line at fault is read as: a section line begins a section that nothing reads, any other line is empty
+// what a line at fault is read as: a section line begins a section that nothing reads, any other
+// line is empty
 fn emptied(line: &[u8]) -> &'static [u8]
     ensures { result.now ≡ emptied_form (form_of (trim line.now)) }
 {
@@ -42,8 +43,8 @@ fn emptied(line: &[u8]) -> &'static [u8]
     }
 }
 
-/// The sections of the lines that are read so far: those that are whole, by their section lines, and the one that is
-/// being read, which has the properties of all.
+/// The sections of the lines that are read so far: the finished ones by their section lines, and
+/// the one that is being read, which holds the properties of all.
 #[derive(Drop)]
 pub(crate) struct SectionsRead<'a> {
     closed: Vec<Header<'a>>,
@@ -120,7 +121,7 @@ impl<'a> SectionsRead<'a> {
         }
     }
 
-    // a line that is nothing that a section may have
+    // a line without `=`, or without a name before it
     fn take_malformed(&self, line: usize) -> Result<(), TextFault>
         ensures ok { OnOk result
             (TakesForm (sections_so_far self.now) line malformed (sections_so_far self.now)) }
@@ -136,7 +137,7 @@ impl<'a> SectionsRead<'a> {
         Err(TextFault { kind, line })
     }
 
-    /// Takes one more line, of this number. It fails with the line's fault, or out of memory.
+    /// Takes one more line, of this number. `Err`: the line's fault, or out of memory.
     pub(crate) fn take_line(
         &mut self,
         alloc: Global,
@@ -184,7 +185,7 @@ impl<'a> SectionsRead<'a> {
         }
     }
 
-    /// Takes one more line in spite of its fault, and answers this fault.
+    /// Takes one more line in spite of its fault, and returns the fault.
     pub(crate) fn take_in_spite(
         &mut self,
         alloc: Global,

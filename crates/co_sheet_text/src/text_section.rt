@@ -19,7 +19,7 @@ pub struct Property<'a> {
 }
 
 impl Property<'_> {
-    /// The number that the property has, `None` where its value is none.
+    /// The value as a number that isn't negative; `None` where it is no such number.
     pub fn number(&self) -> Option<u64>
         ensures { result ≡ property_number (property_view self.now) }
     {
@@ -51,7 +51,8 @@ impl<'s, 'a> TextSection<'s, 'a> {
         None
     }
 
-    /// The number at this name, `None` where the section has none there.
+    /// The number that the property of this name has; `None` where there is no such property, or
+    /// its value is no number.
     pub fn number_at(&self, name: &[u8]) -> Option<u64>
         ensures { result ≡ number_at name.now (section_view self.now) }
     {

@@ -37,7 +37,7 @@ number_at_sub sub entries = option_and_then value_number (find (λ e. e.key.sub 
 abbrev pub line_if : (ℕ → Bool) → Property → List ℕ
 line_if test k = if option_map_or test (property_number k) false then k.line ∷ [] else []
 
--- transmission types 0 to 240 wait for a SYNC, and an inhibit time isn't asked then
+-- transmission types 0 to 240 wait for a SYNC, and an inhibit time isn't used then
 abbrev pub is_synchronous : ℕ → Bool
 is_synchronous transmission = nat_le transmission 240
 
@@ -56,8 +56,8 @@ inhibit_time sections s (SubIndex key) =
     inhibit_time_of (sub_indices sections key.index) (record { key = key; section = s })
 inhibit_time sections s kind = []
 
--- a word of 1016h: bits 23 to 16 have a node-ID and bits 15 to 0 a time; without a time, or with a node-ID that is none of
--- 1 to 127, it isn't used (CiA 301, consumer heartbeat time)
+-- a word of 1016h: bits 23 to 16 have a node-ID and bits 15 to 0 a time; without a time, or with a
+-- node-ID that is none of 1 to 127, it isn't used (CiA 301, consumer heartbeat time)
 abbrev pub node_of_word : ℕ → ℕ
 node_of_word word = word / 65536 % 256
 

@@ -57,7 +57,7 @@ key_at info keys known = find (is_key info known) keys
 
 -- ---- what is missing
 
--- the keys that have to be there
+-- the keys that must be there
 abbrev pub file_keys : List KnownKey
 file_keys =
     key.FileName ∷ key.FileVersion ∷ key.FileRevision ∷ key.Description ∷ key.CreationTime
@@ -116,7 +116,7 @@ pdo_counts t =
     else other_number_at t key.NrOfRxPdo (object_count 0x1400 0x15FF t.sections)
     ++ other_number_at t key.NrOfTxPdo (object_count 0x1800 0x19FF t.sections)
 
--- a number that sub-index of the identity object doesn't begin with
+-- a number that isn't the initial one of that sub-index of the identity object
 abbrev pub identity_number : ReadText → KnownKey → ℕ → List ℕ
 identity_number t known sub =
     option_map_or (other_number_at t known) (number_at_sub sub (sub_indices t.sections 0x1018)) []
@@ -128,7 +128,7 @@ identity_numbers t =
 
 -- ---- dates and times of FileInfo
 
--- so many decimal digits, of a number in a range
+-- this many decimal digits, of a number in a range
 abbrev pub is_number_of : ℕ → ℕ → ℕ → List ℕ → Bool
 is_number_of digits least most text =
     (length text == digits) && is_some (decimal_in least most text)

@@ -70,7 +70,8 @@ is_other_end None with_cr = false
 is_other_end (Some true) with_cr = not with_cr
 is_other_end (Some false) with_cr = with_cr
 
--- the first line with another end, of the bytes of a text from this line on; `after_cr` says whether CR is before them
+-- the first line with another end, of the bytes of a text from this line on; `after_cr` says
+-- whether CR is before them
 abbrev pub other_end : Option Bool → ℕ → Bool → List ℕ → List ℕ
 other_end first line after_cr [] = []
 other_end first line after_cr (b ∷ bs) =

@@ -8,8 +8,8 @@ use Rattle.co_sheet.specs.Commissioning.{node_id_in}
 use Rattle.co_sheet_warnings.specs.Keys.{WrittenKey}
 use Rattle.co_sheet_warnings.specs.KnownKeys.{telling_keys}
 
--- its bytes, its lines, its sections with the keys that are read, the keys that a warning can be about, as they are written,
--- and the node-ID of the device, if it is known
+-- its bytes, its lines, its sections with the keys that are read, the keys that a warning can be
+-- about, as they are written, and the node-ID of the device, if it is known
 pub record ReadText : Type 0 where
   pub text : List ℕ
   pub lines : List Line
@@ -17,7 +17,8 @@ pub record ReadText : Type 0 where
   pub keys : List WrittenKey
   pub node : Option ℕ
 
--- the node-ID that is given, or else that of a device configuration file, which has it in spite of its lines at fault
+-- the node-ID that is given, or else that of a device configuration file, read in spite of its
+-- lines at fault
 abbrev pub own_node : Option ℕ → List TextSection → Option ℕ
 own_node node sections = option_or node (node_id_in sections)
 

@@ -41,7 +41,7 @@ pub record Placed (K : Type 0) : Type 0 where
   pub key : K
   pub line : ℕ
 
--- the lines of things that one before them equals
+-- the lines of things that equal an earlier one
 abbrev pub repeats : {K : Type 0} → (K → K → Bool) → List K → List (Placed K) → List ℕ
 repeats same before [] = []
 repeats same before (x ∷ xs) =
@@ -81,7 +81,8 @@ identifier_of node k =
     option_map (λ n. record { key = n; line = k.line })
     (option_and_then identifier_with (enabled_cob_id node k.value))
 
--- what states the value that an entry begins with: ParameterValue, or where it is absent DefaultValue
+-- what states the value that an entry begins with: ParameterValue, or where it is absent
+-- DefaultValue
 abbrev pub value_in : TextSection → Option Property
 value_in s =
     option_or (property_at (codes "ParameterValue") s) (property_at (codes "DefaultValue") s)
@@ -93,7 +94,7 @@ identifier_in node s =
 abbrev pub identifiers_in : ℕ → List TextSection → List (Placed ℕ)
 identifiers_in node sections = filter_map (identifier_in node) sections
 
--- the words with an identifier that one before them has, for the node-ID that is given
+-- the words whose identifier an earlier one has, for the node-ID that is given
 abbrev pub shared_cob_ids : Option ℕ → List TextSection → List ℕ
 shared_cob_ids None sections = []
 shared_cob_ids (Some node) sections = repeats nat_eq [] (identifiers_in node sections)
@@ -108,7 +109,7 @@ pub record ScopedName : Type 0 where
 abbrev pub same_scoped : ScopedName → ScopedName → Bool
 same_scoped a b = nat_eq a.scope b.scope && bytes_eq a.text b.text
 
--- whose names it is among: an object's index for its sub-indices, above all of these for objects
+-- the scope of a name: the object's index for sub-indices, a number above all indices for objects
 abbrev pub scope_of : SectionKind → Option ℕ
 scope_of (Object index) = Some 0x10000
 scope_of (SubIndex key) = Some key.index
@@ -123,6 +124,6 @@ name_with s scope = option_map (name_placed scope) (property_at (codes "Paramete
 abbrev pub name_in : TextSection → Option (Placed ScopedName)
 name_in s = option_and_then (name_with s) (scope_of s.kind)
 
--- names that one before them equals
+-- names that equal an earlier one
 abbrev pub equal_names : List TextSection → List ℕ
 equal_names sections = repeats same_scoped [] (filter_map name_in sections)

@@ -73,8 +73,8 @@ abbrev pub is_constant : Entry → Bool
 is_constant e =
     option_map_or (λ k. is_constant_word k.value) (property_at (codes "AccessType") e.section) false
 
--- sub-index 0 of the error field counts errors, of the module list the modules that are connected, and of a PDO's mapping
--- the objects that are mapped
+-- sub-index 0 of the error field counts errors, of the module list the modules that are connected,
+-- and of a PDO's mapping the objects that are mapped
 abbrev pub is_highest_by_rule : ℕ → Bool
 is_highest_by_rule index =
     not ((index == 0x1003) || (index == 0x1027) || is_within 0x1600 0x17FF index

@@ -1,5 +1,5 @@
--- The words of each warning for people: its name, what is suspicious, how to fix it, and where the standard
--- says so (by the name of its subject, since the numbers differ by edition).
+-- Each warning in words: its name, what it means, how to fix it, and where the standard says so (by
+-- the name of its subject, since the numbers differ by edition).
 use Rattle.std.specs.Prelude.{ℕ, Bool, true, false, List, ◌++◌, codes}
 use Rattle.co_sheet_warnings.specs.declared.warning.WarningKind.{WarningKind}
 use Rattle.co_sheet_warnings.specs.declared.warning.WarningKind.TheVariants.{
@@ -152,7 +152,7 @@ subject_of UnknownKey = codes "CiA 306-1, structure of an EDS"
 subject_of DateFormat = codes "CiA 306-1, file information"
 subject_of LineEnds = codes "CiA 306-1, structure of an EDS"
 
--- a matter of taste, which is given only where all are asked for
+-- a matter of taste, which is reported only on request
 abbrev pub is_quiet : WarningKind → Bool
 is_quiet ListOrder = true
 is_quiet EqualNames = true

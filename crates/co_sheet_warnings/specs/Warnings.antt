@@ -1,4 +1,5 @@
--- All that is legal in a data sheet and suspicious: the places of each kind of warning (CiA 306-1, CiA 301).
+-- All that is legal in a data sheet and suspicious: the places of each kind of warning (CiA 306-1,
+-- CiA 301).
 use Rattle.std.specs.Prelude.{
   ◌≡◌,
   ℕ,
@@ -105,8 +106,8 @@ places_of t DateFormat = date_formats t
 places_of t LineEnds = mixed_line_ends t.text
 places_of t kind = flat_map (places_in t kind) t.sections
 
--- the kinds, in the order in which the sheets of vendors show them: those before misspelt keys, those after them, and
--- those of taste
+-- the kinds, in the order in which the sheets of vendors show them: those before misspelt keys,
+-- those after them, and those of taste
 abbrev pub first_kinds : List WarningKind
 first_kinds =
     SubNumber ∷ SubIndex0 ∷ FileInfoKeys ∷ DeviceInfoKeys ∷ PdoCount ∷ WrongList ∷ Unlisted
@@ -133,7 +134,7 @@ misspelt k =
     if is_known k then None
     else option_map (λ known. warning_at (MisspeltKey known) k.line) (meant k)
 
--- those of taste, where all are asked for
+-- those of taste, on request
 abbrev pub asked_kinds : Bool → List WarningKind
 asked_kinds all = if all then quiet_kinds else []
 
@@ -143,13 +144,14 @@ all_warnings all t =
     warnings_of_kinds t first_kinds ++ filter_map misspelt t.keys ++ warnings_of_kinds t last_kinds
     ++ warnings_of_kinds t (asked_kinds all)
 
--- the warnings of a text for the node-ID that is given or else its own, those of taste too or without them; a text that is
--- too large isn't read
+-- the warnings of a text for the node-ID that is given or else its own, those of taste too or
+-- without them; a text that is too large isn't read
 abbrev pub warnings_of : List ℕ → Option ℕ → Bool → List Warning
 warnings_of text node all =
     if nat_lt 1048576 (length text) then [] else all_warnings all (read_text text node)
 
--- these warnings by line: the lines don't fall, and each line has its warnings in their order
+-- these warnings by line: line numbers never decrease, and each line has its warnings in their
+-- order
 pub record IsByLine (warnings sorted : List Warning) : Type 0 where
   pub rises : IsNonDecreasingBy (λ w. w.line) sorted
   pub same : (n : ℕ) → filter (λ w. w.line == n) sorted ≡ filter (λ w. w.line == n) warnings

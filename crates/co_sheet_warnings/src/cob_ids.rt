@@ -26,10 +26,10 @@ fn has_default_cob_id(kind: SectionKind) -> bool
     }
 }
 
-/// A word of a COB-ID is disabled by this bit.
+/// This bit of a COB-ID word disables it.
 const DISABLED: u64 = 1 << 31;
 
-/// A fixed number where the COB-ID depends on the node-ID by default.
+/// The line of a COB-ID that is a fixed number, and depends on the node-ID by default.
 pub(crate) fn fixed_cob_id(section: &TextSection) -> Option<usize>
     ensures { option_to_list result ≡ fixed_cob_id (section_view section.now) }
 {
@@ -55,7 +55,7 @@ fn is_node_id_last(value: &[u8]) -> bool
     }
 }
 
-/// A formula with `$NODEID` after its number.
+/// The line of a formula with `$NODEID` after its number.
 pub(crate) fn node_id_place(section: &TextSection) -> Option<usize>
     ensures { option_to_list result ≡ node_id_place (section_view section.now) }
 {

@@ -46,7 +46,7 @@ fn is_some_time(time: u64) -> bool
     0 < time
 }
 
-/// The inhibit time of a synchronous TPDO.
+/// The line of an inhibit time above 0 of a synchronous TPDO.
 pub(crate) fn inhibit_time(text: &ReadText, section: &TextSection) -> Option<usize>
     ensures { option_to_list result
         ≡ inhibit_time text.now.sections (section_view section.now) section.now.kind }
@@ -90,7 +90,7 @@ fn consumes(node: u64, word: u64) -> bool
     is_used_word(word) && node_of_word(word) == node
 }
 
-/// A word of the heartbeat consumer for the device's own node.
+/// The line of a word of 1016h for the device's own node.
 pub(crate) fn own_heartbeat(text: &ReadText, section: &TextSection) -> Option<usize>
     ensures { option_to_list result
         ≡ own_heartbeat text.now.node (section_view section.now) section.now.kind }
@@ -137,7 +137,7 @@ fn is_consumed_twice(parts: &[EntrySection], sub: u8, word: u64) -> bool
     false
 }
 
-/// A word of the heartbeat consumer for a node that an entry with a smaller sub-index has.
+/// The line of a word of 1016h for a node that a smaller sub-index has too.
 pub(crate) fn heartbeat_twice(text: &ReadText, section: &TextSection) -> Option<usize>
     ensures { option_to_list result
         ≡ heartbeat_twice text.now.sections (section_view section.now) section.now.kind }

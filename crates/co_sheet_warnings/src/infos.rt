@@ -58,7 +58,7 @@ fn key_at<'k, 'a>(
     None
 }
 
-/// The keys that FileInfo has to have.
+/// The keys that FileInfo must have.
 pub(crate) const FILE_KEYS: [KnownKey; 10] = [
     KnownKey::FileName,
     KnownKey::FileVersion,
@@ -72,7 +72,7 @@ pub(crate) const FILE_KEYS: [KnownKey; 10] = [
     KnownKey::ModifiedBy,
 ];
 
-/// The keys that DeviceInfo has to have.
+/// The keys that DeviceInfo must have.
 pub(crate) const DEVICE_KEYS: [KnownKey; 22] = [
     KnownKey::VendorName,
     KnownKey::VendorNumber,
@@ -109,7 +109,8 @@ fn lacks_any(info: Topic, keys: &[WrittenKey], required: &[KnownKey]) -> bool
     false
 }
 
-/// The section of FileInfo or of DeviceInfo that lacks a key which has to be there; 0 where there is no such section.
+/// The line of FileInfo or of DeviceInfo, if it lacks a required key; 0 if there is no such
+/// section.
 pub(crate) fn missing_keys(info: Topic, text: &ReadText, required: &[KnownKey]) -> Option<usize>
     ensures { option_to_list result ≡ missing_keys info text.now required.now }
 {
@@ -124,7 +125,7 @@ pub(crate) fn missing_keys(info: Topic, text: &ReadText, required: &[KnownKey]) 
     Some(0)
 }
 
-// a key of DeviceInfo whose number isn't this one
+// the line of a key of DeviceInfo whose number isn't this one
 fn other_number_at(text: &ReadText, known: KnownKey, number: u64) -> Option<usize>
     ensures { option_to_list result ≡ other_number_at text.now known number }
 {
@@ -168,7 +169,7 @@ fn has_compact_pdos(keys: &[WrittenKey]) -> bool
     }
 }
 
-/// NrOfRXPDO and NrOfTXPDO that aren't the numbers of PDOs.
+/// The lines of NrOfRXPDO and NrOfTXPDO, where they aren't the numbers of PDOs.
 pub(crate) fn pdo_counts(text: &ReadText) -> [Option<usize>; 2]
     ensures { flat_map option_to_list result ≡ pdo_counts text.now }
 {
@@ -183,7 +184,7 @@ pub(crate) fn pdo_counts(text: &ReadText) -> [Option<usize>; 2]
     ]
 }
 
-// a number that sub-index of the identity object doesn't begin with
+// the line of a number that isn't the initial one of that sub-index of the identity object
 fn identity_number(text: &ReadText, known: KnownKey, sub: u8) -> Option<usize>
     ensures { option_to_list result ≡ identity_number text.now known sub }
 {
@@ -191,7 +192,8 @@ fn identity_number(text: &ReadText, known: KnownKey, sub: u8) -> Option<usize>
     other_number_at(text, known, number)
 }
 
-/// VendorNumber, ProductNumber and RevisionNumber that aren't those of the identity object.
+/// The lines of VendorNumber, ProductNumber and RevisionNumber, where they aren't those of the
+/// identity object.
 pub(crate) fn identity_numbers(text: &ReadText) -> [Option<usize>; 3]
     ensures { flat_map option_to_list result ≡ identity_numbers text.now }
 {
@@ -202,7 +204,7 @@ pub(crate) fn identity_numbers(text: &ReadText) -> [Option<usize>; 3]
     ]
 }
 
-// so many decimal digits, of a number in a range
+// this many decimal digits, of a number in a range
 fn is_number_of(digits: usize, least: u32, most: u32, text: &[u8]) -> bool
     ensures { result ≡ is_number_of digits least most text.now }
 {
@@ -258,7 +260,7 @@ fn is_written(format: Format, text: &[u8]) -> bool
     }
 }
 
-// a key of FileInfo in another format
+// the line of a key of FileInfo in another format
 fn other_format(keys: &[WrittenKey], format: Format, known: KnownKey) -> Option<usize>
     ensures { option_to_list result
         ≡ other_format (is_written format) (map key_view keys.now) known }
@@ -271,7 +273,7 @@ fn other_format(keys: &[WrittenKey], format: Format, known: KnownKey) -> Option<
     }
 }
 
-/// Dates and times of FileInfo in another format than mm-dd-yyyy and hh:mmAM.
+/// The lines of dates and times of FileInfo in another format than mm-dd-yyyy and hh:mmAM.
 pub(crate) fn date_formats(text: &ReadText) -> [Option<usize>; 4]
     ensures { flat_map option_to_list result ≡ date_formats text.now }
 {

@@ -54,7 +54,8 @@ pub(crate) fn topic_of(name: &[u8]) -> Topic
     }
 }
 
-// the name of the section that a line begins, of a text without blanks at its ends; without `]` it has none
+// the name of the section that a line begins, of a text without blanks at its ends; without `]` it
+// has none
 fn begun_name(text: &[u8]) -> Option<&[u8]>
     ensures { option_map (λ name. name.now) result ≡ begun_name (form_of text.now) }
 {
@@ -125,8 +126,8 @@ fn telling_on<'a>(topic: Topic, line: usize, text: &'a [u8]) -> Option<WrittenKe
     }
 }
 
-/// The keys of lines that a warning can be about: those of FileInfo and DeviceInfo, and those that the standard doesn't
-/// know. Of a large sheet they are few.
+/// The keys of lines that a warning can be about: those of FileInfo and DeviceInfo, and those that
+/// the standard doesn't know. Of a large sheet they are few.
 pub(crate) fn keys_in<'a>(
     alloc: Global,
     lines: &[&'a [u8]],

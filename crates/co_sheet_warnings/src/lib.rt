@@ -1,4 +1,5 @@
-//! What is legal in an electronic data sheet (CiA 306) and suspicious: each warning with its line, and its words.
+//! What is legal in an electronic data sheet (CiA 306) and suspicious: each warning with its line,
+//! and its words.
 #![tactic(auto)]
 
 mod cob_ids;

@@ -21,7 +21,7 @@ use co_text::split_line;
 use std::alloc::{AllocError, Global};
 use std::str;
 
-/// The lines of a text, without their ends and without a byte order mark. It fails out of memory.
+/// The lines of a text, without their ends and without a byte order mark. `Err`: out of memory.
 pub fn text_lines(alloc: Global, text: &[u8]) -> Result<Vec<&[u8]>, AllocError>
     ensures { IfOk result (λ found. map (λ line. line.now) found.items ≡ text_lines text.now) }
 {
@@ -39,7 +39,7 @@ const LONGEST: usize = 255;
 
 const LONGEST_READ: usize = 512;
 
-/// The lines of more than 255 bytes that are read.
+/// The lines of 256 to 512 bytes; longer ones aren't read.
 pub(crate) fn long_lines(alloc: Global, lines: &[&[u8]]) -> Result<Vec<usize>, AllocError>
     ensures { IfOk result
         (λ places. places.items ≡ long_lines (numbered 1 (map (λ line. line.now) lines.now))) }

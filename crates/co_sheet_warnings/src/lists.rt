@@ -54,7 +54,7 @@ fn add_wrong_listings(
     Ok(())
 }
 
-// the first that names a smaller index than the one before it
+// the line of the first that names a smaller index than the one before it
 fn first_fall(listings: &[Listing]) -> Option<usize>
     ensures { option_to_list result ≡ first_fall 0 (map listing_view listings.now) }
 {
@@ -68,7 +68,7 @@ fn first_fall(listings: &[Listing]) -> Option<usize>
     None
 }
 
-/// What is asked of each list.
+/// A check of each object list.
 #[derive(Clone, Copy)]
 pub(crate) enum ListCheck {
     /// The lines that name objects that belong in another list.
@@ -77,7 +77,7 @@ pub(crate) enum ListCheck {
     Order,
 }
 
-// the lines of a section that fail a check, after those that are there
+// adds the lines of a section that fail a check
 fn add_list_places(
     alloc: Global,
     places: &mut Vec<usize>,

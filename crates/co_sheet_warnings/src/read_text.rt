@@ -16,8 +16,9 @@ use indexmap::IndexSet;
 use std::alloc::{AllocError, Global};
 use std::marker::Model;
 
-/// The lines and sections of a text, and the node-ID that is given for the device. Contracts see these; beside them are
-/// the indices that the lists name, and the first line with a byte above 7Fh.
+/// The lines and sections of a text, and the node-ID that is given for the device. Contracts see
+/// these; beside them are the indices that the lists name, and the first line with a byte above
+/// 7Fh.
 #[derive(Drop)]
 pub(crate) struct ReadText<'s, 'a> {
     pub(crate) bytes: &'a [u8],

@@ -38,10 +38,10 @@ fn has_cob_id(kind: SectionKind) -> bool
     }
 }
 
-/// A COB-ID is disabled from this bit on.
+/// This bit of a COB-ID word disables it.
 const DISABLED: u64 = 1 << 31;
 
-// the COB-ID that a value is for a node; where it is disabled it is none
+// the COB-ID that a value is for a node; `None` where it is disabled
 fn cob_id_for(node: u8, value: Preset<'static>) -> Option<u64>
     ensures { result ≡ cob_id_for node (default_view value.entry) }
 {
@@ -92,7 +92,8 @@ fn identifier_in(node: u8, section: &TextSection) -> Option<UsedIdentifier>
     })
 }
 
-/// The COB-IDs of EMCY, PDOs and SDO channels with an identifier that one before them has, for a node-ID.
+/// The lines of the COB-IDs of EMCY, PDOs and SDO channels whose identifier an earlier one has, for
+/// a node-ID.
 pub(crate) fn shared_cob_ids(
     alloc: Global,
     node: u8,
@@ -155,7 +156,7 @@ fn name_in<'a>(section: &TextSection<'_, 'a>) -> Option<PlacedName<'a>>
     })
 }
 
-// whether a name equals one before it; then it is one of those before
+// whether a name equals an earlier one; else it is added to these
 #[tactic(auto, using(crate::proofs::NameLemmas::more_names))]
 fn is_repeated<'a>(
     before: &mut IndexSet<ScopedName<'a>>,
@@ -171,7 +172,8 @@ fn is_repeated<'a>(
     Ok(!is_new)
 }
 
-/// The names of objects, and of the sub-indices of an object, that one before them equals.
+/// The lines of names that repeat an earlier name, among objects or among the sub-indices of an
+/// object.
 pub(crate) fn equal_names(alloc: Global, sections: &[TextSection]) -> Result<Vec<usize>, AllocError>
     ensures { IfOk result (λ places. places.items ≡ equal_names (map section_view sections.now)) }
 {

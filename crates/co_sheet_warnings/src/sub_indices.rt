@@ -21,7 +21,8 @@ use crate::read_text::ReadText;
 use co_sheet::EntrySection;
 use co_sheet_text::{Property, SectionKind, TextSection, same_name};
 
-/// Whether an index is in a range with both its ends. Conditions call it, so that the order of numbers is proved once.
+/// Whether an index is in a range with both its ends. Conditions call it, so that the order of
+/// numbers is proved once.
 pub(crate) fn is_within(low: u16, high: u16, index: u16) -> bool
     ensures { result ≡ is_within low high index }
 {
@@ -37,7 +38,7 @@ fn is_count(number: Option<u64>, count: usize) -> bool
     }
 }
 
-/// The SubNumber of an object that isn't the number of its sub-index sections.
+/// The line of an object's SubNumber that isn't the number of its sub-index sections.
 pub(crate) fn sub_number(text: &ReadText, section: &TextSection) -> Option<usize>
     ensures { option_to_list result
         ≡ sub_number text.now.sections (section_view section.now) section.now.kind }
@@ -55,7 +56,7 @@ pub(crate) fn sub_number(text: &ReadText, section: &TextSection) -> Option<usize
     }
 }
 
-/// An object section that no list names.
+/// The line of an object section that no list names.
 pub(crate) fn unlisted(text: &ReadText, section: &TextSection) -> Option<usize>
     ensures { option_to_list result
         ≡ unlisted text.now.sections (section_view section.now) section.now.kind }
@@ -68,7 +69,7 @@ pub(crate) fn unlisted(text: &ReadText, section: &TextSection) -> Option<usize>
     }
 }
 
-/// An object or a sub-index without a name.
+/// The line of an object or a sub-index without a name.
 pub(crate) fn missing_name(section: &TextSection) -> Option<usize>
     ensures { option_to_list result ≡ missing_name (section_view section.now) }
 {
@@ -131,7 +132,7 @@ fn is_highest_by_rule(index: u16) -> bool
         || is_within(0x1A00, 0x1BFF, index))
 }
 
-/// A constant sub-index 0 that isn't the highest sub-index of its object.
+/// The line of a constant sub-index 0 that isn't the highest sub-index of its object.
 pub(crate) fn sub_index_0(text: &ReadText, section: &TextSection) -> Option<usize>
     ensures { option_to_list result
         ≡ sub_index_0 text.now.sections (section_view section.now) section.now.kind }

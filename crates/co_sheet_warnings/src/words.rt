@@ -1,4 +1,4 @@
-//! The words of a warning for people.
+//! What a warning means and how it is fixed, in words.
 
 ghost use Rattle.std.specs.Prelude.{◌≡◌};
 ghost use Rattle.co_sheet_warnings.specs.WarningWords.{name_of, meaning_of, fix_of, subject_of, is_quiet};
@@ -38,7 +38,7 @@ pub fn name_of(kind: WarningKind) -> &'static str
     }
 }
 
-/// What is suspicious, in one line.
+/// What a warning means, in one line.
 pub fn meaning_of(kind: WarningKind) -> &'static str
     ensures { result.now ≡ meaning_of kind }
 {
@@ -75,7 +75,7 @@ pub fn meaning_of(kind: WarningKind) -> &'static str
     }
 }
 
-/// How it is fixed, in one line.
+/// How a warning is fixed, in one line.
 pub fn fix_of(kind: WarningKind) -> &'static str
     ensures { result.now ≡ fix_of kind }
 {
@@ -152,7 +152,7 @@ pub fn subject_of(kind: WarningKind) -> &'static str
     }
 }
 
-/// Whether a kind is a matter of taste, which is given only where all are asked for.
+/// Whether a kind is a matter of taste, which is reported only on request.
 pub fn is_quiet(kind: WarningKind) -> bool
     ensures { result ≡ is_quiet kind }
 {

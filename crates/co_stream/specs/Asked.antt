@@ -1,9 +1,9 @@
--- How often a reader was asked.
+-- The read calls of a reader, counted.
 use Rattle.std.specs.Prelude.{ℕ, Bool}
 
--- what counts the read calls of a reader, as contracts see it
+-- the counter of read calls, as contracts see it
 pub record Asked : Type 0 where
-  -- how many are left
+  -- remaining read calls
   pub left : ℕ
-  -- whether one failed, and not as a signal interrupted it
+  -- whether one failed; an interruption by a signal is no failure
   pub failed : Bool

@@ -7,8 +7,8 @@ use Rattle.std.specs.Str.Lines.{lines, strip_carriage_return}
 abbrev pub has_line_feed : List ℕ → Bool
 has_line_feed bytes = list_any (λ byte. byte == 10) bytes
 
--- the last line that ends among the bytes ends before this place: a line ends among those that are left from a start on
--- exactly where the start is below it
+-- the place after the last line feed of the bytes: from a start on they contain a line feed exactly
+-- if the start is below this place
 abbrev pub EndsAt : ℕ → List ℕ → Type 0
 EndsAt place bytes = (start : ℕ) → has_line_feed (drop start bytes) ≡ nat_lt start place
 
@@ -21,13 +21,14 @@ with_return bytes false = bytes
 abbrev pub IsTooLong : List ℕ → Type 0
 IsTooLong bytes = (line : List ℕ) × (more : List (List ℕ)) × (lines bytes ≡ line ∷ more) × (512 < length line)
 
--- known bytes begin with this line, and lose it: no line of those that are left is lost
+-- where the bytes are known, this line is the first of theirs, and exactly the lines after it
+-- remain
 abbrev pub GivesLine : Option (List ℕ) → Option (List ℕ) → List ℕ → Type 0
 GivesLine None new line = ⊤
 GivesLine (Some bytes) None line = ⊥
 GivesLine (Some bytes) (Some rest) line = lines bytes ≡ line ∷ lines rest
 
--- after the first bytes of a line, the bytes before the first line feed make it longer than 512 bytes
+-- a line that has begun grows longer than 512 bytes before the first line feed of these bytes
 abbrev pub BeginsTooLong : List ℕ → List ℕ → Type 0
 BeginsTooLong begun bytes =
     (front : List ℕ) × (after : List ℕ) × (bytes ≡ front ++ after) × (has_line_feed front ≡ false)

@@ -7,8 +7,8 @@ use crate::asks::Asks;
 use crate::fault::AskFault;
 use std::io::Read;
 
-/// Asks a reader for as many bytes as there is room for, until it gives some, comes to its end (0 bytes) or fails. A
-/// read that a signal interrupted is tried again; each try counts.
+/// Asks a reader for as many bytes as there is room for, until it gives some, comes to its end
+/// (0 bytes) or fails. A read that a signal interrupted is tried again; each try counts.
 pub(crate) fn ask<R: Read>(
     reader: &mut R,
     room: &mut [u8],

@@ -1,7 +1,7 @@
 //! The read calls of a reader, counted.
 //!
-//! The fields are private to this module, and `read` alone changes them: so a count that is used up, or a failure,
-//! means that the reader was asked so often, or failed.
+//! The fields are private to this module, and only `read` changes them: a count of 0 means that the
+//! reader was asked that often, and `failed` that it failed.
 
 ghost use Rattle.std.specs.Prelude.{
   ◌≡◌,
@@ -52,8 +52,9 @@ impl Asks {
         }
     }
 
-    /// Asks a reader once, and counts it: how many bytes it gave, 0 at its end; `None` where a signal interrupted it.
-    /// A reader that failed isn't asked again, nor one that was asked as often as it may be.
+    /// Asks a reader once, and counts it: how many bytes it gave, 0 at its end; `None` where a
+    /// signal interrupted it. A reader that failed isn't asked again (`Read`), nor one that was
+    /// asked as often as allowed (`NeverEnds`).
     pub(crate) fn read<R: Read>(
         &mut self,
         reader: &mut R,

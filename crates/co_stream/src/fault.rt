@@ -23,7 +23,7 @@ pub enum StreamFault {
 }
 
 /// Why a reader isn't asked again.
-#[derive(Clone, Copy, Debug, PartialEq, Eq)]
+#[derive(Clone, Copy, PartialEq, Eq)]
 pub(crate) enum AskFault {
     /// It failed.
     Read,

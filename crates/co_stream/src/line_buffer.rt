@@ -11,8 +11,9 @@ use std::marker::Model;
 
 const CARRIAGE_RETURN: u8 = b'\r';
 
-/// What has come of a line: 512 bytes, and whether one carriage return has come after them, which belongs to the line's
-/// end if a line feed comes next. Contracts see the bytes that have come.
+/// The part of a line received so far: at most 512 bytes, and whether a carriage return followed
+/// them. That belongs to the line's end if a line feed comes next. Contracts see all bytes
+/// received.
 #[derive(Drop)]
 pub(crate) struct LineBuffer {
     bytes: ArrayVec<u8, 512>,
@@ -33,7 +34,7 @@ impl Model for LineBuffer {
 }
 
 impl LineBuffer {
-    /// Nothing has come.
+    /// A line of which nothing was received.
     pub(crate) fn new() -> Self
         ensures { result ≡ [] }
     {
@@ -51,7 +52,7 @@ impl LineBuffer {
         self.has_return = false;
     }
 
-    /// Whether nothing has come.
+    /// Whether nothing was received.
     pub(crate) fn is_empty(&self) -> bool
         ensures { result ≡ (length self.now == 0) }
     {
@@ -66,8 +67,8 @@ impl LineBuffer {
         self.bytes.as_slice()
     }
 
-    /// Adds bytes without a line feed. `TooLong` where a line feed that comes next would end a line of more than 512
-    /// bytes.
+    /// Adds bytes that contain no line feed. `TooLong`: a line feed next would end a line of more
+    /// than 512 bytes.
     pub(crate) fn add(&mut self, bytes: &[u8]) -> Result<(), LineFault>
         ensures ok { OnOk result (self.new ≡ self.old ++ bytes.now) }
         ensures too_long { OnErr result

@@ -51,7 +51,7 @@ impl LineCutter {
         self.piece.has_line_feed()
     }
 
-    // another piece; `false` where the reader has come to its end
+    // reads the next piece; `false` at the reader's end
     fn refill<R: Read>(&mut self, reader: &mut R) -> Result<bool, AskFault>
         requires { self.old.piece ≡ [] }
         ensures line { self.new.line ≡ self.old.line }
@@ -120,8 +120,8 @@ impl LineCutter {
         Ok(true)
     }
 
-    // What came before the reader's end is a line, if it isn't empty. A carriage return at its end belongs to it, as
-    // another one would have to come before a line feed.
+    // The bytes before the reader's end are the last line, if there are any. A carriage return at
+    // their end belongs to it: one more is added, since the line is read without its last one.
     fn last_line(&mut self) -> Result<bool, LineFault>
         ensures line { result ≡ Ok true → (strip_carriage_return self.new.line ≡ self.old.line)
             × (0 < length self.old.line) }

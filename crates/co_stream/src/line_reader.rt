@@ -29,8 +29,8 @@ use crate::line_cutter::LineCutter;
 use std::io::Read;
 use std::marker::Model;
 
-/// Reads a text line by line, in constant memory: it holds a line of at most 512 bytes, and a piece of at most 512.
-/// In its life it asks 16,777,216 times at most, each time for at most 512 bytes.
+/// Reads a text line by line, in constant memory: it holds a line of at most 512 bytes, and a piece
+/// of at most 512. It makes at most 16,777,216 read calls in all, each for at most 512 bytes.
 #[derive(Drop)]
 pub struct LineReader {
     cutter: LineCutter,
@@ -70,18 +70,19 @@ impl LineReader {
         self.cutter.has_line()
     }
 
-    /// The next line of what the reader gives, without its end; `None` at the reader's end. A line feed ends a line,
-    /// with one carriage return before it; the last line may lack its line feed, and then keeps a carriage return. All
-    /// calls have to have the same reader.
+    /// The next line of what the reader gives, without its end; `None` at the reader's end. A line
+    /// feed ends a line, with one carriage return before it; the last line may lack its line feed,
+    /// and then keeps a carriage return. Pass the same reader to all calls.
     ///
-    /// The reader is asked only while no whole line is held, and not again once it has come to its end. A read that a
-    /// signal interrupted is tried again. Each line before a fault is given first:
+    /// The reader is asked only while no whole line is held, and not again once it has come to its
+    /// end. A read that a signal interrupted is tried again. Each line before a fault is returned
+    /// first:
     ///
     /// * `Read`: the reader failed.
     /// * `TooLong`: the next line has more than 512 bytes, its end not counted.
     /// * `NeverEnds`: 16,777,216 read calls were made, those that were interrupted counted.
     ///
-    /// After a fault each further call gives it again, and asks no more.
+    /// After a fault each further call returns it again, and asks no more.
     pub fn next<R: Read>(&mut self, reader: &mut R) -> Result<Option<&[u8]>, LineFault>
         ensures* after_borrow { sem 𝓛 (Rests the_row self.entry (λ new. IsNext self.old new
             (R.remaining reader.old) (R.remaining reader.new) result)) }

@@ -16,14 +16,14 @@ use std::marker::Model;
 
 const LINE_FEED: u8 = b'\n';
 
-/// What a reader gave at once, at most 512 bytes, without what is taken of it already. Contracts see the bytes that
-/// are left.
+/// The bytes of one read call, at most 512, without those already taken. Contracts see the bytes
+/// that are left.
 #[derive(Drop)]
 pub(crate) struct Piece {
     bytes: [u8; 512],
     start: usize,
     end: usize,
-    // where the last line that ends among the bytes ends, found once for all of them
+    // end of the last whole line among the bytes; found once per read call
     lines_end: usize,
 }
 
@@ -77,7 +77,7 @@ impl Piece {
         self.start < self.lines_end
     }
 
-    /// Another piece in its place. `false` where the reader has come to its end.
+    /// Reads the next piece in place of this one. `false` at the reader's end.
     pub(crate) fn refill<R: Read>(
         &mut self,
         reader: &mut R,
@@ -104,8 +104,9 @@ impl Piece {
         Ok(count > 0)
     }
 
-    /// Moves the bytes before the first line feed to the line, and passes over the line feed; all bytes where there is
-    /// none. Whether there is one.
+    /// Moves the bytes before the first line feed to the line, and drops the line feed: `true`.
+    /// Without a line feed moves all bytes: `false`. `TooLong`: the line gets longer than
+    /// 512 bytes.
     pub(crate) fn move_line(&mut self, line: &mut LineBuffer) -> Result<bool, LineFault>
         ensures whole { result ≡ Ok true → (front : List ℕ) × (self.old ≡ front ++ 10 ∷ self.new)
             × (has_line_feed front ≡ false) × (line.new ≡ line.old ++ front) }

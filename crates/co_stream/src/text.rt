@@ -9,7 +9,7 @@ use crate::asks::Asks;
 use crate::fault::StreamFault;
 use std::io::Read;
 
-/// The largest data sheet, and a byte more, so that a larger one is seen to be too large.
+/// One byte more than the largest data sheet, so that a larger one is recognized.
 const GREATEST_SIZE: usize = 1_048_577;
 
 // reads a text, and counts the read calls
@@ -42,9 +42,11 @@ fn read_counted<R: Read>(
     Ok(())
 }
 
-/// Reads a text: all bytes that the reader gives, or the first 1,048,577 where there are more. At most 512 are asked
-/// for at once, and a read that a signal interrupted is tried again. What was in the vector is dropped. After a fault
-/// it has the first of the reader's bytes.
+/// Reads a text: all bytes that the reader gives, or the first 1,048,577 where there are more. At
+/// most 512 are asked for at once, and a read that a signal interrupted is tried again. The vector
+/// is emptied first. `Read`: the reader failed. `NeverEnds`: 16,777,216 read calls gave neither its
+/// end nor enough bytes. `Memory`: out of memory. After a fault the vector contains the reader's
+/// first bytes.
 pub fn read_text<R: Read>(reader: &mut R, text: &mut Vec<u8>) -> Result<(), StreamFault>
     ensures text { OnOk result (IfSome (R.remaining reader.old)
         (λ bytes. text.new.items ≡ take 1048577 bytes)) }

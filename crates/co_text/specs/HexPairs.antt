@@ -21,11 +21,11 @@ pairs_at (high ∷ low ∷ text) =
 abbrev pub ArePairs : List ℕ → Type 0
 ArePairs text = (pairs_at text).1 ≡ []
 
--- the bytes that it spells
+-- the bytes that a text of pairs spells; None for every other text
 unfoldable pub pairs_in : List ℕ → Option (List ℕ)
 pairs_in text = let pairs = pairs_at text in if length pairs.1 == 0 then Some pairs.0 else None
 
--- HEX: pairs of digits, one at least, or `-` for none
+-- HEX: one or more pairs of digits, or `-` for no bytes
 unfoldable pub hex_in : List ℕ → Option (List ℕ)
 hex_in word =
     if length word == 0 then None
@@ -41,6 +41,6 @@ abbrev pub word_in : List ℕ → Option ℕ
 word_in (a ∷ b ∷ c ∷ d ∷ []) = hex_pair a b >>= λ high. hex_pair c d >>= λ low. Some (256 * high + low)
 word_in other = None
 
--- this number of bytes in pairs of digits
+-- exactly this number of bytes, in pairs of digits
 abbrev pub bytes_in : ℕ → List ℕ → Option (List ℕ)
 bytes_in count word = pairs_in word >>= λ bytes. if length bytes == count then Some bytes else None

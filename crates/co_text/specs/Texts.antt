@@ -18,7 +18,7 @@ is_digit byte = nat_le 48 byte && nat_le byte 57
 abbrev pub decimal_value : List ℕ → ℕ
 decimal_value digits = fold (λ number digit. 10 * number + (digit - 48)) 0 digits
 
--- decimal digits, one at least, that are a number from least to most; zeros may lead
+-- one or more decimal digits that are a number from least to most; leading zeros are allowed
 abbrev pub decimal_in : ℕ → ℕ → List ℕ → Option ℕ
 decimal_in least most word =
     let number = decimal_value word in

@@ -5,7 +5,7 @@ ghost use Rattle.std.specs.List.{list_any, before_first, after_first, position_o
 
 use memchr::memchr;
 
-// where the first of these bytes is, or the length
+// place of the first such byte, or the length of the text
 #[inline(always)]
 fn place_of(text: &[u8], byte: u8) -> usize
     ensures place { result ≡ position_or_len (λ b. b == byte) text.now }
@@ -17,7 +17,8 @@ fn place_of(text: &[u8], byte: u8) -> usize
     }
 }
 
-/// What is before and after the first of these bytes; `None` where the text has none.
+/// Splits a text at the first occurrence of a byte: what is before and after it; `None` where it
+/// doesn't occur.
 #[inline(always)]
 pub fn split_at_first(text: &[u8], byte: u8) -> Option<(&[u8], &[u8])>
     ensures some { is_some result ≡ list_any (λ b. b == byte) text.now }

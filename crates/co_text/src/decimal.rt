@@ -14,7 +14,8 @@ pub fn is_digit(byte: u8) -> bool
     b'0' <= byte && byte <= b'9'
 }
 
-/// The number from `least` to `most` that a word of decimal digits is, leading zeros allowed; `None` for other words.
+/// Parses decimal digits, leading zeros allowed, as a number from `least` to `most`; `None` for
+/// every other word.
 pub fn decimal_in(word: &[u8], least: u32, most: u32) -> Option<u32>
     ensures { result ≡ decimal_in least most word.now }
 {
@@ -44,7 +45,7 @@ pub fn decimal_digits(number: u64) -> ArrayString<20>
     digits
 }
 
-/// Appends a number in decimal digits. On an `Err` memory ran out.
+/// Appends a number in decimal digits. `Err`: out of memory.
 pub fn push_decimal(text: &mut String, number: u64) -> Result<(), AllocError>
     ensures { OnOk result (string_bytes text.new ≡ string_bytes text.old ++ decimal number) }
 {

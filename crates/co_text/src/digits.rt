@@ -43,7 +43,7 @@ pub fn word_digits(number: u16) -> ArrayString<4>
     digits
 }
 
-/// Appends a digit, from ten on a letter in upper case. On an `Err` memory ran out.
+/// Appends a digit, from ten on a letter in upper case. `Err`: out of memory.
 pub fn push_digit(text: &mut String, digit: u8) -> Result<(), AllocError>
     requires { digit < 16 }
     ensures { OnOk result
@@ -52,7 +52,8 @@ pub fn push_digit(text: &mut String, digit: u8) -> Result<(), AllocError>
     text.push(digit_char(digit))
 }
 
-/// Appends a byte in two hexadecimal digits. On an `Err` memory ran out, and the text may have a part of them.
+/// Appends a byte in two hexadecimal digits. `Err`: out of memory; the text may then have a part of
+/// them.
 #[tactic(auto, unfolding(crate::specs::Printed::digits_text))]
 pub fn push_byte(text: &mut String, byte: u8) -> Result<(), AllocError>
     ensures { OnOk result (string_bytes text.new ≡ string_bytes text.old ++ digits_text 16 2 byte) }
@@ -61,7 +62,8 @@ pub fn push_byte(text: &mut String, byte: u8) -> Result<(), AllocError>
     push_digit(text, byte % 16)
 }
 
-/// Appends a number in four hexadecimal digits. On an `Err` memory ran out, and the text may have a part of them.
+/// Appends a number in four hexadecimal digits. `Err`: out of memory; the text may then have a part
+/// of them.
 #[tactic(auto, unfolding(crate::specs::Printed::digits_text))]
 pub fn push_u16(text: &mut String, number: u16) -> Result<(), AllocError>
     ensures { OnOk result
@@ -71,7 +73,8 @@ pub fn push_u16(text: &mut String, number: u16) -> Result<(), AllocError>
     push_byte(text, (number % 256) as u8)
 }
 
-/// Appends a number in eight hexadecimal digits. On an `Err` memory ran out, and the text may have a part of them.
+/// Appends a number in eight hexadecimal digits. `Err`: out of memory; the text may then have a
+/// part of them.
 pub fn push_u32(text: &mut String, number: u32) -> Result<(), AllocError>
     ensures { OnOk result
         (string_bytes text.new ≡ string_bytes text.old ++ digits_text 16 8 number) }
@@ -80,7 +83,8 @@ pub fn push_u32(text: &mut String, number: u32) -> Result<(), AllocError>
     push_u16(text, (number % 65536) as u16)
 }
 
-/// Appends bytes, each in two hexadecimal digits. On an `Err` memory ran out, and the text may have a part of them.
+/// Appends bytes, each in two hexadecimal digits. `Err`: out of memory; the text may then have a
+/// part of them.
 pub fn push_bytes(text: &mut String, bytes: &[u8]) -> Result<(), AllocError>
     ensures { OnOk result
         (string_bytes text.new ≡ string_bytes text.old ++ flat_map byte_text bytes.now) }

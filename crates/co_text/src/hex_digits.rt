@@ -3,8 +3,8 @@
 ghost use Rattle.std.specs.Prelude.{◌≡◌, ◌<◌, IfSome};
 ghost use Rattle.co_text.specs.Texts.{hex_digit};
 
-/// The value of each byte as a hexadecimal digit; 16 where it is none. A look-up has no branch on the kind of digit,
-/// which in the data of frames can't be predicted.
+/// The value of each byte as a hexadecimal digit; 16 where it is none. A look-up avoids a branch on
+/// the kind of digit, which can't be predicted in the data of frames.
 static HEX_DIGITS: [u8; 256] = [
     16, 16, 16, 16, 16, 16, 16, 16, 16, 16, 16, 16, 16, 16, 16, 16, 16, 16, 16, 16, 16, 16, 16, 16,
     16, 16, 16, 16, 16, 16, 16, 16, 16, 16, 16, 16, 16, 16, 16, 16, 16, 16, 16, 16, 16, 16, 16, 16,

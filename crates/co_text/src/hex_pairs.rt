@@ -18,7 +18,8 @@ fn hex_pair(high: u8, low: u8) -> Option<u8>
     Some(16 * high + low)
 }
 
-/// The byte that the two digits at the front spell, and what follows; `None` where there is no pair.
+/// The byte that the two digits at the front spell, and what follows; `None` where there is no
+/// pair.
 #[inline(always)]
 pub fn pair_at(text: &[u8]) -> Option<(u8, &[u8])>
     ensures exact { option_map (λ found. (found.0, found.1.now)) result ≡ pair_at text.now }
@@ -41,8 +42,8 @@ fn past_pairs(text: &[u8]) -> &[u8]
     rest
 }
 
-/// Bytes as a text spells them, in pairs of hexadecimal digits of either case. The text is kept and not copied; each
-/// byte is made when it is asked for. Contracts see it as the bytes.
+/// Bytes spelled in pairs of hexadecimal digits of either case. The text is borrowed, and each byte
+/// is decoded when it is asked for. Contracts see the bytes.
 #[derive(Debug, Drop)]
 pub struct HexPairs<'a> {
     digits: &'a [u8],
@@ -61,8 +62,8 @@ impl<'a> Model for HexPairs<'a> {
 }
 
 impl<'a> HexPairs<'a> {
-    /// The bytes of a word that is pairs of digits, one at least, or `-` for none; `None` for every other word, also
-    /// for the empty one.
+    /// Parses a word of one or more pairs of digits, or `-` for no bytes; `None` for every other
+    /// word, also for the empty one.
     #[tactic(auto, unfolding(crate::specs::HexPairs::hex_in))]
     pub fn read(word: &'a [u8]) -> Option<HexPairs<'a>>
         ensures { result ≡ hex_in word.now }
@@ -94,7 +95,7 @@ impl<'a> HexPairs<'a> {
         self.digits.len() / 2
     }
 
-    /// The bytes.
+    /// The bytes that are left; there must be at most 256.
     pub fn bytes(&self) -> ArrayVec<u8, 256>
         requires { length self.now ≤ 256 }
         ensures { result.items ≡ self.now }
@@ -119,7 +120,7 @@ impl<'a> HexPairs<'a> {
     }
 }
 
-/// The byte that a word of two hexadecimal digits is; `None` for every other word.
+/// Parses a word of two hexadecimal digits; `None` for every other word.
 pub fn byte_in(word: &[u8]) -> Option<u8>
     ensures { result ≡ byte_in word.now }
 {
@@ -129,7 +130,7 @@ pub fn byte_in(word: &[u8]) -> Option<u8>
     }
 }
 
-/// The number that a word of four hexadecimal digits is; `None` for every other word.
+/// Parses a word of four hexadecimal digits; `None` for every other word.
 pub fn word_in(word: &[u8]) -> Option<u16>
     ensures { result ≡ word_in word.now }
 {
@@ -141,7 +142,7 @@ pub fn word_in(word: &[u8]) -> Option<u16>
     Some(256 * u16::from(high) + u16::from(low))
 }
 
-/// The five bytes that a word of ten hexadecimal digits is; `None` for every other word.
+/// Parses a word of ten hexadecimal digits as five bytes; `None` for every other word.
 pub fn five_bytes_in(word: &[u8]) -> Option<[u8; 5]>
     ensures { result ≡ bytes_in 5 word.now }
 {

@@ -7,8 +7,9 @@ use crate::cut::split_at_first;
 
 const LINE_FEED: u8 = b'\n';
 
-/// The first line of the text, without its end, and what is after it; `None` where there is no line. A line feed ends a
-/// line, with one carriage return before it; the last line may lack its line feed, and then keeps a carriage return.
+/// The first line of the text, without its end, and what is after it; `None` where there is no
+/// line. A line feed ends a line, with one carriage return before it; the last line may lack its
+/// line feed, and then keeps a carriage return.
 pub fn split_line(text: &[u8]) -> Option<(&[u8], &[u8])>
     ensures none { IfNone result (lines text.now ≡ []) }
     ensures lines { IfSome result (λ parts. lines text.now ≡ parts.0.now ∷ lines parts.1.now) }

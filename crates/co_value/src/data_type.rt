@@ -14,7 +14,7 @@ ghost use Rattle.co_value.specs.Types.{
 };
 
 /// A data type that an entry of the object dictionary may have (CiA 301, 7.4.7.1).
-#[derive(Clone, Copy, Debug, PartialEq, Eq, Hash)]
+#[derive(Clone, Copy, Debug, PartialEq, Eq)]
 pub enum DataType {
     Boolean,
     Integer8,
@@ -40,7 +40,8 @@ pub enum DataType {
 
 impl DataType {
     /// The type with this code, which is the index of its definition entry (CiA 301, 7.4.7.1).
-    /// `None` for REAL32, REAL64, UNICODE_STRING, TIME_OF_DAY, TIME_DIFFERENCE and every other code.
+    /// `None` for REAL32, REAL64, UNICODE_STRING, TIME_OF_DAY, TIME_DIFFERENCE and every other
+    /// code.
     pub fn from_code(code: u16) -> Option<DataType>
         ensures found { IfSome result (λ t. code_of t ≡ code) }
         ensures only { (t : DataType) → code_of t ≡ code → result ≡ Some t }

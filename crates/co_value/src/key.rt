@@ -7,7 +7,8 @@ use co_text::{byte_digits, byte_in, word_digits, word_in};
 use std::cmp::Ordering;
 use std::fmt;
 
-/// The key of an entry: its object's index and its sub-index, ordered in this order (CiA 301, 7.4).
+/// The key of an entry: its object's index and its sub-index, ordered by index and then by
+/// sub-index (CiA 301, 7.4).
 #[derive(Clone, Copy, Debug, PartialEq, Eq, PartialOrd, Ord, Hash)]
 pub struct Key {
     /// 0000h to FFFFh.
@@ -42,8 +43,8 @@ impl Key {
         text
     }
 
-    /// The key that a word is: an index in four hexadecimal digits of either case, a colon, and a sub-index in two, as
-    /// `1018:01`; `None` for every other word.
+    /// Parses an index in four hexadecimal digits of either case, a colon, and a sub-index in two,
+    /// as `1018:01`; `None` for every other word.
     #[tactic(auto, unfolding(crate::specs::KeyTexts::key_in))]
     pub fn parse(word: &[u8]) -> Option<Key>
         ensures { result ≡ key_in word.now }

@@ -7,14 +7,16 @@ use arrayvec::ArrayVec;
 use byteorder::{ByteOrder, LittleEndian};
 use std::marker::Model;
 
-/// The number that up to eight bytes stand for: unsigned, little-endian (CiA 301, 7.1.4); 0 where there is none.
+/// The number that up to eight bytes stand for: unsigned, little-endian (CiA 301, 7.1.4); 0 where
+/// there is none.
 #[inline(always)]
 pub fn unsigned_of(bytes: &[u8]) -> u64
     requires { length bytes.now ≤ 8 }
     ensures number { result ≡ unsigned_of bytes.now }
     ensures fits { result < 256 ^ length bytes.now }
 {
-    // most entries have one, two or four bytes, and most mappings few: these need no call
+    // most entries have one, two or four bytes, and most mappings few: these are read without a
+    // call
     match bytes {
         [] => 0,
         [a] => u64::from(*a),
@@ -30,8 +32,8 @@ pub fn unsigned_of(bytes: &[u8]) -> u64
     }
 }
 
-/// Up to eight bytes as one number, the first of them the lowest, so that they are appended and handed on in registers.
-/// Contracts see the bytes.
+/// Up to eight bytes packed in one number, the first byte lowest: appending to them and passing
+/// them on stays in registers. Contracts see the bytes.
 #[derive(Drop)]
 pub struct PackedBytes {
     number: u64,
@@ -61,7 +63,7 @@ impl PackedBytes {
         }
     }
 
-    /// Appends bytes, for which there is room.
+    /// Appends bytes; there must be at most 8 in all.
     #[inline(always)]
     pub fn append(&mut self, bytes: &[u8])
         requires { length self.old + length bytes.now ≤ 8 }

@@ -22,7 +22,7 @@ use std::error::Error;
 use std::fmt;
 
 /// Why a number has no bytes, or bytes no number.
-#[derive(Clone, Copy, Debug, PartialEq, Eq, Hash)]
+#[derive(Clone, Copy, Debug, PartialEq, Eq)]
 pub enum ValueFault {
     /// The number is outside the type's range, or the type has no width.
     OutOfRange,
@@ -88,8 +88,9 @@ fn unsigned_bits(bits: usize, value: i128) -> u128
     }
 }
 
-/// The number that the bytes stand for: little-endian, two's complement at a signed type (CiA 301, 7.1.4).
-/// `WrongLength` where the bytes are not as many as the type is wide, and at a string or a domain.
+/// The number that the bytes stand for: little-endian, two's complement at a signed type
+/// (CiA 301, 7.1.4). `WrongLength` where the number of bytes isn't the type's width, and at a
+/// string or a domain.
 pub fn from_bytes(data_type: DataType, bytes: &[u8]) -> Result<i128, ValueFault>
     ensures ok { IsOk result ↔ (width_of data_type ≡ Some (length bytes.now)) }
     ensures number { IfOk result (λ value. value ≡ number_of data_type bytes.now) }
@@ -129,14 +130,15 @@ fn signed_of(bits: usize, number: u64) -> i128
     }
 }
 
-/// A number has one spelling: as many bytes that stand for the same number are the same bytes. This is a law:
-/// a call of it changes nothing.
+/// A number has one spelling: bytes of the same length and with the same number are the same bytes.
+/// This is a law: a call of it changes nothing.
 pub fn one_spelling()
     ensures { (t : DataType) → HasOneSpelling t }
 {}
 
-/// Bytes and their number determine each other: bytes as many as the type is wide are the bytes of their number,
-/// and the bytes of a number are bytes, as many as the type is wide. This is a law: a call of it changes nothing.
+/// Bytes and numbers convert back and forth: bytes of the type's width are the bytes of their
+/// number, and a number that fits the width has that many bytes. This is a law: a call of it
+/// changes nothing.
 pub fn way_back()
     ensures back { (t : DataType) → HasWayBack t }
     ensures bytes { (t : DataType) → HasBytes t }

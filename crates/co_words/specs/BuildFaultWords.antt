@@ -1,9 +1,9 @@
--- The words of a build fault for people: what is wrong, and how it is fixed.
+-- What a build fault means and how it is fixed, in words.
 use Rattle.std.specs.Prelude.{ℕ, List, codes}
 use Rattle.co_dict_build.specs.declared.build_fault.BuildFault.{BuildFault}
 use Rattle.co_dict_build.specs.declared.build_fault.BuildFault.TheVariants.{NodeId, ValueRange, BadCobId, PdoPair, BadMapping, TooMany, Memory}
 
--- what is wrong
+-- what it means
 abbrev pub build_meaning_of : BuildFault → List ℕ
 build_meaning_of NodeId = codes "the node-ID isn't one of 1 to 127"
 build_meaning_of (ValueRange key) = codes "the default is a sum with $NODEID outside the type or the limits for this node-ID"

@@ -1,11 +1,11 @@
-//! The words of a build fault for people.
+//! What a build fault means and how it is fixed, in words.
 
 ghost use Rattle.std.specs.Prelude.{◌≡◌};
 ghost use Rattle.co_words.specs.BuildFaultWords.{build_meaning_of, build_fix_of};
 
 use co_dict_build::BuildFault;
 
-/// What is wrong, in one line.
+/// What a build fault means, in one line.
 pub fn build_meaning_of(fault: &BuildFault) -> &'static str
     ensures { result.now ≡ build_meaning_of fault.now }
 {
@@ -25,7 +25,7 @@ pub fn build_meaning_of(fault: &BuildFault) -> &'static str
     }
 }
 
-/// How it is fixed, in one line.
+/// How a build fault is fixed, in one line.
 pub fn build_fix_of(fault: &BuildFault) -> &'static str
     ensures { result.now ≡ build_fix_of fault.now }
 {

@@ -1,4 +1,4 @@
-//! Words for people: what an SDO abort code means, and what a build fault is and how it is fixed.
+//! Texts for users: what an SDO abort code means, and what a build fault means and how it is fixed.
 #![tactic(auto)]
 
 mod abort_reason;

@@ -1,6 +1,7 @@
-//! A CANopen device node on the command line: checks, lints, shows and adapts data sheets, decodes and explains CAN
-//! traces as `candump -L` writes them, converts other recorders' logs to such traces, plays one to the device of a data
-//! sheet, and lets an SDO client download to it.
+//! A CANopen device node on the command line. It checks, lints, shows and adapts data sheets;
+//! decodes CAN traces as `candump -L` writes them, and converts other recorders' logs to such
+//! traces; explains recordings, counts their frames, and compares a recorded device with its data
+//! sheet; plays a trace to the device of a data sheet, and lets an SDO client download to it.
 #![tactic(auto)]
 
 use co_dict_build::Limits;
@@ -94,7 +95,7 @@ fn filter_words(only: OnlyWords<'_>) -> FilterWords<'_> {
     }
 }
 
-/// What is asked for beside the rules of `adapt`.
+/// What `adapt` is asked for beyond its rules.
 fn adapt_words(leading_zeros: Option<LeadingZeros>, force: bool) -> AdaptWords {
     let leading_zeros = match leading_zeros {
         Some(LeadingZeros::Octal) => Some(ZerosRead::Octal),
@@ -107,7 +108,8 @@ fn adapt_words(leading_zeros: Option<LeadingZeros>, force: bool) -> AdaptWords {
     }
 }
 
-/// Whether findings are written in colours: on a terminal, unless the environment has a NO_COLOR that isn't empty.
+/// Whether findings are written in colours. `auto`: on a terminal, unless the environment has a
+/// NO_COLOR that isn't empty.
 fn has_colours(rt: &HostRuntime, colours: Colours) -> bool {
     match colours {
         Colours::Always => true,
@@ -122,7 +124,7 @@ fn has_colours(rt: &HostRuntime, colours: Colours) -> bool {
     }
 }
 
-/// The form of what is written.
+/// The form in which findings are written.
 fn form_of(rt: &HostRuntime, words: &LintWords<'_>) -> Form {
     match words.format {
         Format::Text => Form::Text {
@@ -141,7 +143,7 @@ fn version() -> &'static str {
     }
 }
 
-/// Lints the sheets that the words name.
+/// Lints the sheets of the command line.
 fn lint_sheets<O: Write, E: Write>(
     rt: &HostRuntime,
     words: &LintWords<'_>,

@@ -15,11 +15,11 @@ shown_byte byte = if nat_lt byte 32 || (byte == 127) then 63 else byte
 abbrev pub shown : List ℕ → List ℕ
 shown bytes = map shown_byte bytes
 
--- lines on one line: a comma between them
+-- lines on one line, with commas between them
 abbrev pub new_byte : ℕ → List ℕ
 new_byte byte = if byte == 10 then codes ", " else shown_byte byte ∷ []
 
--- lines without the last end
+-- lines without the last LF
 abbrev pub front_of : List ℕ → List ℕ
 front_of lines =
     if slice_index lines (length lines - 1) == 10 then take (length lines - 1) lines else lines
@@ -27,27 +27,31 @@ front_of lines =
 unfoldable pub new_text : List ℕ → List ℕ
 new_text lines = if is_empty lines then codes "dropped" else flat_map new_byte (front_of lines)
 
--- the sections that an object in compact form gets
+-- the sections that an object in compact form is given
 abbrev pub sections_text : ℕ → ℕ → List ℕ
 sections_text index count =
     codes ", [" ++ digits_text 16 4 index ++ codes "sub0] and " ++ decimal count ++ codes " more"
 
--- the objects that PDOs in compact form get, with the sub-indices of those of communication, and what the sheet doesn't say
+-- a word, or nothing
 abbrev pub word_if : Bool → List ℕ → List ℕ
 word_if is word = if is then word else []
 
+-- the sub-indices from 3 on of a communication object, by bits 2 to 5 of a number
 abbrev pub subs_text : ℕ → List ℕ
 subs_text subs =
     word_if (subs / 4 % 2 == 1) (codes " 3") ++ word_if (subs / 8 % 2 == 1) (codes " 4")
     ++ word_if (subs / 16 % 2 == 1) (codes " 5") ++ word_if (subs / 32 % 2 == 1) (codes " 6")
 
+-- what the sheet doesn't have for the objects of PDOs in compact form
 unfoldable pub invented : List ℕ
 invented = codes "; invented: not valid, type 255, timers 0, mappings of 0 entries"
 
+-- the objects that PDOs in compact form are given
 abbrev pub objects_text : ℕ → ℕ → List ℕ
 objects_text count subs =
     codes ", " ++ decimal count ++ codes " objects, sub-indices 0 1 2" ++ subs_text subs ++ invented
 
+-- the sections or objects that a change adds
 unfoldable pub sub_indices_text : ChangeKind → List ℕ
 sub_indices_text (CompactSubObj index count) = sections_text index count
 sub_indices_text (CompactPdo count subs) = objects_text count subs
@@ -75,25 +79,27 @@ mark_line name text =
     if starts_with nat_eq text (0xEF ∷ 0xBB ∷ 0xBF ∷ [])
     then place_text name 1 ++ codes "byte order mark: EF BB BF -> dropped\n" else []
 
--- the lines that end with CR and LF, of the bytes of a text from this line on; `after_cr` says whether CR is before them
+-- the numbers of the lines that end with CR and LF, in the bytes from this line on; `after_cr` says
+-- whether CR is before them
 abbrev pub returns_from : ℕ → Bool → List ℕ → List ℕ
 returns_from line after_cr [] = []
 returns_from line after_cr (b ∷ bs) =
     if b == 10 then (if after_cr then line ∷ [] else []) ++ returns_from (line + 1) false bs
     else returns_from line (b == 13) bs
 
--- CR before LF: the first line that has it, and how many do
+-- the line about CR before LF: the first line that has it, and how many do
 unfoldable pub ends_text : List ℕ → List ℕ → List ℕ
 ends_text name [] = []
 ends_text name (line ∷ lines) =
     place_text name line ++ codes "ends of lines, " ++ decimal (length (line ∷ lines))
     ++ codes " in all: CR LF -> LF\n"
 
--- none of a text that stays
+-- nothing for a text that stays
 abbrev pub ends_line : Bool → List ℕ → List ℕ → List ℕ
 ends_line stays name text = if stays then [] else ends_text name (returns_from 1 false text)
 
--- the last line, where it has no end; `is_begun` says whether a byte of it is before these
+-- the number of the last line, if it has no LF; `is_begun` says whether a byte of it is before
+-- these
 abbrev pub open_line : ℕ → Bool → List ℕ → Option ℕ
 open_line line is_begun [] = if is_begun then Some line else None
 open_line line is_begun (b ∷ bs) =
@@ -103,6 +109,6 @@ unfoldable pub last_text : List ℕ → Option ℕ → List ℕ
 last_text name None = []
 last_text name (Some line) = place_text name line ++ codes "end of the last line: none -> LF\n"
 
--- none of a text that stays
+-- nothing for a text that stays
 abbrev pub last_line : Bool → List ℕ → List ℕ → List ℕ
 last_line stays name text = if stays then [] else last_text name (open_line 1 false text)

@@ -1,4 +1,4 @@
--- What is written of a text that is adapted.
+-- What is written when a text is adapted.
 use Rattle.std.specs.Prelude.{ℕ, Bool, ◌&&◌, not, List, ◌++◌, codes, is_none, Option, option_map}
 use Rattle.std.specs.List.{flat_map}
 use Rattle.std.specs.Option.{option_copied}
@@ -10,7 +10,8 @@ use Rattle.co_sheet_adapt.specs.Adapted.{adapted_text, pieces_in}
 use Rattle.conode_adapt.specs.declared.orders.Orders.{Orders as CodeOrders}
 use Rattle.conode_adapt.specs.Listing.{mark_line, ends_line, last_line, piece_line}
 
--- what is asked for beside the rules: how a leading zero is read, and the mappings at fault where the rest is forced
+-- what is asked for beyond the rules: how a leading zero is read, and with `force` the mappings at
+-- fault
 pub record Orders : Type 0 where
   pub leading_zeros : Option LeadingZeros
   pub force : Option (List ℕ)
@@ -24,7 +25,7 @@ zeros_request orders = option_map read_zeros orders.leading_zeros
 abbrev pub force_request : Orders → Option Request
 force_request orders = option_map force_with orders.force
 
--- a text with its leading zeros read, and then with what is forced
+-- a text with its leading zeros read, and then with its forced changes
 unfoldable pub read_text : Orders → List ℕ → List ℕ
 read_text orders text = requested_text (zeros_request orders) text
 
@@ -37,21 +38,21 @@ forced_text orders text = requested_text (force_request orders) (read_text order
 unfoldable pub forced_pieces : Orders → List ℕ → List Piece
 forced_pieces orders text = requested_pieces (force_request orders) (read_text orders text)
 
--- who adapts it, and what it is made from
+-- the program that adapts it, and the name of its source
 abbrev pub by_line : List ℕ → List ℕ → List ℕ
 by_line version name = codes "conode " ++ version ++ codes " from " ++ name
 
--- the sheet that is written: what the rules make of that text
+-- the sheet that is written: the forced text, adapted by the rules
 unfoldable pub sheet_of : List ℕ → List ℕ → Orders → List ℕ → List ℕ
 sheet_of version name orders text = adapted_text (by_line version name) (forced_text orders text)
 
--- the lines of what was changed for it
+-- the lines about its changes
 unfoldable pub changes_in : List ℕ → List ℕ → Bool → List Piece → List Piece → List Piece → List ℕ
 changes_in name text stays read forced pieces =
     mark_line name text ++ ends_line stays name text ++ last_line stays name text
     ++ flat_map (piece_line name) read ++ flat_map (piece_line name) forced ++ flat_map (piece_line name) pieces
 
--- a text stays where it is accepted, and nothing was changed on request
+-- whether a text stays as it is: it is accepted, and nothing was changed on request
 abbrev pub stays_in : Bool → List Piece → List Piece → Bool
 stays_in is_accepted read forced = is_accepted && not (has_changes read) && not (has_changes forced)
 

@@ -1,4 +1,4 @@
-//! The file of a data sheet, adapted.
+//! Adapting the file of a data sheet.
 
 ghost use Rattle.std.specs.Prelude.{◌≡◌, ◌⊎◌, true, false, Ok, None, IfOk, IfErr, OnOk};
 ghost use Rattle.std.specs.Io.KnownBytes.{Appends, Keeps};
@@ -18,7 +18,7 @@ use std::io::Write;
 use std::process::ExitCode;
 use std::rt::Files;
 
-// why no text is adapted: that it is too large, as `lint` prints it, or that memory ran out
+// says that a text is too large, as `lint` prints it; `Memory` if memory ran out
 fn write_refused<E: Write>(
     alloc: Global,
     name: &str,
@@ -43,7 +43,8 @@ fn write_refused<E: Write>(
     hand_over(report.as_bytes(), err)
 }
 
-// the changes and the sheet where it is accepted, else what remains
+// writes the changes and the sheet if it is accepted, else the faults that remain; returns whether
+// it is accepted
 fn write_outcome<O: Write, E: Write>(
     outcome: &Outcome,
     out: &mut O,
@@ -66,8 +67,10 @@ fn write_outcome<O: Write, E: Write>(
     Ok(true)
 }
 
-/// Adapts a text: writes the sheet to `out` and a line for each change to `err`, where what is written is accepted; else
-/// the faults that remain to `err`, as `lint` prints them, and nothing to `out`. Whether a sheet is written.
+/// Adapts a text. If the adapted sheet is accepted, writes it to `out` and a line for each change
+/// to `err`. Else writes the faults that remain to `err`, as `lint` prints them, and nothing to
+/// `out`. Returns whether a sheet is written. `Write` if a writer failed, `Memory` if memory ran
+/// out.
 pub fn write_adapted<O: Write, E: Write>(
     alloc: Global,
     text: &[u8],
@@ -96,7 +99,7 @@ pub fn write_adapted<O: Write, E: Write>(
     }
 }
 
-// adapts a text; where the rest is forced, it looks for the mappings at fault first
+// adapts a text; with `force` it first looks for the faulty mappings
 fn write_asked<O: Write, E: Write>(
     alloc: Global,
     text: &[u8],
@@ -137,19 +140,19 @@ fn stopped_by<E: Write>(fault: CmdFault, err: &mut E) -> ExitCode
     ExitCode::FAILURE
 }
 
-/// What the words of `adapt` ask for beside the rules.
+/// What the command line of `adapt` asks for beyond the rules.
 #[derive(Clone, Copy)]
 pub struct AdaptWords {
     /// How a number with a leading zero is read; `None`: it stays as it is.
     pub leading_zeros: Option<LeadingZeros>,
-    /// Whether what the rules leave at fault is forced.
+    /// Whether to force what the rules leave at fault.
     pub force: bool,
 }
 
-/// Adapts the data sheet of a path, as `write_adapted` does; the mappings at fault that are forced are those that the
-/// sheet then has for its node-ID, or for 1. The status is 0 where a sheet is written; 1 where something
-/// remains that no rule mends, or where memory ran out or `out` can't be written, which `err` says; 2 where the file
-/// can't be read.
+/// Adapts the data sheet of a path, as `write_adapted` does. With `force`, the mappings that are
+/// still at fault for the sheet's node-ID, or for 1, are forced too. The status is 0 if a sheet is
+/// written; 1 if something remains that no rule mends; 1 also if memory ran out or `out` can't be
+/// written, which `err` says; 2 if the file can't be read.
 pub fn adapt_file<R: Files + AllocGlobal, O: Write, E: Write>(
     rt: &R,
     path: &str,

@@ -1,4 +1,5 @@
-//! A vendor's data sheet adapted: the sheet on standard output, what was changed on standard error.
+//! Adapting a vendor's data sheet: the sheet goes to standard output, its changes to standard
+//! error.
 #![tactic(auto)]
 
 mod adapted_file;

@@ -1,4 +1,4 @@
-//! What a text loses and gets that no line has: its byte order mark, CR before LF, and LF after the last line.
+//! Changes that are part of no line: the byte order mark, CR before LF, and LF after the last line.
 
 ghost use Rattle.std.specs.Prelude.{◌≡◌, ◌++◌, false, OnOk, IfOk};
 ghost use Rattle.conode_adapt.specs.Listing.{
@@ -15,7 +15,7 @@ use crate::listing::push_place;
 use co_sheet_changes::push_number;
 use std::alloc::{AllocError, Global};
 
-/// Appends the line of a byte order mark, if there is one.
+/// Appends the line about a byte order mark, if there is one.
 #[tactic(auto, unfolding(crate::specs::Listing::mark_line))]
 pub(crate) fn push_mark(
     alloc: Global,
@@ -71,7 +71,8 @@ fn push_ends(
     text.extend_from_slice(b" in all: CR LF -> LF\n")
 }
 
-/// Appends the line of the ends of lines that are dropped, if there are any, and the text doesn't stay.
+/// Appends the line about CRs that are dropped before LF, if there are any and the text doesn't
+/// stay.
 pub(crate) fn push_line_ends(
     alloc: Global,
     text: &mut Vec<u8>,
@@ -89,7 +90,7 @@ pub(crate) fn push_line_ends(
     push_ends(alloc, text, name, lines.as_slice())
 }
 
-// the number of the last line, where it has no end
+// the number of the last line, if it has no LF
 fn open_line(source: &[u8]) -> Option<usize>
     ensures { result ≡ open_line 1 false source.now }
 {
@@ -122,7 +123,7 @@ fn push_last(
     text.extend_from_slice(b"end of the last line: none -> LF\n")
 }
 
-/// Appends the line of the last line's end, where it has none, and the text doesn't stay.
+/// Appends the line about an LF after the last line, if it has none and the text doesn't stay.
 pub(crate) fn push_last_line(
     alloc: Global,
     text: &mut Vec<u8>,

@@ -1,5 +1,5 @@
-//! The changes of a text, a line each. Each function appends to a text; on an `Err` memory ran out, and a part of it may
-//! be there.
+//! The changes of a text, a line each. Each function appends to a text. `Err`: out of memory; a
+//! part of it may be there.
 
 ghost use Rattle.std.specs.Prelude.{◌≡◌, ◌++◌, ◌∷◌, [], map, OnOk, string_bytes};
 ghost use Rattle.std.specs.List.{flat_map};
@@ -32,7 +32,7 @@ fn shown_byte(byte: u8) -> u8
     if byte < 32 || byte == 127 { b'?' } else { byte }
 }
 
-// bytes without control characters
+// bytes, with `?` for each control character
 fn push_shown(text: &mut Vec<u8>, bytes: &[u8]) -> Result<(), AllocError>
     ensures { OnOk result (text.new.items ≡ text.old.items ++ shown bytes.now) }
 {
@@ -42,7 +42,7 @@ fn push_shown(text: &mut Vec<u8>, bytes: &[u8]) -> Result<(), AllocError>
     Ok(())
 }
 
-// a line's end is a comma here
+// a byte of lines that are shown on one line: LF becomes a comma
 fn push_new_byte(text: &mut Vec<u8>, byte: u8) -> Result<(), AllocError>
     ensures { OnOk result (text.new.items ≡ text.old.items ++ new_byte byte) }
 {
@@ -54,7 +54,7 @@ fn push_new_byte(text: &mut Vec<u8>, byte: u8) -> Result<(), AllocError>
     }
 }
 
-// lines without the last end
+// lines without the last LF
 fn front_of(lines: &[u8]) -> &[u8]
     ensures { result.now ≡ front_of lines.now }
 {
@@ -84,7 +84,7 @@ fn push_new(text: &mut Vec<u8>, lines: &[u8]) -> Result<(), AllocError>
     }
 }
 
-// the sections that an object in compact form gets
+// the sections that an object in compact form is given
 fn push_sections(words: &mut String, index: u16, count: u8) -> Result<(), AllocError>
     ensures { OnOk result (string_bytes words.new ≡ string_bytes words.old ++ sections_text index count) }
 {
@@ -111,7 +111,7 @@ fn push_subs(words: &mut String, subs: u64) -> Result<(), AllocError>
     push_if(words, subs / 32 % 2 == 1, " 6")
 }
 
-// the objects that PDOs in compact form get
+// the objects that PDOs in compact form are given
 #[tactic(auto, unfolding(crate::specs::Listing::invented))]
 fn push_objects(words: &mut String, count: u64, subs: u64) -> Result<(), AllocError>
     ensures { OnOk result
@@ -124,7 +124,7 @@ fn push_objects(words: &mut String, count: u64, subs: u64) -> Result<(), AllocEr
     words.push_str("; invented: not valid, type 255, timers 0, mappings of 0 entries")
 }
 
-// what comes with a change
+// the sections or objects that a change adds
 #[tactic(auto, unfolding(crate::specs::Listing::sub_indices_text))]
 fn push_sub_indices(text: &mut Vec<u8>, alloc: Global, kind: ChangeKind) -> Result<(), AllocError>
     ensures { OnOk result (text.new.items ≡ text.old.items ++ sub_indices_text kind) }
@@ -138,7 +138,7 @@ fn push_sub_indices(text: &mut Vec<u8>, alloc: Global, kind: ChangeKind) -> Resu
     text.extend_from_slice(words.as_bytes())
 }
 
-// where a change is
+// the place of a change
 #[tactic(auto, unfolding(crate::specs::Listing::place_text))]
 pub(crate) fn push_place(
     alloc: Global,
@@ -154,7 +154,7 @@ pub(crate) fn push_place(
     text.extend_from_slice(b": ")
 }
 
-// what it was, and what it is
+// the old text, and the new one
 #[tactic(auto, unfolding(crate::specs::Listing::old_and_new))]
 fn push_old_and_new(
     alloc: Global,
@@ -206,7 +206,7 @@ fn push_piece(
     }
 }
 
-/// A line for each change.
+/// Appends a line for each change.
 pub(crate) fn push_changes(
     alloc: Global,
     text: &mut Vec<u8>,

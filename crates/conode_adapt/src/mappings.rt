@@ -1,4 +1,4 @@
-//! The mappings that are at fault where nothing else is.
+//! The mappings at fault in a sheet without other faults.
 
 use crate::orders::Orders;
 use co_dict_build::{BuildFault, Limits};
@@ -9,7 +9,7 @@ use co_sheet_adapt::adapt;
 use co_sheet_changes::{AdaptFault, LeadingZeros, on_request};
 use std::alloc::{AllocError, Global};
 
-// those of faults
+// the mappings at fault among build faults
 fn mappings_in(alloc: Global, faults: &[BuildFault]) -> Result<Vec<u16>, AllocError> {
     let mut mappings = Vec::new(alloc);
     for fault in faults {
@@ -20,7 +20,7 @@ fn mappings_in(alloc: Global, faults: &[BuildFault]) -> Result<Vec<u16>, AllocEr
     Ok(mappings)
 }
 
-// those of a sheet for its node-ID, or else for 1
+// the mappings at fault in a sheet, for its node-ID or else for 1
 fn mappings_of(alloc: Global, sheet: &Sheet<'_>) -> Result<Vec<u16>, AllocError> {
     let limits = Limits {
         strings: 0,
@@ -32,7 +32,7 @@ fn mappings_of(alloc: Global, sheet: &Sheet<'_>) -> Result<Vec<u16>, AllocError>
     mappings_in(alloc, found.faults.as_slice())
 }
 
-// those of a text; one that isn't accepted has none
+// the mappings at fault in a text; none if it isn't accepted
 fn faulty_mappings(alloc: Global, text: &[u8]) -> Result<Vec<u16>, AllocError> {
     match read(alloc, text) {
         Ok(sheet) => mappings_of(alloc, &sheet),
@@ -41,7 +41,7 @@ fn faulty_mappings(alloc: Global, text: &[u8]) -> Result<Vec<u16>, AllocError> {
     }
 }
 
-// those of what becomes of a text by force and by the rules
+// the mappings at fault in a text after it was forced and adapted
 fn mappings_by(alloc: Global, text: &[u8], orders: Orders<'_>) -> Result<Vec<u16>, AdaptFault> {
     let forced = on_request(alloc, text, orders.force_request())?;
     let adapted = adapt(alloc, forced.text.as_slice(), b"")?;
@@ -51,7 +51,8 @@ fn mappings_by(alloc: Global, text: &[u8], orders: Orders<'_>) -> Result<Vec<u16
     }
 }
 
-/// The mapping objects that are at fault in what becomes of a text, with the rest forced.
+/// The indices of the mappings that are still at fault in a text after all else was forced and
+/// adapted. `TooLarge` and `Memory` as for `outcome_of`.
 pub(crate) fn mappings_at_fault(
     alloc: Global,
     text: &[u8],

@@ -1,4 +1,4 @@
-//! What is asked for beside the rules.
+//! What is asked for beyond the rules.
 
 ghost use Rattle.std.specs.Prelude.{◌≡◌, option_map};
 ghost use Rattle.co_sheet_changes.specs.Requested.{request_view};
@@ -6,12 +6,12 @@ ghost use Rattle.conode_adapt.specs.Written.{force_request, orders_view, zeros_r
 
 use co_sheet_changes::{LeadingZeros, Request};
 
-/// What is asked for beside the rules.
+/// What is asked for beyond the rules.
 #[derive(Clone, Copy)]
 pub struct Orders<'m> {
     /// How a number with a leading zero is read; `None`: it stays as it is.
     pub leading_zeros: Option<LeadingZeros>,
-    /// The mapping objects at fault, where what the rules leave at fault is forced; `None`: it isn't.
+    /// With `force`, the indices of the mappings at fault; `None`: nothing is forced.
     pub force: Option<&'m [u16]>,
 }
 

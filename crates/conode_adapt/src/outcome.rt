@@ -1,4 +1,4 @@
-//! What becomes of a text, before it is written.
+//! The outcome of adapting a text, before it is written.
 
 ghost use Rattle.std.specs.Prelude.{◌≡◌, ◌++◌, ◌&&◌, not, true, None, codes, map, IfOk};
 ghost use Rattle.co_sheet.specs.Accepted.{first_fault};
@@ -19,7 +19,7 @@ use co_sheet_adapt::{Adapted, adapt};
 use co_sheet_changes::{AdaptFault, Piece, joined, on_request};
 use std::alloc::{AllocError, Global};
 
-/// What becomes of a text.
+/// The outcome of adapting a text.
 #[derive(Drop)]
 pub(crate) struct Outcome {
     /// The sheet.
@@ -28,11 +28,11 @@ pub(crate) struct Outcome {
     pub(crate) changes: Vec<u8>,
     /// Whether the sheet is accepted.
     pub(crate) is_accepted: bool,
-    /// What no rule mends, as `lint` prints it; empty where the sheet is accepted.
+    /// What no rule mends, as `lint` prints it; empty if the sheet is accepted.
     pub(crate) remaining: String,
 }
 
-// who adapts it, and what it is made from
+// the program that adapts it, and the name of its source
 fn by_line(alloc: Global, version: &str, name: &str) -> Result<Vec<u8>, AllocError>
     ensures { IfOk result (λ made. made.items ≡ by_line version.now name.now) }
 {
@@ -41,7 +41,8 @@ fn by_line(alloc: Global, version: &str, name: &str) -> Result<Vec<u8>, AllocErr
     Ok(made)
 }
 
-// the pieces of a text in their order: those with leading zeros, those that are forced, and those of the rules
+// the pieces of a text in their order: those with leading zeros, those that are forced, and those
+// of the rules
 #[derive(Clone, Copy)]
 struct Steps<'p, 'a, 'b, 'c> {
     read: &'p [Piece<'a>],
@@ -87,15 +88,15 @@ fn remaining_of(
     remaining(alloc, name, text, sheet, adapted.pieces.as_slice())
 }
 
-// whether a text stays, which is accepted or not, and changed on request or not
+// whether a text stays as it is: it is accepted, and nothing was changed on request
 fn stays_with(is_accepted: bool, is_read_anew: bool, is_forced: bool) -> bool
     ensures { result ≡ (is_accepted && not is_read_anew && not is_forced) }
 {
     is_accepted && !is_read_anew && !is_forced
 }
 
-/// What becomes of a text. `TooLarge` where it has more than 1,048,576 bytes, or what is added to it has; `Memory` where
-/// memory ran out.
+/// Adapts a text. `TooLarge` if it, or what is added to it, has more than 1,048,576 bytes; `Memory`
+/// if memory ran out.
 pub(crate) fn outcome_of(
     alloc: Global,
     text: &[u8],

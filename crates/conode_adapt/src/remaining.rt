@@ -7,13 +7,13 @@ use co_text::{push_decimal, split_at_first, split_line};
 use conode_lint_text::{About, Finding, Place, Severity, characters_of, push_finding, push_more};
 use std::alloc::{AllocError, Global};
 
-/// How many faults are printed.
+/// The most faults that are printed.
 const MOST: usize = 1000;
 
 /// The most bytes of a line that are printed.
 const LONGEST: usize = 512;
 
-// a number for each line that was written in a line's place
+// appends this number for each line of the text
 fn push_lines(sources: &mut Vec<usize>, text: &[u8], number: usize) -> Result<(), AllocError> {
     for byte in text {
         if *byte == b'\n' {
@@ -23,7 +23,7 @@ fn push_lines(sources: &mut Vec<usize>, text: &[u8], number: usize) -> Result<()
     Ok(())
 }
 
-// for each line of the text that was rewritten the line that it comes from; the first is a comment
+// for each line of the rewritten text, the number of its source line; the first line is a comment
 fn sources_of(alloc: Global, pieces: &[Piece<'_>]) -> Result<Vec<usize>, AllocError> {
     let mut sources = Vec::new(alloc);
     sources.push(0)?;
@@ -113,7 +113,7 @@ fn digits_of(line: &[u8]) -> &[u8] {
     }
 }
 
-// the two numbers that a value with a leading zero may be
+// appends the two numbers that a value with a leading zero may mean
 fn push_both(report: &mut String, line: &[u8]) -> Result<(), AllocError> {
     let digits = digits_of(line);
     if let (Some(octal), Some(decimal)) = (number_in(8, digits), number_in(10, digits)) {
@@ -126,7 +126,7 @@ fn push_both(report: &mut String, line: &[u8]) -> Result<(), AllocError> {
     Ok(())
 }
 
-// the line of the source that a line of the text comes from
+// the number of a line's source line; 0 if it has none
 fn source_of(sources: &[usize], line: usize) -> usize {
     match line.checked_sub(1) {
         Some(place) => sources.get(place).copied().unwrap_or(0),
@@ -172,7 +172,8 @@ fn push_all(
     Ok(())
 }
 
-/// Appends these faults of a file as `lint` prints them, with the lines of the source.
+/// Appends these faults of a file as `lint` prints them, at the lines of the source. `Err`: out of
+/// memory.
 pub(crate) fn push_faults(
     alloc: Global,
     report: &mut String,
@@ -193,7 +194,7 @@ pub(crate) fn push_faults(
     )
 }
 
-/// What remains of a text that was rewritten, as `lint` prints it.
+/// The faults that remain in a rewritten text, as `lint` prints them. `Err`: out of memory.
 pub(crate) fn remaining(
     alloc: Global,
     name: &str,

@@ -28,7 +28,8 @@ use Rattle.conode_io.specs.Written.{WritesLines}
 abbrev pub memory_line : List ℕ
 memory_line = codes "fault 20 Memory line 0" ++ 10 ∷ []
 
--- a writer's bytes have grown by some of these lines, from the first on and not by all, and by that line
+-- a writer's bytes have grown by some of these lines, from the first on but not all, and by that
+-- line
 abbrev pub SomeThenMemory : Option (List ℕ) → Option (List ℕ) → List (List ℕ) → Type 0
 SomeThenMemory old new lines =
     (number : ℕ) × (number < length lines) × WritesLines old new (take number lines ++ memory_line ∷ [])
@@ -38,7 +39,7 @@ abbrev pub IsCheckEnding : Ending → Type 0
 IsCheckEnding ending =
     ((ending ≡ Said Memory) ⊎ (ending ≡ Unsaid Memory)) ⊎ ((ending ≡ Said Write) ⊎ (ending ≡ Unsaid Write))
 
--- the exit status: 0 for a text that is good and of which all is written, else 1
+-- the exit status: 0 if the text is good and all is written, else 1
 abbrev pub checked_status : Result Bool Ending → ℕ
 checked_status (Ok true) = 0
 checked_status (Ok false) = 1

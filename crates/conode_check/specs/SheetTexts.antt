@@ -1,4 +1,4 @@
--- What is written of a data sheet that is checked.
+-- What is written about a data sheet that is checked.
 use Rattle.std.specs.Prelude.{
   ◌&&◌,
   ℕ,
@@ -55,38 +55,39 @@ node_line id = codes "node " ++ decimal id ++ 10 ∷ []
 abbrev pub sheet_build_fault : Option ℕ → Limits → SheetContent → Option BuildFault
 sheet_build_fault node limits sheet = option_and_then (λ id. build_fault (plan_of id limits sheet)) node
 
--- the lines of a build fault, where there is one
+-- the line of a build fault, if there is one
 abbrev pub build_lines : Option BuildFault → List (List ℕ)
 build_lines fault = option_map_or (λ fault. build_fault_line fault ∷ []) fault []
 
--- the line of a node-ID, where there is one
+-- the line of a node-ID, if there is one
 abbrev pub node_lines : Option ℕ → List (List ℕ)
 node_lines id = option_map_or (λ id. node_line id ∷ []) id []
 
--- the lines of a sheet that is accepted: what it has, its notes, its own node-ID, and its build fault
+-- the lines of a sheet that is accepted: what it has, its notes, its own node-ID, and its build
+-- fault
 abbrev pub sheet_lines : SheetContent → Option ℕ → Option BuildFault → List (List ℕ)
 sheet_lines sheet own fault =
     summary_line sheet ∷ (map note_line sheet.notes ++ (node_lines own ++ build_lines fault))
 
--- the node-ID of a sheet itself, which counts and is written where none is given
+-- the node-ID of a sheet itself, which counts and is written if none is given
 abbrev pub own_node : Option ℕ → SheetContent → Option ℕ
 own_node node sheet = if is_none node then sheet.node_id else None
 
--- why a sheet makes no dictionary for the node-ID that is given, or else for its own
+-- why a sheet makes no dictionary for the given node-ID, or else for its own
 abbrev pub checked_fault : Option ℕ → Limits → SheetContent → Option BuildFault
 checked_fault node limits sheet = sheet_build_fault (option_or node (own_node node sheet)) limits sheet
 
--- the sheet that a text is, where it is accepted
+-- the sheet of a text that is accepted
 abbrev pub text_sheet : List ℕ → SheetContent
 text_sheet text = content_of (sections_in text)
 
--- the lines of a text: those of the sheet that it is, or of its first fault
+-- the lines of a text: those of its sheet, or of its first fault
 abbrev pub checked_lines : List ℕ → Option ℕ → Limits → List (List ℕ)
 checked_lines text node limits =
     option_map_or (λ fault. fault_line fault ∷ [])
     (first_fault text)
     (sheet_lines (text_sheet text) (own_node node (text_sheet text)) (checked_fault node limits (text_sheet text)))
 
--- a text has neither a fault as a sheet nor, with a node-ID that is given or its own, a build fault
+-- a text has no fault as a sheet, and no build fault for the given node-ID, or else its own
 abbrev pub is_good : List ℕ → Option ℕ → Limits → Bool
 is_good text node limits = is_none (first_fault text) && is_none (checked_fault node limits (text_sheet text))

@@ -51,9 +51,9 @@ fn say_why<O: Write, E: Write>(fault: CmdFault, out: &mut O, err: &mut E) -> End
     }
 }
 
-/// Checks a text: what it has and its build fault, or its fault, goes to `out`. Whether it has neither fault; or how
-/// the check ended where not all of it could be written: then `out` has why after what was written before, or where
-/// `out` can't be written `err`.
+/// Checks a text: what it has and its build fault, or its fault as a sheet, goes to `out`. Returns
+/// whether it has neither fault. `Err` says how the check ended if not all could be written: `out`
+/// then has why, after what was written before, or `err` if `out` can't be written.
 pub fn check_text<O: Write, E: Write>(
     alloc: Global,
     text: &[u8],
@@ -62,12 +62,12 @@ pub fn check_text<O: Write, E: Write>(
     out: &mut O,
     err: &mut E,
 ) -> Result<bool, Ending>
-    // All is written: what the text has and its build fault, or its fault.
+    // All is written: what the text has and its build fault, or its fault as a sheet.
     ensures good { IfOk result (λ good. good ≡ is_good text.now node (limits_view limits.now)) }
     ensures whole { OnOk result (WritesLines (O.contents out.old) (O.contents out.new)
         (checked_lines text.now node (limits_view limits.now))) }
 
-    // Memory ran out: some of these lines are written, never all, and then that it ran out.
+    // Memory ran out: some of these lines are written, never all, and then the line that says so.
     ensures memory { result ≡ Err (Ending.Said CmdFault.Memory) →
         SomeThenMemory (O.contents out.old) (O.contents out.new)
         (checked_lines text.now node (limits_view limits.now)) }
@@ -79,7 +79,7 @@ pub fn check_text<O: Write, E: Write>(
     ensures write_said { result ≡ Err (Ending.Said CmdFault.Write) →
         WritesStopped (E.contents err.old) (E.contents err.new) [] CmdFault.Write }
 
-    // No other fault comes; and nothing is said on `err` where all is written.
+    // There is no other fault; nothing is said on `err` if all is written.
     ensures err { IfErr result IsCheckEnding }
     ensures quiet { OnOk result (Keeps (E.contents err.old) (E.contents err.new)) }
 {
@@ -90,7 +90,7 @@ pub fn check_text<O: Write, E: Write>(
     }
 }
 
-// the exit status: 0 for a text that is good and of which all is written
+// the exit status: 0 if the text is good and all is written
 fn status_of(outcome: Result<bool, Ending>) -> ExitCode
     ensures { exit_status result ≡ checked_status outcome }
 {
@@ -100,8 +100,8 @@ fn status_of(outcome: Result<bool, Ending>) -> ExitCode
     }
 }
 
-/// Checks the data sheet of a path, as `check_text` does. A file that can't be read is named on `err`. The status is 0
-/// where there is neither fault and all was written, else 1.
+/// Checks the data sheet of a path, as `check_text` does. A file that can't be read is named on
+/// `err`. The status is 0 if there is neither fault and all was written, else 1.
 pub fn check_file<R: Files + AllocGlobal, O: Write, E: Write>(
     rt: &R,
     path: &str,

@@ -1,4 +1,4 @@
-//! A data sheet checked, and what is written of it (CiA 306).
+//! Checking a data sheet (CiA 306), and what is written about it.
 #![tactic(auto)]
 
 mod checked_file;

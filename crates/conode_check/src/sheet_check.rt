@@ -1,4 +1,4 @@
-//! A data sheet checked.
+//! Checking a data sheet.
 
 ghost use Rattle.std.specs.Prelude.{◌≡◌, ◌⊎◌, ◌++◌, map, OnOk, IfOk, IfErr, Err, is_none};
 ghost use Rattle.std.specs.Io.KnownBytes.{Appends, Keeps};
@@ -186,7 +186,7 @@ fn sheet_build_fault(
     }
 }
 
-// the node-ID that a sheet itself has, where none is given
+// the node-ID of a sheet itself, if none is given
 fn own_node(sheet: &Sheet<'_>, node: Option<u8>) -> Option<u8>
     ensures { result ≡ own_node node sheet.now }
 {
@@ -196,7 +196,7 @@ fn own_node(sheet: &Sheet<'_>, node: Option<u8>) -> Option<u8>
     }
 }
 
-// writes what an accepted sheet has, and its build fault; whether it has none
+// writes what an accepted sheet has, and its build fault; returns whether it has none
 fn check_sheet<W: Write>(
     alloc: Global,
     sheet: &Sheet<'_>,
@@ -226,15 +226,16 @@ fn check_sheet<W: Write>(
     Ok(fault.is_none())
 }
 
-/// Checks a data sheet (CiA 306), with a node-ID also whether a dictionary can be built of it, and writes what it has:
-/// `ok: 3 objects, 4 entries, 0 notes`, a line for each note, as `note 12 SubNumber`, and its build fault, as
-/// `build fault 3 BadCobId 1800:01`; or its fault, as `fault 9 BadList line 1`. Whether there is neither a fault nor a
-/// build fault. Where no node-ID is given that of the device commissioning counts, and is written after the notes, as
-/// `node 5`.
+/// Checks a data sheet (CiA 306), and with a node-ID whether a dictionary can be built from it.
+/// Writes what the sheet has: `ok: 3 objects, 4 entries, 0 notes`, a line for each note, as
+/// `note 12 SubNumber`, and its build fault, as `build fault 3 BadCobId 1800:01`. For a text that
+/// is no sheet it writes the fault, as `fault 9 BadList line 1`. Returns whether there is neither a
+/// fault nor a build fault. If no node-ID is given, the sheet's own counts (device commissioning),
+/// and is written after the notes, as `node 5`.
 ///
-/// The dictionary is built before the first line is written, and not kept. `Write` where the writer failed: some of the
-/// lines have been written, and perhaps a part of the next one. `Memory` where memory ran out: some of the lines have
-/// been written, never all.
+/// The dictionary is built before the first line is written, and not kept. `Write` if the writer
+/// failed: some of the lines have been written, and perhaps a part of the next one. `Memory` if
+/// memory ran out: some of the lines have been written, never all.
 #[tactic(auto, using(crate::proofs::CheckLemmas::accepted_text, crate::proofs::CheckLemmas::accepted_good))]
 pub fn check<W: Write>(
     alloc: Global,

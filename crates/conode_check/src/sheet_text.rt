@@ -1,4 +1,4 @@
-//! The lines that are written of a data sheet.
+//! The lines that are written about a data sheet.
 
 ghost use Rattle.std.specs.Prelude.{◌≡◌, OnOk, string_bytes};
 ghost use Rattle.conode_check.specs.SheetTexts.{build_fault_line, fault_line, node_line, note_line, summary_line};
@@ -7,8 +7,8 @@ use co_dict_build::BuildFault;
 use co_sheet::{Note, Sheet, SheetFault};
 use std::alloc::AllocError;
 
-/// Makes the text the line of a fault: its number, its name and its line. On an `Err` memory ran out, and the text
-/// holds a part of the line.
+/// Sets the text to the line of a fault: its number, its name and its line. `Err`: out of memory;
+/// the text then has a part of the line.
 #[tactic(auto, unfolding(crate::specs::SheetTexts::fault_line))]
 pub(crate) fn set_fault_line(text: &mut String, fault: SheetFault) -> Result<(), AllocError>
     ensures { OnOk result (string_bytes text.new ≡ fault_line fault) }
@@ -18,8 +18,8 @@ pub(crate) fn set_fault_line(text: &mut String, fault: SheetFault) -> Result<(),
     text.push('\n')
 }
 
-/// Makes the text the line of a build fault, as `build fault 3 BadCobId 1800:01`. On an `Err` memory ran out, and the
-/// text holds a part of the line.
+/// Sets the text to the line of a build fault, as `build fault 3 BadCobId 1800:01`. `Err`: out of
+/// memory; the text then has a part of the line.
 #[tactic(auto, unfolding(crate::specs::SheetTexts::build_fault_line))]
 pub(crate) fn set_build_fault_line(text: &mut String, fault: BuildFault) -> Result<(), AllocError>
     ensures { OnOk result (string_bytes text.new ≡ build_fault_line fault) }
@@ -29,8 +29,8 @@ pub(crate) fn set_build_fault_line(text: &mut String, fault: BuildFault) -> Resu
     text.push('\n')
 }
 
-/// Makes the text the line of a note: its line and its name. On an `Err` memory ran out, and the text holds a part of
-/// the line.
+/// Sets the text to the line of a note: its line and its name. `Err`: out of memory; the text then
+/// has a part of the line.
 #[tactic(auto, unfolding(crate::specs::SheetTexts::note_line))]
 pub(crate) fn set_note_line(text: &mut String, note: Note) -> Result<(), AllocError>
     ensures { OnOk result (string_bytes text.new ≡ note_line note) }
@@ -40,8 +40,8 @@ pub(crate) fn set_note_line(text: &mut String, note: Note) -> Result<(), AllocEr
     text.push('\n')
 }
 
-/// Makes the text the line of the node-ID that the sheet itself has, as `node 5`. On an `Err` memory ran out, and the
-/// text holds a part of the line.
+/// Sets the text to the line of the sheet's own node-ID, as `node 5`. `Err`: out of memory; the
+/// text then has a part of the line.
 #[tactic(auto, unfolding(crate::specs::SheetTexts::node_line))]
 pub(crate) fn set_node_line(text: &mut String, node: u8) -> Result<(), AllocError>
     ensures { OnOk result (string_bytes text.new ≡ node_line node) }
@@ -50,8 +50,8 @@ pub(crate) fn set_node_line(text: &mut String, node: u8) -> Result<(), AllocErro
     writeln!(text, "node {node}")
 }
 
-/// Makes the text the first line of a sheet that is accepted: how many objects, entries and notes it has. On an `Err`
-/// memory ran out, and the text holds a part of the line.
+/// Sets the text to the first line of an accepted sheet: how many objects, entries and notes it
+/// has. `Err`: out of memory; the text then has a part of the line.
 #[tactic(auto, unfolding(crate::specs::SheetTexts::summary_line))]
 pub(crate) fn set_summary_line(text: &mut String, sheet: &Sheet<'_>) -> Result<(), AllocError>
     ensures { OnOk result (string_bytes text.new ≡ summary_line sheet.now) }

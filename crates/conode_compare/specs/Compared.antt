@@ -1,4 +1,5 @@
--- What is written of a recording that is compared: a line for each difference, in order; and what is known of it at its end.
+-- What is written of a recording that is compared: a line for each difference, in order; and what
+-- is known of it at its end.
 use Rattle.std.specs.Prelude.{ℕ, ◌+◌, ◌==◌, Bool, true, false, nat_lt, ◌||◌, if◌then◌else◌, List, [], ◌∷◌, ◌++◌, length, Option, Some, None, is_none}
 use Rattle.std.specs.Option.{option_map_or}
 use Rattle.std.specs.Str.{bytes_eq}
@@ -23,7 +24,8 @@ use Rattle.conode_compare_text.specs.FindingTexts.{finding_line}
 use Rattle.conode_compare_text.specs.Tallies.{no_frames, tally_with}
 use Rattle.conode_compare.specs.declared.comparing.Comparing.{Comparing}
 
--- what is compared: a device, the entries of its data sheet, the name of the recording, and the interface, if it is named
+-- what is compared: a device, the entries of its data sheet, the name of the recording, and the
+-- interface, if it is named
 pub record Comparison : Type 0 where
   pub subject : Subject
   pub rows : List Row
@@ -106,7 +108,8 @@ line_with c so_far line =
     if nat_lt 512 (length line) then so_far
     else record { log = (says so_far.log line).0; comparing = said_with c so_far.comparing (line_at so_far.log line) }
 
--- Lines from this number on. The last line counts only where it has its line feed: whoever stops a recording cuts it off there.
+-- Lines from this number on. The last line counts only where it has its line feed: whoever stops a
+-- recording cuts it off there.
 unfoldable pub compared_from : Comparison → Bool → ℕ → SoFar → List (List ℕ) → List (List ℕ)
 compared_from c closed number so_far [] = []
 compared_from c closed number so_far (line ∷ []) = if closed then line_lines c number so_far line else []

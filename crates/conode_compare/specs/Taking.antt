@@ -9,7 +9,7 @@ use Rattle.conode_logs.specs.declared.log.Form.{Form}
 use Rattle.conode_compare.specs.declared.comparing.Comparing.{Comparing}
 use Rattle.conode_compare.specs.Compared.{Comparison, SoFar, compared, compared_from, comparing_after, so_far_after}
 
--- known bytes give these lines, and what those that are left give
+-- known bytes give these lines, then those of the bytes that are left
 abbrev pub Gives : Comparison → Option (List ℕ) → Option (List ℕ) → ℕ → ℕ → SoFar → SoFar → List (List ℕ) → Type 0
 Gives c None left number next first last written = ⊤
 Gives c (Some text) None number next first last written = ⊥
@@ -17,8 +17,9 @@ Gives c (Some text) (Some rest) number next first last written =
     (compared_from c (is_closed text) number first (lines text) ≡ written ++ compared_from c (is_closed rest) next last (lines rest))
     × (so_far_after c (is_closed text) first (lines text) ≡ so_far_after c (is_closed rest) last (lines rest))
 
--- Lines were taken, from one number to another: a writer has those of their differences. `held` and `holds` are what is held of
--- the reader before and after, `before` and `after` what is known of its bytes, `old` and `new` the writer's.
+-- Lines were taken, from one number to another: a writer has those of their differences. `held` and
+-- `holds` are what is held of the reader before and after, `before` and `after` what is known of
+-- its bytes, `old` and `new` the writer's.
 pub record Takes (c : Comparison) (held holds : Held) (before after : Option (List ℕ)) (number next : ℕ) (first last : SoFar) (old new : Option (List ℕ)) : Type 0 where
   pub written : List (List ℕ)
   pub appended : WritesLines old new written

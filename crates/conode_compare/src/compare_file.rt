@@ -49,8 +49,8 @@ fn no_frame(tally: Tally) -> bool
     tally.prescribed == 0 && tally.different == 0 && tally.unjudged == 0
 }
 
-// The status of a comparison: 2 where the device isn't seen, or it isn't said on which interface it is; 1 where there is a
-// difference; else 0.
+// The status of a comparison: 2 if no frame of the device came, or frames of several interfaces and
+// none is named; 1 if there is a difference; else 0.
 fn verdict_status(tally: Tally, several: bool) -> u8
     ensures { result ≡ verdict_status tally several }
 {
@@ -182,10 +182,11 @@ fn compare_sheet<R: Files + AllocGlobal + Input, O: Write, E: Write>(
     compare_path(rt, &settings, asked.form, out, err)
 }
 
-/// Compares the recording of a path, or of standard input where that is `-`, with the data sheet of a path: each difference
-/// has a line on `out`, and the last line counts the device's frames by verdict. The status is 0 where there is no difference,
-/// 1 where there is one, and 2 where nothing can be compared: a file that can't be read, a sheet with a fault, no node-ID, no
-/// frame of the node, frames of several interfaces and none of them named.
+/// Compares the recording of a path, or of standard input where that is `-`, with the data sheet of
+/// a path: each difference has a line on `out`, and the last line counts the device's frames by
+/// verdict. The status is 0 where there is no difference, 1 where there is one, and 2 where nothing
+/// can be compared: a file that can't be read, a sheet with a fault, no node-ID, no frame of the
+/// node, frames of several interfaces and none of them named.
 pub fn compare_files<R: Files + AllocGlobal + Input, O: Write, E: Write>(
     rt: &R,
     sheet: &str,

@@ -15,9 +15,9 @@ use conode_logs::Form;
 use std::alloc::Global;
 use std::io::{Read, Write};
 
-/// Compares a log of the form that is given, or that its first lines show, line by line and in constant memory: for each
-/// difference a line is written on `out`. A bad line, or one of more than 512 bytes, is named on `err`, and the rest goes on.
-/// Gives what is known at the end.
+/// Compares a log of the form that is given, or that its first lines show, line by line and in
+/// constant memory: for each difference a line is written on `out`. A bad line, or one of more than
+/// 512 bytes, is named on `err`, and the rest goes on. Returns what is known at the end.
 ///
 /// `out` is flushed before each read, and not while a whole line is held.
 ///
@@ -36,7 +36,7 @@ pub fn compare<R: Read, W: Write, E: Write>(
     ensures known { IfOk result (λ comparing. IfSome (R.remaining reader.old)
         (Compares (comparison_view settings.now) form
         (W.contents out.old) (W.contents out.new) comparing)) }
-    // Whatever the reader: it gave a text, and this is so of that text.
+    // For every reader: it gave some text, and this holds for that text.
     ensures any_reader { IfOk result (λ comparing.
         GaveText (R.remaining reader.old) (R.remaining reader.new)
         (Compares (comparison_view settings.now) form

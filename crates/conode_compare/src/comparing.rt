@@ -37,7 +37,8 @@ pub struct Comparing {
     pub(crate) several: bool,
 }
 
-// whether a frame is of the interface that is compared: the one that is named, else that of the first frame
+// whether a frame is of the interface that is compared: the one that is named, else that of the
+// first frame
 fn is_compared(interface: Option<&[u8]>, first: &[u8], name: &[u8]) -> bool
     ensures { result ≡ is_compared (option_copied interface.entry) first.now name.now }
 {
@@ -60,14 +61,15 @@ impl Comparing {
         }
     }
 
-    /// How many frames of the device have which verdict, and whether there were frames of another interface, where none was named.
+    /// How many frames of the device have which verdict; and whether no interface was named, and
+    /// there were frames of several.
     pub fn ends(&self) -> (Tally, bool)
         ensures { result ≡ (self.now.tally, self.now.several) }
     {
         (self.tally, self.several)
     }
 
-    // takes note of the interface of the first frame
+    // notes the interface of the first frame
     fn note_first(&mut self, name: &[u8])
         requires { length name.now ≤ 15 }
         ensures { self.new ≡ record self.old { first = first_with self.old.first name.now } }
@@ -78,7 +80,7 @@ impl Comparing {
         }
     }
 
-    // takes note of a frame of another interface
+    // notes a frame of another interface
     fn note_other(&mut self, interface: Option<&[u8]>)
         ensures { self.new ≡ other_seen (option_copied interface.entry) self.old }
     {

@@ -39,7 +39,7 @@ pub(crate) struct Lines {
 /// The words for a line of more than 512 bytes.
 const TOO_LONG: &str = "longer than 512 bytes";
 
-// Names a bad line. Where even this can't be written, nothing tells of it.
+// Names a bad line on `err`. If that can't be written, nothing shows it.
 fn name_bad_line<E: Write>(number: u64, words: &str, err: &mut E) {
     let _ = writeln!(err, "line {number}: {words}");
 }
@@ -144,7 +144,8 @@ impl Lines {
         Ok(())
     }
 
-    /// Takes the next line: writes the lines of its differences, or names it where it is bad. `None` where no line is left.
+    /// Takes the next line: writes the lines of its differences, or names it where it is bad.
+    /// `None` where no line is left.
     pub(crate) fn take_line<R: Read, W: Write, E: Write>(
         &mut self,
         reader: &mut R,

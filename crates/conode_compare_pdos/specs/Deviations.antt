@@ -1,4 +1,4 @@
--- What a TPDO is otherwise than CiA 301 prescribes (7.2.2, 7.3.2.2 and 7.5.2.37).
+-- Where a TPDO differs from CiA 301 (7.2.2, 7.3.2.2 and 7.5.2.37).
 use Rattle.std.specs.Prelude.{ℕ, ◌+◌, ◌-◌, ◌*◌, ◌/◌, ◌==◌, nat_lt, nat_le, Bool, true, false, ◌&&◌, ◌||◌, if◌then◌else◌, Option, Some, None, is_some}
 use Rattle.conode_compare_pdos.specs.declared.deviation.Deviation.{Deviation}
 use Rattle.conode_compare_pdos.specs.declared.deviation.Deviation.TheVariants.{Length, NotOperational, WithoutSync, Inhibit, Timer}
@@ -43,11 +43,13 @@ sync_deviation has_sync pdo =
 abbrev pub least_gap : Moment → ℕ → ℕ
 least_gap moment inhibit = (inhibit * 100 - micros_of moment.tolerance) - drift_of moment (inhibit / 10)
 
--- how many microseconds two frames are apart at most: an event that falls within the inhibit time is sent after it
+-- how many microseconds two frames are apart at most: an event that falls within the inhibit time
+-- is sent after it
 abbrev pub greatest_gap : Moment → ℕ → ℕ → ℕ
 greatest_gap moment inhibit timer = micros_of timer + inhibit * 100 + micros_of moment.tolerance + drift_of moment timer + drift_of moment (inhibit / 10)
 
--- `pdo-inhibit`: a frame within the inhibit time of the one before, which may have waited for a free bus
+-- `pdo-inhibit`: a frame within the inhibit time of the one before, which may have waited for a
+-- free bus
 abbrev pub inhibit_deviation : Moment → ℕ → Sent → Option Deviation
 inhibit_deviation moment inhibit sent =
     if nat_lt (moment.micros - sent.free) (least_gap moment inhibit) then Some (Inhibit (moment.micros - sent.micros) inhibit) else None

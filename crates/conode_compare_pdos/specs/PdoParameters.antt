@@ -1,4 +1,5 @@
--- The parameters of a TPDO (CiA 301, 7.5.2.37 and 7.5.2.38), as far as the data sheet and a recording show them.
+-- The parameters of a TPDO (CiA 301, 7.5.2.37 and 7.5.2.38), as far as the data sheet and a
+-- recording show them.
 use Rattle.std.specs.Prelude.{ℕ, ◌+◌, ◌*◌, ◌/◌, ◌%◌, ◌==◌, nat_lt, nat_le, ◌&&◌, if◌then◌else◌, List, [], ◌∷◌, Option, Some, None, option_and_then}
 use Rattle.co_sheet.specs.Content.{Row}
 use Rattle.co_value.specs.declared.key.Key.{Key}
@@ -20,7 +21,8 @@ key_of index sub = record { index = index; sub = sub }
 
 -- ---- a data sheet
 
--- the identifier of 11 bits in a COB-ID: bit 31, the PDO doesn't exist, and bit 29, an identifier of 29 bits, aren't set
+-- the identifier of 11 bits in a COB-ID: bit 31, the PDO doesn't exist, and bit 29, an identifier
+-- of 29 bits, aren't set
 abbrev pub identifier_of : ℕ → Option ℕ
 identifier_of number = if nat_lt number 0x80000000 && (number / 0x20000000 % 2 == 0) then Some (number % 0x800) else None
 
@@ -38,7 +40,8 @@ abbrev pub with_object : List Row → ℕ → ℕ → ℕ → ℕ → Option ℕ
 with_object rows node index count sub bytes =
     if nat_le sub count then summed bytes (option_and_then mapped_bytes (preset_at rows node (key_of index sub))) else bytes
 
--- the bytes of the first objects of a mapping, at most eight; that of a device that multiplexes PDOs has more
+-- the bytes of the first objects of a mapping, at most eight; that of a device that multiplexes
+-- PDOs has more
 unfoldable pub counted_bytes : List Row → ℕ → ℕ → ℕ → Option ℕ
 counted_bytes rows node index count =
     with_object rows node index count 8 (with_object rows node index count 7 (with_object rows node index count 6

@@ -1,4 +1,5 @@
--- A TPDO in a recording: its parameters, its newest frame, and the SYNCs that it may answer (CiA 301, 7.2.2).
+-- A TPDO in a recording: its parameters, its newest frame, and the SYNCs that it may answer (CiA
+-- 301, 7.2.2).
 use Rattle.std.specs.Prelude.{ℕ, ◌+◌, ◌-◌, ◌==◌, nat_le, Bool, true, false, if◌then◌else◌, Option, Some, None}
 use Rattle.co_value.specs.declared.key.Key.{Key}
 use Rattle.conode_explain_transfers.specs.declared.ended.Ended.{Ended}
@@ -11,8 +12,8 @@ use Rattle.conode_compare_pdos.specs.declared.parameters.Parameters.{Parameters}
 use Rattle.conode_compare_pdos.specs.declared.tpdo.Tpdo.{Tpdo}
 use Rattle.conode_compare_pdos.specs.PdoParameters.{asked_to_write, communication, mapping, nothing_known, shown}
 
--- After a boot-up each SYNC is recorded; where one may be missing, one or two may stand out: a slow device may answer a SYNC
--- after the next one came.
+-- A slow device may answer a SYNC after the next one came, so two may be unanswered. So it is
+-- assumed where frames may be missing; after a boot-up each SYNC is in the recording.
 abbrev pub most_syncs : ℕ
 most_syncs = 2
 

@@ -1,4 +1,4 @@
-//! What a TPDO is otherwise than CiA 301 prescribes (7.2.2, 7.3.2.2 and 7.5.2.37).
+//! Where a TPDO differs from CiA 301 (7.2.2, 7.3.2.2 and 7.5.2.37).
 
 ghost use Rattle.std.specs.Prelude.{◌≡◌, ◌<◌, ◌^◌};
 ghost use Rattle.conode_compare_pdos.specs.Deviations.{
@@ -31,7 +31,8 @@ pub enum Deviation {
     NotOperational,
     /// `pdo-sync`: it is synchronous, and since its last one no SYNC came.
     WithoutSync,
-    /// `pdo-inhibit`: so many microseconds since the last one, and the inhibit time has so many 100 µs.
+    /// `pdo-inhibit`: so many microseconds since the last one, and the inhibit time has so many 100
+    /// µs.
     Inhibit(u64, u16),
     /// `pdo-late`: so many microseconds since the last one, and the event timer has so many ms.
     Timer(u64, u16),
@@ -190,7 +191,8 @@ fn time_deviation(moment: &Moment, pdo: &Tpdo) -> Option<Deviation>
     timed(moment, pdo.parameters.timer, inhibit, sent)
 }
 
-/// The difference of a frame of a TPDO with so many bytes, where its parameters are settled; whether SYNC is known.
+/// The difference of a frame of a TPDO with so many bytes, where its parameters are settled;
+/// `has_sync`: the COB-ID of SYNC is known.
 #[tactic(auto, unfolding(crate::specs::Deviations::deviation_at))]
 pub(crate) fn deviation_at(
     moment: &Moment,

@@ -1,5 +1,6 @@
-//! The TPDOs of a device in a recording, and what they are otherwise than CiA 301 prescribes for its data sheet: the number of
-//! their bytes, the state of the device, SYNC, the inhibit time and the event timer.
+//! The TPDOs of a device in a recording, and where they differ from what CiA 301 prescribes for its
+//! data sheet: the number of their bytes, the state of the device, SYNC, the inhibit time and the
+//! event timer.
 #![tactic(auto)]
 
 mod deviation;

@@ -52,7 +52,8 @@ pub(crate) fn tiny(number: Option<u64>) -> Option<u8>
     }
 }
 
-/// The number that an entry of a data sheet begins with, for a node; the entries are in increasing key.
+/// The number that an entry of a data sheet begins with, for a node; the entries are in increasing
+/// key.
 pub fn preset_at(rows: &[EntryRow<'_>], node: u8, key: Key) -> Option<u64>
     requires { AllPairs (λ e f. is_key_before e.key f.key ≡ true) rows.now }
     ensures { result ≡ preset_at (map row_view rows.now) node key }

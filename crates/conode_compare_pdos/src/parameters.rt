@@ -1,4 +1,5 @@
-//! The parameters of a TPDO, as far as the data sheet and a recording show them (CiA 301, 7.5.2.37 and 7.5.2.38).
+//! The parameters of a TPDO, as far as the data sheet and a recording show them (CiA 301, 7.5.2.37
+//! and 7.5.2.38).
 
 ghost use Rattle.std.specs.Prelude.{◌≡◌, ◌<◌, true, map};
 ghost use Rattle.std.specs.List.{AllPairs};
@@ -183,7 +184,8 @@ impl Parameters {
         }
     }
 
-    /// What a data sheet, whose entries are in increasing key, has of the TPDO with this number, from 0 on.
+    /// What a data sheet, whose entries are in increasing key, has of the TPDO with this number,
+    /// from 0 on.
     #[tactic(auto, unfolding(crate::specs::PdoParameters::parameters_of))]
     pub(crate) fn of(rows: &[EntryRow<'_>], node: u8, number: u8) -> Parameters
         requires { AllPairs (λ e f. is_key_before e.key f.key ≡ true) rows.now }
@@ -202,7 +204,8 @@ impl Parameters {
         }
     }
 
-    /// A download to a sub-index of its communication parameter is requested: what that has is unknown until it is answered.
+    /// A download to a sub-index of its communication parameter is requested: what that has is
+    /// unknown until it is answered.
     pub(crate) fn asked_to_write(self, sub: u8) -> Parameters
         ensures { result ≡ asked_to_write self sub }
     {
@@ -217,7 +220,8 @@ impl Parameters {
         parameters
     }
 
-    /// An expedited transfer of a sub-index of its communication parameter is done: it shows what that has.
+    /// An expedited transfer of a sub-index of its communication parameter is done: it shows what
+    /// that has.
     pub(crate) fn shown(self, sub: u8, bytes: &[u8]) -> Parameters
         ensures { result ≡ shown self sub bytes.now }
     {

@@ -34,8 +34,11 @@ pub struct Pdos {
     pub sync: Option<u16>,
     /// By 1800h and 1A00h.
     pub first: Tpdo,
+    /// By 1801h and 1A01h.
     pub second: Tpdo,
+    /// By 1802h and 1A02h.
     pub third: Tpdo,
+    /// By 1803h and 1A03h.
     pub fourth: Tpdo,
 }
 
@@ -44,11 +47,14 @@ pub struct Pdos {
 pub struct Sighting {
     /// Which one it is, from 1 on.
     pub number: u8,
+    /// Its difference, if it has one.
     pub deviation: Option<Deviation>,
+    /// Whether the frame is judged.
     pub judged: bool,
 }
 
-/// What a data sheet, whose entries are in increasing key, has of the TPDOs of the device with a node-ID.
+/// What a data sheet, whose entries are in increasing key, has of the TPDOs of the device with a
+/// node-ID.
 #[tactic(auto, unfolding(crate::specs::Followed::pdos_of))]
 pub fn pdos_of(rows: &[EntryRow<'_>], node: u8) -> Pdos
     requires { AllPairs (λ e f. is_key_before e.key f.key ≡ true) rows.now }
@@ -181,7 +187,8 @@ impl Pdos {
         self.fourth = self.fourth.after_frame(moment, id);
     }
 
-    /// What is said of a data frame with this identifier and so many bytes, where it is of one of the TPDOs.
+    /// What is said of a data frame with this identifier and so many bytes, where it is of one of
+    /// the TPDOs.
     #[tactic(auto, unfolding(crate::specs::Followed::sighting))]
     pub fn sighting(&self, moment: &Moment, id: u16, length: u8) -> Option<Sighting>
         ensures { result ≡ sighting moment.now self.now id length }

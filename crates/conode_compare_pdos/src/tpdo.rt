@@ -1,4 +1,5 @@
-//! A TPDO in a recording: its parameters, its newest frame, and the SYNCs that it may answer (CiA 301, 7.2.2).
+//! A TPDO in a recording: its parameters, its newest frame, and the SYNCs that it may answer (CiA
+//! 301, 7.2.2).
 
 ghost use Rattle.std.specs.Prelude.{◌≡◌};
 ghost use Rattle.conode_compare_pdos.specs.Tpdos.{
@@ -33,8 +34,9 @@ pub struct Sent {
 /// What a recording shows of a TPDO.
 #[derive(Clone, Copy)]
 pub struct Tpdo {
+    /// Its parameters, as far as they are known.
     pub parameters: Parameters,
-    /// Its newest frame, where its times count from that.
+    /// Its newest frame; `None` where its times count anew from the next one.
     pub sent: Option<Sent>,
     /// How many SYNCs it may answer, at most two.
     pub syncs: u8,
@@ -42,7 +44,7 @@ pub struct Tpdo {
     pub changed: Option<u64>,
 }
 
-// how many SYNCs may stand out at most
+// how many SYNCs may be unanswered at most
 const MOST_SYNCS: u8 = 2;
 
 /// Whether an identifier is known to be this one.
@@ -130,7 +132,8 @@ impl Tpdo {
         }
     }
 
-    /// A remote frame with this identifier came: where it asks for the TPDO, that is sent without an event.
+    /// A remote frame with this identifier came: where it asks for the TPDO, that is sent without
+    /// an event.
     pub(crate) fn after_poll(self, id: u16) -> Tpdo
         ensures { result ≡ after_poll id self }
     {

@@ -26,7 +26,8 @@ use Rattle.conode_compare_rules.specs.SheetValues.{end_finding}
 use Rattle.conode_compare_rules.specs.States.{is_settled}
 use Rattle.conode_compare_rules.specs.Times.{is_past}
 
--- storing and restoring parameters, and what a program is loaded by (1F00h to 1FFFh, CiA 302), may take long
+-- storing and restoring parameters, and what a program is loaded by (1F00h to 1FFFh, CiA 302), may
+-- take long
 abbrev pub is_timed : Key → Bool
 is_timed key =
     not (key.index == store_parameters) && (not (key.index == restore_parameters) && not (nat_le 0x1F00 key.index && nat_le key.index 0x1FFF))
@@ -86,7 +87,7 @@ abbrev pub first_of : Option Finding → Option Finding → Option Finding
 first_of (Some finding) other = Some finding
 first_of None other = other
 
--- an answer that took too long, of a request that is owed one
+-- an answer that took too long, to a request that it is owed
 abbrev pub overdue_answer : Limits → Exchange → ℕ → Option Finding
 overdue_answer limits exchange micros = if exchange.owed then late_answer limits exchange.asked micros else None
 
@@ -103,7 +104,8 @@ answer_finding subject rows micros exchange frame =
     if exchange.certain then first_of (overdue_answer subject.limits exchange micros) (known_answer subject rows exchange frame)
     else None
 
--- `answer-state`: the answer to a request that came when the device was stopped, and the tolerance after the command was over
+-- `answer-state`: the answer to a request that came while the device was stopped, once the
+-- tolerance after the command was over
 abbrev pub stopped_with : Limits → ℕ → Nmt → Option Asked → Option Finding
 stopped_with limits started nmt None = None
 stopped_with limits started nmt (Some asked) =

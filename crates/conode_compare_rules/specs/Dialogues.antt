@@ -1,4 +1,5 @@
--- The default SDO channel of a device (CiA 301, 7.2.4): which request a frame answers. The transfers in it are those of `followed`.
+-- The default SDO channel of a device (CiA 301, 7.2.4): which request a frame answers. The
+-- transfers in it are those of `followed`.
 use Rattle.std.specs.Prelude.{ℕ, ◌/◌, ◌==◌, Bool, true, false, not, ◌&&◌, ◌||◌, if◌then◌else◌, Option, Some, None, is_some}
 use Rattle.std.specs.Option.{option_map_or}
 use Rattle.co_frame.specs.FrameContent.{FrameContent}
@@ -40,8 +41,8 @@ asked_after what micros frame = None
 
 -- ---- doubts
 
--- A transfer that both ends know to have ended; block transfers aren't judged. An abort of another entry answers an earlier
--- request.
+-- A transfer that both ends know to have ended; of a block transfer that isn't assumed. An abort of
+-- another entry answers an earlier request.
 abbrev pub is_block : Protocol → Bool
 is_block Block = true
 is_block other = false
@@ -72,7 +73,8 @@ abbrev pub is_odd : Side → What → Bool
 is_odd Server what = not (continues what)
 is_odd Client what = not (is_initiate what || continues what)
 
--- After a frame an earlier request may still be answered: a transfer was left, or the frame goes on with none.
+-- After a frame an earlier request may still be answered: a transfer was left, or the frame goes on
+-- with none.
 abbrev pub leaves_request_open : Side → Heard → FrameContent → Bool
 leaves_request_open side heard frame = is_odd side heard.what || ends_in_doubt heard.ended frame
 
@@ -81,8 +83,9 @@ unfoldable pub is_certain : Limits → ℕ → Option ℕ → ℕ → Bool
 is_certain limits started doubted micros =
     is_past started limits.answer micros && option_map_or (λ d. is_past d limits.answer micros) doubted true
 
--- The request before a frame can be held against the device: none before it could still be answered when it came. A server that
--- still awaits the segments of a block download takes another request as one of them.
+-- The device owes an answer to the request before a frame: no earlier one could still be answered
+-- when it came. A server that still awaits the segments of a block download takes another request
+-- as one of them.
 abbrev pub owes : Limits → ℕ → Dialogue → Bool
 owes limits started dialogue = option_map_or (λ a. is_certain limits started dialogue.doubted a.micros) dialogue.asked false
 
@@ -116,11 +119,12 @@ dialogue_heard limits started dialogue micros side frame =
       newest = newest_heard (is_certain limits started doubted micros) side f.says.what dialogue.newest;
     }
 
--- what was asked isn't answered in time
+-- the request wasn't answered in time
 abbrev pub given_up : Dialogue → ℕ → Dialogue
 given_up dialogue micros = record { channel = dialogue.channel; asked = None; doubted = Some micros; newest = None }
 
--- after a reset, a boot-up or an error frame nothing is open any more; what was may be answered all the same
+-- after a reset, a boot-up or an error frame nothing is open any more; what was may be answered all
+-- the same
 abbrev pub interrupted : Dialogue → ℕ → Dialogue
 interrupted dialogue micros = record {
   channel = after_boot dialogue.channel;

@@ -10,7 +10,8 @@ use Rattle.conode_compare_rules.specs.declared.limits.Limits.{Limits}
 use Rattle.conode_compare_rules.specs.States.{is_initialising}
 use Rattle.conode_compare_rules.specs.Times.{micros_of, drift_of, is_past}
 
--- bit 0 of the error register is set; or no bit is, and the code is one of "error reset or no error", 00xxh
+-- bit 0 of the error register is set; or no bit is, and the code is one of "error reset or no
+-- error", 00xxh
 abbrev pub has_register : ℕ → ℕ → Bool
 has_register code register = (register % 2 == 1) || ((register == 0) && nat_lt code 0x100)
 
@@ -21,7 +22,8 @@ least_gap limits inhibit = (inhibit * 100 - micros_of limits.tolerance) - drift_
 abbrev pub gap_finding : Limits → ℕ → ℕ → Option Finding
 gap_finding limits inhibit passed = if nat_lt passed (least_gap limits inhibit) then Some (EmergencyInhibit passed inhibit) else None
 
--- an EMCY came when the inhibit time was in force: the tolerance after a transfer showed it was over
+-- an EMCY came when the inhibit time was in force: the tolerance after a transfer showed it was
+-- over
 abbrev pub is_in_force : Limits → Option ℕ → ℕ → Bool
 is_in_force limits shown last = option_map_or (λ s. is_past s limits.tolerance last) shown true
 
@@ -39,8 +41,8 @@ abbrev pub is_stopped : NmtState → Bool
 is_stopped Stopped = true
 is_stopped other = false
 
--- `emcy-state`, once the state is settled, `emcy-register`, `emcy-inhibit`: the first of them. None where the identifier may not
--- be that of its EMCY, and none while the boot-up is awaited.
+-- `emcy-state`, once the state is settled, `emcy-register`, `emcy-inhibit`: the first of them. None
+-- where the identifier may not be that of its EMCY, and none while the boot-up is awaited.
 unfoldable pub emergency_finding : Limits → Entries → NmtState → Bool → Option ℕ → ℕ → ℕ → ℕ → Option Finding
 emergency_finding limits entries state settled last micros code register =
     if not entries.emergencies || is_initialising state then None

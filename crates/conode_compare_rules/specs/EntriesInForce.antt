@@ -1,5 +1,5 @@
--- The entries that say what a device sends by itself: by its data sheet (CiA 301, 7.5.2.17, 7.5.2.18 and 7.5.2.20), and by
--- what a recording shows.
+-- The entries that say what a device sends by itself: by its data sheet (CiA 301, 7.5.2.17,
+-- 7.5.2.18 and 7.5.2.20), and by what a recording shows.
 use Rattle.std.specs.Prelude.{ℕ, ◌+◌, ◌==◌, Bool, true, false, not, ◌&&◌, ◌||◌, if◌then◌else◌, List, Option, Some, None, is_some}
 use Rattle.std.specs.Option.{option_map_or}
 use Rattle.co_profile.specs.declared.access.Access.{Access}
@@ -68,8 +68,9 @@ nmt_startup = 0x1F80
 abbrev pub module_list : ℕ
 module_list = 0x1027
 
--- Before a boot-up only what never changes is known. After one what the data sheet has is; but where the device can store
--- parameters, it may have stored others, and the values of a configuration (DCF) are written by a master, or not yet.
+-- Before a boot-up only what never changes is known. After one what the data sheet has is; but
+-- where the device can store parameters, it may have stored others, and the values of a
+-- configuration (DCF) are written by a master, or not yet.
 unfoldable pub facts_of : List Row → ℕ → Bool → Facts
 facts_of rows node configured =
     let sheet = sheet_entries rows node in

@@ -1,4 +1,5 @@
--- What a frame of a recording is to the device that is compared (CiA 301, 7.3.3, pre-defined connection set).
+-- What a frame of a recording is to the device that is compared (CiA 301, 7.3.3, pre-defined
+-- connection set).
 use Rattle.std.specs.Prelude.{ℕ, ◌+◌, ◌==◌, ◌||◌, if◌then◌else◌, length, slice_index, Option, Some, None}
 use Rattle.co_frame.specs.FrameContent.{FrameContent}
 use Rattle.co_frame.specs.declared.emergency.Emergency.{Emergency}

@@ -18,19 +18,20 @@ after_byte heartbeats micros byte = record { guarded = heartbeats.guarded || is_
 abbrev pub allowance : Limits → ℕ → ℕ
 allowance limits period = micros_of period + micros_of limits.tolerance + drift_of limits period
 
--- Nothing at all was recorded for longer than three periods; where none is known, or no heartbeat is sent, for longer than an
--- answer may take: the recorder may have rested.
+-- Nothing at all was recorded for longer than three periods; where none is known, or no heartbeat
+-- is sent, for longer than an answer may take: the recorder may have rested.
 abbrev pub is_gap : Limits → Option ℕ → ℕ → ℕ → Bool
 is_gap limits None newest micros = is_past newest limits.answer micros
 is_gap limits (Some period) newest micros =
     if nat_lt 0 period then nat_lt (3 * micros_of period) (micros - newest) else is_past newest limits.answer micros
 
--- A frame that ends within 1.5 ms after another one may have waited for it: at 100 kbit/s one of eight bytes takes 1.35 ms.
+-- A frame that ends within 1.5 ms after another one may have waited for it: at 100 kbit/s one of
+-- eight bytes takes 1.35 ms.
 abbrev pub follows_closely : ℕ → ℕ → Bool
 follows_closely newest micros = nat_le (micros - newest) 1500
 
--- How long the next one is awaited, where that is too long, and the period; with a period of 0 none is sent. Error control has
--- the lowest priority: it counts when the bus was free last, `free`.
+-- How long the next one is awaited, where that is too long, and the period; with a period of 0 none
+-- is sent. Error control has the lowest priority: it counts when the bus was free last, `free`.
 abbrev pub overdue_for : Limits → Bool → ℕ → ℕ → ℕ → ℕ → Option (ℕ × ℕ)
 overdue_for limits guarded period since free micros =
     if guarded || ((period == 0) || nat_le (free - since) (allowance limits period)) then None else Some (micros - since, period)

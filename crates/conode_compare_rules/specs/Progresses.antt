@@ -1,4 +1,4 @@
--- What a recording shows of a device, frame by frame, and what it does otherwise than CiA 301 prescribes.
+-- What a recording shows of a device, frame by frame, and where it differs from CiA 301.
 use Rattle.std.specs.Prelude.{ℕ, ◌==◌, nat_lt, Bool, true, false, not, ◌&&◌, ◌||◌, if◌then◌else◌, List, Option, Some, None, is_some, option_map}
 use Rattle.std.specs.Option.{option_map_or}
 use Rattle.co_frame.specs.FrameContent.{FrameContent}
@@ -53,7 +53,8 @@ before_recording subject = record {
   pdos = tpdos.unknown_pdos;
 }
 
--- a recording begins anew at its first frame, where a stamp steps back, and where the recorder may have rested
+-- a recording begins anew at its first frame, where a stamp steps back, and where the recorder may
+-- have rested
 abbrev pub anew_after : Limits → Option ℕ → Option ℕ → ℕ → Bool
 anew_after limits period None micros = true
 anew_after limits period (Some newest) micros = nat_lt micros newest || is_gap limits period newest micros
@@ -118,7 +119,8 @@ unfoldable pub boot_findings : Subject → Progress → ℕ → Findings
 boot_findings subject progress micros =
     found None None None (control_finding subject progress.started progress.heartbeats.guarded progress.nmt micros 0) true
 
--- the entries have what the data sheet says, as far as that is known, and the next heartbeat is awaited
+-- the entries have what the data sheet says, as far as that is known, and the next heartbeat is
+-- awaited
 unfoldable pub booted : Subject → Progress → ℕ → Progress
 booted subject progress micros = record progress {
   nmt = states.after_control subject.limits progress.started progress.nmt micros 0;
@@ -271,7 +273,8 @@ answer_findings subject rows progress micros frame =
 unfoldable pub after_answer : Subject → Progress → ℕ → FrameContent → Progress
 after_answer subject progress micros frame = after_sdo subject (answer_noted subject progress micros) micros Server frame
 
--- a request, or another frame of the client: with one that ends a block upload the device's end of it counts
+-- a request, or another frame of the client: with one that ends a block upload the device's end of
+-- it counts
 abbrev pub confirmed_findings : Option Finding → Findings
 confirmed_findings None = nothing_found
 confirmed_findings (Some finding) = found None None None (Some finding) false

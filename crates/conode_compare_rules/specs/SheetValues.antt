@@ -1,4 +1,5 @@
--- The end of a transfer, held against the row of its entry in the data sheet (CiA 301, 7.4 and 7.2.4.3; CiA 306).
+-- The end of a transfer, compared with the row of its entry in the data sheet (CiA 301, 7.4 and
+-- 7.2.4.3; CiA 306).
 use Rattle.std.specs.Prelude.{ℕ, ◌==◌, nat_lt, nat_le, Bool, true, false, not, ◌&&◌, ◌||◌, if◌then◌else◌, List, length, take, Option, Some, None, option_and_then}
 use Rattle.co_frame.specs.declared.abort_code.AbortCode.{AbortCode}
 use Rattle.co_frame.specs.AbortCodes.{write_only, object_missing, sub_index_missing}
@@ -30,8 +31,8 @@ use Rattle.conode_compare_rules.specs.EntriesInForce.{is_constant_access}
 abbrev pub identity : ℕ
 identity = 0x1018
 
--- Values that are held to the data sheet: the device type, vendor-ID and product code, and what never changes. The revision
--- and serial number of a device are its own.
+-- Values that are compared with the data sheet: the device type, vendor-ID and product code, and
+-- what never changes. The revision and serial number of a device are its own.
 abbrev pub is_held : Row → Bool
 is_held row =
     if row.key.index == identity then (row.key.sub == 1) || (row.key.sub == 2)
@@ -44,13 +45,14 @@ held_number node row = if is_held row then number_of node row.default else None
 abbrev pub shown_number : ℕ → List ℕ → Option ℕ
 shown_number width bytes = if nat_le width 4 && nat_le width (length bytes) then Some (unsigned_of (take width bytes)) else None
 
--- `value-const`: another number than the one that is held
+-- `value-const`: another number than the data sheet's
 abbrev pub constant_finding : Key → Option ℕ → Option ℕ → Option Finding
 constant_finding key None held = None
 constant_finding key (Some shown) None = None
 constant_finding key (Some shown) (Some held) = if shown == held then None else Some (ValueConst key shown held)
 
--- `value-length`: a number has as many bytes as its type, where their number is indicated; one of more than four isn't expedited
+-- `value-length`: a number has as many bytes as its type, where their number is indicated; one of
+-- more than four isn't expedited
 abbrev pub number_finding : ℕ → Row → Bool → List ℕ → ℕ → Option Finding
 number_finding node row indicated bytes width =
     if nat_lt 4 width || (indicated && not (width == length bytes)) then Some (ValueLength row.key (length bytes) width)
@@ -70,12 +72,13 @@ is_read_only Ro = true
 is_read_only Constant = true
 is_read_only other = false
 
--- A code that says that the entry can't be read at all. A sub-index may be missing where the number of them varies; sub-index 0
--- is always there.
+-- A code that says that the entry can't be read at all. A sub-index may be missing where the number
+-- of them varies; sub-index 0 is always there.
 abbrev pub denies : Key → ℕ → Bool
 denies key code = (code == write_only) || ((key.sub == 0) && ((code == object_missing) || (code == sub_index_missing)))
 
--- `access-read`: the data sheet has the entry as readable; modules decide which entries a modular device has
+-- `access-read`: the data sheet has the entry as readable; modules decide which entries a modular
+-- device has
 abbrev pub refused_finding : Bool → Row → AbortCode → Option Finding
 refused_finding modular row code =
     if not modular && (denies row.key code.0 && is_readable row.access) then Some (ReadRefused row.key code) else None

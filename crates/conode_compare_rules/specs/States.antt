@@ -1,4 +1,5 @@
--- The NMT state of a device, as commands and its own frames have it (CiA 301, 7.3.2.2), and what it does otherwise.
+-- The NMT state of a device, as commands and its own frames have it (CiA 301, 7.3.2.2), and what it
+-- does otherwise.
 use Rattle.std.specs.Prelude.{ℕ, ◌-◌, ◌==◌, Bool, true, false, not, ◌&&◌, ◌||◌, if◌then◌else◌, Option, Some, None, is_some, option_map, option_and_then}
 use Rattle.std.specs.Option.{option_map_or}
 use Rattle.co_frame.specs.declared.nmt.NmtService.{NmtService}
@@ -43,7 +44,8 @@ is_up Unknown = false
 is_up Initialising = false
 is_up state = true
 
--- More than one boot-up may come: a reset is commanded, and one that was commanded before, or power on, may not have its boot-up yet.
+-- More than one boot-up may come: a reset is commanded, and one that was commanded before, or power
+-- on, may not have its boot-up yet.
 abbrev pub several_after : NmtService → Nmt → Bool
 several_after service nmt = nmt.several || (is_reset service && not (is_up nmt.state))
 
@@ -58,7 +60,8 @@ after_command nmt service micros = record {
 
 -- ---- boot-ups
 
--- A boot-up is overdue after a reset command, whichever other commands follow: since then so much time has passed.
+-- A boot-up is overdue after a reset command, whichever other commands follow: since then so much
+-- time has passed.
 abbrev pub overdue_since : Limits → ℕ → ℕ → Option ℕ
 overdue_since limits reset micros = if is_past reset limits.boot micros then Some (micros - reset) else None
 
@@ -73,13 +76,14 @@ awaits_boot_up limits nmt micros = overdue_in limits nmt.state nmt.reset micros
 unfoldable pub boot_finding : Limits → Nmt → ℕ → Option Finding
 boot_finding limits nmt micros = option_map (λ waited. BootMissing waited) (awaits_boot_up limits nmt micros)
 
--- `second-sender`: another boot-up within a second, nothing between them, and only one was due. A device that is switched off and on
--- by hand takes longer.
+-- `second-sender`: another boot-up within a second, nothing between them, and only one was due. A
+-- device that is switched off and on by hand takes longer.
 unfoldable pub second_boot_up : Option ℕ → ℕ → Option Finding
 second_boot_up None micros = None
 second_boot_up (Some booted) micros = if is_past booted 1000 micros then None else Some (SecondBootUp (micros - booted))
 
--- After a boot-up a device is pre-operational. Where another command than a reset came shortly before, it may have taken it.
+-- After a boot-up a device is pre-operational. Where another command than a reset came shortly
+-- before, it may have taken it.
 abbrev pub boots_known : Limits → Option Commanded → ℕ → Bool
 boots_known limits commanded micros = option_map_or (λ c. is_reset c.service || is_past c.micros limits.boot micros) commanded true
 
@@ -92,7 +96,8 @@ after_boot_up limits nmt micros = record {
   booted = if nmt.several then None else Some micros;
 }
 
--- more than one boot-up may still come: the newest reset isn't so old that its boot-up would be overdue
+-- more than one boot-up may still come: the newest reset isn't so old that its boot-up would be
+-- overdue
 abbrev pub several_left : Limits → Nmt → ℕ → Bool
 several_left limits nmt micros = option_map_or (λ reset. nmt.several && not (is_past reset limits.boot micros)) nmt.reset false
 
@@ -113,7 +118,8 @@ unfoldable pub is_settled : Limits → ℕ → Option Commanded → ℕ → Bool
 is_settled limits started commanded micros =
     is_past started limits.tolerance micros && option_map_or (λ c. is_past c.micros limits.tolerance micros) commanded true
 
--- a state with its toggle bit set: an answer of node guarding, whether its remote frame was recorded or not
+-- a state with its toggle bit set: an answer of node guarding, whether its remote frame was
+-- recorded or not
 abbrev pub is_guarded_state : ℕ → Bool
 is_guarded_state byte = (byte == 0x84) || ((byte == 0x85) || (byte == 0xFF))
 
@@ -123,8 +129,9 @@ is_state byte = (byte == 4) || ((byte == 5) || (byte == 127))
 abbrev pub state_of : ℕ → NmtState
 state_of byte = if byte == 4 then Stopped else (if byte == 5 then Operational else (if byte == 127 then PreOperational else Unknown))
 
--- A device becomes operational by a command alone, unless its NMT startup (1F80h) may say otherwise, and leaves stopped by a
--- command alone. From operational it may fall back by itself, at a failure (1029h).
+-- A device becomes operational by a command alone, unless its NMT startup (1F80h) may say
+-- otherwise, and leaves stopped by a command alone. From operational it may fall back by itself, at
+-- a failure (1029h).
 abbrev pub is_wrong : Bool → NmtState → NmtState → Bool
 is_wrong starts_itself PreOperational Operational = not starts_itself
 is_wrong starts_itself Stopped Operational = true

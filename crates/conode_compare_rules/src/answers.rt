@@ -144,7 +144,7 @@ fn what_finding(
     }
 }
 
-// an answer that took too long, of a request that is owed one
+// an answer that took too long, to a request that it is owed
 fn overdue_answer(limits: &Limits, exchange: &Exchange, micros: u64) -> Option<Finding>
     ensures { result ≡ overdue_answer limits.now exchange.now micros }
 {
@@ -190,7 +190,8 @@ fn known_answer(
     )
 }
 
-/// The difference of an answer while stopped, to a request that came after the command and the tolerance.
+/// `answer-state`: the answer to a request that came while the device was stopped, once the
+/// tolerance after the command was over.
 #[tactic(auto, unfolding(crate::specs::Answers::stopped_finding))]
 pub(crate) fn stopped_finding(
     limits: &Limits,
@@ -211,7 +212,7 @@ pub(crate) fn stopped_finding(
     }
 }
 
-/// The difference that the client's confirmation shows.
+/// The difference of the transfer that the client's confirmation ends.
 #[tactic(auto, unfolding(crate::specs::Answers::confirmed_finding))]
 pub(crate) fn confirmed_finding(exchange: &Exchange) -> Option<Finding>
     ensures { result ≡ confirmed_finding exchange.now }
@@ -244,8 +245,8 @@ pub(crate) fn answer_finding(
     }
 }
 
-/// The difference of a heartbeat while a request isn't answered in time: the device lives, and could have answered since it was
-/// asked.
+/// The difference of a heartbeat while a request isn't answered in time: the device lives, and
+/// could have answered since it was asked.
 #[tactic(auto, unfolding(crate::specs::Answers::silence_finding))]
 pub(crate) fn silence_finding(
     limits: &Limits,

@@ -44,7 +44,8 @@ pub(crate) struct Dialogue {
     pub(crate) asked: Option<Asked>,
     /// The stamp of the newest frame by which an earlier request may still be answered.
     pub(crate) doubted: Option<u64>,
-    /// Whose frame the newest one of the open transfer is, where each of its frames came in its turn.
+    /// Whose frame the newest one of the open transfer is, where each of its frames came in its
+    /// turn.
     pub(crate) newest: Option<Newest>,
 }
 
@@ -54,11 +55,12 @@ pub(crate) struct Exchange {
     pub(crate) heard: Heard,
     /// The initiate request right before it.
     pub(crate) asked: Option<Asked>,
-    /// Whether the request before it can be held against the device.
+    /// Whether the device owes an answer to the request before it: no earlier one could still be
+    /// answered when it came.
     pub(crate) owed: bool,
     /// Whether no earlier request can be answered here.
     pub(crate) certain: bool,
-    /// What is different in the open transfer.
+    /// The difference in the open transfer.
     pub(crate) breach: Option<Breach>,
 }
 
@@ -84,8 +86,8 @@ fn asked_after(what: What, micros: u64, frame: &Frame) -> Option<Asked>
     }
 }
 
-// Whether a transfer that a frame ended was no block transfer, and both ends know its end. An abort of another entry answers an
-// earlier request.
+// Whether a transfer that a frame ended was no block transfer, and both ends know its end. An abort
+// of another entry answers an earlier request.
 fn both_know_its_end(ended: &Ended, frame: &Frame) -> bool
     ensures { result ≡ both_know_its_end ended.now frame.now }
 {
@@ -159,8 +161,8 @@ impl Dialogue {
         }
     }
 
-    /// Whether no earlier request can be answered any more: the recording shows all that came within the time that an answer
-    /// may take, and nothing of it leaves a doubt.
+    /// Whether no earlier request can be answered any more: the recording shows all that came
+    /// within the time that an answer may take, and nothing of it leaves a doubt.
     #[tactic(auto, unfolding(crate::specs::Dialogues::is_certain))]
     pub(crate) fn is_certain(&self, limits: &Limits, started: u64, micros: u64) -> bool
         ensures { result ≡ is_certain limits.now started self.now.doubted micros }
@@ -174,8 +176,9 @@ impl Dialogue {
         }
     }
 
-    /// Whether no request before the one that is asked could still be answered when that came: a server that still awaits the
-    /// segments of a block download takes another request as one of them.
+    /// Whether no request before the one that is asked could still be answered when that came: a
+    /// server that still awaits the segments of a block download takes another request as one of
+    /// them.
     fn owes(&self, limits: &Limits, started: u64) -> bool
         ensures { result ≡ owes limits.now started self.now }
     {
@@ -218,7 +221,7 @@ impl Dialogue {
         }
     }
 
-    /// What was asked isn't answered in time: it may be answered later.
+    /// The request wasn't answered in time, and may be answered later.
     pub(crate) fn give_up(&mut self, micros: u64)
         ensures { self.new ≡ given_up self.old micros }
     {
@@ -227,8 +230,8 @@ impl Dialogue {
         self.newest = None;
     }
 
-    /// The device is reset, booted up, or an error frame came: nothing is open any more. Where something was, it may be
-    /// answered all the same.
+    /// The device is reset, booted up, or an error frame came: nothing is open any more. Where
+    /// something was, it may be answered all the same.
     pub(crate) fn interrupt(&mut self, micros: u64)
         ensures { self.new ≡ interrupted self.old micros }
     {

@@ -15,7 +15,8 @@ use crate::entries::Entries;
 use crate::finding::{Finding, NmtState};
 use crate::limits::{Limits, drift_of, is_past, micros_of};
 
-// The error register has bit 0 wherever another bit is set, and while the code isn't one of "error reset or no error".
+// The error register has bit 0 wherever another bit is set, and while the code isn't one of "error
+// reset or no error".
 fn has_register(code: u16, register: u8) -> bool
     ensures { result ≡ has_register code register }
 {
@@ -70,8 +71,8 @@ fn inhibit_finding(
     }
 }
 
-/// The difference of an EMCY of eight bytes: the first of its state, once that is settled, its error register and its inhibit
-/// time.
+/// The difference of an EMCY of eight bytes: of the NMT state, once that is settled, else of the
+/// error register, else of the inhibit time.
 #[tactic(auto, unfolding(crate::specs::EmergencyRules::emergency_finding))]
 pub(crate) fn emergency_finding(
     limits: &Limits,

@@ -1,4 +1,5 @@
-//! The entries that say what a device sends by itself: what its data sheet has, and what is in force.
+//! The entries that say what a device sends by itself: what its data sheet has, and what is in
+//! force.
 
 ghost use Rattle.std.specs.Prelude.{◌≡◌, ◌<◌, ◌≤◌, ◌^◌, true, map, IfSome};
 ghost use Rattle.std.specs.List.{AllPairs};
@@ -36,7 +37,7 @@ pub struct Entries {
     pub emergencies: bool,
     /// 1015:00, the inhibit time of EMCY in 100 µs.
     pub inhibit: Option<u16>,
-    /// When a transfer showed that last.
+    /// The stamp at which a transfer showed 1015:00 last.
     pub inhibit_shown: Option<u64>,
 }
 
@@ -45,10 +46,11 @@ pub struct Entries {
 pub struct Facts {
     /// What is known before its first boot-up in the recording: entries that never change.
     pub before: Entries,
-    /// What is known after each boot-up; nothing more where it can store parameters (1010h), and of a configuration (DCF), which a
-    /// master may have written or not.
+    /// What is known after each boot-up; nothing more where it can store parameters (1010h), and of
+    /// a configuration (DCF), which a master may have written or not.
     pub booted: Entries,
-    /// What is known of its TPDOs after each boot-up; nothing where it can store parameters, and of a configuration.
+    /// What is known of its TPDOs after each boot-up; nothing where it can store parameters, and of
+    /// a configuration.
     pub pdos: Pdos,
     /// Whether it may enter operational by itself: it has the entry NMT startup, 1F80h (CiA 302-2).
     pub starts_itself: bool,
@@ -120,8 +122,9 @@ fn initial_entries(rows: &[EntryRow<'_>], sheet: Entries) -> Entries
     }
 }
 
-/// What a data sheet, whose entries are in increasing key, says of what the device with a node-ID sends by itself; and whether
-/// it is the configuration of one device (DCF), whose values a master writes.
+/// What a data sheet, whose entries are in increasing key, says of what the device with a node-ID
+/// sends by itself; and whether it is the configuration of one device (DCF), whose values a master
+/// writes.
 #[tactic(auto, unfolding(crate::specs::EntriesInForce::facts_of))]
 pub fn facts_of(rows: &[EntryRow<'_>], node: u8, configured: bool) -> Facts
     requires { AllPairs (λ e f. is_key_before e.key f.key ≡ true) rows.now }
@@ -177,7 +180,8 @@ impl Entries {
         }
     }
 
-    /// A transfer ended: one of 1017:00 or 1015:00 shows what it has, if it was expedited and is done.
+    /// A transfer ended: one of 1017:00 or 1015:00 shows what it has, if it was expedited and is
+    /// done.
     pub(crate) fn ended(self, ended: &Ended) -> Entries
         ensures { result ≡ ended_entries self ended.now }
     {

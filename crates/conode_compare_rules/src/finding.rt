@@ -20,15 +20,17 @@ pub enum NmtState {
 /// A difference between what a device did and what CiA 301 prescribes for its data sheet.
 #[derive(Clone, Copy)]
 pub enum Finding {
-    /// `boot-missing`: after a reset command it sends other frames than a boot-up, so many microseconds after the command.
+    /// `boot-missing`: after a reset command it sends other frames than a boot-up, so many
+    /// microseconds after the command.
     BootMissing(u64),
-    /// `second-sender`: two boot-ups in exchange, so many microseconds apart.
+    /// `second-sender`: two boot-ups, so many microseconds apart, with nothing between them.
     SecondBootUp(u64),
     /// `heartbeat-length`: a heartbeat of so many bytes, not of one.
     HeartbeatLength(u8),
     /// `heartbeat-state`: a heartbeat with a byte that is no NMT state.
     NoState(u8),
-    /// `heartbeat-state`: a heartbeat with this state, which the device can't have reached from the other one.
+    /// `heartbeat-state`: a heartbeat with this state, which the device can't have reached from the
+    /// other one.
     WrongState(NmtState, NmtState),
     /// `heartbeat-late`: so many microseconds since the last heartbeat, and 1017:00 has so many ms.
     HeartbeatLate(u64, u16),
@@ -40,25 +42,31 @@ pub enum Finding {
     EmergencyRegister(u16, u8),
     /// `emcy-inhibit`: two EMCY so many microseconds apart, and 1015:00 has so many 100 µs.
     EmergencyInhibit(u64, u16),
-    /// `no-answer`: a request for this entry isn't answered in time; since it so many microseconds passed.
+    /// `no-answer`: a request for this entry isn't answered in time; it came so many microseconds
+    /// ago.
     NoAnswer(Key, u64),
     /// `second-sender`: an answer without a request.
     Unasked,
     /// `answer-key`: the answer to the request for this entry has another multiplexer.
     AnswerKey(Key),
-    /// `answer-form`: the answer to the request for this entry is of no form that its protocol has there.
+    /// `answer-form`: the protocol has no such answer to the request for this entry.
     AnswerForm(Key),
-    /// `answer-state`: the request for this entry is answered while stopped.
+    /// `answer-state`: a request for this entry, which came while the device was stopped, is
+    /// answered.
     AnswerStopped(Key),
-    /// A difference in an open transfer.
+    /// `answer-toggle`, `answer-form`, `answer-size`, `answer-crc`, `abort-key`: a difference in an
+    /// open transfer.
     Transfer(Breach),
     /// `value-length`: an upload of this entry has so many bytes, and its type has so many.
     ValueLength(Key, u8, u8),
-    /// `value-const`: an upload of this entry gives the first number, and the data sheet has the second.
+    /// `value-const`: an upload of this entry gives the first number, and the data sheet has the
+    /// second.
     ValueConst(Key, u64, u64),
-    /// `access-read`: an upload of this entry, which the data sheet has as readable, is refused with this code.
+    /// `access-read`: an upload of this entry, which the data sheet has as readable, is refused
+    /// with this code.
     ReadRefused(Key, AbortCode),
-    /// `access-write`: a download to this entry, which the data sheet has as read only, is acknowledged.
+    /// `access-write`: a download to this entry, which the data sheet has as read only, is
+    /// acknowledged.
     Written(Key),
     /// A difference of the TPDO with this number, from 1 on.
     Pdo(u8, Deviation),

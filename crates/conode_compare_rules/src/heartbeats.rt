@@ -32,8 +32,8 @@ fn allowance(limits: &Limits, period: u16) -> u64
     micros_of(u32::from(period)) + micros_of(limits.tolerance) + drift_of(limits, period)
 }
 
-/// Whether nothing at all was recorded for longer than three periods; where none is known, or no heartbeat is sent, for longer
-/// than an answer may take.
+/// Whether nothing at all was recorded for longer than three periods; where none is known, or no
+/// heartbeat is sent, for longer than an answer may take.
 pub(crate) fn is_gap(limits: &Limits, period: Option<u16>, newest: u64, micros: u64) -> bool
     ensures { result ≡ is_gap limits.now period newest micros }
 {
@@ -96,7 +96,8 @@ impl Heartbeats {
         Some((micros.saturating_sub(since), period))
     }
 
-    /// The difference of a frame of the device that is no boot-up, where a heartbeat is late: it was when the bus was free last.
+    /// The difference of a frame of the device that is no boot-up, where a heartbeat is late: it
+    /// was when the bus was free last.
     #[tactic(auto, unfolding(crate::specs::Heartbeats::late_finding))]
     pub(crate) fn late_finding(
         &self,

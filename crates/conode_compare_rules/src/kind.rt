@@ -22,17 +22,20 @@ pub enum FrameKind {
     Command(NmtService),
     /// A remote frame that asks for its state: node guarding.
     Guarding,
-    /// One byte on its identifier of error control: a boot-up, 0, or a heartbeat (CiA 301, 7.2.8.3.2 and 7.2.8.3.3).
+    /// One byte on its identifier of error control: a boot-up, 0, or a heartbeat (CiA 301,
+    /// 7.2.8.3.2 and 7.2.8.3.3).
     Control(u8),
     /// Another number of bytes there.
     OddControl(u8),
-    /// Eight bytes on its default identifier of EMCY: the code and the error register (CiA 301, 7.2.7).
+    /// Eight bytes on its default identifier of EMCY: the code and the error register (CiA 301,
+    /// 7.2.7).
     Emergency(u16, u8),
     /// Another number of bytes there.
     OddEmergency(u8),
     /// A frame of its default SDO channel, by an end.
     Sdo(Side, Frame),
-    /// Another data frame, by its identifier and the number of its bytes: a SYNC, a PDO, or one of another node.
+    /// Another data frame, by its identifier and the number of its bytes: a SYNC, a PDO, or one of
+    /// another node.
     Process(u16, u8),
     /// Another remote frame, by its identifier.
     Polled(u16),

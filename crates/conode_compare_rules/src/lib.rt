@@ -1,5 +1,5 @@
-//! What a device did otherwise than CiA 301 prescribes for its data sheet, frame by frame of a recording: each kind of
-//! difference by a rule of its own, and what can't be judged.
+//! Where a device differs from what CiA 301 prescribes for its data sheet, frame by frame of a
+//! recording: each kind of difference by a rule of its own, and what isn't judged.
 #![tactic(auto)]
 
 mod answers;

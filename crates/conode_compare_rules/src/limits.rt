@@ -23,6 +23,7 @@ pub struct Limits {
 pub struct Subject {
     /// Its node-ID, 1 to 127.
     pub node: u8,
+    /// How exactly it is judged.
     pub limits: Limits,
     /// What its data sheet says of what it sends by itself.
     pub facts: Facts,

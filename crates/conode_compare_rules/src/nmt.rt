@@ -46,9 +46,11 @@ pub(crate) struct Nmt {
     pub(crate) commanded: Option<Commanded>,
     /// The stamp of the newest reset command.
     pub(crate) reset: Option<u64>,
-    /// Whether more than one boot-up may come, since a reset was commanded before the boot-up of another one.
+    /// Whether more than one boot-up may come, since a reset was commanded before the boot-up of
+    /// another one.
     pub(crate) several: bool,
-    /// The stamp of its newest boot-up, where it sent nothing since, no reset was commanded, and no other boot-up may come.
+    /// The stamp of its newest boot-up, where it sent nothing since, no reset was commanded, and no
+    /// other boot-up may come.
     pub(crate) booted: Option<u64>,
 }
 
@@ -98,7 +100,8 @@ fn state_of(byte: u8) -> NmtState
     }
 }
 
-/// Whether a byte of error control can only be an answer of node guarding: a state with its toggle bit set.
+/// Whether a byte of error control can only be an answer of node guarding: a state with its toggle
+/// bit set.
 pub(crate) fn is_guarded_state(byte: u8) -> bool
     ensures { result ≡ is_guarded_state byte }
 {
@@ -209,7 +212,8 @@ impl Nmt {
         }
     }
 
-    /// The difference of a byte of error control. Of a device whose node guarding was asked for only boot-ups are judged.
+    /// The difference of a byte of error control. Once node guarding was seen, only boot-ups are
+    /// judged.
     #[tactic(auto, unfolding(crate::specs::States::control_finding))]
     pub(crate) fn control_finding(
         &self,

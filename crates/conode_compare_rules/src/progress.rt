@@ -1,4 +1,4 @@
-//! What a recording shows of a device, frame by frame, and what it does otherwise than prescribed.
+//! What a recording shows of a device, frame by frame, and its differences.
 
 ghost use Rattle.std.specs.Prelude.{◌≡◌, true, map};
 ghost use Rattle.std.specs.List.{AllPairs};
@@ -72,7 +72,8 @@ pub struct Progress {
     pub(crate) newest: Option<u64>,
     /// The stamp of the first frame, or of the first one after a gap.
     pub(crate) started: u64,
-    /// When the bus was free last: the stamp of the first of the frames that follow one another closely.
+    /// When the bus was free last: the stamp of the first of the frames that follow one another
+    /// closely.
     pub(crate) free: u64,
     pub(crate) nmt: Nmt,
     pub(crate) heartbeats: Heartbeats,
@@ -83,7 +84,8 @@ pub struct Progress {
     pub(crate) pdos: Pdos,
 }
 
-// Since when the next heartbeat is awaited after a transfer ended: one of 1017:00 starts the wait anew.
+// Since when the next heartbeat is awaited after a transfer ended: one of 1017:00 starts the wait
+// anew.
 fn since_heard(since: Option<u64>, ended: &Option<Ended>, micros: u64) -> Option<u64>
     ensures { result ≡ since_heard since ended.now micros }
 {
@@ -213,7 +215,8 @@ impl Progress {
         }
     }
 
-    // A frame comes. Where the recording begins anew, nothing is known; where it was quiet, no request is.
+    // A frame comes. Where the recording begins anew, nothing is known; where it was quiet, no
+    // request is.
     #[tactic(auto, unfolding(crate::specs::Progresses::begun))]
     fn begin(&mut self, subject: &Subject, micros: u64)
         ensures { self.new ≡ begun subject.now self.old micros }
@@ -229,7 +232,7 @@ impl Progress {
         self.newest = Some(micros);
     }
 
-    // What is open isn't known any more.
+    // What is open is no longer known.
     #[tactic(auto, unfolding(crate::specs::Progresses::with_gap))]
     fn break_off(&mut self, micros: u64)
         ensures { self.new ≡ with_gap self.old micros }
@@ -240,7 +243,8 @@ impl Progress {
         self.pdos.interrupt();
     }
 
-    // a command; after a reset nothing is known of its PDOs until the boot-up, nor of the inhibit time of its EMCY
+    // a command; after a reset nothing is known of its PDOs until the boot-up, nor of the inhibit
+    // time of its EMCY
     #[tactic(auto, unfolding(crate::specs::Progresses::after_command, crate::specs::Progresses::with_gap))]
     fn take_command(&mut self, service: NmtService, micros: u64)
         ensures { self.new ≡ after_command self.old service micros }
@@ -551,8 +555,8 @@ impl Progress {
         Findings::none()
     }
 
-    /// Takes a frame of the recording with its stamp in microseconds, by what it is to the device. Gives what is found at it,
-    /// with a data sheet whose entries are in increasing key.
+    /// Takes a frame of the recording with its stamp in microseconds, by what it is to the device.
+    /// Returns what is found at it; `rows` are the data sheet's entries, in increasing key.
     #[tactic(auto, unfolding(crate::specs::Progresses::findings_at, crate::specs::Progresses::progress_with))]
     pub fn take(
         &mut self,

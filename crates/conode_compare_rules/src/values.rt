@@ -1,4 +1,4 @@
-//! The end of a transfer, held against the row of its entry in the data sheet.
+//! The end of a transfer, compared with the row of its entry in the data sheet.
 
 ghost use Rattle.std.specs.Prelude.{◌≡◌, ◌≤◌, true, map, length};
 ghost use Rattle.std.specs.List.{AllPairs};
@@ -45,7 +45,7 @@ fn is_readable(access: Access) -> bool
     !matches!(access, Access::Wo)
 }
 
-// whether the value of an entry is held to the data sheet
+// whether the value of an entry is compared with the data sheet
 fn is_held(row: &EntryRow<'_>) -> bool
     ensures { result ≡ is_held (row_view row.now) }
 {
@@ -55,7 +55,7 @@ fn is_held(row: &EntryRow<'_>) -> bool
     row.key.index == DEVICE_TYPE || matches!(row.access, Access::Constant)
 }
 
-// the number that is held
+// the number in the data sheet, if values are compared with it
 fn held_number(node: u8, row: &EntryRow<'_>) -> Option<u64>
     ensures { result ≡ held_number node (row_view row.now) }
 {
@@ -87,7 +87,8 @@ fn constant_finding(key: Key, shown: Option<u64>, held: Option<u64>) -> Option<F
     }
 }
 
-// The difference of an expedited upload, with its size or without. One of a number has as many bytes as its type.
+// The difference of an expedited upload, with its size or without. One of a number has as many
+// bytes as its type.
 #[tactic(auto, unfolding(crate::specs::SheetValues::upload_finding))]
 fn upload_finding(node: u8, row: &EntryRow<'_>, indicated: bool, bytes: &[u8]) -> Option<Finding>
     requires { length bytes.now ≤ 64 }
@@ -100,8 +101,8 @@ fn upload_finding(node: u8, row: &EntryRow<'_>, indicated: bool, bytes: &[u8]) -
     constant_finding(row.key, shown_number(width, bytes), held_number(node, row))
 }
 
-// A code that says that the entry can't be read at all. A sub-index may be missing where the number of them varies; sub-index 0
-// is always there.
+// A code that says that the entry can't be read at all. A sub-index may be missing where the number
+// of them varies; sub-index 0 is always there.
 fn denies(key: Key, code: AbortCode) -> bool
     ensures { result ≡ denies key code.0 }
 {

@@ -25,7 +25,7 @@ pub struct Findings {
     pub heartbeat: Option<Finding>,
     /// An answer is missing.
     pub answer: Option<Finding>,
-    /// The frame itself is otherwise than prescribed.
+    /// The frame itself differs.
     pub frame: Option<Finding>,
     /// What is said of the frame, if it is one of the device.
     pub verdict: Option<Verdict>,

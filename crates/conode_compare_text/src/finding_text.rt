@@ -248,8 +248,9 @@ fn push_finding(text: &mut String, finding: Finding) -> Result<(), AllocError>
     }
 }
 
-/// Sets a text to the line of a difference, with its line feed, at a line of a recording by its name. On an `Err` memory ran
-/// out, and a part of it may be there.
+/// Sets a text to the line of a difference, with its line feed, as `recording.log:123:
+/// heartbeat-late: ..`: the name of the recording, and the number of its line. On an `Err` memory
+/// ran out, and a part of it may be there.
 #[tactic(auto, unfolding(crate::specs::FindingTexts::finding_line))]
 pub fn set_finding_line(
     text: &mut String,

@@ -1,4 +1,4 @@
-//! What a device did otherwise than prescribed, in words.
+//! The differences of a device, in words.
 #![tactic(auto)]
 
 mod finding_text;

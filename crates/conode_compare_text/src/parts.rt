@@ -1,4 +1,5 @@
-//! Parts of a line. Each function appends a text; on an `Err` memory ran out, and a part of it may be there.
+//! Parts of a line. Each function appends a text; on an `Err` memory ran out, and a part of it may
+//! be there.
 
 ghost use Rattle.std.specs.Prelude.{◌≡◌, ◌++◌, ◌<◌, OnOk, string_bytes};
 ghost use Rattle.co_text.specs.Printed.{digits_text};

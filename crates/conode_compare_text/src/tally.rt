@@ -51,8 +51,8 @@ impl Tally {
     }
 }
 
-/// Sets a text to the line that ends a comparison, with its line feed. On an `Err` memory ran out, and a part of it may be
-/// there.
+/// Sets a text to the line that ends a comparison, with its line feed. On an `Err` memory ran out,
+/// and a part of it may be there.
 #[tactic(auto, unfolding(crate::specs::Tallies::summary))]
 pub fn set_summary(text: &mut String, node: u8, tally: Tally) -> Result<(), AllocError>
     ensures { OnOk result (string_bytes text.new ≡ summary node tally) }

@@ -1,5 +1,6 @@
--- Whose frame the newest one of an open transfer is, as long as each frame came in its turn: the client's requests and the
--- device's answers take turns, and segments of blocks follow one another (CiA 301, 7.2.4.3).
+-- Whose frame the newest one of an open transfer is, as long as each frame came in its turn: the
+-- client's requests and the device's answers take turns, and segments of blocks follow one another
+-- (CiA 301, 7.2.4.3).
 use Rattle.std.specs.Prelude.{Option, Some, None}
 use Rattle.conode_explain_transfers.specs.declared.kinds.Side.{Side}
 use Rattle.conode_explain_transfers.specs.declared.kinds.Side.TheVariants.{Client, Server}
@@ -37,7 +38,7 @@ server_newest (Segment number) newest = goes_on newest Data
 server_newest (OutOfSequence number awaited) newest = goes_on newest Data
 server_newest what newest = None
 
--- after a frame by an end
+-- whose frame the newest one is after a frame by an end
 unfoldable pub newest_after : Side → What → Option Newest → Option Newest
 newest_after Client what newest = client_newest what newest
 newest_after Server what newest = server_newest what newest

@@ -1,5 +1,6 @@
-//! The transfers of a device's SDO server in a recording, and what they are otherwise than CiA 301 prescribes by what both ends
-//! named: toggle bits, sizes, the multiplexer of an abort, the CRC of a block upload.
+//! Where the SDO transfers of a device differ from CiA 301 (7.2.4.3): toggle bits, indicated sizes,
+//! the multiplexer of an abort, the form of an answer, the numbers of block segments, the CRC of a
+//! block upload.
 #![tactic(auto)]
 
 mod breach;

@@ -12,7 +12,7 @@ ghost use Rattle.conode_compare_transfers.specs.NewestFrames.{
 
 use conode_explain_transfers::{Side, What};
 
-/// The newest frame of an open transfer, each frame of which came in its turn.
+/// Whose frame the newest one of an open transfer is, where each of its frames came in its turn.
 #[derive(Clone, Copy)]
 pub enum Newest {
     /// The client's: a request, or a segment of a block download.
@@ -82,7 +82,8 @@ fn server_newest(what: What, newest: Option<Newest>) -> Option<Newest>
     }
 }
 
-/// The newest frame of the open transfer after one by an end; none where one came out of its turn.
+/// Whose frame the newest one of the open transfer is after a frame by an end. `None` once a frame
+/// came out of its turn, until the next initiate request.
 #[tactic(auto, unfolding(crate::specs::NewestFrames::newest_after))]
 pub fn newest_after(side: Side, what: What, newest: Option<Newest>) -> Option<Newest>
     ensures { result ≡ newest_after side what newest }

@@ -1,4 +1,5 @@
--- What a log is converted to: the lines of its frames as `candump -L` writes them, in order. A bad line has none, and is counted.
+-- What a log is converted to: the lines of its frames as `candump -L` writes them, in order. A bad
+-- line gives none, and is counted.
 use Rattle.std.specs.Prelude.{ℕ, ◌+◌, Bool, true, false, nat_lt, ◌||◌, if◌then◌else◌, List, [], ◌∷◌, ◌++◌, length, Result, Ok, Err}
 use Rattle.std.specs.Str.Lines.{lines}
 use Rattle.co_bounded_lines.specs.Founds.{is_closed}
@@ -16,7 +17,7 @@ at_start form = record { form = form; clock = 0 }
 
 -- ---- the lines that are written
 
--- what is written of a line that says this
+-- what is written for a line that says this
 abbrev pub written_of : List ℕ → Result LogLine BadLogLine → List (List ℕ)
 written_of line (Ok Skipped) = []
 written_of line (Ok AsItIs) = (line ++ 10 ∷ []) ∷ []
@@ -30,18 +31,18 @@ converted_from log (line ∷ more) =
     if nat_lt 512 (length line) then converted_from log more
     else written_of line (says log line).1 ++ converted_from (says log line).0 more
 
--- a log of a form converted
+-- a log of this form, converted
 abbrev pub converted : Form → List ℕ → List (List ℕ)
 converted form text = converted_from (at_start form) (lines text)
 
 -- ---- how many lines are bad
 
--- 1 for what is wrong with a line
+-- 1 for a bad line
 abbrev pub faults_in : Result LogLine BadLogLine → ℕ
 faults_in (Ok says) = 0
 faults_in (Err bad) = 1
 
--- 1 for a bad line that has its line feed
+-- 1 for a bad line, or one of more than 512 bytes
 abbrev pub faults_of : Log → List ℕ → ℕ
 faults_of log line = if nat_lt 512 (length line) then 1 else faults_in (says log line).1
 
@@ -49,7 +50,8 @@ faults_of log line = if nat_lt 512 (length line) then 1 else faults_in (says log
 abbrev pub log_after : Log → List ℕ → Log
 log_after log line = if nat_lt 512 (length line) then log else (says log line).0
 
--- The last line counts only where it has its line feed, or is too long: whoever stops a recording cuts it off there.
+-- How many lines are bad. The last one counts only with its line feed, or if it is too long: a
+-- recording that is stopped ends within a line.
 unfoldable pub bad_from : Bool → Log → List (List ℕ) → ℕ
 bad_from closed log [] = 0
 bad_from closed log (line ∷ []) = if closed || nat_lt 512 (length line) then faults_of log line else 0

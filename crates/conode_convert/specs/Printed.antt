@@ -13,7 +13,7 @@ use Rattle.conode_log_parts.specs.declared.frame.LogFrame.{LogFrame}
 use Rattle.conode_log_parts.specs.declared.frame.Place.{Place}
 use Rattle.conode_log_parts.specs.declared.frame.Place.TheVariants.{Interface, Channel}
 
--- seconds in ten digits, or in more where it takes more, and microseconds, in parentheses
+-- seconds in ten digits, or in more where ten don't suffice, and microseconds, in parentheses
 unfoldable pub stamp_text : ℕ → List ℕ
 stamp_text micros =
     codes "(" ++ seconds_text (micros / 1000000) ++ codes "." ++ digits_text 10 6 (micros % 1000000) ++ codes ")"
@@ -39,7 +39,7 @@ content_text (Data bytes) = codes "#" ++ flat_map byte_text bytes
 content_text (Remote count) = codes "#R" ++ length_text count
 content_text (Fd flags bytes) = codes "##" ++ printed_digit (flags % 16) ∷ flat_map byte_text bytes
 
--- received or sent, where it is known
+-- received or sent, if it is known
 abbrev pub direction_text : Option Direction → List ℕ
 direction_text None = []
 direction_text (Some Received) = codes " R"

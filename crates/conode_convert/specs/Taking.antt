@@ -1,4 +1,4 @@
--- How far a log is converted.
+-- Progress through a log.
 use Rattle.std.specs.Prelude.{◌≡◌, ℕ, ◌+◌, List, ◌++◌, Option, Some, None, ⊤}
 use Rattle.std.specs.Str.Lines.{lines}
 use Rattle.co_bounded_lines.specs.Held.{Held, to_come}
@@ -8,7 +8,8 @@ use Rattle.conode_logs.specs.declared.log.Form.{Form}
 use Rattle.conode_logs.specs.declared.log.Log.{Log}
 use Rattle.conode_convert.specs.Converted.{at_start, bad_count, converted, converted_from}
 
--- known bytes give these lines, and what those that are left give; and so many bad lines, and those that are left have
+-- if the bytes are known: they give these lines and those of the bytes left, and so many bad lines
+-- and those of the bytes left
 abbrev pub Gives : Option (List ℕ) → Option (List ℕ) → Log → Log → List (List ℕ) → ℕ → Type 0
 Gives None left first next written bad = ⊤
 Gives (Some text) None first next written bad = ⊥
@@ -16,8 +17,9 @@ Gives (Some text) (Some rest) first next written bad =
     (converted_from first (lines text) ≡ written ++ converted_from next (lines rest))
     × (bad_count first text ≡ bad + bad_count next rest)
 
--- Lines were taken: a writer has what is written of them, and so many of them are bad. `held` and `holds` are what is held of
--- the reader before and after, `before` and `after` what is known of its bytes, `old` and `new` the writer's.
+-- Lines were taken: a writer has what they are converted to, and so many of them are bad. `held`
+-- and `holds` are what is held of the reader before and after, `before` and `after` its bytes, as
+-- far as known, `old` and `new` the writer's.
 pub record Takes (held holds : Held) (before after : Option (List ℕ)) (first next : Log) (old new : Option (List ℕ)) (bad : ℕ) : Type 0 where
   pub written : List (List ℕ)
   pub appended : WritesLines old new written

@@ -10,12 +10,13 @@ use conode_logs::Form;
 use std::alloc::Global;
 use std::io::{Read, Write};
 
-/// Converts a log of a form, or of the one that its first lines show, line by line and in constant memory: for each frame
-/// a line is written on `out` as `candump -L` writes it. A bad line, or one of more than 512 bytes, is named on `err` with
-/// its number and what is wrong with it, and the rest goes on. Gives the number of bad lines; a last line that no line
-/// feed ends is counted only where it is too long, since whoever stops a recording cuts it off there.
+/// Converts a log line by line, in constant memory, and returns the number of bad lines. The log
+/// has this form; if that is unknown, its first lines show it. For each frame a line is written on
+/// `out`, as `candump -L` writes it. A bad line, or one of more than 512 bytes, is named on `err`
+/// with its number and what is wrong with it, and the next line is read. A last line without a line
+/// feed counts only if it is too long: a recording that is stopped ends within a line.
 ///
-/// `out` is flushed before each read, and not while a whole line is held.
+/// `out` is flushed before each read, but not while a whole line is held.
 ///
 /// * `Read`: the reader failed. `NeverEnds`: there are 2^64 - 1 lines.
 /// * `Write`: `out` failed. `Memory`: memory ran out.
@@ -26,10 +27,10 @@ pub fn convert<R: Read, W: Write, E: Write>(
     out: &mut W,
     err: &mut E,
 ) -> Result<u64, CmdFault>
-    // What is written of all lines is written, and so many lines are bad.
+    // All lines are converted, and so many of them are bad.
     ensures known { IfOk result (λ bad. IfSome (R.remaining reader.old)
         (Converts form (W.contents out.old) (W.contents out.new) bad)) }
-    // Whatever the reader: it gave a text, and this is so of that text.
+    // For any reader: it gave a text, and this holds of that text.
     ensures any_reader { IfOk result (λ bad.
         GaveText (R.remaining reader.old) (R.remaining reader.new)
         (Converts form (W.contents out.old) (W.contents out.new) bad)) }

@@ -1,4 +1,5 @@
-//! A log of another recorder converted to lines as `candump -L` writes them; a bad line is named, and the rest goes on.
+//! A log of another recorder converted to lines as `candump -L` writes them; a bad line is named,
+//! and the next line is read.
 #![tactic(auto)]
 
 mod converted;

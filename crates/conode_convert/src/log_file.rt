@@ -15,7 +15,8 @@ use std::rt::Files;
 /// The path that stands for standard input.
 const STANDARD_INPUT: &str = "-";
 
-// Converts an input, and says how many lines are bad, on `err`, or why it stopped where it did.
+// Converts an input, and says on `err` how many lines are bad, if any; or says why it stopped
+// early.
 fn convert_input<R: Read, O: Write, E: Write>(
     alloc: Global,
     input: &mut R,
@@ -36,8 +37,9 @@ fn convert_input<R: Read, O: Write, E: Write>(
     }
 }
 
-/// Converts the log of a path, or of standard input where that is `-`: its frames go to `out` as `candump -L` writes them.
-/// Bad lines, and a file that can't be read, are named on `err`. The status is 0 where all lines are good, else 1.
+/// Converts the log of a path, or of standard input for `-`: its frames go to `out` as `candump -L`
+/// writes them. Bad lines, and a file that can't be read, are named on `err`. The status is 0 if
+/// all lines are good, else 1.
 pub fn convert_file<R: Files + AllocGlobal + Input, O: Write, E: Write>(
     rt: &R,
     path: &str,

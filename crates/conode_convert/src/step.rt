@@ -20,7 +20,7 @@ use std::io::{Read, Write};
 /// What is wrong with a line that has more than 512 bytes.
 const TOO_LONG: &str = "it has more than 512 bytes";
 
-/// How far a log is converted.
+/// Progress through a log.
 #[derive(Drop)]
 pub(crate) struct Converting {
     lines: BoundedLines,
@@ -28,7 +28,7 @@ pub(crate) struct Converting {
     room: Vec<u8>,
 }
 
-// Names a bad line. Where even this can't be written, the status alone tells of it.
+// Names a bad line. If even this can't be written, only the status shows it.
 fn name_bad_line<E: Write>(number: u64, words: &str, err: &mut E) {
     let _ = writeln!(err, "line {number}: {words}");
 }
@@ -41,7 +41,7 @@ fn read_fault(fault: ReadFault) -> CmdFault {
     }
 }
 
-// Writes the line of a frame. `room` is for the work.
+// Writes the line of a frame. `room` is scratch space.
 #[tactic(auto, using(conode_io::proofs::WriteLemmas::line_alone))]
 fn write_frame<W: Write>(
     room: &mut Vec<u8>,
@@ -70,7 +70,7 @@ fn write_as_it_is<W: Write>(room: &mut Vec<u8>, line: &[u8], out: &mut W) -> Res
     hand_over(room.as_slice(), out)
 }
 
-// Writes what is written of a line. 1 where the line is bad: then it is named.
+// Converts a line. Returns 1 and names the line if it is bad, else 0.
 fn convert_line<W: Write, E: Write>(
     room: &mut Vec<u8>,
     log: &mut Log,
@@ -103,7 +103,7 @@ fn convert_line<W: Write, E: Write>(
 }
 
 impl Converting {
-    /// No line was taken.
+    /// Before the first line.
     pub(crate) fn new(alloc: Global, form: Form) -> Converting
         ensures lines { result.lines ≡ nothing_held }
         ensures log { result.log ≡ at_start form }
@@ -115,7 +115,7 @@ impl Converting {
         }
     }
 
-    /// Flushes the writer, unless the next line is held whole.
+    /// Flushes the writer, unless the whole next line is held.
     pub(crate) fn let_out<W: Write>(&self, out: &mut W) -> Result<(), CmdFault>
         ensures text { Keeps (W.contents out.old) (W.contents out.new) }
     {
@@ -125,8 +125,8 @@ impl Converting {
         Ok(())
     }
 
-    /// Takes the next line: writes what is written of it, or names it where it is bad. 1 where it is bad and counts, else 0;
-    /// `None` where no line is left.
+    /// Takes the next line: converts it, or names it if it is bad. Returns 1 if it is bad and
+    /// counts, else 0; `None` if no line is left.
     pub(crate) fn take_line<R: Read, W: Write, E: Write>(
         &mut self,
         reader: &mut R,

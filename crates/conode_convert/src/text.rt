@@ -1,5 +1,5 @@
-//! The line of a frame, as `candump -L` writes it. Each function appends a text; on an `Err` memory ran out, and a part of
-//! it may be there.
+//! The line of a frame, as `candump -L` writes it. Each function appends a text. `Err`: out of
+//! memory; a part of the text may be there.
 
 ghost use Rattle.std.specs.Prelude.{◌≡◌, ◌++◌, ◌∷◌, [], ◌<◌, ◌^◌, ◌%◌, OnOk};
 ghost use Rattle.std.specs.List.{flat_map};

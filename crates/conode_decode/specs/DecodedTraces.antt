@@ -1,4 +1,4 @@
--- What is written of a trace that is decoded.
+-- The lines that are written when a trace is decoded.
 use Rattle.std.specs.Prelude.{◌≡◌, ℕ, List, [], ◌∷◌, Option, Some, None, Result, Ok, Err, IfSome}
 use Rattle.std.specs.List.{flat_map}
 use Rattle.co_sheet.specs.Content.{SheetContent}
@@ -16,7 +16,7 @@ use Rattle.conode_decode.specs.Texts.{decoded_line}
 abbrev pub names_in : Option SheetContent → Option ℕ → Names
 names_in sheet node = record { sheet = sheet; only = node; originals = originals_in None }
 
--- a frame has a line; ticks and events have none
+-- the lines of an input: a frame has one; ticks and events have none
 abbrev pub input_lines : Names → ℕ → Input → List (List ℕ)
 input_lines names number (frame content) = decoded_line names number content ∷ []
 input_lines names number tick = []
@@ -30,7 +30,7 @@ decoded_lines names inputs = flat_map (λ t. input_lines names t.line t.input) i
 abbrev pub trace_lines : Names → List ℕ → List (List ℕ)
 trace_lines names text = decoded_lines names (trace_in text).inputs
 
--- the line of what a line says, if it is a frame
+-- the line of a frame, if this line of the trace has one
 abbrev pub said_lines : Names → ℕ → TraceLine → List (List ℕ)
 said_lines names number (Data stamp content) = decoded_line names number content ∷ []
 said_lines names number other = []
@@ -41,7 +41,8 @@ lines_of names lines = decoded_lines names (trace_of lines).inputs
 
 -- ---- how decoding ends
 
--- `known` and `rest` are what the reader has before and after, `old` and `new` what the writer has, where that is known
+-- how decoding ends, by its result; `known` and `rest` are what the reader has before and after,
+-- `old` and `new` what the writer has, as far as known
 abbrev pub Decoded : Names → Option (List ℕ) → Option (List ℕ) → Option (List ℕ) → Option (List ℕ) → Result (Unit {0}) CmdFault → Type 0
 Decoded names known rest old new (Ok done) =
     IfSome known (λ text. ((trace_in text).bad ≡ None) × WritesLines old new (trace_lines names text))

@@ -9,12 +9,14 @@ use Rattle.co_sheet_changes.specs.declared.originals.Originals.{Originals}
 use Rattle.co_sheet_changes.specs.Views.{text_at}
 use Rattle.conode_decode.specs.declared.names.Names.{Names as NamesOfCode}
 
--- the codes of original data types, by the line of an entry's section; none where a sheet wasn't adapted
+-- the codes of original data types, by the line of an entry's section; none if the sheet wasn't
+-- adapted
 abbrev pub originals_in : Option Originals → ℕ → Option (List ℕ)
 originals_in None line = None
 originals_in (Some table) line = text_at table line
 
--- where names come from: a data sheet, if there is one, for one node alone or for all, and its original data types
+-- where names come from: a data sheet, if there is one, for one node or for all, and its original
+-- data types
 pub record Names : Type 0 where
   pub sheet : Option SheetContent
   pub only : Option ℕ
@@ -35,11 +37,11 @@ if_utf8 text = if is_utf8 text then Some text else None
 abbrev pub row_at : List Row → Key → Option Row
 row_at rows key = find (λ row. same_key row.key key) rows
 
--- the name of an entry, where it is UTF-8
+-- the name of an entry, if it has one in UTF-8
 abbrev pub shown_name : Row → Option (List ℕ)
 shown_name row = option_and_then if_utf8 row.name
 
--- the name of the entry of a key, where it is UTF-8
+-- the name of the entry of a key, if it has one in UTF-8
 abbrev pub name_at : List Row → Key → Option (List ℕ)
 name_at rows key = option_and_then if_utf8 (option_and_then (λ row. row.name) (row_at rows key))
 
@@ -61,7 +63,7 @@ unfoldable pub name_of : Names → ℕ → Key → Option (List ℕ)
 name_of names node key =
     if are_for names.only node then option_and_then (λ sheet. name_at sheet.rows key) names.sheet else None
 
--- a name in double quotes, where there is one
+-- a space and a name in double quotes, if there is one
 abbrev pub quoted : Option (List ℕ) → List ℕ
 quoted name = option_map_or (λ text. codes " " ++ 34 ∷ (text ++ 34 ∷ [])) name []
 

@@ -12,7 +12,7 @@ hex_text (byte ∷ bytes) = flat_map byte_text (byte ∷ bytes)
 abbrev pub toggle_text : Bool → List ℕ
 toggle_text toggle = if toggle then codes "1" else codes "0"
 
--- a size, where it is indicated
+-- a size, if it is indicated
 abbrev pub size_text : Option ℕ → List ℕ
 size_text None = []
 size_text (Some size) = codes " size " ++ decimal size

@@ -14,7 +14,7 @@ use Rattle.conode_decode.specs.Numbers.{hex_text, toggle_text, size_text}
 
 -- ---- what requests and answers share
 
--- the bytes of an expedited transfer; where their number isn't indicated, all four
+-- the bytes of an expedited transfer; all four if their number isn't indicated
 abbrev pub expedited_part : ExpeditedData → List ℕ
 expedited_part (Indicated counted) = counted.items
 expedited_part (NotIndicated four) = four
@@ -24,7 +24,7 @@ unfoldable pub expedited_text : List ℕ → Key → ExpeditedData → List ℕ
 expedited_text service key expedited =
     service ++ key_text key ++ codes " expedited " ++ hex_text (expedited_part expedited)
 
--- the begin of a transfer, with the size where it is indicated
+-- the beginning of a transfer, with the size if it is indicated
 unfoldable pub initiate_text : List ℕ → Key → Option ℕ → List ℕ
 initiate_text service key size = service ++ key_text key ++ size_text size
 
@@ -37,7 +37,8 @@ segment_text toggle part last =
 unfoldable pub abort_text : Key → AbortCode → List ℕ
 abort_text key code = codes "abort " ++ key_text key ++ codes " " ++ digits_text 16 8 code.0
 
--- the acknowledgement of a sub-block: the last segment that was taken, and the next sub-block's size
+-- the acknowledgement of a sub-block: the last segment received in sequence, and the next
+-- sub-block's size
 unfoldable pub acknowledge_text : ℕ → ℕ → List ℕ
 acknowledge_text sequence block_size =
     codes "block ack " ++ decimal sequence ++ codes " size " ++ decimal block_size
@@ -48,7 +49,7 @@ block_end_text service unused = service ++ codes "end unused " ++ decimal unused
 
 -- ---- requests
 
--- what a client asks, each row of the table of requests
+-- the text of a request, for each row of the table of requests
 unfoldable pub request_text : SdoRequest → List ℕ
 request_text (requests.DownloadExpedited key expedited) = expedited_text (codes "download ") key expedited
 request_text (requests.DownloadInitiate key size) = initiate_text (codes "download ") key size
@@ -75,7 +76,7 @@ request_key other = None
 
 -- ---- answers
 
--- what a server answers, each row of the table of answers
+-- the text of an answer, for each row of the table of answers
 unfoldable pub answer_text : SdoResponse → List ℕ
 answer_text (answers.DownloadDone key) = codes "download " ++ key_text key ++ codes " done"
 answer_text (answers.DownloadSegmentDone toggle) = codes "segment done " ++ toggle_text toggle

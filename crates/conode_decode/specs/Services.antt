@@ -1,4 +1,5 @@
--- Whose a frame is, by its identifier: the pre-defined connection set (CiA 301, 7.3.3).
+-- The node and the service of a frame, by its identifier: the pre-defined connection set (CiA 301,
+-- 7.3.3).
 use Rattle.std.specs.Prelude.{ℕ, ◌-◌, ◌%◌, ◌==◌, List, [], ◌∷◌, find, Option, option_map}
 use Rattle.conode_decode.specs.declared.service.Service.{Service}
 use Rattle.conode_decode.specs.declared.service.Service.TheVariants.{Emergency, Tpdo, Rpdo, SdoAnswer, SdoRequest, ErrorControl}

@@ -25,7 +25,7 @@ use Rattle.conode_decode.specs.Services.{node_of, base_of, service_at}
 
 -- ---- the services that aren't a node's
 
--- what a node is to do
+-- the NMT service of a command
 abbrev pub nmt_service_text : NmtService → List ℕ
 nmt_service_text Start = codes "start"
 nmt_service_text Stop = codes "stop"
@@ -64,17 +64,17 @@ heartbeat_text node Stopped = of_node (codes "heartbeat") node ++ codes " stoppe
 heartbeat_text node Operational = of_node (codes "heartbeat") node ++ codes " operational"
 heartbeat_text node PreOperational = of_node (codes "heartbeat") node ++ codes " pre-operational"
 
--- a frame of no service here
+-- a frame of no service, or with data that don't fit it
 abbrev pub unknown_text : List ℕ
 unknown_text = codes "unknown"
 
--- what eight bytes ask, with the name of the entry
+-- the request in eight bytes, with the name of the entry
 unfoldable pub named_request : Names → ℕ → List ℕ → List ℕ
 named_request names node bytes =
     option_map_or (λ request. request_text request ++ name_text names node (request_key request))
     (request_in bytes) unknown_text
 
--- what eight bytes answer, with the name of the entry
+-- the answer in eight bytes, with the name of the entry
 unfoldable pub named_answer : Names → ℕ → List ℕ → List ℕ
 named_answer names node bytes =
     option_map_or (λ answer. answer_text answer ++ name_text names node (answer_key answer))
@@ -102,7 +102,7 @@ service_text names node bytes services.ErrorControl =
 
 -- ---- any frame
 
--- identifier 0 is NMT's, 80h that of SYNC; every other one is a service's and a node's
+-- the text of a frame: identifier 0 is NMT, 80h is SYNC, every other one is of a service and a node
 unfoldable pub text_of_frame : Names → FrameContent → List ℕ
 text_of_frame names frame =
     if frame.id == 0 then option_map_or nmt_text (nmt_command_in frame) unknown_text

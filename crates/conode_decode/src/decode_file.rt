@@ -23,8 +23,8 @@ use std::rt::Files;
 /// The path that stands for standard input.
 const STANDARD_INPUT: &str = "-";
 
-/// Decodes an input, a trace, on `out`, and says why it stopped where it did: on `out`, after what was decoded before,
-/// or where that can't be written on `err`.
+/// Decodes a trace from an input to `out`. If it stops early, it says why: on `out`, after what was
+/// decoded before, or on `err` if `out` can't be written.
 pub fn decode_input<R: Read, P: Waits<R>, O: Write, E: Write>(
     alloc: Global,
     input: &mut R,
@@ -40,7 +40,8 @@ pub fn decode_input<R: Read, P: Waits<R>, O: Write, E: Write>(
         WritesLines (O.contents out.old) (O.contents out.new)
         (trace_lines (names_in (option_copied sheet.entry) node) text)) }
 
-    // A line is the first bad one; the lines of the frames before it are written, and then it is named.
+    // There is a bad line: the lines of the frames before the first one are written, and then it is
+    // named.
     ensures bad_line { (number : ℕ) → result ≡ Ending.Said (CmdFault.BadLine number) →
         IfSome (R.remaining input.old) (λ text. (trace_in text).bad ≡ Some number) }
     ensures before { (number : ℕ) → result ≡ Ending.Said (CmdFault.BadLine number) →
@@ -48,13 +49,14 @@ pub fn decode_input<R: Read, P: Waits<R>, O: Write, E: Write>(
         WritesStopped (O.contents out.old) (O.contents out.new)
         (trace_lines (names_in (option_copied sheet.entry) node) text) (CmdFault.BadLine number)) }
 
-    // Memory ran out: some of these lines are written, never all, and then that it ran out.
+    // Memory ran out: some of these lines are written, never all, and then the line that says so.
     ensures memory { result ≡ Ending.Said CmdFault.Memory →
         IfSome (R.remaining input.old) (λ text.
         SomeStopped (O.contents out.old) (O.contents out.new)
         (trace_lines (names_in (option_copied sheet.entry) node) text) CmdFault.Memory) }
 
-    // The input fails within a line; the lines of the frames before it are written, and then the fault.
+    // The input fails within a line; the lines of the frames before it are written, and then the
+    // fault.
     ensures unread { (fault : CmdFault) → (fault ≡ CmdFault.Read) ⊎ (fault ≡ CmdFault.NeverEnds) →
         result ≡ Ending.Said fault →
         FailsWithinLine (R.remaining input.old) (R.remaining input.new) (λ taken.
@@ -76,7 +78,7 @@ pub fn decode_input<R: Read, P: Waits<R>, O: Write, E: Write>(
     }
 }
 
-// decodes a trace through a buffer, so that few bytes cost few calls of the system
+// decodes a trace through a buffer, to need few system calls
 fn decode_buffered<R: Read + Drop, O: Write, E: Write>(
     alloc: Global,
     input: R,
@@ -95,7 +97,7 @@ fn decode_buffered<R: Read + Drop, O: Write, E: Write>(
     ).status()
 }
 
-// decodes the trace of a path, or where that is `-` standard input
+// decodes the trace of a path, or of standard input for `-`
 fn decode_trace<R: Files + AllocGlobal + Input, O: Write, E: Write>(
     rt: &R,
     path: &str,
@@ -115,7 +117,7 @@ fn decode_trace<R: Files + AllocGlobal + Input, O: Write, E: Write>(
     }
 }
 
-// decodes the trace of a path with the names of a sheet, if the text is one
+// decodes the trace of a path with the names of a sheet, if this text is one
 fn decode_named<R: Files + AllocGlobal + Input, O: Write, E: Write>(
     rt: &R,
     path: &str,
@@ -132,9 +134,9 @@ fn decode_named<R: Files + AllocGlobal + Input, O: Write, E: Write>(
     }
 }
 
-/// Decodes the trace of a path, or of standard input where that is `-`, with the names of the data sheet of another
-/// path, as `decode_input` does. The sheet is read first: its fault goes to `out`. A file that can't be read is named
-/// on `err`. The status is then 1.
+/// Decodes the trace of a path, or of standard input for `-`, as `decode_input` does, with the
+/// names of a data sheet if its path is given. The sheet is read first: its fault goes to `out`. A
+/// file that can't be read is named on `err`. The status is then 1.
 pub fn decode_files<R: Files + AllocGlobal + Input, O: Write, E: Write>(
     rt: &R,
     trace: &str,

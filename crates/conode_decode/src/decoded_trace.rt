@@ -1,4 +1,4 @@
-//! A trace decoded: each frame with what it says.
+//! Decoding a trace: each frame with what it says.
 
 ghost use Rattle.std.specs.Prelude.{◌≡◌, ◌⊎◌, ℕ, Bool, true, false, [], OnOk, IfErr, IfSome, Err, Some, None};
 ghost use Rattle.std.specs.Option.{option_copied};
@@ -19,7 +19,7 @@ use conode_trace::{BadLine, TimedLine, TraceLine, TraceProgress};
 use std::alloc::Global;
 use std::io::{Read, Write};
 
-// writes the line of a line's frame, if it has one
+// writes the line of a frame, if this line of the trace has one
 #[tactic(auto, using(conode_io::proofs::WriteLemmas::line_alone, conode_io::proofs::WriteLemmas::front_alone, conode_io::proofs::WriteLemmas::no_lines))]
 fn write_line<W: Write>(
     text: &mut String,
@@ -44,7 +44,7 @@ fn write_line<W: Write>(
     hand_over(text.as_bytes(), writer)
 }
 
-// decodes line by line, with a line reader that has read nothing
+// decodes line by line, with a new line reader
 fn decode_all<R: Read, P: Waits<R>, W: Write>(
     alloc: Global,
     lines: &mut LineReader,
@@ -62,7 +62,7 @@ fn decode_all<R: Read, P: Waits<R>, W: Write>(
 {
     let mut text = String::new(alloc);
     let mut progress = TraceProgress::new();
-    // its invariant goes by the label
+    // the label names the loop's invariant
     'trace: loop {
         let_out::<R, P, W>(lines, reader, writer)?;
         match lines.next(reader) {
@@ -76,7 +76,7 @@ fn decode_all<R: Read, P: Waits<R>, W: Write>(
     }
 }
 
-/// Decodes a trace as `decode` does, where the reader says whether a read could wait.
+/// Decodes a trace as `decode` does; `P` says whether a read could wait.
 pub(crate) fn decode_from<R: Read, P: Waits<R>, W: Write>(
     alloc: Global,
     reader: &mut R,
@@ -100,19 +100,20 @@ pub(crate) fn decode_from<R: Read, P: Waits<R>, W: Write>(
     decode_all::<R, P, W>(alloc, &mut lines, reader, names, writer)
 }
 
-/// Decodes a trace as `candump -L` writes it, line by line and in constant memory: for each frame a line is
-/// written, with the number of its line in the trace, the frame and what it says (CiA 301, 7.2), as
-/// `1 605#2B171000E8030000 SDO request node 5 download 1017:00 expedited E803`. With a data sheet (CiA 306) the
-/// ParameterName of an entry follows; with a node-ID too, for this node alone. Event lines and frames that
-/// are passed over are checked and write nothing.
+/// Decodes a trace as `candump -L` writes it, line by line and in constant memory. For each frame
+/// it writes a line: the number of its line in the trace, the frame and what it says (CiA 301,
+/// 7.2), as `1 605#2B171000E8030000 SDO request node 5 download 1017:00 expedited E803`. With a
+/// data sheet (CiA 306) the ParameterName of an entry follows; with a node-ID too, only for this
+/// node. Event lines, and frames that are passed over, are checked and give no line.
 ///
-/// The writer is flushed before each read, and not while a whole line is held: so a writer with a buffer passes on what
-/// was decoded of a piece in one go, and never later than the next read.
+/// The writer is flushed before each read, but not while a whole line is held. So a buffered writer
+/// passes on the lines of one read together, before the next read.
 ///
-/// `BadLine` is the first line that is no line of a trace, that has more than 512 bytes, or whose stamp is more than a
-/// day past the clock. Before `BadLine`, `Read` and `NeverEnds` all lines before it have been written; what the reader
-/// gave after them before `Read` or `NeverEnds` is a part of a line. After `Write` a part of the text has been written,
-/// or all of it where the flush failed; after `Memory` some of its lines, never all.
+/// * `BadLine`: the first line that is no line of a trace, that has more than 512 bytes, or whose
+///   stamp is more than a day past the clock. All lines before it have been written.
+/// * `Read`, `NeverEnds`: the reader failed within a line. All lines before it have been written.
+/// * `Write`: a part of the text has been written, or all of it if the flush failed.
+/// * `Memory`: some of the lines have been written, never all.
 pub fn decode<R: Read, W: Write>(
     alloc: Global,
     reader: &mut R,
@@ -127,7 +128,7 @@ pub fn decode<R: Read, W: Write>(
         WritesLines (W.contents writer.old) (W.contents writer.new)
         (trace_lines (names_in (option_copied sheet.entry) node) text))) }
 
-    // A line is the first bad one, and the lines of the frames before it are written.
+    // There is a bad line, and the lines of the frames before the first one are written.
     ensures bad_line { (number : ℕ) → result ≡ Err (CmdFault.BadLine number) →
         IfSome (R.remaining reader.old) (λ text. (trace_in text).bad ≡ Some number) }
     ensures before { (number : ℕ) → result ≡ Err (CmdFault.BadLine number) →
@@ -151,7 +152,7 @@ pub fn decode<R: Read, W: Write>(
         WritesLines (W.contents writer.old) (W.contents writer.new)
         (lines_of (names_in (option_copied sheet.entry) node) taken))) }
 
-    // Whatever the reader: it gave a text, and all this is so of that text.
+    // For any reader: it gave a text, and all this holds of that text.
     ensures any_reader { GaveText (R.remaining reader.old) (R.remaining reader.new) (λ text.
         Decoded (names_in (option_copied sheet.entry) node) (Some text) (Some [])
         (W.contents writer.old) (W.contents writer.new) result) }

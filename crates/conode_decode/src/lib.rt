@@ -1,5 +1,5 @@
-//! The text of a CAN frame as an engineer reads it: its service, its node, and what it says (CiA 301); and a trace of
-//! such frames, decoded line by line.
+//! The text of a CAN frame as an engineer reads it: its service, its node, and what it says
+//! (CiA 301); and a trace of such frames, decoded line by line.
 #![tactic(auto)]
 
 mod decode_file;

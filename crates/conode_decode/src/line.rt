@@ -12,10 +12,10 @@ use co_text::push_decimal;
 use conode_trace::push_frame;
 use std::alloc::AllocError;
 
-/// Makes the text the line of a frame: the number of its line in the trace, the frame, what it says with the names of
-/// entries, and a line feed, as
-/// `1 605#2B171000E8030000 SDO request node 5 download 1017:00 expedited E803`. On an `Err` memory ran out, and the
-/// text holds a part of the line.
+/// Sets the text to the line of a frame: the number of its line in the trace, the frame, what it
+/// says with the names of entries, and a line feed, as
+/// `1 605#2B171000E8030000 SDO request node 5 download 1017:00 expedited E803`. `Err`: out of
+/// memory; the text then has a part of the line.
 #[tactic(auto, unfolding(crate::specs::Texts::decoded_line))]
 pub fn set_decoded_line(
     text: &mut String,

@@ -18,13 +18,13 @@ use std::str;
 pub struct Names<'s, 'a> {
     /// The data sheet that has them, as ParameterName (CiA 306); `None`: no entry has a name.
     pub sheet: Option<&'s Sheet<'a>>,
-    /// The node whose data sheet it is; `None`: the data sheet is that of each node.
+    /// The node that the data sheet is for; `None`: it is for every node.
     pub only: Option<u8>,
-    /// The original data types of the sheet's entries, where it was adapted; `None`: no entry has one.
+    /// The original data types of the sheet's entries, if it was adapted; `None`: no entry has one.
     pub originals: Option<&'s Originals>,
 }
 
-/// The row of a key among rows in increasing key.
+/// The row of a key among rows in increasing key, if there is one.
 pub fn row_at<'r, 'a>(rows: &'r [EntryRow<'a>], key: Key) -> Option<&'r EntryRow<'a>>
     requires { AllPairs (λ e f. is_key_before e.key f.key ≡ true) rows.now }
     ensures { option_map row_view (option_copied result) ≡ row_at (map row_view rows.now) key }
@@ -44,14 +44,14 @@ fn if_utf8(text: &[u8]) -> Option<&str>
     }
 }
 
-/// The name of an entry, where it is UTF-8.
+/// The name of an entry, if it has one in UTF-8.
 pub fn shown_name<'a>(row: &EntryRow<'a>) -> Option<&'a str>
     ensures { option_copied result ≡ shown_name (row_view row.now) }
 {
     if_utf8(row.name?)
 }
 
-// the name of the entry of a key, where it is UTF-8
+// the name of the entry of a key, if it has one in UTF-8
 fn name_at<'a>(rows: &[EntryRow<'a>], key: Key) -> Option<&'a str>
     requires { AllPairs (λ e f. is_key_before e.key f.key ≡ true) rows.now }
     ensures { option_copied result ≡ name_at (map row_view rows.now) key }
@@ -60,7 +60,7 @@ fn name_at<'a>(rows: &[EntryRow<'a>], key: Key) -> Option<&'a str>
 }
 
 impl<'s, 'a> Names<'s, 'a> {
-    /// A node's entry, where the data sheet is that of the node and has it.
+    /// The entry of a node, if the data sheet is for that node and has the entry.
     #[tactic(auto, unfolding(crate::specs::Names::entry_of))]
     pub fn entry(self, node: u8, key: Key) -> Option<&'s EntryRow<'a>>
         ensures { option_map row_view (option_copied result)
@@ -72,7 +72,8 @@ impl<'s, 'a> Names<'s, 'a> {
         row_at(self.sheet?.entries(), key)
     }
 
-    /// The code of an entry's original data type, as `0x0008`, where the data sheet was adapted (`OriginalDataType`).
+    /// The code of an entry's original data type, as `0x0008`, if the data sheet was adapted
+    /// (`OriginalDataType`).
     pub fn original(self, row: &EntryRow<'_>) -> Option<&'static [u8]>
         ensures { option_copied result ≡ original_of (names_view self.entry) (row_view row.now) }
     {
@@ -90,8 +91,8 @@ impl<'s, 'a> Names<'s, 'a> {
         name_at(self.sheet?.entries(), key)
     }
 
-    /// Appends what follows a text with a key: a space and the name in double quotes, if there is one. On an `Err`
-    /// memory ran out, and a part of it may be there.
+    /// Appends what follows a text with a key: a space and the name in double quotes, if there is
+    /// one. `Err`: out of memory; a part of it may be there.
     #[tactic(auto, unfolding(crate::specs::Names::name_text))]
     pub(crate) fn push(
         self,

@@ -1,5 +1,5 @@
-//! The texts of frames by their service. Each function appends a text; on an `Err` memory ran out, and a part of it may
-//! be there.
+//! The texts of frames by their service. Each function appends a text. `Err`: out of memory; a part
+//! of the text may be there.
 
 ghost use Rattle.std.specs.Prelude.{◌≡◌, ◌<◌, ◌++◌, OnOk, string_bytes};
 ghost use Rattle.conode_decode.specs.Names.{names_view};
@@ -210,8 +210,9 @@ fn push_service(
     }
 }
 
-/// Appends the text of a frame, by its identifier and its service (CiA 301, 7.3.3, pre-defined connection set), with the
-/// names of entries. On an `Err` memory ran out, and a part of it may be there.
+/// Appends the text of a frame, by its identifier and its service (CiA 301, 7.3.3, pre-defined
+/// connection set), with the names of entries. `Err`: out of memory; a part of the text may be
+/// there.
 #[tactic(auto, unfolding(crate::specs::Texts::text_of_frame))]
 pub fn push_text(text: &mut String, names: Names<'_, '_>, frame: &Frame) -> Result<(), AllocError>
     ensures { OnOk result (string_bytes text.new

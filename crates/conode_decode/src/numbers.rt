@@ -1,4 +1,5 @@
-//! The fields of a frame. Each function appends a text; on an `Err` memory ran out, and a part of it may be there.
+//! The fields of a frame. Each function appends a text. `Err`: out of memory; a part of the text
+//! may be there.
 
 ghost use Rattle.std.specs.Prelude.{◌≡◌, ◌++◌, OnOk, string_bytes};
 ghost use Rattle.co_value.specs.KeyTexts.{key_text};

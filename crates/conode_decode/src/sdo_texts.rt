@@ -1,5 +1,5 @@
-//! The texts of SDO requests and answers (CiA 301, 7.2.4.3). Each function appends a text; on an `Err` memory ran out,
-//! and a part of it may be there.
+//! The texts of SDO requests and answers (CiA 301, 7.2.4.3). Each function appends a text. `Err`:
+//! out of memory; a part of the text may be there.
 
 ghost use Rattle.std.specs.Prelude.{◌≡◌, ◌++◌, OnOk, Some, string_bytes};
 ghost use Rattle.co_value.specs.KeyTexts.{key_text};
@@ -135,7 +135,7 @@ fn push_block_end(text: &mut String, service: &str, unused: u8) -> Result<(), Al
     push_decimal(text, u64::from(unused))
 }
 
-/// Appends what a client asks of a server, without the name of the entry.
+/// Appends the text of a request, without the name of the entry.
 #[tactic(auto, unfolding(crate::specs::SdoTexts::request_text))]
 pub(crate) fn push_request(text: &mut String, request: &SdoRequest) -> Result<(), AllocError>
     ensures { OnOk result
@@ -188,7 +188,7 @@ pub(crate) fn request_key(request: &SdoRequest) -> Option<Key>
     }
 }
 
-/// Appends what a server answers, without the name of the entry.
+/// Appends the text of an answer, without the name of the entry.
 #[tactic(auto, unfolding(crate::specs::SdoTexts::answer_text))]
 pub(crate) fn push_answer(text: &mut String, answer: &SdoResponse) -> Result<(), AllocError>
     ensures { OnOk result

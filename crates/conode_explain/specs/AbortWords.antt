@@ -20,7 +20,8 @@ reasons =
 unfoldable pub words_of : ℕ → List ℕ
 words_of code = option_map_or text_of (find (λ reason. code_of reason == code) reasons) []
 
--- an identifier of an SDO channel of the pre-defined connection set: an answer or a request (CiA 301, 7.3.3)
+-- an identifier of an SDO channel of the pre-defined connection set: an answer or a request (CiA
+-- 301, 7.3.3)
 abbrev pub is_sdo : ℕ → Bool
 is_sdo id = (nat_lt 0x580 id && nat_lt id 0x600) || (nat_lt 0x600 id && nat_lt id 0x680)
 

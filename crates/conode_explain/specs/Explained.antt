@@ -1,5 +1,6 @@
--- What a log is explained as: the lines of its frames that are asked for, in order, each with that of the transfer that ended with it,
--- and at the end those of the transfers that are open. A bad line has none here, and is counted.
+-- What a log is explained as: the lines of its frames that are asked for, in order, each with that
+-- of the transfer that ended with it, and at the end those of the transfers that are open. A bad
+-- line has none here, and is counted.
 use Rattle.std.specs.Prelude.{ℕ, ◌+◌, Bool, nat_lt, ◌||◌, if◌then◌else◌, List, [], ◌∷◌, ◌++◌, length, Option, Some, None}
 use Rattle.std.specs.List.{flat_map}
 use Rattle.std.specs.Str.Lines.{lines}
@@ -49,7 +50,8 @@ use Rattle.conode_explain.specs.ToldWords.{ended_words, told_words}
 abbrev pub nothing_known : Progress
 nothing_known = record { seen = nothing_seen; channels = []; entries = []; lasts = [] }
 
--- what is told of a frame, and the channels after it: frames of data with an identifier of 11 bits alone are followed
+-- what is said about a frame, and the channels after it: only data frames with an identifier of 11
+-- bits are followed
 abbrev pub telling_in : List Track → Record → Identifier → Content → Telling
 telling_in channels frame (Base id) (Data bytes) = telling channels frame.interface frame.micros (record { id = id; bytes = bytes })
 telling_in channels frame _ _ = record { told = None; tracks = channels }
@@ -106,7 +108,7 @@ abbrev pub told_lines : Layout → List KnownSheet → SoFar → Record → Opti
 told_lines form sheets so_far frame None = []
 told_lines form sheets so_far frame (Some told) = ended_lines form sheets so_far frame.micros frame.interface told.node told.ended
 
--- the lines of a frame on a bus that is these PDOs, with what is told of it
+-- the lines of a frame on a bus that is these PDOs, by what its SDO channel says about it
 abbrev pub lines_with : Layout → List KnownSheet → Bus → List Claim → SoFar → List Said → Record → Option Told → List (List ℕ)
 lines_with form sheets bus claims so_far lasts frame told =
     shown_lines form so_far lasts (subject_in claims frame) frame (told_words bus claims frame told)
@@ -158,7 +160,8 @@ unfinished_lines form sheets progress = flat_map (unfinished_in form sheets prog
 
 -- ---- all of it
 
--- lines explained, where it was so far before them; one of more than 512 bytes is bad, and says nothing of the log
+-- lines explained, from this progress on; one of more than 512 bytes is bad, and says nothing of
+-- the log
 unfoldable pub explained_from : Layout → List KnownSheet → Log → Progress → List (List ℕ) → List (List ℕ)
 explained_from form sheets log progress [] = unfinished_lines form sheets progress
 explained_from form sheets log progress (line ∷ more) =
@@ -185,7 +188,8 @@ faults_of log line = if nat_lt 512 (length line) then 1 else faults_in (line_at 
 abbrev pub log_after : Log → List ℕ → Log
 log_after log line = if nat_lt 512 (length line) then log else (says log line).0
 
--- The last line counts only where it has its line feed, or is too long: whoever stops a recording cuts it off there.
+-- The last line counts only where it has its line feed, or is too long: whoever stops a recording
+-- cuts it off there.
 unfoldable pub bad_from : Bool → Log → List (List ℕ) → ℕ
 bad_from closed log [] = 0
 bad_from closed log (line ∷ []) = if closed || nat_lt 512 (length line) then faults_of log line else 0

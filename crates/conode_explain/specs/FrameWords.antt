@@ -31,13 +31,14 @@ plain_words names frame = assumed_mark frame.id ++ text_of_frame names frame ++ 
 unfoldable pub served_words : Names → FrameContent → List ℕ
 served_words names frame = unwrap_or (service_words nothing_seen frame) (plain_words names frame)
 
--- as the PDOs that have its identifier, else by its service or its text, of the node of the pre-defined connection set
+-- as the PDOs that have its identifier, else by its service or its text, of the node of the
+-- pre-defined connection set
 unfoldable pub other_words : Bus → List Claim → FrameContent → List ℕ
 other_words bus [] frame = served_words (names_at bus (frame.id % 128)) frame
 other_words bus (claim ∷ claims) frame = pdos_text bus frame.bytes (claim ∷ claims)
 
--- what a frame with an identifier of 11 bits says: the entry of an expedited transfer with its value, where the sheet has the
--- entry; else the entries of PDOs with theirs, or its text
+-- what a frame with an identifier of 11 bits says: the entry of an expedited transfer with its
+-- value, where the sheet has the entry; else the entries of PDOs with theirs, or its text
 unfoldable pub frame_words : Bus → List Claim → FrameContent → List ℕ
 frame_words bus claims frame =
     unwrap_or (transfer_words bus frame) (other_words bus claims frame)

@@ -1,5 +1,5 @@
--- What a line of a log says, as a line of a recording: nothing where it is bad. A frame of another recorder's log is
--- read as the line that `convert` writes of it.
+-- What a line of a log says, as a line of a recording: nothing where it is bad. A frame of another
+-- recorder's log is read as the line that `convert` writes of it.
 use Rattle.std.specs.Prelude.{ℕ, List, Option, Some, None, Result, Ok, Err}
 use Rattle.conode_convert.specs.Printed.{frame_text}
 use Rattle.conode_log_parts.specs.declared.bad_line.BadLogLine.{BadLogLine}

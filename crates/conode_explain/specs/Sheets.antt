@@ -12,7 +12,8 @@ sheets_of settings = map known_view settings.sheets.now
 
 -- ---- what a sheet is for
 
--- the node: the one that its word has, else the sheet's own, of a device configuration file; none where it is for all
+-- the node: the one that its word has, else the sheet's own, of a device configuration file; none
+-- where it is for all
 abbrev pub node_for : Option ℕ → Option ℕ → Option ℕ
 node_for (Some node) own = Some node
 node_for None own = own
@@ -36,7 +37,8 @@ is_kind node interface sheet =
 abbrev pub of_kind : Bool → Bool → List KnownSheet → List KnownSheet
 of_kind node interface sheets = filter (is_kind node interface) sheets
 
--- a node's own sheet comes before one for all nodes; of those the one for an interface; and of these the one that is named first
+-- a node's own sheet comes before one for all nodes; of those the one for an interface; and of
+-- these the one that is named first
 unfoldable pub in_order : List KnownSheet → List KnownSheet
 in_order sheets =
     of_kind true true sheets ++ of_kind true false sheets ++ of_kind false true sheets ++ of_kind false false sheets

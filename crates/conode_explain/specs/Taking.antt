@@ -11,7 +11,8 @@ use Rattle.conode_explain.specs.declared.progress.Layout.{Layout}
 use Rattle.conode_explain.specs.declared.progress.Progress.{Progress}
 use Rattle.conode_explain.specs.Explained.{bad_count, explained, explained_from}
 
--- known bytes give these lines, and what those that are left give; and so many bad lines, and those that are left have
+-- known bytes give these lines, then those of the bytes that are left; and so many bad lines, then
+-- those of the bytes that are left
 abbrev pub Gives : Layout → List KnownSheet → Option (List ℕ) → Option (List ℕ)
     → Log → Log → Progress → Progress → List (List ℕ) → ℕ → Type 0
 Gives form sheets None left log after first next written bad = ⊤
@@ -20,8 +21,9 @@ Gives form sheets (Some text) (Some rest) log after first next written bad =
     (explained_from form sheets log first (lines text) ≡ written ++ explained_from form sheets after next (lines rest))
     × (bad_count log text ≡ bad + bad_count after rest)
 
--- Lines were taken: a writer has those of their frames, and so many of them are bad. `held` and `holds` are what is held of
--- the reader before and after, `before` and `after` what is known of its bytes, `old` and `new` the writer's.
+-- Lines were taken: a writer has those of their frames, and so many of them are bad. `held` and
+-- `holds` are what is held of the reader before and after, `before` and `after` what is known of
+-- its bytes, `old` and `new` the writer's.
 pub record Takes (form : Layout) (sheets : List KnownSheet)
     (held holds : Held) (before after : Option (List ℕ)) (log left : Log) (first next : Progress) (old new : Option (List ℕ)) (bad : ℕ) : Type 0 where
   pub written : List (List ℕ)

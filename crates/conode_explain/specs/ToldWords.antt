@@ -16,7 +16,7 @@ use Rattle.conode_explain_transfer_text.specs.Frames.{after_text, segment_number
 use Rattle.conode_explain.specs.AbortWords.{words_of}
 use Rattle.conode_explain.specs.FrameWords.{words_of_content}
 
--- what a node's entry is called; nothing where it has no name
+-- the name of a node's entry; empty where it has none
 unfoldable pub name_bytes : Names → ℕ → Key → List ℕ
 name_bytes names node key = unwrap_or (option_and_then shown_name (entry_of names node key)) []
 
@@ -39,7 +39,7 @@ abbrev pub words_in : Bus → List Claim → Record → ℕ → Option Part → 
 words_in bus claims frame node None = words_of_content bus claims frame.id frame.content
 words_in bus claims frame node (Some part) = part_words bus claims frame node part
 
--- what a frame says, with what is told of it
+-- what a frame says, by what its SDO channel says about it
 abbrev pub told_words : Bus → List Claim → Record → Option Told → List ℕ
 told_words bus claims frame None = words_of_content bus claims frame.id frame.content
 told_words bus claims frame (Some told) = words_in bus claims frame told.node told.part

@@ -28,15 +28,15 @@ fn abort_code_of(frame: &Frame) -> Option<u32>
     }
 }
 
-/// What a code means; nothing for one that the standard doesn't have.
+/// What a code means; empty for one that the standard doesn't have.
 pub(crate) fn words_of(code: u32) -> &'static str
     ensures { result.now ≡ words_of code }
 {
     abort_text(code)
 }
 
-/// Appends what the code of an abort means, in brackets; nothing for another frame, and for a code that the standard
-/// doesn't have. On an `Err` memory ran out, and a part of it may be there.
+/// Appends what the code of an abort means, in brackets; nothing for another frame, and for a code
+/// that the standard doesn't have. On an `Err` memory ran out, and a part of it may be there.
 #[tactic(auto, unfolding(crate::specs::AbortWords::abort_words))]
 pub(crate) fn push_abort_words(said: &mut String, frame: &Frame) -> Result<(), AllocError>
     ensures { OnOk result

@@ -23,7 +23,7 @@ use std::rt::Files;
 /// The path that stands for standard input.
 const STANDARD_INPUT: &str = "-";
 
-// Explains an input, and says how many lines are bad, on `err`, or why it stopped where it did.
+// Explains an input. Says on `err` how many lines are bad, or why it stopped.
 fn explain_input<R: Read, O: Write, E: Write>(
     alloc: Global,
     input: &mut R,
@@ -160,7 +160,8 @@ fn sheets_in<'t, O: Write, E: Write>(
     Ok(sheets)
 }
 
-// The texts of the data sheets that words name. On an `Err` a file can't be read, or memory ran out, and it is said.
+// The texts of the data sheets that words name. On an `Err` a file can't be read, or memory ran
+// out, and it is said.
 fn texts_of<'a, R: Files + AllocGlobal, O: Write, E: Write>(
     rt: &R,
     words: &[SheetWord<'a>],
@@ -204,7 +205,7 @@ fn explain_named<R: Files + AllocGlobal + Input, O: Write, E: Write>(
     }
 }
 
-// says which word names no data sheet, and what it has not
+// says which word names no data sheet, and what it lacks
 fn bad_sheet_word<O: Write, E: Write>(
     fault: SheetWordFault<'_>,
     out: &mut O,
@@ -269,11 +270,12 @@ fn bad_filter<O: Write, E: Write>(fault: FilterFault<'_>, out: &mut O, err: &mut
     }
 }
 
-/// Explains the recording of a path, or of standard input where that is `-`, by the data sheets that words name, each
-/// `[INTERFACE:][NODE=]FILE`. The words of the filter are read first, and then those of the sheets: the first that its
-/// option doesn't have is named on `err`, and the status is 2. Then the sheets are read: a fault of one goes to `out`, and
-/// where there are several, its path to `err`. Bad lines, and a file that can't be read, are named on `err`. The status is
-/// 0 where all lines are good, else 1.
+/// Explains the recording of a path, or of standard input where that is `-`, by the data sheets
+/// that words name, each `[INTERFACE:][NODE=]FILE`. The words of the filter are read first, and
+/// then those of the sheets: the first that its option doesn't have is named on `err`, and the
+/// status is 2. Then the sheets are read: a fault of one goes to `out`, and where there are
+/// several, its path to `err`. Bad lines, and a file that can't be read, are named on `err`. The
+/// status is 0 where all lines are good, else 1.
 #[tactic(auto, using(crate::proofs::WriteLemmas::or_two, crate::proofs::WriteLemmas::one_or_two))]
 pub fn explain_files<R: Files + AllocGlobal + Input, O: Write, E: Write>(
     rt: &R,

@@ -11,11 +11,12 @@ use conode_io::CmdFault;
 use std::alloc::Global;
 use std::io::{Read, Write};
 
-/// Explains a log of the form that is given, or that its first lines show, line by line and in constant memory: for
-/// each frame a line is written on `out`, with its times and what it says, and after it one for the SDO transfer that ended with it; at the end one
-/// for each that is open. A bad line, or one of more than 512 bytes, is named on `err` with
-/// its number and what is wrong with it, and the rest goes on. Gives the number of bad lines; a last line that no line
-/// feed ends is counted only where it is too long, since whoever stops a recording cuts it off there.
+/// Explains a log of the form that is given, or that its first lines show, line by line and in
+/// constant memory: for each frame a line is written on `out`, with its times and what it says, and
+/// after it one for the SDO transfer that ended with it; at the end one for each that is open. A
+/// bad line, or one of more than 512 bytes, is named on `err` with its number and what is wrong
+/// with it, and the rest goes on. Returns the number of bad lines; a last line that no line feed
+/// ends is counted only where it is too long, since whoever stops a recording cuts it off there.
 ///
 /// `out` is flushed before each read, and not while a whole line is held.
 ///
@@ -32,7 +33,7 @@ pub fn explain<R: Read, W: Write, E: Write>(
     ensures known { IfOk result (λ bad. IfSome (R.remaining reader.old)
         (Explains settings.now.form (sheets_of settings.now)
         (W.contents out.old) (W.contents out.new) bad)) }
-    // Whatever the reader: it gave a text, and this is so of that text.
+    // For every reader: it gave some text, and this holds for that text.
     ensures any_reader { IfOk result (λ bad.
         GaveText (R.remaining reader.old) (R.remaining reader.new)
         (Explains settings.now.form (sheets_of settings.now)

@@ -58,7 +58,7 @@ pub(crate) fn shows_frame(form: &Layout<'_>, seen: &Seen, subject: &Subject, mic
     !form.transfers && passes_frame(form, seen, subject, micros)
 }
 
-/// Whether that of a transfer of a node that ended at a stamp is printed.
+/// Whether the line of a node's transfer that ended at this stamp is printed.
 pub(crate) fn shows_end(form: &Layout<'_>, seen: &Seen, micros: u64, node: u8) -> bool
     ensures { result ≡ shows_end form.now seen.now micros node }
 {
@@ -89,8 +89,9 @@ fn is_repeating(form: &Layout<'_>, subject: &Subject) -> bool
     form.changes && repeats(subject.kind)
 }
 
-/// Whether a frame that says these words has a line: each has one, but of a PDO, a heartbeat and a SYNC a change alone,
-/// where that is asked for. The words are kept then. On an `Err` memory ran out.
+/// Whether a frame that says these words has a line. Where only changes are asked for, a PDO, a
+/// heartbeat or a SYNC has one only if it says something new, and its words are kept. On an `Err`
+/// memory ran out.
 #[tactic(auto, unfolding(crate::specs::Filtered::is_news, crate::specs::Filtered::lasts_told))]
 pub(crate) fn is_news(
     lasts: &mut Lasts,

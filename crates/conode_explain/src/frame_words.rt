@@ -126,7 +126,8 @@ fn push_remote_words(said: &mut String, id: Identifier) -> Result<(), AllocError
     }
 }
 
-/// Makes `said` what a frame says that is these PDOs. On an `Err` memory ran out, and it is any part of it.
+/// Sets `said` to what a frame says; `claims` are the PDOs that it is. On an `Err` memory ran out,
+/// and it is incomplete.
 #[tactic(auto, unfolding(crate::specs::FrameWords::words_of_content))]
 pub(crate) fn set_words(
     said: &mut String,

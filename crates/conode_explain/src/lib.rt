@@ -1,5 +1,5 @@
-//! A recording of a CAN bus explained: each frame on a line with its times and what it says; a bad line is named, and the
-//! rest goes on.
+//! A recording of a CAN bus explained: each frame on a line with its times and what it says; a bad
+//! line is named, and the rest goes on.
 #![tactic(auto)]
 
 mod abort_words;

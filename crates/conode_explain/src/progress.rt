@@ -42,8 +42,8 @@ pub struct Layout<'f> {
     pub filter: &'f Filter,
 }
 
-/// What a recording showed so far: its stamps and interfaces, the SDO channels, entries of nodes, and what was said last of
-/// identifiers.
+/// What a recording showed so far: its stamps and interfaces, the SDO channels, entries of nodes,
+/// and what was said last of identifiers.
 #[derive(Drop)]
 pub(crate) struct Progress {
     pub(crate) seen: Seen,
@@ -65,8 +65,8 @@ impl Progress {
         }
     }
 
-    /// Takes a frame into its channel, if it is one of data with an identifier of 11 bits: what is told of it. On an `Err`
-    /// memory ran out.
+    /// Takes a data frame with an identifier of 11 bits into its SDO channel. Returns what it is
+    /// there; `None` for every other frame. On an `Err` memory ran out.
     #[tactic(auto, unfolding(crate::specs::Explained::telling_of))]
     pub(crate) fn tell(&mut self, frame: &Record<'_>) -> Result<Option<Told>, AllocError>
         requires { IsIdentifier frame.now.id }
@@ -88,8 +88,8 @@ impl Progress {
         self.channels
             .take(name, frame.micros, &Frame::packed(id, bytes))
     }
-    /// Takes a frame in, with what is told of it: its stamp, its interface, and what it shows of entries. On an `Err`
-    /// memory ran out.
+    /// Adds a frame: its stamp, its interface, and what it shows of entries by `told`, which its
+    /// SDO channel says about it. On an `Err` memory ran out.
     pub(crate) fn add(&mut self, frame: &Record<'_>, told: &Option<Told>) -> Result<(), AllocError>
         ensures seen { OnOk result (self.new.seen
             ≡ seen_with self.old.seen frame.now.micros frame.now.interface) }

@@ -22,7 +22,7 @@ use co_text::{decimal_in, is_blank};
 use std::alloc::{AllocError, Global};
 
 /// The part of a word that is wrong.
-#[derive(Clone, Copy, Debug, PartialEq, Eq)]
+#[derive(Clone, Copy, PartialEq, Eq)]
 pub(crate) enum SheetPart {
     Interface,
     Node,
@@ -30,7 +30,7 @@ pub(crate) enum SheetPart {
 }
 
 impl SheetPart {
-    /// What the word has not.
+    /// What the word lacks.
     pub(crate) fn wanted(self) -> &'static str {
         match self {
             SheetPart::Interface => "interface of 1 to 15 bytes, without a blank, before the colon",
@@ -41,7 +41,7 @@ impl SheetPart {
 }
 
 /// What is wrong with the words that name data sheets.
-#[derive(Clone, Copy, Debug)]
+#[derive(Clone, Copy)]
 pub(crate) enum SheetWordFault<'a> {
     /// A part of a word.
     Word(SheetPart, &'a str),
@@ -61,11 +61,11 @@ impl<'a> From<AllocError> for SheetWordFault<'a> {
 }
 
 /// A data sheet as a word names it: `[INTERFACE:][NODE=]FILE`.
-#[derive(Clone, Copy, Debug)]
+#[derive(Clone, Copy)]
 pub(crate) struct SheetWord<'a> {
     /// The interface that it is for; `None`: each.
     pub(crate) interface: Option<&'a [u8]>,
-    /// The node that it is for, 1 to 127; `None`: the one that the sheet itself has, or each.
+    /// The node that it is for, 1 to 127; `None`: the sheet's own, if it has one, else each.
     pub(crate) node: Option<u8>,
     /// Its path.
     pub(crate) path: &'a str,
@@ -195,8 +195,9 @@ fn with_interface<'a>(front: &'a str, rest: &'a str) -> Result<SheetWord<'a>, Sh
 }
 
 impl<'a> SheetWord<'a> {
-    /// What a word names: what comes before the first colon is an interface, and what comes before the first equals sign
-    /// after it a node-ID, unless it has a slash or an equals sign and so is part of a path.
+    /// What a word names: what comes before the first colon is an interface, and what comes before
+    /// the first equals sign after it a node-ID, unless it has a slash or an equals sign and so is
+    /// part of a path.
     #[tactic(auto, unfolding(crate::specs::SheetWords::sheet_word))]
     pub(crate) fn read(word: &'a str) -> Result<SheetWord<'a>, SheetPart>
         ensures ok { IfOk result (λ found. sheet_word word.entry.now ≡ Ok (word_view found)) }

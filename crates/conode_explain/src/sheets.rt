@@ -77,8 +77,8 @@ fn with_kind<'s, 't>(
     Ok(all)
 }
 
-/// These data sheets with their PDOs, in the order in which they count: a node's own before one for all nodes, and of
-/// those the one for an interface. On an `Err` memory ran out.
+/// These data sheets with their PDOs, in the order in which they count: a node's own before one for
+/// all nodes, and of those the one for an interface. On an `Err` memory ran out.
 #[tactic(auto, unfolding(crate::specs::Sheets::in_order))]
 pub(crate) fn known_sheets<'s, 't>(
     alloc: Global,

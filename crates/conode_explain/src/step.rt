@@ -43,7 +43,7 @@ pub(crate) struct Explaining {
     claims: Vec<Claim>,
 }
 
-// Names a bad line. Where even this can't be written, the status alone tells of it.
+// Names a bad line on `err`. If that can't be written, only the exit status shows it.
 fn name_bad_line<E: Write>(number: u64, words: &str, err: &mut E) {
     let _ = writeln!(err, "line {number}: {words}");
 }
@@ -56,8 +56,8 @@ fn read_fault(fault: ReadFault) -> CmdFault {
     }
 }
 
-// Writes the line of the frame of a line as `candump -L` writes it, if it has one, and takes the frame in. 1 where the
-// line is bad: then it is named.
+// Takes a line in the form of `candump -L`, and writes the line of its frame, if it has one.
+// Returns 1 for a bad line, which it names, else 0.
 fn explain_record<W: Write, E: Write>(
     room: &mut Room,
     claims: &mut Vec<Claim>,
@@ -90,7 +90,8 @@ fn explain_record<W: Write, E: Write>(
     }
 }
 
-// Writes the line of a line's frame, if it has one, and takes the frame in. 1 where the line is bad: then it is named.
+// Takes a line of the log, and writes the line of its frame, if it has one. Returns 1 for a bad
+// line, which it names, else 0.
 #[tactic(auto, unfolding(crate::specs::LogLines::line_at), using(crate::proofs::LogLemmas::candump_line, crate::proofs::LogLemmas::candump_log))]
 fn explain_line<W: Write, E: Write>(
     room: &mut Room,
@@ -162,8 +163,8 @@ impl Explaining {
         Ok(())
     }
 
-    /// Takes the next line: writes the line of its frame, if it has one, or names it where it is bad. 1 where it is bad and
-    /// counts, else 0; `None` where no line is left.
+    /// Takes the next line: writes the line of its frame, if it has one, or names a bad line.
+    /// Returns 1 for a bad line that counts, else 0; `None` if no line is left.
     pub(crate) fn take_line<R: Read, W: Write, E: Write>(
         &mut self,
         reader: &mut R,

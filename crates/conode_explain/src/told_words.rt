@@ -26,7 +26,7 @@ use conode_explain_transfers::{Ended, Ending, Side};
 use conode_record::Record;
 use std::alloc::AllocError;
 
-// what a node's entry is called; nothing where it has no name
+// the name of a node's entry; empty where it has none
 #[tactic(auto, unfolding(crate::specs::ToldWords::name_bytes))]
 fn name_of<'s>(names: Names<'s, '_>, node: u8, key: Key) -> &'s str
     ensures { result.now ≡ name_bytes (names_view names.entry) node key }
@@ -92,7 +92,8 @@ fn set_part_words(
     )
 }
 
-/// Makes `said` what a frame says that is these PDOs, with what is told of it. On an `Err` memory ran out, and it is any part of it.
+/// Sets `said` to what a frame says; `claims` are the PDOs that it is, `told` is what its SDO
+/// channel says about it. On an `Err` memory ran out, and it is incomplete.
 pub(crate) fn set_told_words(
     said: &mut String,
     bus: Bus<'_, '_, '_, '_, '_>,
@@ -123,7 +124,8 @@ fn ending_words(ending: Ending) -> &'static str
     }
 }
 
-/// Makes `said` what is said of a transfer of a node that ended. On an `Err` memory ran out, and it is any part of it.
+/// Sets `said` to what is said of a node's transfer that ended. On an `Err` memory ran out, and it
+/// is incomplete.
 #[tactic(auto, unfolding(crate::specs::ToldWords::ended_words))]
 pub(crate) fn set_ended_words(
     said: &mut String,

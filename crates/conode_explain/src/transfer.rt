@@ -75,8 +75,8 @@ fn upload_in(node: u8, answer: SdoResponse) -> Option<Transfer>
     }
 }
 
-/// The expedited transfer whose value a frame has: the request of a download, or the answer of an upload (CiA 301,
-/// 7.2.4.3.3 and 7.2.4.3.6).
+/// The expedited transfer whose value a frame has: the request of a download, or the answer of an
+/// upload (CiA 301, 7.2.4.3.3 and 7.2.4.3.6).
 #[tactic(auto, unfolding(crate::specs::Transfers::transfer_in))]
 pub(crate) fn transfer_in(frame: &Frame) -> Option<Transfer>
     ensures { result ≡ transfer_in frame.now }
@@ -124,8 +124,9 @@ fn push_front(text: &mut String, transfer: &Transfer) -> Result<(), AllocError>
     }
 }
 
-/// Appends the entry of a transfer, as its row in the sheet has it, with its value:
-/// `SDO request node 5 download: Temperature 2001:01 = 1000`. On an `Err` memory ran out, and a part of it may be there.
+/// Appends the entry of a transfer, as its row in the sheet has it, with its value: `SDO request
+/// node 5 download: Temperature 2001:01 = 1000`. On an `Err` memory ran out, and a part of it may
+/// be there.
 #[tactic(auto, unfolding(crate::specs::Transfers::transfer_text))]
 pub(crate) fn push_transfer(
     text: &mut String,

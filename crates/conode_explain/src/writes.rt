@@ -51,7 +51,7 @@ pub struct Settings<'f, 'k, 's, 'a> {
     pub sheets: &'k [KnownSheet<'s, 'a>],
 }
 
-/// Room for the work on a line, which is used again for each.
+/// Scratch space for a line, reused for each one.
 #[derive(Drop)]
 pub(crate) struct Room {
     alloc: Global,
@@ -86,7 +86,7 @@ fn bus_of<'k, 'e, 'i, 's, 'a>(
     }
 }
 
-// Makes `claims` the PDOs that have an identifier.
+// Sets `claims` to the PDOs that have an identifier.
 fn set_claims(
     claims: &mut Vec<Claim>,
     bus: Bus<'_, '_, '_, '_, '_>,
@@ -101,7 +101,7 @@ fn set_claims(
     }
 }
 
-// Makes `line` the line of a frame that says these words.
+// Sets `line` to the line of a frame that says these words.
 #[tactic(auto, unfolding(crate::specs::Explained::frame_line))]
 fn set_frame_line(
     alloc: Global,
@@ -156,7 +156,8 @@ fn write_said<W: Write>(
     hand_over(line.as_slice(), out)
 }
 
-// Writes the line of a frame that is these PDOs and is asked for, with what is told of it, if it says something new.
+// Writes the line of a frame that is asked for, if it says something new; `claims` are the PDOs
+// that it is.
 fn write_news<W: Write>(
     room: &mut Room,
     form: &Layout<'_>,
@@ -192,7 +193,8 @@ fn write_news<W: Write>(
     )
 }
 
-// Writes the line of a frame that is these PDOs, if it is asked for, and says something new.
+// Writes the line of a frame, if it is asked for, and says something new; `claims` are the PDOs
+// that it is.
 #[tactic(auto, unfolding(crate::specs::Explained::shown_lines, crate::specs::Explained::lasts_after), using(crate::proofs::WriteLemmas::are_shown, crate::proofs::WriteLemmas::are_hidden))]
 fn write_shown<W: Write>(
     room: &mut Room,
@@ -222,7 +224,7 @@ fn write_shown<W: Write>(
     )
 }
 
-// Makes `line` that of a transfer that ended, of which these words are said.
+// Sets `line` to the line of an ended transfer, with these words.
 fn set_end_line(
     alloc: Global,
     line: &mut Vec<u8>,
@@ -251,7 +253,8 @@ fn set_end_line(
     }
 }
 
-// Writes the line of a transfer that ended, if there is one and it is asked for, with the stamp of the frame that ended it and its interface.
+// Writes the line of the transfer that ended, if one did and it is asked for. It has the stamp and
+// the interface of the frame that ended it.
 #[tactic(auto, unfolding(crate::specs::Explained::end_line), using(conode_io::proofs::WriteLemmas::line_alone, crate::proofs::WriteLemmas::are_shown, crate::proofs::WriteLemmas::are_hidden))]
 fn write_end<W: Write>(
     room: &mut Room,
@@ -319,7 +322,8 @@ fn write_told_end<W: Write>(
     )
 }
 
-// Writes the line of a frame that is these PDOs and that of the transfer that ended with it, those that are asked for.
+// Writes the line of a frame, and that of the transfer that ended with it, those that are asked
+// for; `claims` are the PDOs that the frame is.
 #[tactic(auto, using(conode_io::proofs::WriteLemmas::lines_after))]
 fn write_told<W: Write>(
     room: &mut Room,
@@ -354,7 +358,8 @@ fn write_told<W: Write>(
     write_told_end(room, seen, settings, frame, told, out)
 }
 
-/// Writes the lines of a frame, and takes the frame in; in `claims` is room for the PDOs that it is.
+/// Writes the lines of a frame, and adds it to what the recording showed; `claims` is scratch space
+/// for its PDOs.
 #[tactic(auto, unfolding(crate::specs::Explained::frame_lines, crate::specs::Explained::progress_with))]
 pub(crate) fn write_frame<W: Write>(
     room: &mut Room,

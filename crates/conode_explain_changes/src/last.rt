@@ -7,7 +7,8 @@ use arrayvec::ArrayVec;
 use std::alloc::{AllocError, Global};
 use std::marker::Model;
 
-/// What was said last of an identifier on an interface. Contracts see these, the bytes of the frame and the words.
+/// What was said last of an identifier on an interface. Contracts see these, the bytes of the frame
+/// and the words.
 #[derive(Drop)]
 pub(crate) struct Last {
     interface: ArrayVec<u8, 15>,
@@ -30,7 +31,7 @@ impl Model for Last {
 }
 
 impl Last {
-    /// These bytes and words were said. On an `Err` memory ran out.
+    /// A frame with these bytes and words. On an `Err` memory ran out.
     pub(crate) fn new(
         alloc: Global,
         interface: &[u8],
@@ -66,7 +67,7 @@ impl Last {
         self.id == id && self.interface.as_slice() == interface
     }
 
-    /// Whether it is the same as what is said now, of the same identifier.
+    /// Whether what is said now, of the same identifier, is the same.
     pub(crate) fn is_same(&self, said: &Last) -> bool
         ensures { result ≡ is_same self.now said.now }
     {

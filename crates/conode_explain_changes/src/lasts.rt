@@ -13,11 +13,11 @@ use crate::last::Last;
 use std::alloc::{AllocError, Global};
 use std::marker::Model;
 
-/// Of how many identifiers it is kept at most.
+/// How many identifiers are kept at most.
 const MOST_KEPT: usize = 1024;
 
-/// What was said last of identifiers on interfaces, of at most 1,024. Contracts see it in the order in which they came
-/// first.
+/// What was said last of identifiers on interfaces, of at most 1,024. Contracts see it in the order
+/// in which they came first.
 #[derive(Drop)]
 pub struct Lasts {
     alloc: Global,
@@ -82,9 +82,10 @@ impl Lasts {
         }
     }
 
-    /// Whether a frame on an interface, whose name has at most 15 bytes, says something new of an identifier: its bytes, at
-    /// most 8, or its words aren't those of the last one, or nothing is kept of it. They are kept then; of a 1,025th
-    /// identifier nothing is. On an `Err` memory ran out.
+    /// Whether a frame with an identifier on an interface says something new: its bytes or its
+    /// words aren't those that are kept, or none are kept. New ones are kept, but not those of a
+    /// 1,025th identifier. The interface's name has at most 15 bytes, the frame at most 8. On an
+    /// `Err` memory ran out.
     #[tactic(auto, unfolding(crate::specs::Changes::is_new, crate::specs::Changes::kept))]
     pub fn take(
         &mut self,

@@ -19,7 +19,7 @@ is_error_control_id id = nat_lt 0x700 id && nat_lt id 0x780
 abbrev pub is_boot_up : FrameContent → Bool
 is_boot_up frame = is_error_control_id frame.id && ((length frame.bytes == 1) && (slice_index frame.bytes 0 == 0))
 
--- what is told of a frame with its stamp on an interface, and the channels after it
+-- what is said about a frame with its stamp on an interface, and the channels after it
 unfoldable pub telling : List Track → List ℕ → ℕ → FrameContent → Telling
 telling tracks interface micros frame =
     if is_answer_id frame.id then sdo_telling tracks interface (frame.id - 0x580) micros Server frame.bytes

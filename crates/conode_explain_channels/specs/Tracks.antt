@@ -1,4 +1,5 @@
--- The SDO channels of a recording, one for each node on each interface; each is followed as `followed` says.
+-- The SDO channels of a recording, one for each node on each interface; each is followed as
+-- `followed` says.
 use Rattle.std.specs.Prelude.{ℕ, ◌==◌, ◌&&◌, nat_lt, Bool, if◌then◌else◌, List, [], ◌∷◌, ◌++◌, length, slice_set, position, Option, Some, None}
 use Rattle.std.specs.List.{slice_index_or}
 use Rattle.std.specs.Str.{bytes_eq}
@@ -50,7 +51,7 @@ placed_at None tracks interface node =
 unfoldable pub placed : List Track → List ℕ → ℕ → Placed
 placed tracks interface node = placed_at (place_of tracks interface node) tracks interface node
 
--- ---- what is told
+-- ---- what is said about frames
 
 pub record Telling : Type 0 where
   pub told : Option Told
@@ -70,7 +71,7 @@ telling_at (Some place) tracks node micros side bytes =
     let f = followed (track_at tracks place).channel micros side bytes in
     record { told = Some (told_by side node f); tracks = with_channel tracks place f.next }
 
--- of a node on an interface; a channel that there is no room for isn't followed
+-- a frame of a node on an interface; a channel that there is no room for isn't followed
 unfoldable pub sdo_telling : List Track → List ℕ → ℕ → ℕ → Side → List ℕ → Telling
 sdo_telling tracks interface node micros side bytes =
     let p = placed tracks interface node in telling_at p.place p.tracks node micros side bytes

@@ -23,8 +23,8 @@ use std::marker::Model;
 /// How many channels are followed at most.
 const MOST_CHANNELS: usize = 1024;
 
-/// The SDO channels of a recording, one for each node on each interface, each followed through its transfers: at most
-/// 1,024. Contracts see them in the order in which they were heard first.
+/// The SDO channels of a recording, one for each node on each interface, each followed through its
+/// transfers: at most 1,024. Contracts see them in the order in which they were heard first.
 #[derive(Drop)]
 pub struct Channels {
     tracks: Vec<Track>,
@@ -56,7 +56,7 @@ fn is_boot_up(frame: &Frame) -> bool
 }
 
 impl Channels {
-    /// None was heard.
+    /// No channel was heard.
     pub fn new(alloc: Global) -> Channels
         ensures { result ≡ [] }
     {
@@ -72,7 +72,8 @@ impl Channels {
         self.tracks.as_slice()
     }
 
-    // The place of the channel of a node on an interface; a new one is put last. None where there are too many.
+    // The place of the channel of a node on an interface; a new one is appended. `None` if there
+    // are 1,024 others.
     #[tactic(auto, unfolding(crate::specs::Tracks::placed))]
     fn place(&mut self, interface: &[u8], node: u8) -> Result<Option<usize>, AllocError>
         requires { length interface.now ≤ 15 }
@@ -162,9 +163,10 @@ impl Channels {
         })
     }
 
-    /// Takes a frame with its stamp in microseconds on an interface, whose name has at most 15 bytes: one of an SDO channel
-    /// of the pre-defined connection set, or a boot-up. Gives what is told of it; `None` for every other frame, and for one
-    /// of a channel that there is no room for. Memory is asked for where a channel is heard first; on an `Err` it ran out.
+    /// Takes a frame with its stamp in microseconds on an interface, whose name has at most 15
+    /// bytes: one of an SDO channel of the pre-defined connection set, or a boot-up. Returns what
+    /// the frame is there; `None` for every other frame, and for a channel that there is no room
+    /// for. It allocates when a channel is heard first; on an `Err` memory ran out.
     #[tactic(auto, unfolding(crate::specs::Tellings::telling))]
     pub fn take(
         &mut self,

@@ -1,4 +1,4 @@
-//! What is told of a frame.
+//! What the channels say about a frame.
 
 use co_value::Key;
 use conode_explain_transfers::{Ended, Side, What};
@@ -8,16 +8,20 @@ use conode_explain_transfers::{Ended, Side, What};
 pub struct Part {
     /// The end that sent it.
     pub side: Side,
+    /// What it is.
     pub what: What,
-    /// The entry of the open transfer, where the frame goes on with it and has no key of its own.
+    /// The open transfer's entry; `None` where the frame has a key of its own.
     pub of: Option<Key>,
 }
 
-/// What is told of a frame: of which node it is, what it is in the transfers of the node's channel, and the transfer that
-/// ended with it.
+/// What the channels say about a frame: its node, what it is in the transfers of the node's
+/// channel, and the transfer that ended with it.
 #[derive(Drop)]
 pub struct Told {
+    /// The node-ID of the server.
     pub node: u8,
+    /// What it is in the transfers; `None` for a boot-up.
     pub part: Option<Part>,
+    /// The transfer that ended with it.
     pub ended: Option<Ended>,
 }

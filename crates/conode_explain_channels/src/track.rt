@@ -13,6 +13,7 @@ pub struct Track {
     pub interface: ArrayVec<u8, 15>,
     /// The node-ID of the server.
     pub node: u8,
+    /// Its transfers.
     pub channel: Channel,
 }
 

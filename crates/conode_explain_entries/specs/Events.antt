@@ -1,4 +1,4 @@
--- What happens to the entries of a node, by what is told of its frames.
+-- What happens to the entries of a node, by what is known about its frames.
 use Rattle.std.specs.Prelude.{ℕ, ◌-◌, ◌==◌, nat_le, Bool, true, false, ◌&&◌, ◌||◌, if◌then◌else◌, List, take, codes, Option, Some, None, option_map}
 use Rattle.std.specs.Str.{bytes_eq}
 use Rattle.co_profile.specs.Indices.{is_within, pdo_cob_id, restore_parameters, rpdo_communication, rpdo_mapping, store_parameters, tpdo_communication, tpdo_mapping}
@@ -27,7 +27,8 @@ is_cob_id key = (key.sub == pdo_cob_id) && (is_within tpdo_communication key.ind
 abbrev pub is_mapping : Key → Bool
 is_mapping key = nat_le key.sub 64 && (is_within tpdo_mapping key.index || is_within rpdo_mapping key.index)
 
--- the entry of a PDO that a key is; its mapping parameter has an index that is 200h more than that of its communication parameter
+-- the entry of a PDO that a key is; its mapping parameter has an index that is 200h more than that
+-- of its communication parameter
 abbrev pub entry_of : Key → Option PdoEntry
 entry_of key =
     if is_cob_id key then Some (record { index = key.index; part = CobId })
@@ -69,8 +70,8 @@ read_event key bytes = option_map (λ of. Read of (number_in key bytes)) (entry_
 abbrev pub unclear_event : Key → Option Event
 unclear_event key = option_map (λ of. Written of None) (entry_of key)
 
--- a download may have been taken, and its bytes or its acknowledge are missing in the recording: all but those that are done and
--- those that the device refused
+-- a download may have been taken, and its bytes or its acknowledge are missing in the recording:
+-- all but those that are done and those that the device refused
 abbrev pub is_unclear : Ending → Bool
 is_unclear (Done crc) = false
 is_unclear (Aborted Server code) = false

@@ -33,7 +33,8 @@ abbrev pub is_count : Option ℕ → Bool
 is_count None = false
 is_count (Some number) = not (number == 0)
 
--- the mapping is being changed once an entry of it is written, and until sub-index 0 is shown with a number of entries
+-- the mapping is being changed once an entry of it is written, and until sub-index 0 is shown with
+-- a number of entries
 abbrev pub changes_written : Bool → PdoPart → Option ℕ → Bool
 changes_written changes CobId number = changes
 changes_written changes (Mapping sub) number = not (sub == 0) || not (is_count number)

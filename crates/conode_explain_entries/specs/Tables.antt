@@ -57,7 +57,7 @@ table_with table interface node event = map (pdo_with interface node event) (tab
 
 -- ---- all of a recording
 
--- what is told of a frame on an interface
+-- the table after what is known about a frame on an interface
 abbrev pub entries_with : List ShownPdo → List ℕ → Option Told → List ShownPdo
 entries_with table interface None = table
 entries_with table interface (Some told) = option_map_or (table_with table interface told.node) (event_in told) table

@@ -31,14 +31,16 @@ const MOST_PDOS: usize = 2048;
 pub struct ShownPdo {
     /// The index of its communication parameter.
     pub index: u16,
+    /// The node-ID.
     pub node: u8,
     /// The name of the interface.
     pub interface: ArrayVec<u8, 15>,
+    /// What the recording shows of its entries.
     pub state: PdoState,
 }
 
-/// What a recording shows of the entries that PDOs need, of 2,048 PDOs at most: their COB-IDs and mappings. Contracts see
-/// the PDOs in the order in which one of their entries was shown first.
+/// What a recording shows of the entries that PDOs need, of 2,048 PDOs at most: their COB-IDs and
+/// mappings. Contracts see the PDOs in the order in which one of their entries was shown first.
 #[derive(Drop)]
 pub struct Entries {
     pdos: Vec<ShownPdo>,
@@ -54,7 +56,7 @@ impl Model for Entries {
 }
 
 impl ShownPdo {
-    // Nothing was shown of it.
+    // A PDO of which nothing was shown.
     fn new(interface: &[u8], node: u8, index: u16) -> ShownPdo
         requires { length interface.now ≤ 15 }
         ensures { result ≡ new_pdo interface.now node index }
@@ -92,7 +94,7 @@ impl ShownPdo {
 }
 
 impl Event {
-    // the PDO of which it shows an entry
+    // the PDO of which the event shows an entry
     fn index_shown(self) -> Option<u16>
         ensures { result ≡ index_shown self }
     {
@@ -105,7 +107,7 @@ impl Event {
 }
 
 impl Entries {
-    /// None was shown.
+    /// No PDO was shown.
     pub fn new(alloc: Global) -> Entries
         ensures { result ≡ [] }
     {
@@ -121,8 +123,8 @@ impl Entries {
         self.pdos.as_slice()
     }
 
-    /// What the recording shows of the entries of a PDO of a node on an interface, by the index of its communication
-    /// parameter; `None` where it shows none of them.
+    /// What the recording shows of the entries of a PDO of a node on an interface, by the index of
+    /// its communication parameter; `None` where it shows none of them.
     pub fn state(&self, interface: &[u8], node: u8, index: u16) -> Option<&PdoState>
         ensures { option_copied result ≡ state_in self.now interface.now node index }
     {
@@ -186,8 +188,8 @@ impl Entries {
         Ok(())
     }
 
-    /// Takes in what is told of a frame on an interface, whose name has at most 15 bytes. Memory is asked for where an
-    /// entry of a PDO is shown first; on an `Err` it ran out.
+    /// Takes what is known about a frame on an interface, whose name has at most 15 bytes. It
+    /// allocates when an entry of a PDO is shown first; on an `Err` memory ran out.
     pub fn take(&mut self, interface: &[u8], told: &Option<Told>) -> Result<(), AllocError>
         requires { length interface.now ≤ 15 }
         ensures { OnOk result (self.new ≡ entries_with self.old interface.now told.now) }

@@ -39,14 +39,15 @@ pub enum PdoPart {
 pub struct PdoEntry {
     /// The index of the PDO's communication parameter.
     pub index: u16,
+    /// Which of its entries.
     pub part: PdoPart,
 }
 
 /// What happens to the entries of a node.
 #[derive(Clone, Copy, Debug, PartialEq, Eq)]
 pub enum Event {
-    /// A download of an entry was acknowledged, with this number; `None` where frames of it are missing in the recording,
-    /// or where its acknowledge is, so that the device may have taken it.
+    /// A download to an entry was acknowledged, with this number. `None`: it may have been taken,
+    /// and its bytes or its acknowledge are missing in the recording.
     Written { of: PdoEntry, number: Option<u32> },
     /// An upload of an entry was answered with this number.
     Read { of: PdoEntry, number: u32 },
@@ -208,7 +209,7 @@ fn event_after(ended: &Ended) -> Option<Event>
     }
 }
 
-/// What a frame makes happen to the entries of its node, by what is told of it.
+/// What a frame does to the entries of its node, by what is known about it; `None` for nothing.
 pub fn event_in(told: &Told) -> Option<Event>
     ensures { result ≡ event_in told.now }
 {

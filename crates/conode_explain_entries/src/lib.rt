@@ -1,4 +1,4 @@
-//! What the entries of nodes have that their PDOs need, as a recording shows it.
+//! The COB-IDs and mappings of the PDOs of nodes, as a recording shows them.
 #![tactic(auto)]
 
 mod entries;

@@ -21,7 +21,7 @@ use crate::event::{Event, PdoPart};
 /// What an entry has, and from where that is known.
 #[derive(Clone, Copy, Debug, PartialEq, Eq)]
 pub enum Value {
-    /// Nothing was shown of it: what the data sheet says is assumed.
+    /// Nothing was shown of it: the value of the data sheet is assumed.
     Assumed,
     /// A transfer showed this number.
     Seen { number: u32 },
@@ -50,7 +50,8 @@ pub struct PdoState {
     pub now: PdoValues,
     /// What comes back with the next boot-up.
     pub stored: PdoValues,
-    /// Whether the mapping was written, and sub-index 0 wasn't shown with a number other than 0 since.
+    /// Whether the mapping was written, and sub-index 0 wasn't shown with a number other than 0
+    /// since.
     pub is_being_changed: bool,
 }
 

@@ -25,7 +25,8 @@ passes filter subject times =
     && (is_one subject times filter.kind.items && (is_one subject times filter.from.items
     && is_one subject times filter.to.items)))
 
--- the line of an SDO transfer of a node that ended: a request or a response of its channel would pass
+-- the line of an SDO transfer of a node that ended: a request or a response of its channel would
+-- pass
 unfoldable pub passes_transfer : Filter → ℕ → Times → Bool
 passes_transfer filter node times =
     passes filter (transfer_subject 0x600 node) times || passes filter (transfer_subject 0x580 node) times
@@ -46,7 +47,8 @@ text_for Kind words = option_copied words.kind
 text_for From words = option_copied words.from
 text_for To words = option_copied words.to
 
--- a fault of the text of an option: memory ran out, or the first word that isn't one of the option's
+-- a fault of the text of an option: memory ran out, or the first word that isn't one of the
+-- option's
 abbrev pub IsFaultOf : FilterOption → Option (List ℕ) → FilterFault → Type 0
 IsFaultOf option text Memory = ⊤
 IsFaultOf option text (Word of word) = (of ≡ option) × (asked option text ≡ Err word.now)

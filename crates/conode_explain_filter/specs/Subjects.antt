@@ -28,7 +28,8 @@ node_at Sync id content = None
 node_at Other id content = None
 node_at service id content = Some (id % 128)
 
--- of an identifier of 11 bits: the PDO of a data sheet, if it is one, of this node; else by the pre-defined connection set
+-- of an identifier of 11 bits: the PDO of a data sheet, if it is one, of this node; else by the
+-- pre-defined connection set
 unfoldable pub subject_at : Option ℕ → ℕ → Content → Subject
 subject_at (Some node) id content = record { id = written_of (Base id); kind = Pdo; node = Some node }
 subject_at None id content = record { id = written_of (Base id); kind = kind_at id; node = node_at (kind_at id) id content }

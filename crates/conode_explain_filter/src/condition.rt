@@ -23,7 +23,8 @@ use conode_explain_text::Times;
 /// An identifier as it is written.
 #[derive(Clone, Copy, Debug, PartialEq, Eq)]
 pub struct Written {
-    /// Whether it has eight digits: one of 29 bits, or an error frame with bit 29 set; else it has three.
+    /// Whether it has eight digits: one of 29 bits, or an error frame with bit 29 set; else it has
+    /// three.
     pub wide: bool,
     /// Its number.
     pub number: u32,
@@ -127,7 +128,8 @@ impl Condition {
         }
     }
 
-    /// Whether a frame with these times is one of those asked for. An NMT command to all nodes is of each.
+    /// Whether a frame with these times is one of those asked for. An NMT command to all nodes is
+    /// of each.
     pub(crate) fn holds(&self, subject: &Subject, times: Times) -> bool
         ensures { result ≡ holds subject.now times self.now }
     {

@@ -11,8 +11,8 @@ use crate::condition::Condition;
 use crate::subject::Subject;
 use conode_explain_text::Times;
 
-/// Which lines of an explained recording are printed: those of frames that meet one condition of each option that has
-/// some.
+/// Which lines of an explained recording are printed: of each option that is used, a frame meets at
+/// least one condition.
 #[derive(Drop)]
 pub struct Filter {
     /// Of which nodes.
@@ -54,7 +54,8 @@ impl Filter {
             && is_one(self.to.as_slice(), subject, times)
     }
 
-    /// Whether the line of an SDO transfer of a node passes that ended: a request or a response of its channel would.
+    /// Whether the line of a node's ended SDO transfer passes: a request or a response of its
+    /// channel would.
     #[tactic(auto, unfolding(crate::specs::Filters::passes_transfer))]
     pub fn passes_transfer(&self, node: u8, times: Times) -> bool
         ensures { result ≡ passes_transfer self.now node times }

@@ -23,7 +23,8 @@ pub enum Kind {
 }
 
 impl Kind {
-    /// The kind of frames that an identifier of 11 bits has in the pre-defined connection set (CiA 301, 7.3.3).
+    /// The kind of frames that an identifier of 11 bits has in the pre-defined connection set (CiA
+    /// 301, 7.3.3).
     pub(crate) fn at(id: u16) -> Kind
         ensures { result ≡ kind_at id }
     {

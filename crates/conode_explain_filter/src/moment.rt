@@ -68,8 +68,8 @@ fn micros_in(word: &[u8]) -> Option<u64>
 }
 
 impl Moment {
-    /// The time that a word is: seconds with at most six digits after the point, since the first frame; after `@` as the
-    /// stamps of the recording have it.
+    /// The time that a word is: seconds with at most six digits after the point, since the first
+    /// frame; after `@` as the stamps of the recording have it.
     pub(crate) fn read(word: &[u8]) -> Option<Moment>
         ensures { result ≡ moment_in word.now }
     {

@@ -107,7 +107,8 @@ fn asked(
 }
 
 impl Filter {
-    /// The filter that words ask for; on an `Err` the first word that its option doesn't have, or memory ran out.
+    /// The filter that words ask for. `Word`: the first word that its option doesn't have.
+    /// `Memory`: memory ran out.
     pub fn read<'a>(alloc: Global, words: &FilterWords<'a>) -> Result<Filter, FilterFault<'a>>
         ensures ok { IfOk result (λ filter. IsFilter words.now filter) }
         ensures err { IfErr result (λ fault. IsFault words.now fault) }

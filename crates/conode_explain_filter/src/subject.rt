@@ -20,8 +20,9 @@ use conode_record::{Content, Identifier, Record};
 pub struct Subject {
     /// Its identifier.
     pub id: Written,
+    /// Its kind.
     pub kind: Kind,
-    /// The node that it is of; 0 where it is of each; `None` where it is of none.
+    /// Its node; 0 for all nodes, `None` for none.
     pub node: Option<u8>,
 }
 
@@ -99,7 +100,8 @@ fn subject_at(pdo: Option<u8>, id: u16, content: &Content) -> Subject
 }
 
 impl Subject {
-    /// What a filter looks at of a frame; `pdo` is the node of a data sheet's PDO that has its identifier.
+    /// What a filter looks at of a frame; `pdo` is the node of a data sheet's PDO that has its
+    /// identifier.
     #[tactic(auto, unfolding(crate::specs::Subjects::subject_of))]
     pub fn of(pdo: Option<u8>, frame: &Record<'_>) -> Subject
         requires { IsIdentifier frame.now.id }

@@ -42,8 +42,8 @@ fn put_elements(writer: &mut Writer, bytes: &[u8]) -> Result<(), AllocError>
     Ok(())
 }
 
-/// An object that is being written. Contracts see its tokens. Each method appends tokens; on an `Err` memory ran out, and
-/// some of them may be there.
+/// An object that is being written. Contracts see its tokens. Each method appends tokens; on an
+/// `Err` memory ran out, and some of them may be there.
 #[derive(Drop)]
 pub(crate) struct JsonWriter {
     writer: Writer,

@@ -147,11 +147,12 @@ fn put_line(
     writer.end_object()
 }
 
-/// The line of a frame that says these words, as an object of JSON and a line feed, where `seen` is what the recording
-/// showed before it: its stamp and the time since the frame before it in microseconds (a stamp as a date in the form
-/// `Date`), its interface where there are several, its identifier as it is printed, its length and its data as numbers
-/// and as hexadecimal digits, the words, a note where its stamp steps back, its kind and its node, where it is of one. On
-/// an `Err` memory ran out.
+/// The line of a frame that says these words, as an object of JSON and a line feed, where `seen` is
+/// what the recording showed before it: its stamp and the time since the frame before it in
+/// microseconds (a stamp as a date in the form `Date`), its interface where there are several, its
+/// identifier as it is printed, its length and its data as numbers and as hexadecimal digits, the
+/// words, a note where its stamp steps back, its kind and its node, where it is of one. On an `Err`
+/// memory ran out.
 pub fn json_line(
     alloc: Global,
     form: StampForm,
@@ -195,8 +196,9 @@ fn put_own_line(
     writer.end_object()
 }
 
-/// A line of its own with these words, between those of frames, in the same form: the stamp of a frame, its interface,
-/// where it `shows`, the words, the kind and the node. On an `Err` memory ran out.
+/// A line of its own with these words, between those of frames, in the same form: the stamp of a
+/// frame, its interface, where it `shows`, the words, the kind and the node. On an `Err` memory ran
+/// out.
 pub fn own_json_line(
     alloc: Global,
     form: StampForm,

@@ -1,4 +1,5 @@
-//! Stamps as dates. Each function appends a text; on an `Err` memory ran out, and a part of it may be there.
+//! Stamps as dates. Each function appends a text; on an `Err` memory ran out, and a part of it may
+//! be there.
 
 ghost use Rattle.std.specs.Prelude.{◌≡◌, ◌++◌, ◌<◌, ◌^◌, OnOk, string_bytes};
 ghost use Rattle.conode_explain_text.specs.Stamps.{micros_text, moment_text};

@@ -20,14 +20,16 @@ use Rattle.conode_explain_pdo.specs.Known.{KnownSheet, is_on, sheet_for}
 abbrev pub is_cob_id_shown : Bus → ℕ → ℕ → Bool
 is_cob_id_shown bus node index = option_map_or (λ state. not (is_assumed state.now.cob_id)) (state_at bus node index) false
 
--- the sheet that is for the node says it: no earlier one is for the node, and the recording doesn't show the COB-ID
+-- the sheet that is for the node says it: no earlier one is for the node, and the recording doesn't
+-- show the COB-ID
 abbrev pub is_said : Bus → List KnownSheet → ℕ → ℕ → Bool
 is_said bus earlier node index = is_none (sheet_for earlier bus.interface node) && not (is_cob_id_shown bus node index)
 
 abbrev pub claim_of : Bus → List KnownSheet → ℕ → ℕ → Option Claim
 claim_of bus earlier index node = if is_said bus earlier node index then Some (record { node = node; index = index }) else None
 
--- a sheet's PDO of a kind as one that has an identifier; the node that the sheet is for, if it is for one
+-- a sheet's PDO of a kind as one that has an identifier; the node that the sheet is for, if it is
+-- for one
 unfoldable pub sheet_claim : Bus → List KnownSheet → Option ℕ → IndexRange → ℕ → SheetPdo → Option Claim
 sheet_claim bus earlier only range id pdo =
     if is_within range pdo.index then option_and_then (claim_of bus earlier pdo.index) (node_with only pdo.cob_id id) else None

@@ -18,8 +18,8 @@ may_be_pdo id = not (is_restricted id) && not (is_default_sdo id)
 abbrev pub has_identifier : ℕ → ℕ → Bool
 has_identifier word id = (nat_lt word (2 ^ 31) && (word / 2 ^ 29 % 2 == 0)) && (word % 2 ^ 11 == id)
 
--- the node whose COB-ID an identifier would be: the one that the sheet is for; else by the sum with the node-ID, and where
--- there is none the lower seven bits
+-- the node whose COB-ID an identifier would be: the one that the sheet is for; else by the sum with
+-- the node-ID; without a sum the lower seven bits
 abbrev pub node_for : Option ℕ → SheetCobId → ℕ → ℕ
 node_for (Some node) cob_id id = node
 node_for None cob_id id = if cob_id.with_node then id - cob_id.word % 2 ^ 11 else id % 128

@@ -91,7 +91,8 @@ mapping_in_force values sheet = option_and_then (mapping_with values sheet) (cou
 
 -- ---- where it is from
 
--- all of it is from the sheet; the recording shows all of it; all of it came back with a boot-up; else some of it
+-- all of it is from the sheet; the recording shows all of it; all of it came back with a boot-up;
+-- else some of it
 abbrev pub origin_words : List Value → List ℕ
 origin_words values =
     if list_all is_assumed values then []

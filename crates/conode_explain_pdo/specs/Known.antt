@@ -7,7 +7,8 @@ use Rattle.conode_explain_pdo.specs.declared.known_sheet.KnownSheet.{KnownSheet 
 use Rattle.conode_explain_pdo.specs.declared.sheet.SheetPdo.{SheetPdo}
 use Rattle.conode_explain_pdo.specs.Sheets.{sheet_pdos}
 
--- a data sheet, the node and the interface that it is for, each if there is none, and its PDOs
+-- a data sheet, the node and the interface that it is for (every one where there is none), and its
+-- PDOs
 pub record KnownSheet : Type 0 where
   pub interface : Option (List ℕ)
   pub names : Names

@@ -102,7 +102,8 @@ multiplexed_text bytes =
 unfoldable pub multiplexed_data : List ℕ → List ℕ
 multiplexed_data bytes = if length bytes == 8 then multiplexed_text bytes else short_text (length bytes) 8
 
--- data by the mapping in force: by its count 1 to 64 entries, FEh or FFh multiplexed, else nothing is known of them
+-- data by the mapping in force: by its count 1 to 64 entries, FEh or FFh multiplexed, else nothing
+-- is known of them
 unfoldable pub data_text : Names → ℕ → Mapping → List ℕ → List ℕ
 data_text names node mapping bytes =
     if mapping.count == 0 then []

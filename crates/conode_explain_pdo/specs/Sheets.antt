@@ -28,7 +28,8 @@ words_at rows index (suc count) = words_at rows index count ++ number_at rows in
 unfoldable pub mapping_at : List Row → ℕ → Mapping
 mapping_at rows index = record { count = number_at rows index 0 % 256; words = words_at rows index 64 }
 
--- the COB-ID of a PDO of a kind; the index of its mapping parameter is 200h more than that of its communication parameter
+-- the COB-ID of a PDO of a kind; the index of its mapping parameter is 200h more than that of its
+-- communication parameter
 abbrev pub is_cob_id : IndexRange → Key → Bool
 is_cob_id range key = key.sub == 1 && is_within range key.index
 

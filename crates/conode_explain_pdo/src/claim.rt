@@ -29,9 +29,10 @@ use co_profile::IndexRange;
 use conode_explain_entries::{ShownPdo, Value};
 use std::alloc::AllocError;
 
-/// A PDO of a node that has an identifier.
+/// A node's PDO that has the identifier.
 #[derive(Clone, Copy, Debug, PartialEq, Eq)]
 pub struct Claim {
+    /// The node-ID.
     pub node: u8,
     /// The index of its communication parameter.
     pub index: u16,
@@ -89,7 +90,7 @@ fn sheet_claim(
     claim_of(bus, earlier, pdo.index, pdo.cob_id.node_with(only, id)?)
 }
 
-// adds those of a kind of a sheet's PDOs that have an identifier
+// adds the PDOs of a kind, of a sheet, that have an identifier
 fn add_pdos_of(
     claims: &mut Vec<Claim>,
     bus: Bus<'_, '_, '_, '_, '_>,
@@ -128,7 +129,7 @@ fn add_sheet(
     Ok(())
 }
 
-// adds those of a kind that all sheets have
+// adds the PDOs of a kind, of all sheets, that have an identifier
 fn add_sheets(
     claims: &mut Vec<Claim>,
     bus: Bus<'_, '_, '_, '_, '_>,
@@ -180,7 +181,7 @@ fn shown_claim(
     })
 }
 
-// adds those of a kind whose COB-IDs the recording shows
+// adds the PDOs of a kind whose COB-IDs the recording shows
 fn add_shown(
     claims: &mut Vec<Claim>,
     bus: Bus<'_, '_, '_, '_, '_>,
@@ -224,8 +225,9 @@ fn add_both(
     add_kind(claims, bus, IndexRange::RPDO_COMMUNICATION, id)
 }
 
-/// Adds the PDOs that have an identifier, by the data sheets and by the COB-IDs that the recording shows: first those that
-/// nodes send, and then those that they receive. On an `Err` memory ran out.
+/// Adds the PDOs that have an identifier, by the data sheets and by the COB-IDs that the recording
+/// shows: first those that nodes send, and then those that they receive. On an `Err` memory ran
+/// out.
 #[tactic(auto, unfolding(crate::specs::Claims::claims_with))]
 pub fn add_claims(
     claims: &mut Vec<Claim>,

@@ -333,8 +333,9 @@ fn push_shown(
     }
 }
 
-/// Appends what the data of a node's PDO say by its mapping in force: that which the recording shows, else that of the
-/// data sheet; `: E8031027 (mapping is being changed)` from a count of 0, or a word that is written, until a count is
+/// Appends what the data of a node's PDO say by its mapping in force: the one that the recording
+/// shows, else that of the data sheet. While the mapping is being changed, the data are raw, as `:
+/// E8031027 (mapping is being changed)`: after a count of 0 or a word was written, until a count is
 /// acknowledged. On an `Err` memory ran out, and a part of it may be there.
 #[tactic(auto, unfolding(crate::specs::InForce::data_in_force))]
 pub(crate) fn push_data_in_force(

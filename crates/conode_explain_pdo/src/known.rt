@@ -83,7 +83,8 @@ pub(crate) fn is_none_for(sheets: &[KnownSheet<'_, '_>], interface: &[u8], node:
     }
 }
 
-/// Where the names of a node's entries come from: the first of these data sheets that is for the node on an interface.
+/// Where the names of a node's entries come from: the first of these data sheets that is for the
+/// node on an interface.
 #[tactic(auto, unfolding(crate::specs::Known::names_for))]
 pub fn names_for<'s, 'a>(sheets: &[KnownSheet<'s, 'a>], interface: &[u8], node: u8) -> Names<'s, 'a>
     ensures { names_view result ≡ names_for (map known_view sheets.now) interface.now node }

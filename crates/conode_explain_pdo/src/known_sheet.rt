@@ -7,7 +7,7 @@ ghost use Rattle.conode_explain_pdo.specs.Sheets.{sheet_pdos};
 use crate::sheet::SheetPdo;
 use conode_decode::Names;
 
-/// A data sheet with its PDOs, the nodes and the interface that it is for.
+/// A data sheet with its PDOs, and the nodes and the interface that it is for.
 #[derive(Drop)]
 pub struct KnownSheet<'s, 'a> {
     /// The name of the interface; `None`: each.

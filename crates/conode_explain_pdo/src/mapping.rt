@@ -1,4 +1,5 @@
-//! What a mapping says of data. Each function appends a text; on an `Err` memory ran out, and a part of it may be there.
+//! What a mapping says of data. Each function appends a text; on an `Err` memory ran out, and a
+//! part of it may be there.
 
 ghost use Rattle.std.specs.Prelude.{◌≡◌, ◌+◌, ◌*◌, ◌/◌, ◌%◌, ◌^◌, ◌++◌, ◌≤◌, [], OnOk, length, string_bytes, take};
 ghost use Rattle.co_value.specs.Numbers.{low_bytes, unsigned_of};
@@ -331,9 +332,10 @@ fn push_multiplexed_data(text: &mut String, bytes: &[u8]) -> Result<(), AllocErr
 }
 
 /// Appends what the data of a PDO of a node say by a mapping: each mapped entry with its value, as
-/// `: Temperature 2001:01 = 1000; Humidity 2001:02 = 10000`; `-` for a gap, `2345:01 (not in sheet)` for an entry that the
-/// sheet lacks; `: 4 bytes, mapping has 6` where the data are shorter; of a multiplexed PDO `: destination node 5 2001:01
-/// E8030000`. Nothing where nothing is mapped. On an `Err` memory ran out, and a part of it may be there.
+/// `: Temperature 2001:01 = 1000; Humidity 2001:02 = 10000`; `-` for a gap, `2345:01 (not in
+/// sheet)` for an entry that the sheet lacks; `: 4 bytes, mapping has 6` where the data are
+/// shorter; of a multiplexed PDO `: destination node 5 2001:01 E8030000`. Nothing where nothing is
+/// mapped. On an `Err` memory ran out, and a part of it may be there.
 #[tactic(auto, unfolding(crate::specs::Mappings::data_text))]
 pub fn push_data(
     text: &mut String,
@@ -343,7 +345,7 @@ pub fn push_data(
     bytes: &[u8],
 ) -> Result<(), AllocError>
     requires { length bytes.now ≤ 8 }
-    // Of an entry the bits are shown that are at its offset by this mapping.
+    // Each entry is shown with the bits at its offset in this mapping.
     ensures { OnOk result (string_bytes text.new ≡ string_bytes text.old
         ++ data_text (names_view names.entry) node mapping.now bytes.now) }
 {

@@ -59,8 +59,9 @@ fn push_more(
     Ok(())
 }
 
-/// Appends what data say as each of these PDOs: `TPDO1 node 5: Temperature 2001:01 = 1000; Humidity 2001:02 = 10000`, with
-/// a bar between two. On an `Err` memory ran out, and a part of it may be there.
+/// Appends what data say as each of these PDOs: `TPDO1 node 5: Temperature 2001:01 = 1000; Humidity
+/// 2001:02 = 10000`, with a bar between two. On an `Err` memory ran out, and a part of it may be
+/// there.
 #[tactic(auto, unfolding(crate::specs::Pdos::pdos_text))]
 pub fn push_pdos(
     text: &mut String,
@@ -69,7 +70,7 @@ pub fn push_pdos(
     claims: &[Claim],
 ) -> Result<(), AllocError>
     requires { length bytes.now ≤ 8 }
-    // Of an entry the bits are shown that are at the offset that the mapping in force gives.
+    // Each entry is shown with the bits at its offset in the mapping in force.
     ensures { OnOk result (string_bytes text.new
         ≡ string_bytes text.old ++ pdos_text (bus_view bus.entry) bytes.now claims.now) }
 {

@@ -138,8 +138,9 @@ fn pdos_in(alloc: Global, rows: &[EntryRow<'_>]) -> Result<Vec<SheetPdo>, AllocE
     Ok(pdos)
 }
 
-/// The PDOs of the data sheet that names are from, as its entries begin: those that the device sends, and then those that
-/// it receives, by index; none where there is no data sheet. On an `Err` memory ran out.
+/// The PDOs of the data sheet of these names, by the values that its entries begin with: those that
+/// the device sends, and then those that it receives, by index. None without a data sheet. On an
+/// `Err` memory ran out.
 #[tactic(auto, unfolding(crate::specs::Sheets::sheet_pdos))]
 pub fn sheet_pdos(alloc: Global, names: Names<'_, '_>) -> Result<Vec<SheetPdo>, AllocError>
     ensures { IfOk result (λ pdos. pdos.items ≡ sheet_pdos (names_view names.entry)) }

@@ -9,8 +9,8 @@ use co_sheet::EntryRow;
 use conode_decode::Names;
 use conode_explain_values::ValueType;
 
-/// The data type of an entry's values: its original one, where its sheet was adapted (`OriginalDataType`), else that of
-/// the sheet.
+/// The data type of an entry's values: its original one, where its sheet was adapted
+/// (`OriginalDataType`), else that of the sheet.
 pub fn type_in(names: Names<'_, '_>, row: &EntryRow<'_>) -> ValueType
     ensures value_type { result ≡ type_in (names_view names.entry) (row_view row.now) }
 {

@@ -56,7 +56,8 @@ known_class class = words_in classes class
 abbrev pub group_words : ℕ → List ℕ
 group_words class = if nat_lt class 16 then [] else known_class (class - class % 16)
 
--- a profile or a manufacturer may have more classes, as CiA 402 has: these have the words of their group
+-- a profile or a manufacturer may have more classes, as CiA 402 has: these have the words of their
+-- group
 abbrev pub class_or : List ℕ → List ℕ → List ℕ
 class_or [] group = group
 class_or (letter ∷ letters) group = letter ∷ letters

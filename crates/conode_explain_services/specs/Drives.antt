@@ -1,4 +1,5 @@
--- What the values of a drive's entries mean (CiA 402): the controlword, the statusword, the error code, the mode of operation.
+-- What the values of a drive's entries mean (CiA 402): the controlword, the statusword, the error
+-- code, the mode of operation.
 use Rattle.std.specs.Prelude.{ℕ, ◌+◌, ◌%◌, ◌==◌, nat_lt, Bool, ◌&&◌, if◌then◌else◌, bit_and, List, [], ◌∷◌, ◌++◌, codes, find, length, slice_index, Option, None, option_map, true, false}
 use Rattle.std.specs.Option.{option_map_or}
 use Rattle.co_value.specs.declared.key.Key.{Key}
@@ -14,7 +15,8 @@ use Rattle.conode_explain_services.specs.Parts.{words_in}
 abbrev pub is_drive : ℕ → Bool
 is_drive device_type = device_type % 65536 == 0x0192
 
--- of each of the 8 axes of a device, 800h after one another, the index of the first axis; 0 for an index of none
+-- of each of the 8 axes of a device, 800h after one another, the index of the first axis; 0 for an
+-- index of none
 abbrev pub axis_index : ℕ → ℕ
 axis_index index = if nat_lt 0x5FFF index && nat_lt index 0xA000 then 0x6000 + index % 0x800 else 0
 
@@ -43,8 +45,8 @@ has_bit word place = bit_and word place == place
 abbrev pub where_set : ℕ → ℕ → List ℕ → List ℕ
 where_set word place text = if has_bit word place then text else []
 
--- the commands of a controlword: bit 7 resets a fault; else by bits 0 to 3 (switch on, enable voltage, quick stop where 0,
--- enable operation)
+-- the commands of a controlword: bit 7 resets a fault; else by bits 0 to 3 (switch on, enable
+-- voltage, quick stop where 0, enable operation)
 unfoldable pub command_words : ℕ → List ℕ
 command_words word =
     if has_bit word 0x80 then codes "fault reset"
@@ -56,7 +58,8 @@ command_words word =
 unfoldable pub controlword_words : ℕ → List ℕ
 controlword_words word = command_words word ++ where_set word 0x100 (codes ", halt")
 
--- the states of a statusword: by bits 0 to 3 and 6, and of two of them by bit 5 (quick stop where 0)
+-- the states of a statusword: by bits 0 to 3 and 6, and of two of them by bit 5 (quick stop where
+-- 0)
 abbrev pub states : List (ℕ × List ℕ)
 states =
     (0x00, codes "not ready to switch on") ∷ (0x20, codes "not ready to switch on")
@@ -97,7 +100,8 @@ abbrev pub bracketed : List ℕ → List ℕ
 bracketed [] = []
 bracketed (letter ∷ letters) = codes " (" ++ (letter ∷ letters) ++ codes ")"
 
--- what a value means; an error code is one as in an emergency; a value of another number of bytes means nothing
+-- what a value means; an error code is one as in an emergency; a value of another number of bytes
+-- means nothing
 unfoldable pub word_text : Meaning → ℕ → List ℕ
 word_text ErrorCode word = code_words word
 word_text Controlword word = codes " (" ++ controlword_words word ++ codes ")"

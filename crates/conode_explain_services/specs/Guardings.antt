@@ -1,5 +1,5 @@
--- Node guarding (CiA 301, 7.2.8.3.2.1): a master asks by a remote frame, the node answers with its state and a bit that
--- toggles from answer to answer.
+-- Node guarding (CiA 301, 7.2.8.3.2.1): a master asks by a remote frame, the node answers with its
+-- state and a bit that toggles from answer to answer.
 use Rattle.std.specs.Prelude.{ℕ, ◌%◌, ◌==◌, Bool, true, false, not, ◌&&◌, ◌||◌, nat_lt, if◌then◌else◌, List, [], ◌∷◌, ◌++◌, codes, Option, Some, None}
 use Rattle.conode_explain_services.specs.declared.guarding.Guarding.{Guarding}
 use Rattle.conode_explain_services.specs.declared.guarding.Guarding.TheVariants.{NotSeen, BootedUp, Requested, Answered}
@@ -22,7 +22,8 @@ awaited_of BootedUp = Some false
 awaited_of (Requested awaited) = awaited
 awaited_of (Answered awaited) = Some awaited
 
--- whether a byte without the toggle bit is an answer, else it is a heartbeat: after a request, or where it is the next answer
+-- whether a byte without the toggle bit is an answer, else it is a heartbeat: after a request, or
+-- where it is the next answer
 abbrev pub answers_zero : Guarding → Bool
 answers_zero NotSeen = false
 answers_zero BootedUp = false

@@ -112,7 +112,8 @@ part_words part =
 unfoldable pub part_text : ℕ → List ℕ
 part_text part = or_else (part_words part) (codes "part " ++ decimal part)
 
--- fastscan: the bits of a part from bit 31 down to one of them are compared with the number; 80h begins it anew
+-- fastscan: the bits of a part from bit 31 down to one of them are compared with the number; 80h
+-- begins it anew
 unfoldable pub compared_text : ℕ → ℕ → ℕ → List ℕ
 compared_text number bit part =
     part_text part ++ codes " " ++ digits_text 16 8 number ++ codes " bits 31-" ++ decimal bit

@@ -63,7 +63,8 @@ is_error_control frame = is_error_control_id frame.id && (length frame.bytes == 
 abbrev pub node_of : ℕ → ℕ
 node_of id = id - (if nat_lt id 0x100 then 0x080 else 0x700)
 
--- what the last frames of the node of a frame had; nothing where the identifier is of no such service
+-- what the last frames of the node of a frame had; nothing where the identifier is of no such
+-- service
 unfoldable pub last_of : List Node → List ℕ → ℕ → Last
 last_of nodes interface id =
     if nat_lt 0x080 id && nat_lt id 0x100 then last_in nodes interface (id - 0x080)

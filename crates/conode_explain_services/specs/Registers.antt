@@ -1,4 +1,5 @@
--- The bits of the error register, object 1001h (CiA 301, 7.5.2.2), and which came and went since the node's last emergency.
+-- The bits of the error register, object 1001h (CiA 301, 7.5.2.2), and which came and went since
+-- the node's last emergency.
 use Rattle.std.specs.Prelude.{ℕ, ◌-◌, ◌%◌, ◌==◌, if◌then◌else◌, bit_and, List, [], ◌∷◌, ◌++◌, codes, Option, Some, None}
 use Rattle.co_text.specs.Printed.{digits_text}
 use Rattle.conode_explain_services.specs.Parts.{words_in}

@@ -1,4 +1,5 @@
--- The identifiers that the standard reserves (CiA 301, 7.3.5, restricted CAN-IDs), but for those of LSS (CiA 305).
+-- The identifiers that the standard reserves (CiA 301, 7.3.5, restricted CAN-IDs), but for those of
+-- LSS (CiA 305).
 use Rattle.std.specs.Prelude.{ℕ, ◌==◌, nat_lt, Bool, not, ◌&&◌, ◌||◌, List, codes}
 
 -- what a master asks of LSS slaves, and what they answer

@@ -1,4 +1,5 @@
--- What a frame says by its service, where the text of `conode decode` says less or nothing (CiA 301, 7.3.3; CiA 305).
+-- What a frame says by its service, where the text of `conode decode` says less or nothing (CiA
+-- 301, 7.3.3; CiA 305).
 use Rattle.std.specs.Prelude.{ℕ, ◌-◌, ◌==◌, ◌&&◌, Bool, if◌then◌else◌, List, codes, length, slice_index, take, drop, Option, Some, None}
 use Rattle.co_frame.specs.FrameContent.{FrameContent}
 use Rattle.co_frame.specs.declared.emergency.Emergency.{Emergency}
@@ -30,7 +31,8 @@ is_lss id frame = (frame.id == id) && (length frame.bytes == 8)
 abbrev pub is_guarding : Last → FrameContent → Bool
 is_guarding last frame = is_error_control frame && is_answer last.guarding (slice_index frame.bytes 0)
 
--- what a data frame says, where the last frames of its node had this; none where its text as `conode decode` has it stays
+-- what a data frame says, where the last frames of its node had this; none where its text as
+-- `conode decode` has it stays
 unfoldable pub service_words : Last → FrameContent → Option (List ℕ)
 service_words last frame =
     if is_emergency frame then Some (emergency_words (frame.id - 0x080) last.register (emergency_of frame.bytes))

@@ -15,7 +15,8 @@ use crate::texts::{push_after, push_words};
 use co_text::push_u16;
 use std::alloc::AllocError;
 
-// the words of a class, which is the two upper digits of a code; empty for one that the standard doesn't have
+// the words of a class, which is the two upper digits of a code; empty for one that the standard
+// doesn't have
 #[tactic(auto, unfolding(crate::specs::Codes::known_class))]
 fn known_class(class: u8) -> &'static str
     ensures { result.now ≡ known_class class }
@@ -112,7 +113,8 @@ pub(crate) fn push_code_words(text: &mut String, code: u16) -> Result<(), AllocE
     push_in_brackets(text, class_words((code / 256) as u8), single_words(code))
 }
 
-/// Appends a code with its words: `code 8210 (protocol error: PDO not processed due to length error)`.
+/// Appends a code with its words: `code 8210 (protocol error: PDO not processed due to length
+/// error)`.
 #[tactic(auto, unfolding(crate::specs::Codes::code_text))]
 pub(crate) fn push_code(text: &mut String, code: u16) -> Result<(), AllocError>
     ensures { OnOk result (string_bytes text.new ≡ string_bytes text.old ++ code_text code) }

@@ -26,7 +26,7 @@ use co_value::{Key, read_u16};
 use std::alloc::AllocError;
 
 /// What the value of an entry of a drive is.
-#[derive(Clone, Copy, Debug, PartialEq, Eq)]
+#[derive(Clone, Copy, PartialEq, Eq)]
 pub(crate) enum Meaning {
     /// 603Fh.
     ErrorCode,
@@ -223,9 +223,10 @@ fn push_meaning(text: &mut String, meaning: Meaning, bytes: &[u8]) -> Result<(),
     Ok(())
 }
 
-/// Appends what the value of an entry of a drive means, in brackets after a blank: of the controlword and the statusword, the
-/// error code and the modes of operation, of each of 8 axes; nothing for every other entry. The value is its bytes, the low
-/// one first. On an `Err` memory ran out, and a part of it may be there.
+/// Appends what the value of an entry of a drive means, in brackets after a blank: of the
+/// controlword and the statusword, the error code and the modes of operation, of each of 8 axes;
+/// nothing for every other entry. The value is its bytes, the low one first. On an `Err` memory ran
+/// out, and a part of it may be there.
 #[tactic(auto, unfolding(crate::specs::Drives::drive_words))]
 pub fn push_drive(text: &mut String, key: Key, bytes: &[u8]) -> Result<(), AllocError>
     ensures { OnOk result

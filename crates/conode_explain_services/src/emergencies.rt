@@ -26,8 +26,8 @@ fn push_manufacturer(text: &mut String, bytes: &[u8]) -> Result<(), AllocError>
     push_bytes_after(text, " manufacturer ", bytes)
 }
 
-/// Appends an emergency of a node, whose last one had this register. On an `Err` memory ran out, and a part of it may be
-/// there.
+/// Appends what an emergency of a node says; `last` is the error register of the node's last one.
+/// On an `Err` memory ran out, and a part of it may be there.
 #[tactic(auto, unfolding(crate::specs::Emergencies::emergency_words))]
 pub(crate) fn push_emergency(
     text: &mut String,

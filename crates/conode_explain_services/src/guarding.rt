@@ -3,7 +3,7 @@
 /// What is known of the guarding of a node (CiA 301, 7.2.8.3.2.1).
 #[derive(Clone, Copy, Debug, PartialEq, Eq)]
 pub enum Guarding {
-    /// It wasn't seen, or the node's last state was a heartbeat.
+    /// No guarding was seen, or the node's last frame of error control was a heartbeat.
     NotSeen,
     /// The node booted up.
     BootedUp,

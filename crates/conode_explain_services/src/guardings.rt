@@ -112,8 +112,8 @@ fn awaited_text(awaited: Option<bool>, toggle: bool) -> &'static str
     }
 }
 
-/// Appends the answer of a node: its state and its toggle bit, and which one was awaited where that is another. On an `Err`
-/// memory ran out, and a part of it may be there.
+/// Appends a node's answer: its state, its toggle bit, and the expected toggle bit if that differs.
+/// On an `Err` memory ran out, and a part of it may be there.
 #[tactic(auto, unfolding(crate::specs::Guardings::guarding_answer_words))]
 pub(crate) fn push_answer(
     text: &mut String,

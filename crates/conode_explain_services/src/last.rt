@@ -7,5 +7,6 @@ use crate::guarding::Guarding;
 pub struct Last {
     /// The error register of its last emergency.
     pub register: Option<u8>,
+    /// How it is guarded.
     pub guarding: Guarding,
 }

@@ -1,4 +1,5 @@
-//! What frames say by their service: emergencies, LSS, node guarding, TIME, and identifiers that the standard reserves.
+//! What frames say by their service: emergencies, LSS, node guarding, TIME, and identifiers that
+//! the standard reserves.
 #![tactic(auto)]
 
 mod codes;

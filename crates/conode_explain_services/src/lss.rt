@@ -1,5 +1,5 @@
-//! What LSS commands say (CiA 305, 3.9). Each function appends a text; on an `Err` memory ran out, and a part of it may be
-//! there.
+//! What LSS commands say (CiA 305, 3.9). Each function appends a text; on an `Err` memory ran out,
+//! and a part of it may be there.
 
 ghost use Rattle.std.specs.Prelude.{◌≡◌, ◌++◌, OnOk, decimal, length, string_bytes};
 ghost use Rattle.conode_explain_services.specs.Lss.{

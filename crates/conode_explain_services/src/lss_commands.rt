@@ -9,7 +9,7 @@ ghost use Rattle.conode_explain_services.specs.Lss.{
 };
 
 /// What a command has after its specifier.
-#[derive(Clone, Copy, Debug, PartialEq, Eq)]
+#[derive(Clone, Copy, PartialEq, Eq)]
 pub(crate) enum Parameter {
     Nothing,
     /// The state that all slaves switch to.
@@ -28,7 +28,7 @@ pub(crate) enum Parameter {
     Outcome,
 }
 
-/// The words of what a master asks by a specifier; empty for one that the standard doesn't have.
+/// The words for a master's command specifier; empty for one that the standard doesn't have.
 #[tactic(auto, unfolding(crate::specs::Lss::request_words))]
 pub(crate) fn request_words(specifier: u8) -> &'static str
     ensures { result.now ≡ request_words specifier }
@@ -76,7 +76,7 @@ pub(crate) fn request_parameter(specifier: u8) -> Parameter
     }
 }
 
-/// The words of what a slave answers by a specifier; empty for one that the standard doesn't have.
+/// The words for a slave's command specifier; empty for one that the standard doesn't have.
 #[tactic(auto, unfolding(crate::specs::Lss::answer_words))]
 pub(crate) fn answer_words(specifier: u8) -> &'static str
     ensures { result.now ≡ answer_words specifier }

@@ -13,6 +13,7 @@ pub struct Node {
     pub interface: ArrayVec<u8, 15>,
     /// The node-ID.
     pub id: u8,
+    /// What its last frames had.
     pub last: Last,
 }
 

@@ -25,8 +25,8 @@ use std::marker::Model;
 /// How many nodes are kept at most.
 const MOST_NODES: usize = 1016;
 
-/// The nodes of a recording by interface and node-ID, with what their last frames had: at most 1,016, 127 on each of 8
-/// interfaces. Contracts see them in the order in which they came first.
+/// The nodes of a recording by interface and node-ID, with what their last frames had: at most
+/// 1,016, 127 on each of 8 interfaces. Contracts see them in the order in which they came first.
 #[derive(Drop)]
 pub struct Nodes {
     nodes: Vec<Node>,
@@ -102,8 +102,8 @@ impl Nodes {
         }
     }
 
-    /// What the last frames of the node of an identifier on an interface had; nothing where the identifier is neither of
-    /// emergencies nor of error control.
+    /// What the last frames of the node of an identifier on an interface had; nothing where the
+    /// identifier is neither of emergencies nor of error control.
     #[tactic(auto, unfolding(crate::specs::Nodes::last_of))]
     pub fn last(&self, interface: &[u8], id: u16) -> Last
         ensures { result ≡ last_of self.now interface.now id }
@@ -134,8 +134,8 @@ impl Nodes {
         Ok(())
     }
 
-    /// Takes a data frame on an interface, whose name has at most 15 bytes. Memory is asked for where a node is noted first;
-    /// on an `Err` it ran out.
+    /// Takes a data frame on an interface, whose name has at most 15 bytes. It allocates when a
+    /// node is noted first; on an `Err` memory ran out.
     #[tactic(auto, unfolding(crate::specs::Nodes::nodes_after))]
     pub fn take(&mut self, interface: &[u8], frame: &Frame) -> Result<(), AllocError>
         requires { length interface.now ≤ 15 }

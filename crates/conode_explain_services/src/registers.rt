@@ -112,8 +112,8 @@ fn push_changes(text: &mut String, last: Option<u8>, register: u8) -> Result<(),
     push_changed(text, "; went: ", last & (255 - register))
 }
 
-/// Appends the register of an emergency after that of the node's last one: `register 11 (generic, communication; came:
-/// communication)`.
+/// Appends the error register of an emergency, and what changed since the node's last one:
+/// `register 11 (generic, communication; came: communication)`.
 #[tactic(auto, unfolding(crate::specs::Registers::register_text))]
 pub(crate) fn push_register(
     text: &mut String,

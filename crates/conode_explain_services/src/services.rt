@@ -38,8 +38,9 @@ fn is_guarding(last: Last, frame: &Frame) -> bool
     is_error_control(frame) && is_answer(last.guarding, frame.bytes()[0])
 }
 
-/// Appends what a data frame says by its service, where the last frames of its node had this, and gives whether it says
-/// something: else its text as `conode decode` has it stays. On an `Err` memory ran out, and a part of it may be there.
+/// Appends what a data frame says by its service; `last` is what the last frames of its node had.
+/// Returns whether it appended anything: if not, the text of `conode decode` stands. On an `Err`
+/// memory ran out, and a part of it may be there.
 #[tactic(auto, unfolding(crate::specs::Services::service_words))]
 pub fn push_service(text: &mut String, last: Last, frame: &Frame) -> Result<bool, AllocError>
     ensures said { IfOk result (λ said. said ≡ is_some (service_words last frame.now)) }
@@ -77,8 +78,8 @@ pub fn push_service(text: &mut String, last: Last, frame: &Frame) -> Result<bool
     Ok(false)
 }
 
-/// Appends what a remote frame with this identifier, at most 7FFh, says. On an `Err` memory ran out, and a part of it may be
-/// there.
+/// Appends what a remote frame with this identifier, at most 7FFh, says. On an `Err` memory ran
+/// out, and a part of it may be there.
 #[tactic(auto, unfolding(crate::specs::Services::remote_words))]
 pub fn push_remote(text: &mut String, id: u16) -> Result<(), AllocError>
     requires { id < 2048 }

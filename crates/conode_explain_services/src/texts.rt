@@ -1,4 +1,5 @@
-//! What the texts of services share. Each function appends a text; on an `Err` memory ran out, and a part of it may be there.
+//! What the texts of services share. Each function appends a text; on an `Err` memory ran out, and
+//! a part of it may be there.
 
 ghost use Rattle.std.specs.Prelude.{◌≡◌, ◌++◌, OnOk, string_bytes};
 ghost use Rattle.conode_explain_services.specs.Parts.{after, of_node};

@@ -1,4 +1,5 @@
--- The date of a day, in the Gregorian calendar. Years are counted from 1 March, so that a leap day is the last day of its year.
+-- The date of a day, in the Gregorian calendar. Years are counted from 1 March, so that a leap day
+-- is the last day of its year.
 use Rattle.std.specs.Prelude.{ℕ, ◌+◌, ◌-◌, ◌*◌, ◌/◌, ◌%◌, nat_lt, if◌then◌else◌}
 use Rattle.conode_explain_text.specs.declared.dates.Date.{Date}
 
@@ -10,7 +11,8 @@ days_from_march day = day + 719468
 abbrev pub day_of_cycle : ℕ → ℕ
 day_of_cycle day = days_from_march day % 146097
 
--- the year of 400 that a day is in: of 365 days, but for a leap day in each four years, none in a hundred, one in 400
+-- the year of 400 that a day is in: of 365 days, but for a leap day in each four years, none in a
+-- hundred, one in 400
 unfoldable pub year_of_cycle : ℕ → ℕ
 year_of_cycle day = (((day - day / 1460) + day / 36524) - day / 146096) / 365
 
@@ -18,7 +20,8 @@ year_of_cycle day = (((day - day / 1460) + day / 36524) - day / 146096) / 365
 unfoldable pub day_of_year : ℕ → ℕ → ℕ
 day_of_year day year = (day + year / 100) - (365 * year + year / 4)
 
--- the month of a day of that year, where March is 0: five months from March on have 153 days, and so have the next five
+-- the month of a day of that year, where March is 0: five months from March on have 153 days, and
+-- so have the next five
 abbrev pub month_of_day : ℕ → ℕ
 month_of_day day = (5 * day + 2) / 153
 

@@ -7,7 +7,8 @@ use Rattle.co_text.specs.Printed.{byte_text}
 abbrev pub is_control : ℕ → Bool
 is_control byte = nat_lt byte 0x20 || (byte == 0x7F)
 
--- a byte of what is said: a control character is a backslash, an x and two digits, so that a line stays one
+-- a byte of what is said: a control character is a backslash, an x and two digits, so that a line
+-- stays one
 abbrev pub shown_byte : ℕ → List ℕ
 shown_byte byte = if is_control byte then codes "\\x" ++ byte_text byte else byte ∷ []
 

@@ -17,13 +17,15 @@ pub record SoFar : Type 0 where
 abbrev pub nothing_seen : SoFar
 nothing_seen = record { started = false; first = 0; last = 0; interface = []; several = false }
 
--- the times of a frame with this stamp: the first frame comes at the first stamp, right after itself
+-- the times of a frame with this stamp: the first frame comes at the first stamp, right after
+-- itself
 abbrev pub times_at : SoFar → ℕ → Times
 times_at so_far micros =
     if so_far.started then record { first = so_far.first; before = so_far.last; now = micros }
     else record { first = micros; before = micros; now = micros }
 
--- a line names its interface where another one came before, or where this is another one than the first
+-- a line names its interface where another one came before, or where this is another one than the
+-- first
 abbrev pub shows_interface : SoFar → List ℕ → Bool
 shows_interface so_far name = so_far.several || (so_far.started && not (bytes_eq so_far.interface name))
 

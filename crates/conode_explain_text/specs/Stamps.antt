@@ -19,7 +19,8 @@ micros_text micros = digits_text 10 6 micros
 unfoldable pub time_text : ℕ → ℕ → List ℕ
 time_text width micros = padded width (micros / 1000000) ++ codes "." ++ micros_text (micros % 1000000)
 
--- the time from one stamp to another, with a hyphen before it where the other is the earlier one, else with this text
+-- the time from one stamp to another, with a hyphen before it where the other is the earlier one,
+-- else with this text
 unfoldable pub difference_text : List ℕ → ℕ → ℕ → ℕ → List ℕ
 difference_text plus width from to =
     if nat_le from to then plus ++ time_text width (to - from) else codes "-" ++ time_text width (from - to)
@@ -42,7 +43,7 @@ unfoldable pub time_of_day_text : ℕ → List ℕ
 time_of_day_text seconds =
     two_digits (seconds / 3600) ++ codes ":" ++ two_digits (seconds / 60 % 60) ++ codes ":" ++ two_digits (seconds % 60)
 
--- the date and the time of day of a stamp that is counted from the begin of 1970, in UTC
+-- the date and the time of day of a stamp that is counted from 1 January 1970, in UTC
 unfoldable pub moment_text : ℕ → List ℕ
 moment_text micros =
     date_text (date_of (micros / 1000000 / 86400)) ++ codes " " ++ time_of_day_text (micros / 1000000 % 86400)

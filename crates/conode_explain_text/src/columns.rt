@@ -1,5 +1,5 @@
-//! Interface, identifier, length and data of a frame. Each function appends a text; on an `Err` memory ran out, and a
-//! part of it may be there.
+//! Interface, identifier, length and data of a frame. Each function appends a text; on an `Err`
+//! memory ran out, and a part of it may be there.
 
 ghost use Rattle.std.specs.Prelude.{◌≡◌, ◌≤◌, ◌<◌, ◌++◌, OnOk, string_bytes, length};
 ghost use Rattle.std.specs.List.{flat_map};
@@ -31,7 +31,7 @@ fn push_escaped(text: &mut String, byte: u8) -> Result<(), AllocError>
     push_byte(text, byte)
 }
 
-/// Appends a name, its bytes that can't be printed as `\x07`.
+/// Appends a name; bytes that can't be printed are written as `\x07`.
 pub(crate) fn push_name(text: &mut String, name: &[u8]) -> Result<(), AllocError>
     ensures { OnOk result (string_bytes text.new ≡ string_bytes text.old ++ escaped_name name.now) }
 {

@@ -13,10 +13,10 @@ pub(crate) struct Date {
     pub(crate) day: u64,
 }
 
-/// 400 years have so many days.
+/// The days of 400 years.
 const CYCLE: u64 = 146_097;
 
-// the year of 400 that a day is in
+// the year, 0 to 399, that a day of 400 years is in
 #[tactic(auto, unfolding(crate::specs::Dates::year_of_cycle))]
 fn year_of_cycle(day: u64) -> u64
     requires { day < 146097 }

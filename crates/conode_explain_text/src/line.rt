@@ -118,11 +118,11 @@ fn write_line(
     line.extend_from_slice(end_text(times))
 }
 
-/// Makes `line` the line of a frame that says these words, where `seen` is what the recording showed before it: its
-/// stamp, the time since the frame before it, its interface where there are several, its identifier, its length and
-/// data, the words, a note where its stamp steps back, and a line feed, as
-/// `    12.345678  +0.000412  185  [4] E8 03 10 27              TPDO1 node 5`. `text` is room for the work. On an `Err`
-/// memory ran out, and the line is any part of it.
+/// Sets `line` to the line of a frame that says these words; `seen` is what the recording showed
+/// before it. The line has its stamp, the time since the frame before it, its interface where there
+/// are several, its identifier, its length and data, the words, a note where its stamp steps back,
+/// and a line feed, as `    12.345678  +0.000412  185  [4] E8 03 10 27              TPDO1 node 5`.
+/// `text` is scratch space. On an `Err` memory ran out, and the line is incomplete.
 pub fn set_line(
     line: &mut Vec<u8>,
     text: &mut String,

@@ -49,9 +49,9 @@ fn write_line(
     line.extend_from_slice(b"\n")
 }
 
-/// Makes `line` a line of its own with these words, as `    12.345678  node 5  SDO upload ..`: the stamp of a frame, its
-/// interface, where it `shows`, the words, and a line feed. `text` is room for the work. On an `Err` memory ran out, and
-/// the line is any part of it.
+/// Sets `line` to a line of its own with these words, as `    12.345678  node 5  SDO upload ..`:
+/// the stamp of a frame, its interface, where it `shows`, the words, and a line feed. `text` is
+/// scratch space. On an `Err` memory ran out, and the line is incomplete.
 #[tactic(auto, using(crate::proofs::LineLemmas::own_written))]
 pub fn set_own_line(
     line: &mut Vec<u8>,

@@ -31,8 +31,8 @@ fn add_byte(line: &mut Vec<u8>, byte: u8) -> Result<(), AllocError>
     }
 }
 
-/// Appends what a frame says, its control characters as `\x1B`. On an `Err` memory ran out, and a part of it may be
-/// there.
+/// Appends what a frame says, its control characters as `\x1B`. On an `Err` memory ran out, and a
+/// part of it may be there.
 #[tactic(auto, using(crate::proofs::SaidLemmas::plain_stays))]
 pub(crate) fn add_shown(line: &mut Vec<u8>, said: &[u8]) -> Result<(), AllocError>
     ensures { OnOk result (line.new.items ≡ line.old.items ++ shown said.now) }

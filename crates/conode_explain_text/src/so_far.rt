@@ -18,8 +18,8 @@ pub struct Times {
     pub now: u64,
 }
 
-/// What a recording showed so far: the stamps of its first and last frame, and the interface of the first; and whether
-/// a frame of another interface came. Contracts see it as a record of these.
+/// What a recording showed so far: the stamps of its first and last frame, and the interface of the
+/// first; and whether a frame of another interface came. Contracts see it as a record of these.
 #[derive(Drop)]
 pub struct Seen {
     started: bool,
@@ -83,14 +83,14 @@ impl Seen {
         self.last
     }
 
-    /// Whether the line of a frame of this interface names it: there are several.
+    /// Whether the line of a frame of this interface names the interface: there are several.
     pub fn shows_interface(&self, name: &[u8]) -> bool
         ensures { result ≡ shows_interface self.now name.now }
     {
         self.several || (self.started && self.interface.as_slice() != name)
     }
 
-    /// Takes a frame in.
+    /// Adds a frame.
     pub fn add(&mut self, frame: &Record<'_>)
         ensures { self.new ≡ seen_with self.old frame.now.micros frame.now.interface }
     {

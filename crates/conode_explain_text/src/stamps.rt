@@ -1,4 +1,5 @@
-//! Stamps and times. Each function appends a text; on an `Err` memory ran out, and a part of it may be there.
+//! Stamps and times. Each function appends a text; on an `Err` memory ran out, and a part of it may
+//! be there.
 
 ghost use Rattle.std.specs.Prelude.{◌≡◌, ◌++◌, ◌<◌, ◌^◌, OnOk, string_bytes, replicate};
 ghost use Rattle.co_text.specs.Printed.{digits_text, printed_digit};
@@ -32,7 +33,7 @@ pub enum StampForm {
     Absolute,
     /// Since the frame before.
     Delta,
-    /// The date and the time of day in UTC, where stamps are counted from the begin of 1970.
+    /// The date and the time of day in UTC, where stamps are counted from 1 January 1970.
     Date,
 }
 
@@ -96,7 +97,8 @@ fn push_time(text: &mut String, micros: u64, width: usize) -> Result<(), AllocEr
     push_micros(text, (micros % 1_000_000) as u32)
 }
 
-// the time from one stamp to another: a hyphen before it where the other is the earlier one, else this text
+// the time from one stamp to another: a hyphen before it where the other is the earlier one, else
+// this text
 #[tactic(auto, unfolding(crate::specs::Stamps::difference_text))]
 fn push_difference(
     text: &mut String,

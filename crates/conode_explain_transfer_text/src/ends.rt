@@ -1,5 +1,5 @@
-//! The line of a transfer that ended. Each function appends a text; on an `Err` memory ran out, and a part of it may be
-//! there.
+//! The line of a transfer that ended. Each function appends a text; on an `Err` memory ran out, and
+//! a part of it may be there.
 
 ghost use Rattle.std.specs.Prelude.{◌≡◌, ◌++◌, OnOk, string_bytes};
 ghost use Rattle.conode_explain_transfer_text.specs.Ends.{
@@ -49,7 +49,7 @@ fn push_quoted(text: &mut String, name: &str) -> Result<(), AllocError>
     text.push('"')
 }
 
-/// Appends the key of an entry, and what it is called.
+/// Appends the key of an entry, and its name in double quotes, if it has one.
 #[tactic(auto, unfolding(crate::specs::Ends::entry_text))]
 pub(crate) fn push_entry(text: &mut String, key: Key, name: &str) -> Result<(), AllocError>
     ensures { OnOk result
@@ -223,8 +223,9 @@ fn push_ending(
 
 // ---- the line
 
-/// Appends the line of a transfer that ended, without a line feed: `SDO download 2100:00 "Firmware" 1,024 bytes in 150
-/// frames, 0.182 s: done`. `name` is what its entry is called, and `words` what its abort code means; each may be empty.
+/// Appends the line of a transfer that ended, without a line feed: `SDO download 2100:00 "Firmware"
+/// 1,024 bytes in 150 frames, 0.182 s: done`. `name` is the name of its entry, and `words` is what
+/// its abort code means; each may be empty.
 #[tactic(auto, unfolding(crate::specs::Ends::end_text))]
 pub fn push_end(text: &mut String, ended: &Ended, name: &str, words: &str) -> Result<(), AllocError>
     ensures { OnOk result (string_bytes text.new

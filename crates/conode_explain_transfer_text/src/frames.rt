@@ -1,5 +1,5 @@
-//! What is said of a frame of a transfer. Each function appends a text; on an `Err` memory ran out, and a part of it may be
-//! there.
+//! What is said of a frame of a transfer. Each function appends a text; on an `Err` memory ran out,
+//! and a part of it may be there.
 
 ghost use Rattle.std.specs.Prelude.{◌≡◌, ◌++◌, OnOk, string_bytes};
 ghost use Rattle.conode_explain_transfer_text.specs.Frames.{
@@ -59,8 +59,8 @@ fn push_numbers(
     push_decimal(text, u64::from(second))
 }
 
-/// Appends the text of a segment of a sub-block, whose bytes alone don't show what it is: `SDO request node 5 block
-/// segment 3`.
+/// Appends the text of a segment of a sub-block, whose bytes alone don't show what it is: `SDO
+/// request node 5 block segment 3`.
 pub fn push_segment(text: &mut String, side: Side, node: u8, number: u8) -> Result<(), AllocError>
     ensures { OnOk result (string_bytes text.new
         ≡ string_bytes text.old ++ segment_text side node number) }
@@ -114,9 +114,9 @@ fn push_remark(text: &mut String, what: What) -> Result<(), AllocError>
     }
 }
 
-/// Appends what follows the text of a frame: the entry that it is of, where it has no key of its own, as ` of 2100:00
-/// "Firmware"`, and in brackets what is odd about it, as ` (repeated)`. `name` is what the entry is called; it may be
-/// empty.
+/// Appends what follows the text of a frame: its entry, if the frame has no key of its own, as ` of
+/// 2100:00 "Firmware"`, and in brackets what is odd about it, as ` (repeated)`. `name` is the name
+/// of the entry; it may be empty.
 #[tactic(auto, unfolding(crate::specs::Frames::after_text))]
 pub fn push_after(
     text: &mut String,

@@ -1,4 +1,5 @@
-//! What is said of SDO transfers in a recording, for people: of each frame, and the line of a transfer that ended.
+//! What is said of SDO transfers in a recording, for people: of each frame, and the line of a
+//! transfer that ended.
 #![tactic(auto)]
 
 mod ends;

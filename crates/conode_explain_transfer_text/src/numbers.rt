@@ -1,4 +1,5 @@
-//! Numbers for people. Each function appends a text; on an `Err` memory ran out, and a part of it may be there.
+//! Numbers for people. Each function appends a text; on an `Err` memory ran out, and a part of it
+//! may be there.
 
 ghost use Rattle.std.specs.Prelude.{◌≡◌, ◌<◌, ◌++◌, OnOk, string_bytes};
 ghost use Rattle.conode_explain_transfer_text.specs.Numbers.{
@@ -67,7 +68,7 @@ pub(crate) fn push_grouped(text: &mut String, number: u64) -> Result<(), AllocEr
     push_three_digits(text, number % 1000)
 }
 
-/// Appends how many of a thing there are.
+/// Appends a number with a thing after it, in the plural unless it is 1.
 #[tactic(auto, unfolding(crate::specs::Numbers::counted_text))]
 pub(crate) fn push_counted(text: &mut String, number: u64, thing: &str) -> Result<(), AllocError>
     ensures { OnOk result (string_bytes text.new
@@ -82,7 +83,8 @@ pub(crate) fn push_counted(text: &mut String, number: u64, thing: &str) -> Resul
     Ok(())
 }
 
-/// Appends the time from one stamp to another in seconds, with three digits after the point; 0 where the other is earlier.
+/// Appends the time from one stamp to another in seconds, with three digits after the point; 0
+/// where the other is earlier.
 #[tactic(auto, unfolding(crate::specs::Numbers::seconds_text))]
 pub(crate) fn push_seconds(text: &mut String, from: u64, to: u64) -> Result<(), AllocError>
     ensures { OnOk result (string_bytes text.new ≡ string_bytes text.old ++ seconds_text from to) }

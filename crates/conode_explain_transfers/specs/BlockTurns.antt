@@ -1,5 +1,5 @@
--- Block transfers (CiA 301, 7.2.4.3.9 to 7.2.4.3.15): what one frame makes of an open transfer. The sender is the client of a
--- download and the server of an upload; the receiver acknowledges.
+-- Block transfers (CiA 301, 7.2.4.3.9 to 7.2.4.3.15): what one frame makes of an open transfer. The
+-- sender is the client of a download and the server of an upload; the receiver acknowledges.
 use Rattle.std.specs.Prelude.{ℕ, ◌+◌, ◌-◌, ◌*◌, ◌==◌, ◌&&◌, nat_lt, Bool, true, false, if◌then◌else◌, List, ◌++◌, length, take, drop, Option, Some, None}
 use Rattle.co_value.specs.Numbers.{unsigned_of}
 use Rattle.co_value.specs.declared.key.Key.{Key}
@@ -59,7 +59,8 @@ segment_added transfer segment = record {
   takes = None;
 }
 
--- a segment after one that is missing, which may be lost on its way: the acknowledge says what was taken
+-- a segment after one that is missing, which may be lost on its way: the acknowledge says what was
+-- taken
 abbrev pub segment_ahead : Transfer → BlockSegment → Turn
 segment_ahead transfer segment = record {
   what = (if segment.sequence == transfer.next_number then Segment segment.sequence else OutOfSequence segment.sequence transfer.next_number);
@@ -67,8 +68,8 @@ segment_ahead transfer segment = record {
   takes = None;
 }
 
--- a segment whose number isn't above those before it: it came already, or is of another sub-block, and the acknowledge between them
--- is missing
+-- a segment whose number isn't above those before it: it came already, or is of another sub-block,
+-- and the acknowledge between them is missing
 abbrev pub segment_again : Transfer → BlockSegment → Turn
 segment_again transfer segment = record {
   what = OutOfSequence segment.sequence transfer.next_number;
@@ -76,7 +77,8 @@ segment_again transfer segment = record {
   takes = None;
 }
 
--- a segment: it is the next one where its number is the awaited one and none was missing before it; none comes after the last
+-- a segment: it is the next one where its number is the awaited one and none was missing before it;
+-- none comes after the last
 abbrev pub block_segment_at : Stage → Transfer → BlockSegment → Turn
 block_segment_at (SubBlock false) transfer segment =
     if nat_lt segment.sequence transfer.next_number then segment_again transfer segment
@@ -91,8 +93,9 @@ block_segment transfer = block_segment_at transfer.stage transfer
 abbrev pub next_sub_block : Transfer → ℕ → Transfer
 next_sub_block transfer block_size = record transfer { block_size = block_size; next_number = 1; stage = SubBlock false }
 
--- so many segments of the sub-block are acknowledged: those are taken, the others are sent again; more than came are missing. Where
--- that is all with the last, the end comes, and says how many bytes of the last segment are data
+-- so many segments of the sub-block are acknowledged: those are taken, the others are sent again.
+-- If more are acknowledged than came, some are missing in the recording. Once all with the last one
+-- are acknowledged, the end comes, with the number of unused bytes in the last segment
 abbrev pub acknowledged_in : Bool → Transfer → ℕ → ℕ → Turn
 acknowledged_in last transfer sequence block_size =
     if nat_lt sequence (awaited_number transfer)

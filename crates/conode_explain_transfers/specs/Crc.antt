@@ -1,5 +1,5 @@
--- The CRC of a block transfer (CiA 301, 7.2.4.3.16): the polynomial x^16 + x^12 + x^5 + 1, 1021h, the initial value 0, the
--- highest bit first.
+-- The CRC of a block transfer (CiA 301, 7.2.4.3.16): the polynomial x^16 + x^12 + x^5 + 1, 1021h,
+-- the initial value 0, the highest bit first.
 use Rattle.std.specs.Prelude.{ℕ, ◌-◌, ◌*◌, nat_lt, bit_xor, if◌then◌else◌, List, [], ◌∷◌}
 
 -- one bit more: where a 1 is shifted out, the polynomial is added

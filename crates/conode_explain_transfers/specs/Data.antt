@@ -33,7 +33,8 @@ data_by None reading frame bytes = []
 data_by (Some transfer) (Abort code) frame bytes = bytes
 data_by (Some transfer) reading frame bytes = data_with bytes (turn_of transfer reading frame).takes
 
--- the data of the transfer that the newest frame belongs to: what its frames took since its initiate request, in their order
+-- the data of the transfer that the newest frame belongs to: what its frames took since its
+-- initiate request, in their order
 abbrev pub data_after : List Event → List ℕ
 data_after [] = []
 data_after (Framed micros side frame ∷ older) =
@@ -42,8 +43,9 @@ data_after (BootedUp micros ∷ older) = []
 
 -- ---- the confirmation
 
--- the frame after which a transfer is complete: of a download the server's last response, of an upload the segment with c = 1, or
--- the response that has all its data, or in blocks the client's confirmation of the end
+-- the frame after which a transfer is complete: of a download the server's last response, of an
+-- upload the segment with c = 1, or the response that has all its data, or in blocks the client's
+-- confirmation of the end
 abbrev pub confirms : Stage → Reading → Bool
 confirms Initiated (Response (DownloadDone key)) = true
 confirms Initiated (Response (UploadExpedited key value)) = true
@@ -55,8 +57,9 @@ confirms _ _ = false
 
 -- ---- what "done" says
 
--- a transfer is done with a frame, which makes this of it, and its data is this: the frame confirms it, all its frames go on with
--- one another, there are as many bytes as were indicated, and the CRC is right where it was compared
+-- a transfer is done with a frame, after this turn and with these data: the frame confirms it, no
+-- frame is missing, the number of bytes is the indicated one, and the CRC is right where it was
+-- compared
 pub record IsDoneWith (before : Transfer) (reading : Reading) (turn : Turn) (bytes : List ℕ) (crc : Bool) : Type 0 where
   pub confirmed : confirms before.stage reading ≡ true
   pub regular : turn.transfer.irregular ≡ false
@@ -67,7 +70,7 @@ abbrev pub IfDone : Ending → (Bool → Type 0) → Type 0
 IfDone (Done crc) fact = fact crc
 IfDone _ fact = Unit {0}
 
--- what is done with a frame after a log
+-- the open transfer is done with a frame after a log
 abbrev pub IsDoneAfter : List Event → ℕ → Side → List ℕ → Bool → Type 0
 IsDoneAfter log micros side frame crc =
     let current = (following_after log).transfer in

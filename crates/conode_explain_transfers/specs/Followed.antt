@@ -37,7 +37,8 @@ pub record Followed : Type 0 where
 
 -- ---- transfers that are left
 
--- the client begins another one: it didn't get the answer that it awaited, or it had its turn
+-- the client begins another one: it didn't get the answer that it awaited, or it was its turn in
+-- this one
 abbrev pub left_by : Side → Ending
 left_by Client = Unanswered
 left_by Server = Interrupted

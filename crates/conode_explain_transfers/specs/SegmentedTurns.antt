@@ -1,4 +1,5 @@
--- Expedited and segmented transfers (CiA 301, 7.2.4.3.3 to 7.2.4.3.7): what one frame makes of an open transfer.
+-- Expedited and segmented transfers (CiA 301, 7.2.4.3.3 to 7.2.4.3.7): what one frame makes of an
+-- open transfer.
 use Rattle.std.specs.Prelude.{ℕ, Bool, false, not, if◌then◌else◌, List, Option, Some, None, length}
 use Rattle.arrayvec.specs.ArrayVec.{ArrayVec}
 use Rattle.co_value.specs.declared.key.Key.{Key}
@@ -12,7 +13,8 @@ use Rattle.conode_explain_transfers.specs.declared.transfer.Transfer.{Transfer}
 use Rattle.conode_explain_transfers.specs.Stages.{is_initiated}
 use Rattle.conode_explain_transfers.specs.Transfers.{Turn, is_download, irregular, unexpected, repeated, overtaken, goes_on, takes_data, takes_pending}
 
--- a response to initiate, where one is awaited: of this entry; or of another one, whose request was overtaken by this one
+-- a response to initiate, where one is awaited: of this entry; or of another one, whose request was
+-- overtaken by this one
 abbrev pub answering : Transfer → Key → Turn → Turn
 answering transfer key turn =
     if is_initiated transfer.stage then (if same_key key transfer.key then turn else overtaken transfer) else unexpected transfer
@@ -23,7 +25,8 @@ confirmed transfer = record transfer { stage = Confirmed None }
 
 -- ---- downloads
 
--- initiate is confirmed: an expedited download is complete, of a segmented one the first segment comes
+-- initiate is confirmed: an expedited download is complete, of a segmented one the first segment
+-- comes
 abbrev pub download_answered : Transfer → Protocol → Turn
 download_answered transfer Expedited = takes_pending (confirmed transfer) (length transfer.pending.items)
 download_answered transfer Segmented = goes_on (record transfer { stage = DownloadConfirmed false })
@@ -37,7 +40,8 @@ download_done transfer key =
 abbrev pub segment_pending : Transfer → Bool → Bool → ArrayVec ℕ → Transfer
 segment_pending transfer toggle last segment = record transfer { stage = DownloadSent toggle last; pending = record { items = segment.items } }
 
--- a segment is sent: the next one; or, where the one before isn't confirmed, the one after it, since its confirmation is missing
+-- a segment is sent: the next one; or the one after one that isn't confirmed, whose confirmation is
+-- missing in the recording
 abbrev pub download_segment_at : Stage → Transfer → Bool → ArrayVec ℕ → Bool → Turn
 download_segment_at (DownloadConfirmed awaited) transfer toggle segment last =
     if same_bool toggle awaited then goes_on (segment_pending transfer toggle last segment) else repeated transfer
@@ -53,7 +57,7 @@ download_segment transfer = download_segment_at transfer.stage transfer
 abbrev pub download_stage : Bool → Bool → Stage
 download_stage toggle last = if last then Confirmed None else DownloadConfirmed (not toggle)
 
--- a segment is confirmed: that which was sent; or one that is missing
+-- a segment is confirmed: the one that was sent; or one that is missing in the recording
 abbrev pub segment_done_at : Stage → Transfer → Bool → Turn
 segment_done_at (DownloadSent sent last) transfer toggle =
     if same_bool toggle sent then takes_pending (record transfer { stage = download_stage sent last }) (length transfer.pending.items)
@@ -82,7 +86,8 @@ upload_initiated transfer key size =
     (if is_download transfer.direction then unexpected transfer
     else goes_on (record transfer { protocol = Segmented; crc = false; size = size; stage = UploadTaken false }))
 
--- a segment is requested: the next one; or, where the one before hasn't come, the one after it, since it is missing
+-- a segment is requested: the next one; or the one after one that hasn't come, and is missing in
+-- the recording
 abbrev pub upload_request_at : Stage → Transfer → Bool → Turn
 upload_request_at (UploadTaken awaited) transfer toggle =
     if same_bool toggle awaited then goes_on (record transfer { stage = UploadAsked toggle }) else repeated transfer
@@ -97,7 +102,7 @@ upload_request transfer = upload_request_at transfer.stage transfer
 abbrev pub upload_stage : Bool → Bool → Stage
 upload_stage toggle last = if last then Confirmed None else UploadTaken (not toggle)
 
--- a segment comes: that which was requested; or one whose request is missing
+-- a segment comes: the one that was requested; or one whose request is missing in the recording
 abbrev pub upload_segment_at : Stage → Transfer → Bool → ArrayVec ℕ → Bool → Turn
 upload_segment_at (UploadAsked asked) transfer toggle segment last =
     if same_bool toggle asked then takes_data (record transfer { stage = upload_stage toggle last }) segment.items

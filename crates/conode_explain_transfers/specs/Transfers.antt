@@ -42,7 +42,8 @@ is_download Upload = false
 abbrev pub is_same_request : Transfer → List ℕ → Bool
 is_same_request transfer bytes = is_initiated transfer.stage && bytes_eq transfer.request.items bytes
 
--- the segments of a sub-block have seven bytes each, and are numbered from 1: the number of the next one, if none is missing
+-- the segments of a sub-block have seven bytes each, and are numbered from 1: the number of the
+-- next one, if none is missing
 abbrev pub awaited_number : Transfer → ℕ
 awaited_number transfer = length transfer.pending.items / bytes_per_segment + 1
 

@@ -25,7 +25,7 @@ use byteorder::{ByteOrder, LittleEndian};
 use co_frame::{BYTES_PER_SEGMENT, BlockSegment, Frame};
 use co_value::Key;
 
-/// The CRC in the end of a block transfer: bytes 1 and 2.
+/// The CRC of end SDO block download or upload: bytes 1 and 2.
 pub(crate) fn crc_in(frame: &Frame) -> u16
     ensures { result ≡ crc_in frame.now.bytes }
 {
@@ -101,7 +101,7 @@ impl Transfer {
         }
     }
 
-    // The next segment of a sub-block.
+    // The next segment of a sub-block, in sequence.
     fn add_segment(&mut self, segment: &BlockSegment) -> What
         requires room { length self.old.pending.items ≤ 889 }
         requires segment { IsBlockSegment segment.now }
@@ -132,7 +132,7 @@ impl Transfer {
         }
     }
 
-    // A segment of a sub-block that came already, or is of another one.
+    // A segment that came before, or is of another sub-block.
     fn segment_again(&mut self, segment: &BlockSegment) -> What
         ensures transfer { self.new ≡ after self.old (segment_again self.old segment.now) }
         ensures what { result ≡ (segment_again self.old segment.now).what }
@@ -164,7 +164,8 @@ impl Transfer {
         }
     }
 
-    /// The acknowledge of a sub-block, ccs = 5, cs = 2, and scs = 5, ss = 2; whether the other end is the sender.
+    /// The acknowledge of a sub-block, ccs = 5, cs = 2, and scs = 5, ss = 2. `by_receiver`: it is
+    /// from the end that receives the data.
     pub(crate) fn acknowledge(&mut self, by_receiver: bool, sequence: u8, block_size: u8) -> What
         ensures transfer { self.new ≡ after self.old (acknowledged by_receiver self.old sequence block_size) }
         ensures what { result ≡ (acknowledged by_receiver self.old sequence block_size).what }
@@ -191,7 +192,8 @@ impl Transfer {
         What::Part
     }
 
-    /// The end of a block transfer, ccs = 6, cs = 1, and scs = 6, ss = 1.
+    /// End SDO block download, ccs = 6, cs = 1, and end SDO block upload, scs = 6, ss = 1.
+    /// `by_sender`: it is from the end that sends the data.
     pub(crate) fn end_block(&mut self, by_sender: bool, unused: u8, crc: u16) -> What
         ensures transfer { self.new ≡ after self.old (block_ended by_sender self.old unused crc) }
         ensures what { result ≡ (block_ended by_sender self.old unused crc).what }
@@ -210,7 +212,8 @@ impl Transfer {
         }
     }
 
-    /// The confirmation of the end, ccs = 5, cs = 1, and scs = 5, ss = 1.
+    /// The confirmation of the end, ccs = 5, cs = 1, and scs = 5, ss = 1. `by_receiver`: it is from
+    /// the end that receives the data.
     pub(crate) fn confirm_end(&mut self, by_receiver: bool) -> What
         ensures transfer { self.new ≡ after self.old (end_confirmed by_receiver self.old) }
         ensures what { result ≡ (end_confirmed by_receiver self.old).what }

@@ -39,13 +39,16 @@ use std::marker::Model;
 /// What a frame is, and the transfer that ended with it.
 #[derive(Drop)]
 pub struct Heard {
+    /// What the frame is.
     pub what: What,
-    /// The entry of the open transfer, where the frame goes on with it and has no key of its own.
+    /// The open transfer's entry; `None` where the frame has a key of its own.
     pub of: Option<Key>,
+    /// The transfer that ended with the frame.
     pub ended: Option<Ended>,
 }
 
-/// The SDO transfers of one channel, followed frame by frame in constant memory. Any frames may come, in any order.
+/// The SDO transfers of one channel, followed frame by frame in constant memory. Any frames may
+/// come, in any order.
 #[derive(Drop)]
 pub struct Channel {
     heard: bool,
@@ -61,7 +64,7 @@ impl Model for Channel {
 }
 
 impl Transfer {
-    // How it ends where the client begins another one with this request.
+    // How the open transfer ends when the client begins another one with this request.
     fn left_ending(&self, frame: &Frame) -> Ending
         ensures { result ≡ left_ending self.now frame.now.bytes }
     {
@@ -88,14 +91,14 @@ impl Transfer {
         }
     }
 
-    // One frame more.
+    // Counts one more frame, up to 2^64 - 1.
     fn count_frame(&mut self)
         ensures { self.new ≡ one_more self.old }
     {
         self.frames = self.frames.saturating_add(1);
     }
 
-    // Takes note of a frame with which it goes on; one of another transfer doesn't count.
+    // Notes who sent the newest frame, and when; a frame of another transfer doesn't count.
     fn note_frame(&mut self, what: What, micros: u64, side: Side)
         ensures { self.new ≡ with_frame what self.old micros side }
     {
@@ -245,12 +248,13 @@ impl Channel {
         }
     }
 
-    /// Takes a frame of the channel, with its stamp in microseconds and the end that sent it. Gives what it is, and the
-    /// transfer that ends with it: that whose last frame it is, or that which was open when it begins another one.
+    /// Takes a frame of the channel, with its stamp in microseconds and the end that sent it.
+    /// Returns what it is, and the transfer that ended with it: the frame is its last one, or
+    /// begins another transfer.
     pub fn take(&mut self, micros: u64, side: Side, frame: &Frame) -> Heard
         ensures heard { result ≡ (followed self.old micros side frame.now.bytes).says }
         ensures next { self.new ≡ (followed self.old micros side frame.now.bytes).next }
-        // So it is after every log of the channel.
+        // Holds after every log of the channel.
         ensures said { (log : List Event) → self.old ≡ following_after log →
             result ≡ said log micros side frame.now.bytes }
         ensures stands { (log : List Event) → self.old ≡ following_after log →
@@ -276,7 +280,8 @@ impl Channel {
         self.close(micros, Ending::Interrupted)
     }
 
-    /// The transfer that is open where the recording ends, at the stamp of its last frame: it is unfinished.
+    /// The transfer that is open where the recording ends, as unfinished; `micros` is the stamp of
+    /// the recording's last frame.
     pub fn unfinished(&self, micros: u64) -> Option<Ended>
         ensures { result ≡ closed self.now.transfer micros Unfinished }
     {

@@ -3,7 +3,7 @@
 ghost use Rattle.std.specs.Prelude.{◌≡◌};
 ghost use Rattle.conode_explain_transfers.specs.Crc.{shifted, crc_with, crc_from};
 
-// One bit more.
+// The CRC after one more bit.
 #[tactic(auto, unfolding(crate::specs::Crc::shifted))]
 fn shifted(crc: u16) -> u16
     ensures { result ≡ shifted crc }
@@ -15,7 +15,7 @@ fn shifted(crc: u16) -> u16
     }
 }
 
-// One byte more.
+// The CRC after one more byte.
 #[tactic(auto, unfolding(crate::specs::Crc::crc_with))]
 fn crc_with(crc: u16, byte: u8) -> u16
     ensures { result ≡ crc_with crc byte }
@@ -24,7 +24,7 @@ fn crc_with(crc: u16, byte: u8) -> u16
     shifted(shifted(shifted(shifted(four))))
 }
 
-/// The CRC of data that goes on with these bytes (CiA 301, 7.2.4.3.16).
+/// The CRC of data with this CRC so far, and these bytes after it (CiA 301, 7.2.4.3.16).
 pub(crate) fn crc_from(crc: u16, bytes: &[u8]) -> u16
     ensures { result ≡ crc_from crc bytes.now }
 {

@@ -9,7 +9,8 @@ use arrayvec::ArrayVec;
 /// How many bytes of a transfer are kept.
 pub(crate) const SHOWN_BYTES: usize = 64;
 
-/// What is kept of the data of a transfer: how many bytes there are (2^64 - 1 stays), their CRC, and the first 64.
+/// What is kept of the data of a transfer: the number of bytes (up to 2^64 - 1), their CRC, and the
+/// first 64.
 #[derive(Drop)]
 pub(crate) struct Digest {
     pub(crate) count: u64,
@@ -29,7 +30,7 @@ fn first_of(bytes: &[u8], room: usize) -> &[u8]
     }
 }
 
-// The first 64 bytes, and more of them where there is room.
+// Appends bytes to the first 64, as long as there is room.
 #[tactic(auto, using(crate::proofs::Kept::kept))]
 fn keep(first: &mut ArrayVec<u8, 64>, bytes: &[u8])
     ensures { first.new.items ≡ take shown_bytes (first.old.items ++ bytes.now) }
@@ -39,7 +40,7 @@ fn keep(first: &mut ArrayVec<u8, 64>, bytes: &[u8])
 }
 
 impl Digest {
-    /// Of no bytes.
+    /// The digest of no data.
     pub(crate) fn new() -> Digest
         ensures { result ≡ no_bytes }
     {
@@ -50,7 +51,7 @@ impl Digest {
         }
     }
 
-    /// Takes more bytes in.
+    /// Adds the next bytes.
     pub(crate) fn add(&mut self, bytes: &[u8])
         ensures { self.new ≡ digest_with self.old bytes.now }
     {

@@ -12,8 +12,8 @@ use co_value::Key;
 /// How a transfer ended.
 #[derive(Clone, Copy, Debug, PartialEq, Eq)]
 pub enum Ending {
-    /// The server confirmed a download, or the client has an upload whole: all frames are there, as many bytes came as
-    /// were indicated, and the CRC is right where both ends support it (`crc`).
+    /// It was confirmed. No frame is missing, and the number of bytes is the indicated one, if
+    /// there is one; `crc`: both ends support the CRC, and it is right.
     Done { crc: bool },
     /// An end aborted it.
     Aborted { by: Side, code: AbortCode },
@@ -21,13 +21,14 @@ pub enum Ending {
     Unanswered,
     /// The client sent the same initiate request again while it awaited the response.
     Repeated,
-    /// The client began another transfer, though it was its turn in this one; or the server booted up.
+    /// The client began another transfer, though it was its turn in this one; or the server booted
+    /// up.
     Interrupted,
     /// The recording ended.
     Unfinished,
-    /// It was confirmed, but frames are lost in the recording, or stand in it twice.
+    /// It was confirmed, but frames are missing in the recording, or are in it twice.
     Irregular,
-    /// It was confirmed, but another number of bytes came than was indicated.
+    /// It was confirmed, but the number of bytes isn't the indicated one.
     SizeDiffers { indicated: u32 },
     /// It was confirmed, but the CRC that came isn't that of the bytes.
     CrcDiffers { came: u16, computed: u16 },
@@ -46,7 +47,7 @@ pub struct Ended {
     pub bytes: u64,
     /// The first 64 of them; of an expedited transfer without a size all four.
     pub first: ArrayVec<u8, 64>,
-    /// How many frames it had, the one that ended it included if it is one of them.
+    /// Its number of frames, with the one that ended it if that is one of them.
     pub frames: u64,
     /// The stamp of its initiate request, in microseconds.
     pub begun: u64,
@@ -54,10 +55,11 @@ pub struct Ended {
     pub newest: u64,
     /// The stamp of the end.
     pub end: u64,
+    /// How it ended.
     pub ending: Ending,
 }
 
-// whether another number of bytes came than was indicated
+// the indicated size, if the number of bytes isn't that
 fn size_fault(size: Option<u32>, count: u64) -> Option<u32>
     ensures { result ≡ size_fault size count }
 {
@@ -68,7 +70,7 @@ fn size_fault(size: Option<u32>, count: u64) -> Option<u32>
 }
 
 impl Transfer {
-    /// How a transfer ends that was confirmed, with the CRC to compare.
+    /// How a confirmed transfer ends; `crc` is the one to compare, if there is one.
     pub(crate) fn verdict(&self, crc: Option<u16>) -> Ending
         ensures { result ≡ verdict self.now crc }
     {
@@ -88,7 +90,7 @@ impl Transfer {
         }
     }
 
-    /// It ended.
+    /// The transfer, ended at a stamp.
     pub(crate) fn ended(&self, end: u64, ending: Ending) -> Ended
         ensures { result ≡ ended self.now end ending }
     {

@@ -24,7 +24,8 @@ pub(crate) struct Initiate {
     pub(crate) bytes: ArrayVec<u8, 4>,
 }
 
-/// Whether initiate of a block transfer, or its response, says that the end supports the CRC: bit 2 of byte 0.
+/// Whether initiate of a block transfer, or its response, says that the end supports the CRC: bit 2
+/// of byte 0.
 pub(crate) fn has_crc(frame: &Frame) -> bool
     ensures { result ≡ has_crc frame.now.bytes }
 {
@@ -72,7 +73,7 @@ impl Initiate {
         }
     }
 
-    /// What a request initiates, which `frame` spells; `None` for one that isn't an initiate request.
+    /// What a request initiates; `frame` has its bytes. `None` if it isn't an initiate request.
     pub(crate) fn by(request: &SdoRequest, frame: &Frame) -> Option<Initiate>
         ensures { result ≡ initiate_by request.now frame.now.bytes }
     {

@@ -40,12 +40,13 @@ pub enum What {
     Part,
     /// The next segment of a sub-block, by its number.
     Segment { number: u8 },
-    /// A segment of a sub-block that isn't the next: its number, and the one after the newest segment's.
+    /// A segment of a sub-block that isn't the next: its number, and the one after the newest
+    /// segment's.
     OutOfSequence { number: u8, awaited: u8 },
-    /// By its toggle it came before.
+    /// By its toggle bit it came before.
     Repeated,
-    /// The response to initiate of another entry than the one that is awaited: its request was overtaken by that of the
-    /// open transfer.
+    /// An initiate response for another entry than the open transfer's: it answers an earlier
+    /// request.
     Overtaken,
     /// The open transfer's protocol has no such frame here.
     Unexpected,

@@ -6,16 +6,16 @@ ghost use Rattle.conode_explain_transfers.specs.Data.{data_after, IfDone, IsDone
 ghost use Rattle.conode_explain_transfers.specs.Digests.{digest_of};
 ghost use Rattle.conode_explain_transfers.specs.Followed.{Event, following_after, said};
 
-/// What is kept of the open transfer is the digest of all the data that its frames took. This is a law: a call of it
-/// changes nothing.
+/// What is kept of the open transfer is the digest of all the data that its frames took. This is a
+/// law: a call of it changes nothing.
 pub fn kept_data()
     ensures { (log : List Event) → IfSome (following_after log).transfer
         (λ transfer. transfer.taken ≡ digest_of (data_after log)) }
 {}
 
-/// What `Done` says: the frame is the last confirmation of the transfer's protocol, its frames go on with one another, as
-/// many bytes came as were indicated, and the CRC, where both ends support it, is that of these bytes.
-/// This is a law: a call of it changes nothing.
+/// What `Done` says: the frame is the last confirmation in the transfer's protocol, no frame is
+/// missing, the number of bytes is the indicated one, and the CRC, where both ends support it, is
+/// that of the bytes. This is a law: a call of it changes nothing.
 pub fn done_is_confirmed()
     ensures { (log : List Event) (micros : ℕ) (side : End) (frame : List ℕ)
         → IfSome (said log micros side frame).ended

@@ -1,5 +1,5 @@
-//! The SDO transfers of one channel in a recording, between any two ends: what each frame is, and how each transfer
-//! ended (CiA 301, 7.2.4.3).
+//! The SDO transfers of one channel in a recording, between any two ends: what each frame is, and
+//! how each transfer ended (CiA 301, 7.2.4.3).
 #![tactic(auto)]
 
 mod block;

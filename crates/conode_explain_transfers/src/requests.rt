@@ -10,7 +10,7 @@ use crate::transfer::Transfer;
 use co_frame::{Frame, SdoRequest};
 
 impl Transfer {
-    /// A request that begins nothing, which `frame` spells.
+    /// A request that isn't an initiate request; `frame` has its bytes.
     pub(crate) fn take_request(&mut self, request: &SdoRequest, frame: &Frame) -> What
         ensures transfer { self.new ≡ after self.old (request_turn self.old request.now frame.now.bytes) }
         ensures what { result ≡ (request_turn self.old request.now frame.now.bytes).what }

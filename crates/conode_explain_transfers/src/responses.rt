@@ -11,7 +11,7 @@ use crate::transfer::Transfer;
 use co_frame::{Frame, SdoResponse};
 
 impl Transfer {
-    /// A response that is no abort, which `frame` spells.
+    /// A response that isn't an abort; `frame` has its bytes.
     pub(crate) fn take_response(&mut self, response: &SdoResponse, frame: &Frame) -> What
         ensures transfer { self.new ≡ after self.old (response_turn self.old response.now frame.now.bytes) }
         ensures what { result ≡ (response_turn self.old response.now frame.now.bytes).what }

@@ -7,7 +7,8 @@ pub(crate) enum Stage {
     Initiated,
     /// Segmented download: all segments so far are confirmed. The next one has this toggle.
     DownloadConfirmed { toggle: bool },
-    /// Segmented download: a segment was sent, which is the last where c = 1. Its confirmation is awaited.
+    /// Segmented download: a segment was sent, which is the last where c = 1. Its confirmation is
+    /// awaited.
     DownloadSent { toggle: bool, last: bool },
     /// Segmented upload: the client has all segments so far. The next request has this toggle.
     UploadTaken { toggle: bool },
@@ -15,7 +16,7 @@ pub(crate) enum Stage {
     UploadAsked { toggle: bool },
     /// Block upload: initiate was answered. Its start is awaited.
     BlockInitiated,
-    /// Inside a sub-block; its last segment so far has c = 1 or not.
+    /// Inside a sub-block. `last`: the newest segment that came in sequence has c = 1.
     SubBlock { last: bool },
     /// The segment with c = 1 is acknowledged: the end of the block transfer is awaited.
     AllAcknowledged,
@@ -39,7 +40,7 @@ impl Stage {
         }
     }
 
-    /// Whether the last confirmation came: then with the CRC to compare, if there is one.
+    /// Once the last confirmation came, the CRC to compare, if there is one; else `None`.
     pub(crate) fn confirmed(self) -> Option<Option<u16>>
         ensures { result ≡ confirmed_with self }
     {

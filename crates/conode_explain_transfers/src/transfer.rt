@@ -29,14 +29,16 @@ pub(crate) struct Transfer {
     pub(crate) protocol: Protocol,
     /// How many bytes were indicated.
     pub(crate) size: Option<u32>,
-    /// Whether both ends that have said it support the CRC.
+    /// Whether both ends support the CRC; before the response, whether the client does.
     pub(crate) crc: bool,
     /// How many segments a sub-block may have.
     pub(crate) block_size: u8,
-    /// The number after that of the sub-block's newest segment, also where segments before it are missing; at first 1.
+    /// The number after that of the sub-block's newest segment, also where segments before it are
+    /// missing; at first 1.
     pub(crate) next_number: u8,
     pub(crate) stage: Stage,
-    /// Whether a frame came that doesn't go on with the others: frames are lost in the recording, or stand in it twice.
+    /// Whether a frame came out of sequence: frames are missing in the recording, or are in it
+    /// twice.
     pub(crate) irregular: bool,
     /// The data that was sent and that its receiver hasn't confirmed.
     pub(crate) pending: ArrayVec<u8, 896>,
@@ -44,7 +46,7 @@ pub(crate) struct Transfer {
     pub(crate) taken: Digest,
     /// The initiate request.
     pub(crate) request: ArrayVec<u8, 8>,
-    /// How many frames it has; 2^64 - 1 stays.
+    /// Its number of frames, up to 2^64 - 1.
     pub(crate) frames: u64,
     /// The stamps of its first and its newest frame, in microseconds, and who sent the newest.
     pub(crate) begun: u64,

@@ -8,7 +8,8 @@ abbrev pub raw_text : List ℕ → List ℕ
 raw_text [] = codes "-"
 raw_text (byte ∷ bytes) = flat_map byte_text (byte ∷ bytes)
 
--- a character that stands for itself: ASCII that can be printed, but for the quote and the backslash
+-- a character that stands for itself: ASCII that can be printed, but for the quote and the
+-- backslash
 abbrev pub is_itself : ℕ → Bool
 is_itself byte = (nat_le 0x20 byte && nat_le byte 0x7E) && not (byte == 0x22 || byte == 0x5C)
 

@@ -1,4 +1,5 @@
--- The text of REAL32 and REAL64 (CiA 301, 7.1.4.8; IEEE 754): the fewest decimal digits that are read as the same bits.
+-- The text of REAL32 and REAL64 (CiA 301, 7.1.4.8; IEEE 754): the fewest decimal digits that are
+-- read as the same bits.
 use Rattle.std.specs.Prelude.{ℕ, zero, suc, ◌+◌, ◌-◌, ◌*◌, ◌/◌, ◌%◌, ◌^◌, ◌==◌, max, nat_le, nat_lt, Bool, false, ◌&&◌, if◌then◌else◌, List, [], ◌++◌, length, codes, decimal, Option, Some, None, option_and_then, to_bits}
 use Rattle.std.specs.Option.{option_map_or, option_or}
 use Rattle.std.specs.Float.{float_is_finite}
@@ -99,7 +100,8 @@ sign_text is_negative = if is_negative then codes "-" else []
 
 -- ---- the fewest digits that are read as the same bits
 
--- the bits of the nearest number of a format, where a text is a number and not too great; conode adapt reads defaults so
+-- the bits of the nearest number of a format, where a text is a number and not too great; conode
+-- adapt reads defaults so
 abbrev pub finite_bits : Format → Float → Option ℕ
 finite_bits f x = if float_is_finite x then Some (to_bits f x) else None
 

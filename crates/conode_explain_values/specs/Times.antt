@@ -1,4 +1,5 @@
--- The text of TIME_OF_DAY and TIME_DIFFERENCE: 28 bits of ms, 4 bits that don't count, 16 bits of days (CiA 301, 7.1.6).
+-- The text of TIME_OF_DAY and TIME_DIFFERENCE: 28 bits of ms, 4 bits that don't count, 16 bits of
+-- days (CiA 301, 7.1.6).
 use Rattle.std.specs.Prelude.{ℕ, ◌+◌, ◌/◌, ◌%◌, ◌^◌, List, ◌++◌, take, drop, codes, decimal}
 use Rattle.co_text.specs.Printed.{digits_text}
 use Rattle.co_value.specs.Numbers.{unsigned_of}

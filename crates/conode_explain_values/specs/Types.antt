@@ -20,11 +20,13 @@ abbrev pub is_boolean_type : ValueType → Bool
 is_boolean_type (Plain t) = is_boolean t
 is_boolean_type other = false
 
--- so many bits are a whole value: as many as the type has, or one of BOOLEAN; whole bytes of a string or a domain
+-- so many bits are a whole value: as many as the type has, or one of BOOLEAN; whole bytes of a
+-- string or a domain
 abbrev pub is_whole : ValueType → ℕ → Bool
 is_whole t bits = option_map_or (λ size. bits == size || (bits == 1 && is_boolean_type t)) (type_bits t) (bits % 8 == 0)
 
--- the type that a code says, as a sheet that was adapted has it in OriginalDataType: REAL32, UNICODE_STRING, TIME_OF_DAY, TIME_DIFFERENCE, REAL64
+-- the type that a code says, as a sheet that was adapted has it in OriginalDataType: REAL32,
+-- UNICODE_STRING, TIME_OF_DAY, TIME_DIFFERENCE, REAL64
 abbrev pub original_type : List ℕ → Option ValueType
 original_type code =
     if bytes_eq code (codes "0x0008") then Some Real32
@@ -34,6 +36,7 @@ original_type code =
     else (if bytes_eq code (codes "0x0011") then Some Real64
     else None))))
 
--- the type of an entry's values: by the code of its original type, if it has one of these, else that of the sheet
+-- the type of an entry's values: by the code of its original type, if it has one of these, else
+-- that of the sheet
 abbrev pub type_of : Option (List ℕ) → DataType → ValueType
 type_of code t = unwrap_or (option_and_then original_type code) (Plain t)

@@ -1,4 +1,5 @@
--- The text of a value, by its data type and its bits, the lowest first, in as few bytes as they need (CiA 301, 7.1.4, 7.4.7.1).
+-- The text of a value, by its data type and its bits, the lowest first, in as few bytes as they
+-- need (CiA 301, 7.1.4, 7.4.7.1).
 use Rattle.std.specs.Prelude.{ℕ, ◌+◌, ◌*◌, ◌≤◌, ◌<◌, ◌==◌, false, if◌then◌else◌, List, [], ◌++◌, length, codes, decimal, Option, unwrap_or}
 use Rattle.std.specs.Option.{option_map_or}
 use Rattle.co_value.specs.declared.key.Key.{Key}

@@ -1,4 +1,5 @@
-//! The text of an entry. Each function appends a text; on an `Err` memory ran out, and a part of it may be there.
+//! The text of an entry. Each function appends a text; on an `Err` memory ran out, and a part of it
+//! may be there.
 
 ghost use Rattle.std.specs.Prelude.{◌≡◌, ◌++◌, OnOk, string_bytes};
 ghost use Rattle.std.specs.Option.{option_copied};

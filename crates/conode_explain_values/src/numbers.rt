@@ -1,4 +1,5 @@
-//! The text of a number. Each function appends a text; on an `Err` memory ran out, and a part of it may be there.
+//! The text of a number. Each function appends a text; on an `Err` memory ran out, and a part of it
+//! may be there.
 
 ghost use Rattle.std.specs.Prelude.{◌≡◌, ◌++◌, ◌≤◌, OnOk, length, string_bytes};
 ghost use Rattle.conode_explain_values.specs.Numbers.{boolean_text, number_text, signed_text};

@@ -1,4 +1,5 @@
-//! The digits of a decimal number. Each function appends a text; on an `Err` memory ran out, and a part of it may be there.
+//! The digits of a decimal number. Each function appends a text; on an `Err` memory ran out, and a
+//! part of it may be there.
 
 ghost use Rattle.std.specs.Prelude.{◌≡◌, ◌++◌, ◌-◌, ◌*◌, ◌≤◌, ◌<◌, ◌^◌, OnOk, IfOk, true, codes, decimal, length, string_bytes};
 ghost use Rattle.co_text.specs.Printed.{digits_text};

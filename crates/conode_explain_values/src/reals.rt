@@ -122,8 +122,8 @@ pub(crate) fn real_text(alloc: Global, real: Real, bits: u64) -> Result<Option<S
     text_from(alloc, real, bits, real.scaled(bits), 39)
 }
 
-/// The digits of a number that is finite and not 0 are read as exactly its bits, by the reader that `conode adapt` reads a
-/// default with. This is a law: a call of it changes nothing.
+/// The digits of a number that is finite and not 0 are read as exactly its bits, by the reader that
+/// `conode adapt` reads a default with. This is a law: a call of it changes nothing.
 pub fn real_digits_are_read()
     ensures { (format : Format) → (bits : ℕ) → (exponent_of format bits == ones format) ≡ false →
         (significand_of format bits == 0) ≡ false →

@@ -1,5 +1,5 @@
-//! The text of TIME_OF_DAY and TIME_DIFFERENCE. Each function appends a text; on an `Err` memory ran out, and a part of it
-//! may be there.
+//! The text of TIME_OF_DAY and TIME_DIFFERENCE. Each function appends a text; on an `Err` memory
+//! ran out, and a part of it may be there.
 
 ghost use Rattle.std.specs.Prelude.{◌≡◌, ◌++◌, ◌<◌, ◌^◌, OnOk, length, string_bytes};
 ghost use Rattle.conode_explain_values.specs.Times.{

@@ -1,4 +1,5 @@
-//! The text of a UNICODE_STRING. Each function appends a text; on an `Err` memory ran out, and a part of it may be there.
+//! The text of a UNICODE_STRING. Each function appends a text; on an `Err` memory ran out, and a
+//! part of it may be there.
 
 ghost use Rattle.std.specs.Prelude.{◌≡◌, ◌++◌, ◌<◌, ◌≤◌, ◌&&◌, OnOk, IfOk, true, length, string_bytes};
 ghost use Rattle.std.specs.Char.{InScalarRange};

@@ -1,4 +1,5 @@
-//! The text of a value. Each function appends a text; on an `Err` memory ran out, and a part of it may be there.
+//! The text of a value. Each function appends a text; on an `Err` memory ran out, and a part of it
+//! may be there.
 
 ghost use Rattle.std.specs.Prelude.{◌≡◌, ◌++◌, ◌≤◌, OnOk, true, false, length, string_bytes};
 ghost use Rattle.std.specs.Option.{option_map_or};
@@ -97,10 +98,11 @@ fn push_count(text: &mut String, size: Option<usize>, bits: usize) -> Result<(),
     text.push_str(" bits)")
 }
 
-/// Appends the text of a value of a type: of so many bits, the lowest first, in as few bytes as they need. A number is
-/// decimal, BOOLEAN `true` or `false`, a VISIBLE_STRING or a UNICODE_STRING in quotes, a TIME_OF_DAY a date and a time; a
-/// REAL has the fewest digits that are found to be read as its bits. Bits of another number than the type has are raw, as
-/// `E803 (16 of 32 bits)`. On an `Err` memory ran out, and a part of the text may be there.
+/// Appends the text of a value of a type: of so many bits, the lowest first, in as few bytes as
+/// they need. A number is decimal, BOOLEAN `true` or `false`, a VISIBLE_STRING or a UNICODE_STRING
+/// in quotes, a TIME_OF_DAY a date and a time; a REAL has the fewest digits that are found to be
+/// read as its bits. Bits of another number than the type has are raw, as `E803 (16 of 32 bits)`.
+/// On an `Err` memory ran out, and a part of the text may be there.
 #[tactic(auto, unfolding(crate::specs::Values::value_text))]
 pub fn push_value(
     text: &mut String,

@@ -12,7 +12,8 @@ pub(crate) const BOOLEAN: u16 = 0x01;
 /// The data type of a value (CiA 301, 7.4.7.1).
 #[derive(Clone, Copy, Debug, PartialEq, Eq)]
 pub enum ValueType {
-    /// A type that an entry of our dictionaries may have: BOOLEAN, integers, VISIBLE_STRING, OCTET_STRING, DOMAIN.
+    /// A type that an entry of our dictionaries may have: BOOLEAN, integers, VISIBLE_STRING,
+    /// OCTET_STRING, DOMAIN.
     Plain(DataType),
     /// REAL32, as IEEE 754 has it.
     Real32,
@@ -46,8 +47,8 @@ fn original_type(code: &[u8]) -> Option<ValueType>
 }
 
 impl ValueType {
-    /// The type of an entry's values: its original one, by the code that a sheet which was adapted has for it in
-    /// `OriginalDataType`, as `0x000C`; else that of the sheet.
+    /// The type of an entry's values: the one that an adapted sheet has in `OriginalDataType`, as
+    /// `0x000C`, if it is one of these; else `data_type`.
     pub fn of(original: Option<&[u8]>, data_type: DataType) -> ValueType
         ensures value_type { result ≡ type_of (option_copied original.entry) data_type }
     {
@@ -86,8 +87,8 @@ impl ValueType {
         }
     }
 
-    /// Whether so many bits are a whole value: as many as the type has, or one of BOOLEAN, or whole bytes of a string or
-    /// a domain.
+    /// Whether so many bits are a whole value: as many as the type has, or one of BOOLEAN, or whole
+    /// bytes of a string or a domain.
     pub(crate) fn is_whole(self, bits: usize) -> bool
         ensures { result ≡ is_whole self bits }
     {

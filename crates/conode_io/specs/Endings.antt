@@ -21,7 +21,7 @@ stopped_line fault = message_line (Stopped fault)
 abbrev pub WritesStopped : Option (List ℕ) → Option (List ℕ) → List (List ℕ) → CmdFault → Type 0
 WritesStopped old new lines fault = WritesLines old new (lines ++ stopped_line fault ∷ [])
 
--- the same of some of these lines, from the first on, and not of all
+-- the same for some of these lines, from the first on, but not all
 abbrev pub SomeStopped : Option (List ℕ) → Option (List ℕ) → List (List ℕ) → CmdFault → Type 0
 SomeStopped old new lines fault =
     (number : ℕ) × (number < length lines) × WritesStopped old new (take number lines) fault

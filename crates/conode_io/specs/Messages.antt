@@ -1,4 +1,4 @@
--- What the program says where a command doesn't come to its end.
+-- What the program says if a command stops early.
 use Rattle.std.specs.Prelude.{ℕ, List, [], ◌∷◌, ◌++◌, codes, decimal}
 use Rattle.co_sheet_rows.specs.FaultTexts.{fault_text}
 use Rattle.conode_io.specs.declared.fault.CmdFault.{CmdFault}
@@ -23,8 +23,8 @@ cmd_fault_text (BadLine line) = codes "BadLine " ++ decimal line
 cmd_fault_text Memory = codes "Memory"
 cmd_fault_text NeverEnds = codes "NeverEnds"
 
--- the text of a message: `stopped: BadLine 3`, `fault 20 Memory line 0`, `build fault 3 BadCobId 1800:01`,
--- `cannot read NAME`
+-- the text of a message: `stopped: BadLine 3`, `fault 20 Memory line 0`,
+-- `build fault 3 BadCobId 1800:01`, `cannot read NAME`
 abbrev pub message_text : Message → List ℕ
 message_text (Stopped fault) = codes "stopped: " ++ cmd_fault_text fault
 message_text (Fault fault) = fault_text fault

@@ -3,7 +3,7 @@ use Rattle.std.specs.Prelude.{◌≡◌, ℕ, ◌<◌, ◌⊎◌, List, ◌++◌
 use Rattle.std.specs.List.{flat_map}
 use Rattle.std.specs.Io.KnownBytes.{Appends}
 
--- the front of a text, perhaps empty, and never all of it
+-- the front of a text, perhaps empty, never all of it
 pub record IsFront (front text : List ℕ) : Type 0 where
   pub rest : List ℕ
   pub some : 0 < length rest
@@ -17,12 +17,13 @@ AppendsFront old new text = (front : List ℕ) × IsFront front text × Appends 
 abbrev pub WritesLines : Option (List ℕ) → Option (List ℕ) → List (List ℕ) → Type 0
 WritesLines old new lines = Appends old new (flat_map (λ line. line) lines)
 
--- a writer's bytes have grown by whole lines of these, from the first on, and not by all
+-- a writer's bytes have grown by some of these lines, from the first on, but not all
 abbrev pub WritesSome : Option (List ℕ) → Option (List ℕ) → List (List ℕ) → Type 0
 WritesSome old new lines =
     (number : ℕ) × (number < length lines) × WritesLines old new (take number lines)
 
--- a writer's bytes have grown by a front of these lines: some of them, and perhaps a part of the next
+-- a writer's bytes have grown by a front of these lines: some of them, and perhaps a part of the
+-- next
 abbrev pub WritesFront : Option (List ℕ) → Option (List ℕ) → List (List ℕ) → Type 0
 WritesFront old new lines = AppendsFront old new (flat_map (λ line. line) lines)
 

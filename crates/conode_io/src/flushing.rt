@@ -1,7 +1,7 @@
-//! What was written goes out.
+//! Flushing what was written.
 //!
-//! The field of `Flushed` is private to this module, and `flush` alone makes one: so whoever has one has flushed a
-//! writer.
+//! The field of `Flushed` is private to this module, and only `flush` makes one: who holds one has
+//! flushed a writer.
 
 ghost use Rattle.std.specs.Prelude.{◌≡◌, IfErr};
 ghost use Rattle.std.specs.Io.KnownBytes.{Keeps};
@@ -9,13 +9,13 @@ ghost use Rattle.std.specs.Io.KnownBytes.{Keeps};
 use crate::fault::CmdFault;
 use std::io::Write;
 
-/// That a writer was flushed, and that this succeeded.
+/// Evidence that a writer was flushed without a failure.
 #[derive(Clone, Copy, Debug, PartialEq, Eq)]
 pub struct Flushed {
     succeeded: (),
 }
 
-/// Flushes a writer. `Write` where that fails.
+/// Flushes a writer. `Write` if that fails.
 pub fn flush<W: Write>(writer: &mut W) -> Result<Flushed, CmdFault>
     ensures text { Keeps (W.contents writer.old) (W.contents writer.new) }
     ensures err { IfErr result (λ fault. fault ≡ CmdFault.Write) }

@@ -1,5 +1,5 @@
-//! What a command of the program writes, and how it ends: lines handed to a writer, and the line that says why a
-//! command didn't come to its end.
+//! What a command of the program writes, and how it ends: lines handed to a writer, and the line
+//! that says why a command stopped early.
 #![tactic(auto)]
 
 mod ending;

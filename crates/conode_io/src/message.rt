@@ -1,10 +1,10 @@
-//! What the program says where a command doesn't come to its end.
+//! What the program says if a command stops early.
 
 use crate::fault::CmdFault;
 use co_dict_build::BuildFault;
 use co_sheet::SheetFault;
 
-/// A line about a command that didn't come to its end.
+/// A line that says why a command stopped early.
 #[derive(Clone, Copy)]
 pub enum Message<'a> {
     /// Why it ended before its input did, as `stopped: BadLine 3`.

@@ -13,8 +13,8 @@ use crate::message::Message;
 use std::io;
 use std::io::Write;
 
-/// Hands all the bytes to the writer. `Write` where the writer failed: then it has taken a front of them at most. A
-/// write that a signal interrupted is tried again.
+/// Writes all the bytes. `Write` if the writer fails: it has then taken only some of them, from the
+/// first on. A write that a signal interrupts is tried again.
 pub fn hand_over<W: Write>(bytes: &[u8], writer: &mut W) -> Result<(), CmdFault>
     ensures ok { OnOk result (Appends (W.contents writer.old) (W.contents writer.new) bytes.now) }
     ensures fault { IfErr result (λ fault. fault ≡ CmdFault.Write) }
@@ -42,7 +42,8 @@ pub fn hand_over<W: Write>(bytes: &[u8], writer: &mut W) -> Result<(), CmdFault>
     }
 }
 
-/// What an outcome is once all that was written has gone out.
+/// Flushes the writer at the end of a command, and returns its outcome. A fault of the command
+/// stays; `Write` if there was none and the flush fails.
 pub fn flushed<W: Write, T: Drop>(
     writer: &mut W,
     outcome: Result<T, CmdFault>,
@@ -85,7 +86,7 @@ pub fn say<W: Write>(message: Message<'_>, writer: &mut W) -> io::Result<()>
     writer.flush()
 }
 
-/// Says why a command ended before its input did: on `out`, or after `Write` on `err`.
+/// Says why a command stopped early: on `out`, or for `Write` on `err`.
 pub fn stopped<O: Write, E: Write>(fault: CmdFault, out: &mut O, err: &mut E) -> Ending
     ensures fault { (result ≡ Ending.Said fault) ⊎ (result ≡ Ending.Unsaid fault) }
     ensures on_out { fault ≢ CmdFault.Write → result ≡ Ending.Said fault →
@@ -96,7 +97,7 @@ pub fn stopped<O: Write, E: Write>(fault: CmdFault, out: &mut O, err: &mut E) ->
     ensures err_kept { fault ≢ CmdFault.Write → Keeps (E.contents err.old) (E.contents err.new) }
 {
     let message = Message::Stopped(fault);
-    // Where even this can't be written, the status alone tells of it.
+    // If even this can't be written, only the status shows it.
     let said = if fault == CmdFault::Write {
         say(message, err)
     } else {

@@ -1,5 +1,5 @@
-//! What is said where a command can't do its work, and the status then: a file that can't be read, a data sheet that is
-//! none or makes no device, a word that is wrong.
+//! What is said if a command can't begin, and its exit status: a file can't be read, a text is no
+//! data sheet, a sheet makes no device, or a word of the command line is wrong.
 
 ghost use Rattle.std.specs.Prelude.{◌≡◌};
 ghost use Rattle.std.specs.Process.{exit_status};
@@ -39,8 +39,8 @@ pub fn out_of_memory<O: Write>(out: &mut O) -> ExitCode
     faulty_sheet(fault, out)
 }
 
-/// Says why `file_text` gave no text: that memory ran out, on `out`, or else which file can't be read, on `err`. The
-/// status is 1.
+/// Says why `file_text` failed: on `out` that memory ran out, or on `err` which file can't be read.
+/// The status is 1.
 pub fn no_text<O: Write, E: Write>(
     fault: CmdFault,
     path: &str,

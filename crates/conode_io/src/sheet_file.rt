@@ -7,8 +7,9 @@ use co_sheet::{StreamFault, read_text};
 use std::fs;
 use std::rt::Files;
 
-/// As much of a file as a data sheet may have, and a byte more where there is one, so that it is seen to be too large.
-/// `Read` where the file can't be opened or read; `Memory` and `NeverEnds` as `read_text` answers them.
+/// The bytes of a file, at most one more than a data sheet may have: that byte shows that the file
+/// is too large. `Read` if the file can't be opened or read; `Memory` and `NeverEnds` as for
+/// `read_text`.
 pub fn file_text<R: Files + AllocGlobal>(rt: &R, path: &str) -> Result<Vec<u8>, CmdFault>
     ensures { IfErr result (λ fault. (fault ≡ CmdFault.Read) ⊎ (fault ≡ CmdFault.Memory)
         ⊎ (fault ≡ CmdFault.NeverEnds)) }

@@ -7,11 +7,12 @@ use Rattle.conode_trace.specs.Traces.{Trace, Progress, trace_next, trace_of}
 use Rattle.conode_io.specs.declared.fault.CmdFault.{CmdFault}
 use Rattle.conode_io.specs.declared.fault.CmdFault.TheVariants.{BadLine}
 
--- the trace that a text is
+-- the trace of a text
 abbrev pub trace_in : List ℕ → Trace
 trace_in text = trace_of (lines text)
 
--- These lines of a text came, and are good. What the reader gave after them is a part of a line; the rest didn't come.
+-- These lines of a text came, and are good. What the reader gave after them is a part of a line;
+-- the rest didn't come.
 pub record CameBefore (text rest : List ℕ) : Type 0 where
   pub taken : List (List ℕ)
   pub part : List ℕ
@@ -25,7 +26,8 @@ FailsWithinLine None rest P = ⊤
 FailsWithinLine (Some text) None P = ⊥
 FailsWithinLine (Some text) (Some rest) P = (came : CameBefore text rest) × P came.taken
 
--- A reader gave a text, and this holds of it. Where what it has before and after is known, it has lost this text.
+-- A reader gave a text, and P holds of it. If its bytes before and after are known, this text is
+-- what it lost.
 abbrev pub GaveText : Option (List ℕ) → Option (List ℕ) → (List ℕ → Type 0) → Type 0
 GaveText before after P = (text : List ℕ) × Consumes before after text × P text
 

@@ -1,4 +1,4 @@
-//! What the commands share that take the lines of a trace one at a time, over any cut of its bytes.
+//! Shared by the commands that read a trace line by line, however its bytes arrive.
 #![tactic(auto)]
 
 mod read_waits;

@@ -1,4 +1,4 @@
-//! Whether a read could wait for bytes that have still to come.
+//! Whether a read could wait for more bytes.
 
 ghost use Rattle.std.specs.Prelude.{◌≡◌, Bool, true, ◌==◌, length};
 ghost use Rattle.std.specs.Io.Buffered.{reader_buffer};
@@ -9,6 +9,7 @@ use std::io::{BufReader, Read};
 pub trait Waits<R> {
     ghost waits: { R → Bool };
 
+    /// Whether the next read of this reader could wait.
     fn could_wait(reader: &R) -> bool
         ensures { result ≡ waits reader.now };
 }
@@ -16,7 +17,7 @@ pub trait Waits<R> {
 /// Each read could wait: nothing is known of the reader.
 pub struct AnyRead;
 
-/// A read could wait only where the buffer of the reader is empty.
+/// A read could wait only if the buffer of the reader is empty.
 pub struct BufferedRead;
 
 impl<R: Read> Waits<R> for AnyRead {

@@ -12,8 +12,8 @@ use conode_io::{CmdFault, Flushed, flush};
 use conode_trace::{BadLine, TraceProgress};
 use std::io::Write;
 
-/// Why a command doesn't come to the end of a trace, where its line reader gives no line: `Read`, `NeverEnds`, or that
-/// the next line is bad, as it has more than 512 bytes.
+/// The fault of a command whose line reader fails: `Read`, `NeverEnds`, or `BadLine` if the next
+/// line has more than 512 bytes.
 pub fn line_fault(fault: LineFault, progress: &TraceProgress) -> CmdFault
     requires { progress.now.number + 1 < 2 ^ 64 }
     ensures read { fault ≡ LineFault.Read → result ≡ CmdFault.Read }
@@ -32,18 +32,18 @@ pub fn line_fault(fault: LineFault, progress: &TraceProgress) -> CmdFault
     }
 }
 
-/// Whether what was written had to go out before the next line, and did.
+/// Whether what was written had to be flushed before the next line.
 #[derive(Clone, Copy, Debug, PartialEq, Eq)]
 pub enum LetOut {
-    /// The next line comes without a wait.
+    /// The next line can be read without a wait.
     NotNeeded,
     /// The writer was flushed.
     Done(Flushed),
 }
 
-/// Flushes the writer where the next line could have to be waited for: where the line reader holds no whole line, and
-/// a read could wait. So what was written goes out before such a read, and not before each. `Write` where the flush
-/// fails.
+/// Flushes the writer if the next line may have to be waited for: the line reader holds no whole
+/// line, and a read could wait. So it flushes before such a read, not before each. `Write` if the
+/// flush fails.
 pub fn let_out<R, P: Waits<R>, W: Write>(
     lines: &LineReader,
     reader: &R,

@@ -1,4 +1,4 @@
--- Which findings pass, and how many others there are.
+-- Which findings are allowed, and how many others are errors.
 use Rattle.std.specs.Prelude.{ℕ, Bool, true, false, nat_lt, ◌||◌, if◌then◌else◌, List, [], ◌∷◌, length, take, drop, option_to_list, codes, Option, Some, None}
 use Rattle.std.specs.List.{flat_map, list_any}
 use Rattle.std.specs.Str.{bytes_eq}
@@ -8,18 +8,18 @@ use Rattle.conode_lint_text.specs.declared.finding.Severity.TheVariants.{Error, 
 use Rattle.conode_lint.specs.declared.mark.Mark.{Mark}
 use Rattle.conode_lint.specs.Words as words
 
--- what a comment begins with that lets findings of a name pass
+-- the beginning of a comment that allows findings of a name
 abbrev pub allow_words : List ℕ
 allow_words = codes "; lint: allow "
 
--- the name that a line lets pass
+-- the name that a line allows
 unfoldable pub name_in : List ℕ → Option (List ℕ)
 name_in line =
     let text = trim line in
     if nat_lt (length text) 14 then None
     else (if bytes_eq (take 14 text) allow_words then Some (trim (drop 14 text)) else None)
 
--- the names that lines let pass
+-- the names that lines allow
 abbrev pub names_in : List (List ℕ) → List (List ℕ)
 names_in lines = flat_map (λ line. option_to_list (name_in line)) lines
 
@@ -27,15 +27,15 @@ names_in lines = flat_map (λ line. option_to_list (name_in line)) lines
 abbrev pub is_among : List ℕ → List (List ℕ) → Bool
 is_among name names = list_any (λ one. bytes_eq one name) names
 
--- a name passes: by the words or by the sheet
+-- a name is allowed, by the command line or by the sheet
 unfoldable pub passes_by : List (List ℕ) → List (List ℕ) → List ℕ → Bool
 passes_by given in_sheet name = is_among name given || is_among name in_sheet
 
--- the mark, unless its name passes
+-- the mark, unless its name is allowed
 abbrev pub kept_of : (List ℕ → Bool) → Mark → List Mark
 kept_of passes mark = if passes (words.name_of mark.subject) then [] else mark ∷ []
 
--- the marks whose names don't pass
+-- the marks whose names aren't allowed
 abbrev pub kept : (List ℕ → Bool) → List Mark → List Mark
 kept passes marks = flat_map (kept_of passes) marks
 

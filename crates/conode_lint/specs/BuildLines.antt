@@ -1,4 +1,4 @@
--- At which lines of a sheet's text a build fault is, and its marks there.
+-- The lines of a sheet's text that build faults are about, and their marks.
 use Rattle.std.specs.Prelude.{ℕ, ◌==◌, List, [], ◌∷◌, ◌++◌, map, find, codes, Option, option_map}
 use Rattle.std.specs.List.{flat_map}
 use Rattle.std.specs.Option.{option_map_or, option_or}
@@ -14,7 +14,7 @@ use Rattle.co_dict_faults.specs.declared.mapping_fault.MappingFault.{MappingFaul
 use Rattle.conode_lint.specs.declared.mark.Mark.{Mark}
 use Rattle.conode_lint.specs.declared.mark.Subject.TheVariants.{Build, Mapping}
 
--- the line of an object's section; 0 where there is none
+-- the line of an object's section; 0 if there is none
 abbrev pub object_line : List ObjectRow → ℕ → ℕ
 object_line objects index = option_map_or (λ o. o.line) (find (λ o. o.index == index) objects) 0
 
@@ -22,25 +22,26 @@ object_line objects index = option_map_or (λ o. o.line) (find (λ o. o.index ==
 abbrev pub row_line : List Row → Key → Option ℕ
 row_line rows key = option_map (λ r. r.line) (find (λ r. same_key r.key key) rows)
 
--- the line of a section's value: of its ParameterValue, else of its DefaultValue, else the section's own
+-- the line of a section's value: of its ParameterValue, else of its DefaultValue, else the
+-- section's own
 unfoldable pub value_line : TextSection → ℕ
 value_line section =
     option_map_or (λ p. p.line)
     (option_or (property_at (codes "ParameterValue") section)
     (property_at (codes "DefaultValue") section)) section.line
 
--- that of the section at a line; that line itself where there is none
+-- the line of the value of the section at a line; that line itself if there is no section
 abbrev pub value_line_in : List TextSection → ℕ → ℕ
 value_line_in sections line =
     option_map_or value_line (find (λ s. s.line == line) sections) line
 
--- the line of an entry's value; without the entry that of its object's section
+-- the line of an entry's value; for a missing entry, that of its object's section
 unfoldable pub entry_line : SheetContent → List TextSection → Key → ℕ
 entry_line sheet sections key =
     option_map_or (value_line_in sections) (row_line sheet.rows key)
     (object_line sheet.objects key.index)
 
--- the line of a fault; 0 where no line is to blame
+-- the line of a fault; 0 if no line is to blame
 abbrev pub build_line : SheetContent → List TextSection → BuildFault → ℕ
 build_line sheet sections (ValueRange key) = entry_line sheet sections key
 build_line sheet sections (BadCobId key) = entry_line sheet sections key
@@ -53,7 +54,8 @@ abbrev pub build_mark : SheetContent → List TextSection → BuildFault → Mar
 build_mark sheet sections fault =
     record { line = build_line sheet sections fault; subject = Build fault }
 
--- a mapping has none of its own: each of its words at fault has one, and its count
+-- the marks of a fault; a mapping has none of its own, but one for each faulty word and for its
+-- count
 abbrev pub build_marks : SheetContent → List TextSection → BuildFault → List Mark
 build_marks sheet sections (BadMapping key) = []
 build_marks sheet sections fault = build_mark sheet sections fault ∷ []

@@ -1,4 +1,4 @@
--- The words of a build fault for people.
+-- The words about a build fault, for people.
 use Rattle.std.specs.Prelude.{List, [], ℕ, codes}
 use Rattle.co_dict_build.specs.declared.build_fault.BuildFault.{BuildFault}
 use Rattle.co_dict_build.specs.declared.build_fault.BuildFault.TheVariants.{NodeId, ValueRange, BadCobId, PdoPair, BadMapping, TooMany, Memory}
@@ -38,7 +38,7 @@ build_meaning (BadMapping key) =
 build_meaning TooMany = codes "over 16,384 entries, or over 16,777,216 bytes of room"
 build_meaning Memory = codes "memory ran out"
 
--- how it is fixed
+-- how to fix it
 abbrev pub build_fix : BuildFault → List ℕ
 build_fix NodeId = codes "give a node-ID from 1 to 127"
 build_fix (ValueRange key) = codes "correct the default or the limits"
@@ -48,7 +48,7 @@ build_fix (BadMapping key) = codes "correct the mapping, or set PDOMapping=1 for
 build_fix TooMany = codes "take objects out of the lists, or lower --domains or --strings"
 build_fix Memory = codes "run it again with more memory"
 
--- where the standard says so
+-- the subject of the standard
 abbrev pub build_subject : BuildFault → List ℕ
 build_subject NodeId = codes "CiA 301, node-ID"
 build_subject (ValueRange key) = codes "CiA 306-1, object description"

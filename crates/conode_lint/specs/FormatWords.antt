@@ -1,4 +1,4 @@
--- The words of a text that is no data sheet of CANopen.
+-- The words about a text that is no data sheet of CANopen.
 use Rattle.std.specs.Prelude.{List, ℕ, codes}
 use Rattle.conode_lint.specs.declared.mark.OtherFormat.{OtherFormat}
 use Rattle.conode_lint.specs.declared.mark.OtherFormat.TheVariants.{Xml, EtherNetIp}

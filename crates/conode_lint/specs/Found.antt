@@ -7,11 +7,11 @@ use Rattle.conode_lint_text.specs.declared.finding.Severity.{Severity}
 use Rattle.conode_lint.specs.declared.mark.Mark.{Mark}
 use Rattle.conode_lint.specs.Words as words
 
--- a line by its number, from 1, at most its first 512 bytes; empty where there is none
+-- a line by its number, from 1, at most its first 512 bytes; empty if there is no such line
 unfoldable pub line_at : List (List ℕ) → ℕ → List ℕ
 line_at lines number = if number == 0 then [] else take 512 (get_or lines (number - 1) [])
 
--- a finding, with the texts that it has
+-- a finding, with its texts as bytes
 pub record Seen : Type 0 where
   pub line : ℕ
   pub place : Place

@@ -1,4 +1,4 @@
--- What a text is linted to, and what that says of it.
+-- The findings of a text, and what they say about it.
 use Rattle.std.specs.Prelude.{◌≡◌, ℕ, ◌-◌, Bool, ◌&&◌, List, length, map, take, Option, Some, None, is_none}
 use Rattle.std.specs.List.{list_any}
 use Rattle.co_sheet.specs.Accepted.{first_fault}
@@ -16,36 +16,37 @@ use Rattle.conode_lint.specs.Found.{finding_of, seen}
 use Rattle.conode_lint.specs.Marks.{IsFound, node_for, sheet_of}
 use Rattle.conode_lint.specs.Words.{severity_of}
 
--- what is left where the names pass that the words and the sheet let pass
+-- the marks whose names neither the command line nor the sheet allows
 unfoldable pub left : List (List ℕ) → Checks → List Mark → List Mark
 left lines checks found =
     kept (passes_by (map (λ name. name.now) checks.allowed.now) (names_in lines)) found
 
--- the findings of these marks: of the first 1,000, and how many there are
+-- the findings of the first 1,000 marks, and the counts of all of them
 pub record IsMadeOf (lines : List (List ℕ)) (marks : List Mark) (linted : Linted) : Type 0 where
   pub findings : map seen linted.findings.items ≡ map (finding_of lines) (take 1000 marks)
   pub errors : linted.errors ≡ error_count marks
   pub warnings : linted.warnings ≡ length marks - linted.errors
   pub more : linted.more ≡ length marks - 1000
 
--- a text linted: the findings of all that is found in it, but for what passes
+-- the findings of all that is found in a text, but for what is allowed
 pub record IsLinted (text : List ℕ) (checks : Checks) (linted : Linted) : Type 0 where
   pub found : List Mark
   pub is_found : IsFound text checks found
   pub made : IsMadeOf (text_lines text) (left (text_lines text) checks found) linted
 
--- ---- what that says of a text
+-- ---- what they say about a text
 
 -- one of these marks is an error
 abbrev pub has_error : List Mark → Bool
 has_error marks = list_any (λ mark. is_error (severity_of mark.subject)) marks
 
--- why no dictionary can be built, the fault that is answered; without a sheet or a node-ID none is built
+-- the fault that a build returns, if no dictionary can be built; without a sheet or a node-ID none
+-- is built
 abbrev pub first_build_fault : Limits → Option SheetContent → Option ℕ → Option BuildFault
 first_build_fault limits (Some sheet) (Some id) = build_fault (plan_of id limits sheet)
 first_build_fault limits other own = None
 
--- a text has neither a fault as a sheet nor, with a node-ID that is given or its own, a build fault
+-- a text has no fault as a sheet, and no build fault for the given node-ID, or else its own
 unfoldable pub is_good : List ℕ → Option ℕ → Limits → Bool
 is_good text node limits =
     is_none (first_fault text)

@@ -1,4 +1,4 @@
--- The words of a fault of a mapping for people.
+-- The words about a fault of a mapping, for people.
 use Rattle.std.specs.Prelude.{List, ℕ, codes}
 use Rattle.co_dict_faults.specs.declared.mapping_fault.MappingFault.{MappingFault}
 use Rattle.co_dict_faults.specs.declared.mapping_fault.MappingReason.{MappingReason}
@@ -7,7 +7,7 @@ use Rattle.co_value.specs.declared.key.Key.{Key}
 use Rattle.conode_lint_text.specs.declared.finding.About.{About}
 use Rattle.conode_lint_text.specs.declared.finding.About.TheVariants.{Entry, Bits}
 
--- the entry that it is about; of too many bits how many
+-- the entry that it is about; for a mapping that is too long, its bits too
 abbrev pub about_reason : Key → MappingReason → About
 about_reason key (TooLong bits) = Bits key.index bits
 about_reason key other = Entry key.index key.sub
@@ -29,7 +29,7 @@ mapping_meaning WrongAccess = codes "it maps an entry with an access that doesn'
 mapping_meaning OneBit = codes "it maps 1 bit of an entry of 8 bits"
 mapping_meaning WrongLength = codes "its length isn't that of the entry"
 
--- how it is fixed
+-- how to fix it
 abbrev pub mapping_fix : MappingReason → List ℕ
 mapping_fix CountsMore = codes "lower the count, or describe the sub-indices that are missing"
 mapping_fix (TooLong bits) = codes "lower the count, or map some of them in another PDO"
@@ -43,6 +43,6 @@ mapping_fix WrongAccess = codes "an RPDO maps rw, rww and wo, a TPDO ro, rw, rwr
 mapping_fix OneBit = codes "give the length as 8 bits (08h), for a BOOLEAN too"
 mapping_fix WrongLength = codes "give 8 bits for each byte of the type of that entry"
 
--- where the standard says so
+-- the subject of the standard
 abbrev pub mapping_subject : List ℕ
 mapping_subject = codes "CiA 301, PDO mapping parameter"

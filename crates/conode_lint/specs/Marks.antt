@@ -37,16 +37,16 @@ format_mark format = record { line = 1; subject = Format format }
 
 -- ---- why no dictionary can be built
 
--- the sheet that a text is, if it is one
+-- the sheet of a text, if it is one
 unfoldable pub sheet_of : List ℕ → Option SheetContent
 sheet_of text =
     option_map_or (λ fault. None) (first_fault text) (Some (content_of (sections_in text)))
 
--- the node-ID that is given, or else the sheet's own
+-- the given node-ID, or else the sheet's own
 abbrev pub node_for : Option ℕ → Option SheetContent → Option ℕ
 node_for node sheet = option_or node (option_and_then (λ s. s.node_id) sheet)
 
--- without a sheet or a node-ID nothing is built
+-- the marks of a sheet's build; without a sheet or a node-ID nothing is built
 abbrev pub sheet_marks : Limits → List TextSection → Option SheetContent → Option ℕ → List Mark
 sheet_marks limits sections (Some sheet) (Some id) =
     built_marks sheet sections (plan_of id limits sheet)
@@ -74,7 +74,7 @@ pub record IsMarked (text : List ℕ) (checks : Checks) (faults : List SheetFaul
   pub are : marks ≡ map fault_mark faults
       ++ (text_marks text checks.node (limits_view checks.limits) ++ map warning_mark warnings)
 
--- these marks by line: the lines don't fall, and those of a line stay in their order
+-- these marks by line: the line numbers don't decrease, and marks of one line keep their order
 pub record IsByLine (marks sorted : List Mark) : Type 0 where
   pub moved : IsPermutation marks sorted
   pub rises : IsNonDecreasingBy (λ m. m.line) sorted
@@ -92,7 +92,7 @@ abbrev pub format_of : List (List ℕ) → List SheetFault → Option OtherForma
 format_of lines [] = None
 format_of lines faults = other_format lines
 
--- what is found where a text is of another format: that alone, else all
+-- what is found: only the format, if it is another one, else all
 abbrev pub IsFoundIn : List ℕ → Checks → List SheetFault → List Mark → Option OtherFormat → Type 0
 IsFoundIn text checks faults found (Some format) = found ≡ format_mark format ∷ []
 IsFoundIn text checks faults found None = IsAllFound text checks faults found

@@ -1,4 +1,4 @@
--- The words of what is found.
+-- The words about what is found.
 use Rattle.std.specs.Prelude.{ℕ, List, codes}
 use Rattle.co_dict_build.specs.BuildFaultTexts.{fault_name as build_fault_name}
 use Rattle.co_sheet_rows.specs.FaultTexts.{fault_name}
@@ -70,7 +70,7 @@ subject_of (Build fault) = build_subject fault
 subject_of (Mapping fault) = mapping_subject
 subject_of (Warning kind) = warnings.subject_of kind
 
--- what is wrong, at a line or where none is to blame
+-- what is wrong, at a line, or 0 if no line is to blame
 abbrev pub meaning_at : ℕ → Subject → List ℕ
 meaning_at line (Format format) = format_meaning format
 meaning_at line (Fault kind) = faults.meaning_of (record { kind = kind; line = line })

@@ -1,4 +1,4 @@
-//! The names of findings that pass.
+//! The names of findings that are allowed.
 
 ghost use Rattle.std.specs.Prelude.{◌≡◌, map, IfOk};
 ghost use Rattle.std.specs.Option.{option_map};
@@ -9,10 +9,10 @@ use crate::words::name_of;
 use co_sheet_text::trim;
 use std::alloc::{AllocError, Global};
 
-/// What a comment begins with that lets findings of a name pass.
+/// The beginning of a comment that allows findings of a name.
 const ALLOW: &[u8] = b"; lint: allow ";
 
-/// The name that a line lets pass, as `; lint: allow Unlisted`.
+/// The name that a line allows, as `; lint: allow Unlisted`.
 #[tactic(auto, unfolding(crate::specs::Allowed::name_in))]
 fn name_in(line: &[u8]) -> Option<&[u8]>
     ensures { option_map (λ name. name.now) result ≡ name_in line.now }
@@ -29,7 +29,7 @@ fn name_in(line: &[u8]) -> Option<&[u8]>
     }
 }
 
-/// The names that the lines of a sheet let pass.
+/// The names that the lines of a sheet allow. `Err`: out of memory.
 pub(crate) fn names_in<'a>(alloc: Global, lines: &[&'a [u8]]) -> Result<Vec<&'a [u8]>, AllocError>
     ensures { IfOk result (λ names. map (λ name. name.now) names.items
         ≡ names_in (map (λ line. line.now) lines.now)) }
@@ -73,7 +73,7 @@ fn passes(name: &str, given: &[&str], in_sheet: &[&[u8]]) -> bool
     is_given(name, given) || is_among(name.as_bytes(), in_sheet)
 }
 
-/// The marks that don't pass by the words or by the sheet.
+/// The marks that neither the command line nor the sheet allows. `Err`: out of memory.
 pub(crate) fn kept(
     alloc: Global,
     marks: &[Mark],

@@ -1,4 +1,4 @@
-//! At which lines of a sheet's text a build fault is.
+//! The lines of a sheet's text that build faults are about.
 
 ghost use Rattle.std.specs.Prelude.{◌≡◌, map};
 ghost use Rattle.co_sheet.specs.SheetViews.{object_row_view, row_view};
@@ -17,7 +17,7 @@ use co_sheet::{EntryRow, Object, Sheet};
 use co_sheet_text::TextSection;
 use co_value::Key;
 
-// the line of an object's section; 0 where there is none
+// the line of an object's section; 0 if there is none
 fn object_line(objects: &[Object<'_>], index: u16) -> usize
     ensures { result ≡ object_line (map object_row_view objects.now) index }
 {
@@ -66,7 +66,7 @@ fn value_line_in(sections: &[TextSection<'_, '_>], line: usize) -> usize
     line
 }
 
-/// The line of an entry's value; where the entry isn't there that of its object's section.
+/// The line of an entry's value; for a missing entry, that of its object's section.
 #[tactic(auto, unfolding(crate::specs::BuildLines::entry_line))]
 pub(crate) fn entry_line(sheet: &Sheet<'_>, sections: &[TextSection<'_, '_>], key: Key) -> usize
     ensures { result ≡ entry_line sheet.now (map section_view sections.now) key }
@@ -77,7 +77,7 @@ pub(crate) fn entry_line(sheet: &Sheet<'_>, sections: &[TextSection<'_, '_>], ke
     }
 }
 
-/// The line that a build fault is about; 0 where none is to blame.
+/// The line that a build fault is about; 0 if no line is to blame.
 pub(crate) fn build_line(
     sheet: &Sheet<'_>,
     sections: &[TextSection<'_, '_>],

@@ -1,4 +1,4 @@
-//! Why no dictionary can be built of a sheet, at the lines of its text.
+//! Why no dictionary can be built from a sheet, by the lines of its text.
 
 ghost use Rattle.std.specs.Prelude.{◌≡◌, ◌++◌, map, OnOk};
 ghost use Rattle.std.specs.List.{flat_map};
@@ -21,7 +21,8 @@ use co_sheet::Sheet;
 use co_sheet_text::TextSection;
 use std::alloc::{AllocError, Global};
 
-// the mark of a build fault; a mapping has one for each of its words, and for its count
+// the mark of a build fault; a mapping has none here, but one for each faulty word and for its
+// count
 fn add_build_fault(
     marks: &mut Vec<Mark>,
     sheet: &Sheet<'_>,
@@ -92,8 +93,8 @@ fn add_at_lines(
     add_mapping_faults(marks, sheet, sections, found.mappings.as_slice())
 }
 
-/// Adds why no dictionary can be built of a sheet, which has these sections, for a node-ID, if none can. On an `Err`
-/// memory ran out.
+/// Adds the marks of the faults in building a dictionary, for a node-ID, from a sheet with these
+/// sections. `Err`: out of memory.
 pub(crate) fn add_build_marks(
     alloc: Global,
     marks: &mut Vec<Mark>,

@@ -6,7 +6,7 @@ ghost use Rattle.conode_lint.specs.BuildWords.{build_about, build_place, build_f
 use co_dict_build::BuildFault;
 use conode_lint_text::{About, Place};
 
-/// The object or the entry.
+/// The object or the entry that it is about.
 pub(crate) fn build_about(fault: BuildFault) -> About
     ensures { result ≡ build_about fault }
 {
@@ -19,7 +19,7 @@ pub(crate) fn build_about(fault: BuildFault) -> About
     }
 }
 
-/// Which part of its line it is about: the value of an entry, where the line has it.
+/// Which part of its line it is about: the value, if it is about an entry.
 pub(crate) fn build_place(fault: BuildFault) -> Place
     ensures { result ≡ build_place fault }
 {
@@ -50,7 +50,7 @@ pub(crate) fn build_meaning(fault: BuildFault) -> &'static str
     }
 }
 
-/// How it is fixed, in one line.
+/// How to fix it, in one line.
 pub(crate) fn build_fix(fault: BuildFault) -> &'static str
     ensures { result.now ≡ build_fix fault }
 {
@@ -65,7 +65,7 @@ pub(crate) fn build_fix(fault: BuildFault) -> &'static str
     }
 }
 
-/// The subject of CiA 306-1 or CiA 301 that has the rule; empty where none has.
+/// The subject of CiA 306-1 or CiA 301 that has the rule; empty if none has.
 pub(crate) fn build_subject(fault: BuildFault) -> &'static str
     ensures { result.now ≡ build_subject fault }
 {

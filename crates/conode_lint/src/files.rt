@@ -1,4 +1,4 @@
-//! Files, folders and standard input linted.
+//! Linting files, folders and standard input.
 
 ghost use Rattle.std.specs.Prelude.{◌≡◌, nat_lt};
 ghost use Rattle.conode_lint.specs.Statuses.{lint_status};
@@ -15,18 +15,20 @@ use std::io::{Input, Write};
 use std::process::ExitCode;
 use std::rt::Files;
 
-/// What is asked of `lint`.
+/// The options of `lint`.
 #[derive(Clone, Copy)]
 pub struct LintOptions<'a> {
+    /// What is looked for in each text.
     pub checks: Checks<'a>,
+    /// In which form findings are written.
     pub form: Form,
     /// Whether a warning counts as an error.
     pub strict: bool,
-    /// The program's version, which a log of SARIF names.
+    /// The program's version, for the log of SARIF.
     pub version: &'a str,
 }
 
-/// What was written and counted so far.
+/// The report and the counts so far.
 #[derive(Drop)]
 struct Session {
     report: Report,
@@ -51,7 +53,7 @@ impl Session {
         Ok(())
     }
 
-    // names a file or a folder that can't be read, unless memory ran out
+    // names a file or a folder that can't be read; ends if memory ran out
     fn take_fault<E: Write>(
         &mut self,
         alloc: Global,
@@ -135,7 +137,7 @@ impl Session {
     }
 }
 
-// lints all paths; how much was found
+// lints all paths, and returns how much was found
 fn lint_paths<R: Files + AllocGlobal + Input + Clone + Drop, O: Write, E: Write>(
     rt: &R,
     paths: &[&str],
@@ -163,7 +165,7 @@ fn is_any(count: usize) -> bool
     count > 0
 }
 
-/// 2 where a file couldn't be read, else 1 with an error, or where warnings count with a warning, else 0.
+/// 2 if a file couldn't be read; else 1 with an error, or if `strict` with a warning; else 0.
 fn status_of(counts: &Counts, strict: bool) -> u8
     ensures { result ≡ lint_status counts.now strict }
 {
@@ -176,7 +178,7 @@ fn status_of(counts: &Counts, strict: bool) -> u8
     }
 }
 
-// the same, after the names that are to be allowed were looked at; the status
+// checks the names that are to be allowed, lints all paths, and returns the status
 fn lint_all<R: Files + AllocGlobal + Input + Clone + Drop, O: Write, E: Write>(
     rt: &R,
     paths: &[&str],
@@ -196,10 +198,11 @@ fn lint_all<R: Files + AllocGlobal + Input + Clone + Drop, O: Write, E: Write>(
     Ok(status_of(&counts, options.strict))
 }
 
-/// Lints files, the `*.eds` and `*.dcf` of folders, and standard input as `-`, and writes what is found to `out`. A
-/// file or a folder that can't be read is named on `err`, and the others are linted all the same. The status is 2
-/// where one couldn't be read or a name that is to be allowed is none; else 1 with an error, where warnings count
-/// also with a warning, or where not all could be written; else 0.
+/// Lints files, the `*.eds` and `*.dcf` of folders, and standard input for `-`, and writes what is
+/// found to `out`. A file or a folder that can't be read is named on `err`, and the others are
+/// linted all the same. The status is 2 if one couldn't be read, or if a name to be allowed is that
+/// of no finding. Else it is 1 with an error, if `strict` also with a warning, and if the command
+/// stopped early. Else it is 0.
 pub fn lint_files<R: Files + AllocGlobal + Input + Clone + Drop, O: Write, E: Write>(
     rt: &R,
     paths: &[&str],

@@ -37,8 +37,8 @@ fn add_path(alloc: Global, paths: &mut Vec<String>, path: &str) -> Result<(), Al
     Ok(())
 }
 
-/// The paths of a folder's data sheets, in the order of their bytes. `Read` where the folder can't be read, `Memory`
-/// where memory ran out.
+/// The paths of a folder's data sheets, in the order of their bytes. `Read` if the folder can't be
+/// read, `Memory` if memory ran out.
 pub(crate) fn sheets_in<R: Files + AllocGlobal + Clone + Drop>(
     rt: &R,
     folder: &str,

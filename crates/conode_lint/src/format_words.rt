@@ -1,4 +1,4 @@
-//! The words of a text that is no data sheet of CANopen.
+//! The words about a text that is no data sheet of CANopen.
 
 ghost use Rattle.std.specs.Prelude.{◌≡◌};
 ghost use Rattle.conode_lint.specs.FormatWords.{format_fix, format_meaning, format_subject};

@@ -1,4 +1,4 @@
-//! Laws of what is found in a text.
+//! Laws about what is found in a text.
 
 ghost use Rattle.std.specs.Prelude.{◌≡◌, ℕ, List, Contains, Some, None, not};
 ghost use Rattle.co_sheet_rows.specs.declared.fault.SheetFault.{SheetFault as Fault};
@@ -14,9 +14,10 @@ ghost use Rattle.conode_lint.specs.Marks.{IsFound, fault_mark};
 use co_dict_faults::{all_build_faults, mapping_reasons};
 use co_sheet_faults::all_faults;
 
-/// What is found in a text has an error exactly where the text has a fault as a sheet, or its build has one for the
-/// node-ID that is given or else its own. The first fault of a text that isn't of another format, which
-/// `co_sheet::read` answers, is among what is found. This is a law: a call of it changes nothing.
+/// What is found in a text has an error exactly if the text has a fault as a sheet, or its build
+/// has one, for the given node-ID or else its own. Unless the text is of another format, its first
+/// fault, which `co_sheet::read` returns, is among what is found. This is a law: a call of it
+/// changes nothing.
 pub fn linted_texts()
     ensures error { (text : List ℕ) (checks : Asked) (found : List Mark) →
         IsFound text checks found →

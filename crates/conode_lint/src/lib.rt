@@ -1,5 +1,5 @@
-//! Data sheets linted: every fault of a sheet and what is suspicious in it, as findings, and the files that they are
-//! found in.
+//! Linting data sheets: every fault of a sheet and what is suspicious in it, as findings, for files
+//! and folders.
 #![tactic(auto)]
 
 mod allowed;

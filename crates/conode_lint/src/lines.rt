@@ -13,7 +13,7 @@ fn first_bytes(line: &[u8]) -> &[u8]
     }
 }
 
-/// A line by its number, from 1, at most its first 512 bytes; empty where there is none.
+/// A line by its number, from 1, at most its first 512 bytes; empty if there is no such line.
 #[tactic(auto, unfolding(crate::specs::Found::line_at))]
 pub(crate) fn line_at<'a>(lines: &[&'a [u8]], number: usize) -> &'a [u8]
     ensures { result.now ≡ line_at (map (λ line. line.now) lines.now) number }

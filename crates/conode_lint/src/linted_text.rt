@@ -1,4 +1,4 @@
-//! A text linted.
+//! Linting a text.
 
 ghost use Rattle.std.specs.Prelude.{◌≡◌, map, take, IfOk};
 ghost use Rattle.conode_lint.specs.Allowed.{error_count, is_error};
@@ -14,7 +14,7 @@ use co_sheet_warnings::text_lines;
 use conode_lint_text::{Finding, Severity};
 use std::alloc::{AllocError, Global};
 
-/// How many findings of a file are printed.
+/// The most findings of a file that are printed.
 const MOST: usize = 1000;
 
 /// What is found in a text.
@@ -22,11 +22,11 @@ const MOST: usize = 1000;
 pub struct Linted<'a> {
     /// The first 1,000, in the order of the lines.
     pub findings: Vec<Finding<'a>>,
-    /// How many errors there are, those too that aren't among the findings.
+    /// The number of errors, with those that aren't among the findings.
     pub errors: usize,
-    /// The same of warnings.
+    /// The number of warnings, likewise.
     pub warnings: usize,
-    /// How many are not among the findings.
+    /// How many aren't among the findings.
     pub more: usize,
 }
 
@@ -94,7 +94,7 @@ fn first_marks(marks: &[Mark]) -> &[Mark]
     }
 }
 
-// the marks that neither the words nor the sheet let pass
+// the marks that neither the command line nor the sheet allows
 #[tactic(auto, unfolding(crate::specs::Linted::left))]
 fn left(
     alloc: Global,
@@ -109,7 +109,7 @@ fn left(
     kept(alloc, found, checks.allowed, in_sheet.as_slice())
 }
 
-// the findings of marks of which none passes
+// the findings of these marks, none of which is allowed
 fn made_of<'a>(alloc: Global, lines: &[&'a [u8]], marks: &[Mark]) -> Result<Linted<'a>, AllocError>
     ensures { IfOk result (IsMadeOf (map (λ line. line.now) lines.now) marks.now) }
 {
@@ -122,8 +122,9 @@ fn made_of<'a>(alloc: Global, lines: &[&'a [u8]], marks: &[Mark]) -> Result<Lint
     })
 }
 
-/// Everything that is found in a text: each fault of the sheet, else each reason why no dictionary can be built, and
-/// what is suspicious; without what the words or a comment let pass. On an `Err` memory ran out.
+/// Everything that is found in a text: each fault of the sheet, else each reason why no dictionary
+/// can be built, and what is suspicious; without what the command line or a comment allows. `Err`:
+/// out of memory.
 pub fn lint_text<'a>(
     alloc: Global,
     text: &'a [u8],

@@ -1,4 +1,4 @@
-//! The words of a fault of a mapping.
+//! The words about a fault of a mapping.
 
 ghost use Rattle.std.specs.Prelude.{◌≡◌};
 ghost use Rattle.conode_lint.specs.MappingWords.{
@@ -11,7 +11,7 @@ ghost use Rattle.conode_lint.specs.MappingWords.{
 use co_dict_faults::{MappingFault, MappingReason};
 use conode_lint_text::About;
 
-/// The word or the count; of too many bits how many.
+/// The word or the count that it is about; for a mapping that is too long, its bits too.
 pub(crate) fn mapping_about(fault: MappingFault) -> About
     ensures { result ≡ mapping_about fault }
 {
@@ -40,7 +40,7 @@ pub(crate) fn mapping_meaning(reason: MappingReason) -> &'static str
     }
 }
 
-/// How it is fixed, in one line.
+/// How to fix it, in one line.
 pub(crate) fn mapping_fix(reason: MappingReason) -> &'static str
     ensures { result.now ≡ mapping_fix reason }
 {

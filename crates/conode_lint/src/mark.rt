@@ -5,7 +5,7 @@ use co_dict_faults::MappingFault;
 use co_sheet_faults::FaultKind;
 use co_sheet_warnings::WarningKind;
 
-/// What a text is that is no data sheet of CANopen.
+/// The format of a text that is no data sheet of CANopen.
 #[derive(Clone, Copy)]
 pub enum OtherFormat {
     /// XML, as an XDD is (CiA 311).
@@ -23,16 +23,17 @@ pub enum Subject {
     Fault(FaultKind),
     /// Why no dictionary can be built.
     Build(BuildFault),
-    /// Why a word of a mapping, or its count, can't be as it begins.
+    /// Why the initial value of a mapping's word, or of its count, can't be used.
     Mapping(MappingFault),
-    /// What is legal and suspicious.
+    /// What is legal, but suspicious.
     Warning(WarningKind),
 }
 
 /// What is found, and where.
 #[derive(Clone, Copy)]
 pub struct Mark {
-    /// From 1; 0 where no line is to blame.
+    /// From 1; 0 if no line is to blame.
     pub line: usize,
+    /// What is found.
     pub subject: Subject,
 }

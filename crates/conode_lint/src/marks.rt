@@ -31,12 +31,13 @@ use std::alloc::{AllocError, Global};
 /// What is looked for in a text.
 #[derive(Clone, Copy)]
 pub struct Checks<'a> {
-    /// The node-ID that a dictionary is built for; `None`: the one that the sheet itself has, if any.
+    /// The node-ID that a dictionary is built for; `None`: the sheet's own, if it has one.
     pub node: Option<u8>,
+    /// The limits that a dictionary is built with.
     pub limits: Limits<'a>,
-    /// Whether the warnings are given too that are left out otherwise.
+    /// Whether to include the quiet warnings.
     pub all: bool,
-    /// The names of findings that pass.
+    /// The names of findings that are allowed.
     pub allowed: &'a [&'a str],
 }
 
@@ -65,7 +66,7 @@ fn add_warnings(marks: &mut Vec<Mark>, warnings: &[Warning]) -> Result<(), Alloc
     Ok(())
 }
 
-// the sheet that a text is, if it is one
+// the sheet of a text, if it is one
 #[tactic(auto, unfolding(crate::specs::Marks::sheet_of))]
 fn sheet_of(alloc: Global, text: &[u8]) -> Result<Option<Sheet<'_>>, AllocError>
     ensures sheet { IfOk result (λ sheet. sheet ≡ sheet_of text.now) }
@@ -84,7 +85,7 @@ fn no_faults(alloc: Global) -> Vec<SheetFault>
     Vec::new(alloc)
 }
 
-// all faults of a text; of a sheet there is none
+// all faults of a text; a sheet has none
 fn faults_of(
     alloc: Global,
     text: &[u8],
@@ -100,7 +101,7 @@ fn faults_of(
     }
 }
 
-// the node-ID that is given, or else the sheet's own
+// the given node-ID, or else the sheet's own
 fn node_for(node: Option<u8>, sheet: &Option<Sheet<'_>>) -> Option<u8>
     ensures { result ≡ node_for node sheet.now }
 {
@@ -131,7 +132,7 @@ fn add_built(
     }
 }
 
-// the marks of a text, which has these lines: its faults, its build and its warnings
+// the marks of a text with these lines: its faults, its build and its warnings
 fn marked<'a>(
     alloc: Global,
     text: &'a [u8],
@@ -169,7 +170,7 @@ fn marked<'a>(
     Ok(marks)
 }
 
-// the marks of a text that is too large to be read: its fault alone
+// the marks of a text that is too large to be read: only that fault
 fn marked_large(
     alloc: Global,
     text: &[u8],
@@ -215,8 +216,8 @@ fn format_alone(alloc: Global, format: OtherFormat) -> Result<Vec<Mark>, AllocEr
     Ok(marks)
 }
 
-/// Everything that is found in a text, which has these lines, by line. A text with faults that is of another format has
-/// that alone.
+/// Everything that is found in a text with these lines, by line. For a text with faults that is of
+/// another format, only that is found. `Err`: out of memory.
 pub(crate) fn marks_of<'a>(
     alloc: Global,
     text: &'a [u8],

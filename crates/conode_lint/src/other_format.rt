@@ -25,7 +25,7 @@ fn has_line(lines: &[&[u8]], word: &[u8]) -> bool
     false
 }
 
-/// What a text with faults is that is no data sheet of CANopen.
+/// The format of a text with faults, if it is no data sheet of CANopen.
 #[tactic(auto, unfolding(crate::specs::Formats::other_format))]
 pub(crate) fn other_format(lines: &[&[u8]]) -> Option<OtherFormat>
     ensures { result ≡ other_format (map (λ line. line.now) lines.now) }

@@ -1,4 +1,4 @@
-//! What is written of many files, in one of three forms.
+//! What is written about many files, in one of three forms.
 
 use crate::linted_text::Linted;
 use conode_lint_text::{
@@ -9,7 +9,7 @@ use json::Writer;
 use percent_encoding::{AsciiSet, NON_ALPHANUMERIC, percent_encode};
 use std::alloc::{AllocError, Global};
 
-/// In which form findings are written.
+/// The form in which findings are written.
 #[derive(Clone, Copy)]
 pub enum Form {
     /// As compilers print, perhaps in colours.
@@ -23,7 +23,9 @@ pub enum Form {
 /// How much was found.
 #[derive(Clone, Copy)]
 pub struct Counts {
+    /// The number of errors in all files.
     pub errors: usize,
+    /// The number of warnings in all files.
     pub warnings: usize,
     /// How many files were read.
     pub files: usize,
@@ -47,7 +49,7 @@ impl Counts {
     }
 }
 
-/// What of a path a URI has as it is, beside letters and digits.
+/// The characters of a path that a URI has to escape: all but letters, digits and these five.
 fn kept_out() -> AsciiSet {
     NON_ALPHANUMERIC
         .remove(b'-')
@@ -83,7 +85,7 @@ fn push_file(
     Ok(())
 }
 
-/// What is written of files: the lines that weren't handed over yet, or the tokens of JSON so far.
+/// The report so far: the lines that weren't handed over yet, or the tokens of JSON.
 #[derive(Drop)]
 pub struct Report {
     form: Form,
@@ -92,7 +94,7 @@ pub struct Report {
 }
 
 impl Report {
-    /// A report of no file yet. On an `Err` memory ran out, as of the other calls.
+    /// A report of no file yet. `Err`: out of memory, here as for the other calls.
     pub fn new(
         alloc: Global,
         form: Form,
@@ -143,7 +145,7 @@ impl Report {
         }
     }
 
-    /// The lines that can be handed over now; in JSON and SARIF there are none before the end.
+    /// The lines that can be handed over now; none before the end in JSON and SARIF.
     pub fn lines(&self) -> &str {
         self.text.as_str()
     }
@@ -153,7 +155,7 @@ impl Report {
         self.text.clear();
     }
 
-    /// Ends the report: the bytes that are to be handed over at last.
+    /// Ends the report, and returns the last bytes to hand over.
     pub fn end(self, counts: &Counts) -> Result<Vec<u8>, AllocError> {
         let Report {
             form,

@@ -82,7 +82,7 @@ fn rule_of(subject: Subject) -> Rule<'static> {
     }
 }
 
-// how any finding of a kind is fixed; of a misspelt key it isn't said which key is meant
+// how to fix a finding of a kind; for a misspelt key it doesn't say which key is meant
 fn rule_fix(subject: Subject) -> &'static str {
     match subject {
         Subject::Warning(WarningKind::MisspeltKey(_)) => "write the key as the standard has it",
@@ -90,7 +90,7 @@ fn rule_fix(subject: Subject) -> &'static str {
     }
 }
 
-/// All kinds of findings. On an `Err` memory ran out.
+/// All kinds of findings. `Err`: out of memory.
 pub(crate) fn all_rules(alloc: Global) -> Result<Vec<Rule<'static>>, AllocError> {
     let mut rules = Vec::new(alloc);
     rules.push(rule_of(Subject::Format(OtherFormat::Xml)))?;
@@ -106,7 +106,7 @@ pub(crate) fn all_rules(alloc: Global) -> Result<Vec<Rule<'static>>, AllocError>
     Ok(rules)
 }
 
-/// The first of these names that no finding has.
+/// The first of these names that no kind of finding has.
 pub(crate) fn unknown_name<'a>(rules: &[Rule<'_>], names: &[&'a str]) -> Option<&'a str> {
     for name in names {
         if !is_known(rules, *name) {

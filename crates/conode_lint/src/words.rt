@@ -1,4 +1,4 @@
-//! The words of what is found.
+//! The words about what is found.
 
 ghost use Rattle.std.specs.Prelude.{◌≡◌};
 ghost use Rattle.conode_lint.specs.Words.{
@@ -32,6 +32,7 @@ pub(crate) fn name_of(subject: Subject) -> &'static str
     }
 }
 
+/// Its severity: only a warning is no error.
 pub(crate) fn severity_of(subject: Subject) -> Severity
     ensures { result ≡ severity_of subject }
 {
@@ -73,7 +74,7 @@ pub(crate) fn place_of(subject: Subject) -> Place
     }
 }
 
-/// What it is about, where the line alone doesn't say it.
+/// What it is about, if the line doesn't show it.
 pub(crate) fn about_of(subject: Subject) -> About
     ensures { result ≡ about_of subject }
 {
@@ -103,7 +104,7 @@ pub(crate) fn meaning_of(mark: Mark) -> &'static str
     }
 }
 
-/// How it is fixed, in one line.
+/// How to fix it, in one line.
 pub(crate) fn fix_of(subject: Subject) -> &'static str
     ensures { result.now ≡ fix_of subject }
 {
@@ -116,7 +117,7 @@ pub(crate) fn fix_of(subject: Subject) -> &'static str
     }
 }
 
-/// The subject of the standard that has the rule; empty where none has.
+/// The subject of the standard that has the rule; empty if none has.
 pub(crate) fn subject_of(subject: Subject) -> &'static str
     ensures { result.now ≡ subject_of subject }
 {

@@ -6,7 +6,8 @@ use Rattle.std.specs.Str.{chars, is_utf8}
 use Rattle.co_text.specs.Printed.{byte_text}
 use Rattle.co_text.specs.Texts.{is_blank}
 
--- what the bytes 80h to 9Fh are in Windows-1252; the five that it leaves open are control characters
+-- the characters of the bytes 80h to 9Fh in Windows-1252; the five that it leaves open are control
+-- characters
 abbrev pub windows_1252_marks : List ℕ
 windows_1252_marks =
     0x20AC ∷ 0x81 ∷ 0x201A ∷ 0x192 ∷ 0x201E ∷ 0x2026 ∷ 0x2020 ∷ 0x2021
@@ -20,7 +21,7 @@ windows_1252 byte =
     if nat_lt byte 128 then byte
     else (if nat_lt byte 160 then slice_index windows_1252_marks (byte - 128) else byte)
 
--- the characters of a line: those of UTF-8 where it is that, else those of Windows-1252
+-- the characters of a line, read as UTF-8 if it is valid, else as Windows-1252
 unfoldable pub characters_of : List ℕ → List ℕ
 characters_of line = if is_utf8 line then chars line else map windows_1252 line
 

@@ -70,8 +70,8 @@ unfoldable pub count_members : ℕ → ℕ → List Token
 count_members errors warnings =
     number_member (codes "errors") errors ++ number_member (codes "warnings") warnings
 
--- a file before its findings: whether it could be read, how many errors and warnings it has, and how many of them
--- aren't given
+-- a file before its findings: whether it could be read, how many errors and warnings it has, and
+-- how many findings are left out
 unfoldable pub file_members : List ℕ → Bool → ℕ → ℕ → ℕ → List Token
 file_members name is_read errors warnings more =
     text_member (codes "file") name ++ flag_member (codes "read") is_read

@@ -22,7 +22,7 @@ rule_tokens rule =
     ++ message_member (codes "help") (help_of rule.fix.now rule.subject.now)
     ++ level_member rule.severity ++ end_object ∷ [])
 
--- where a line is to blame, its region
+-- the region, if a line is to blame
 unfoldable pub region_members : Finding → List Token
 region_members finding =
     if finding.line == 0 then []

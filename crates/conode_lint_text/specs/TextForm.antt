@@ -9,7 +9,8 @@ use Rattle.conode_lint_text.specs.declared.finding.Severity.TheVariants.{Error, 
 use Rattle.conode_lint_text.specs.declared.pieces.Piece.{Piece}
 use Rattle.conode_lint_text.specs.declared.pieces.Piece.TheVariants.{Text, Shown, Decimal, Counted, Severity, Word, Byte}
 
--- what begins a colour on a terminal (ECMA-48, SGR), by its numbers, and what ends it; without colours nothing
+-- what begins a colour on a terminal (ECMA-48, SGR), by its numbers, and what ends it; without
+-- colours nothing
 unfoldable pub begin_colour : Bool → List ℕ → List ℕ
 begin_colour colours numbers = if colours then 27 ∷ codes "[" ++ numbers ++ codes "m" else []
 
@@ -24,7 +25,7 @@ abbrev pub severity_colour : HowSevere → List ℕ
 severity_colour Error = codes "1;31"
 severity_colour Warning = codes "1;35"
 
--- where a line is to blame, its number and the column
+-- the number of the line and the column, if a line is to blame
 unfoldable pub position_text : Finding → List ℕ
 position_text finding =
     if finding.line == 0 then []
@@ -52,13 +53,13 @@ head_line colours file finding =
     place_part colours file finding ++ codes " " ++ label_part colours finding ++ codes " "
     ++ message_of finding ++ 10 ∷ []
 
--- the line itself, where one is to blame
+-- the line itself, if one is to blame
 unfoldable pub quoted_line : Finding → List ℕ
 quoted_line finding =
     if finding.line == 0 then []
     else codes "    " ++ shown_all (characters_of finding.text.now) ++ 10 ∷ []
 
--- how it is fixed
+-- how to fix it
 unfoldable pub help_line : Bool → Finding → List ℕ
 help_line colours finding =
     codes "  " ++ coloured colours (codes "1;36") (codes "help:") ++ codes " "

@@ -9,7 +9,8 @@ use co_text::push_byte;
 use std::alloc::{AllocError, Global};
 use std::str;
 
-/// What the bytes 80h to 9Fh are in Windows-1252. The five that it leaves open are control characters.
+/// The characters of the bytes 80h to 9Fh in Windows-1252. The five that it leaves open are control
+/// characters.
 static MARKS: [char; 32] = [
     '\u{20AC}', '\u{81}', '\u{201A}', '\u{192}', '\u{201E}', '\u{2026}', '\u{2020}', '\u{2021}',
     '\u{2C6}', '\u{2030}', '\u{160}', '\u{2039}', '\u{152}', '\u{8D}', '\u{17D}', '\u{8F}',
@@ -47,7 +48,8 @@ fn in_windows_1252(alloc: Global, line: &[u8]) -> Result<Vec<char>, AllocError>
     Ok(characters)
 }
 
-/// The characters of a line: those of UTF-8 where it is that, else those of Windows-1252.
+/// The characters of a line, read as UTF-8 if it is valid, else as Windows-1252. `Err`: out of
+/// memory.
 pub fn characters_of(alloc: Global, line: &[u8]) -> Result<Vec<char>, AllocError>
     ensures { IfOk result (λ made. made.items ≡ characters_of line.now) }
 {
@@ -67,7 +69,7 @@ fn push_utf8(text: &mut String, characters: &[char]) -> Result<(), AllocError>
     Ok(())
 }
 
-/// A line in UTF-8: as it is, where it is that, else read as Windows-1252. It fails out of memory.
+/// A line in UTF-8: as it is if valid, else converted from Windows-1252. `Err`: out of memory.
 pub fn utf8_of(alloc: Global, line: &[u8]) -> Result<String, AllocError>
     ensures { IfOk result (λ text. string_bytes text ≡ utf8_of line.now) }
 {
@@ -91,7 +93,7 @@ fn push_shown(text: &mut String, character: char) -> Result<(), AllocError>
     }
 }
 
-/// Appends characters as they are shown. On an `Err` memory ran out, and a part of them may be there.
+/// Appends characters as they are shown. `Err`: out of memory; a part of them may be there.
 pub(crate) fn push_all_shown(text: &mut String, characters: &[char]) -> Result<(), AllocError>
     ensures { OnOk result
         (string_bytes text.new ≡ string_bytes text.old ++ shown_all characters.now) }

@@ -35,7 +35,7 @@ fn is_equals(character: char) -> bool
     character == '='
 }
 
-// how many characters are before the first `=`; all where there is none
+// how many characters are before the first `=`; all if there is none
 fn before_equals(characters: &[char]) -> usize
     ensures count { result ≡ position_or_len (λ c. c == 61) characters.now }
     ensures within { result ≤ length characters.now }
@@ -61,7 +61,7 @@ fn value_place(characters: &[char]) -> usize
     }
 }
 
-/// The column of a finding whose line has these characters, from 1; 0 where no line is to blame.
+/// The column of a finding whose line has these characters, from 1; 0 if it has no line.
 #[tactic(auto, unfolding(crate::specs::Findings::column_of, crate::specs::Findings::place_in))]
 pub(crate) fn column_of(finding: &Finding<'_>, characters: &[char]) -> usize
     requires { characters.now ≡ characters_of finding.now.text.now }
@@ -77,7 +77,7 @@ pub(crate) fn column_of(finding: &Finding<'_>, characters: &[char]) -> usize
     before + 1
 }
 
-/// The same, of its line's own characters. It fails out of memory.
+/// The column of a finding, from 1; 0 if it has no line. `Err`: out of memory.
 pub(crate) fn own_column(alloc: Global, finding: &Finding<'_>) -> Result<usize, AllocError>
     ensures { IfOk result (λ column. column ≡ column_of finding.now) }
 {

@@ -1,24 +1,24 @@
 //! What `lint` finds.
 
-/// How severe a finding is.
+/// The severity of a finding.
 #[derive(Clone, Copy, Debug, PartialEq, Eq)]
 pub enum Severity {
-    /// A fault: the sheet is refused, or no dictionary can be built of it.
+    /// A fault: the sheet is refused, or no dictionary can be built from it.
     Error,
-    /// The sheet is legal, and suspicious.
+    /// Legal, but suspicious.
     Warning,
 }
 
 /// Which part of its line a finding is about.
 #[derive(Clone, Copy, Debug, PartialEq, Eq)]
 pub enum Place {
-    /// All of it, from the first character that is no blank.
+    /// The whole line, from its first character that is no blank.
     Beginning,
     /// The value, after `=`.
     Value,
 }
 
-/// What a finding is about, where the line alone doesn't say it.
+/// What a finding is about, if its line doesn't show it.
 #[derive(Clone, Copy, Debug, PartialEq, Eq)]
 pub enum About {
     /// The line.
@@ -34,18 +34,21 @@ pub enum About {
 /// What is found at a line of a file.
 #[derive(Clone, Copy, Debug)]
 pub struct Finding<'a> {
-    /// From 1; 0 where no line is to blame.
+    /// From 1; 0 if no line is to blame.
     pub line: usize,
+    /// Which part of the line it is about.
     pub place: Place,
+    /// What it is about, if the line doesn't show it.
     pub about: About,
+    /// How severe it is.
     pub severity: Severity,
     /// The name of its kind, as `BadList`.
     pub name: &'a str,
     /// What is wrong.
     pub meaning: &'a str,
-    /// How it is fixed.
+    /// How to fix it.
     pub fix: &'a str,
-    /// The subject of the standard that says so; empty where none does.
+    /// The subject of the standard that has the rule; empty if none has.
     pub subject: &'a str,
     /// The line as it is in the file, without its end.
     pub text: &'a [u8],
@@ -54,9 +57,14 @@ pub struct Finding<'a> {
 /// A kind of finding, as a log of SARIF lists it.
 #[derive(Clone, Copy, Debug)]
 pub struct Rule<'a> {
+    /// The name of the kind, as `BadList`.
     pub name: &'a str,
+    /// How severe its findings are.
     pub severity: Severity,
+    /// What is wrong.
     pub meaning: &'a str,
+    /// How to fix it.
     pub fix: &'a str,
+    /// The subject of the standard that has the rule; empty if none has.
     pub subject: &'a str,
 }

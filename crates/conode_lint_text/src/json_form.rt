@@ -1,5 +1,5 @@
-//! Findings as one document of JSON. Each function writes tokens; on an `Err` memory ran out, and some of them may be
-//! there.
+//! Findings as one document of JSON. Each function writes tokens. `Err`: out of memory; some tokens
+//! may be there.
 
 ghost use Rattle.std.specs.Prelude.{◌≡◌, ◌++◌, OnOk};
 ghost use Rattle.std.specs.List.{flat_map};
@@ -74,8 +74,8 @@ fn put_findings(
     Ok(())
 }
 
-/// Writes a file: its name, whether it could be read, how many errors and warnings it has and how many of them aren't
-/// given, and its findings.
+/// Writes a file: its name, whether it could be read, `counts` of its errors, its warnings and the
+/// findings left out, and its findings.
 #[tactic(auto, unfolding(crate::specs::JsonForm::file_tokens, crate::specs::JsonForm::file_members, crate::specs::JsonForm::count_members))]
 pub fn put_file(
     alloc: Global,
@@ -120,7 +120,7 @@ pub fn put_document_head(writer: &mut Writer) -> Result<(), AllocError>
     )
 }
 
-/// Writes what comes after the files: how many errors and warnings they have in all.
+/// Writes what comes after the files: the numbers of errors and warnings in all.
 #[tactic(auto, unfolding(crate::specs::JsonForm::document_end, crate::specs::JsonForm::count_members))]
 pub fn put_document_end(
     writer: &mut Writer,

@@ -1,5 +1,5 @@
-//! JSON in parts: brackets, and members of objects. Each function writes tokens; on an `Err` memory ran out, and some
-//! of them may be there.
+//! JSON in parts: brackets, and members of objects. Each function writes tokens. `Err`: out of
+//! memory; some tokens may be there.
 
 ghost use Rattle.std.specs.Prelude.{◌≡◌, ◌++◌, OnOk};
 ghost use Rattle.std.specs.List.{flat_map};
@@ -21,11 +21,11 @@ pub(crate) enum Part<'a> {
     /// The beginning of a member that is an array.
     Array(&'a str),
     Text(&'a str, &'a str),
-    /// A member that is an object with a text.
+    /// A member that is an object with a member `text`.
     Message(&'a str, &'a str),
     Number(&'a str, usize),
     Flag(&'a str, bool),
-    /// How severe a finding is, in a word.
+    /// A member that is the severity of a finding, in a word.
     Severity(&'a str, Severity),
 }
 

@@ -1,4 +1,5 @@
-//! A text in pieces. Each function appends a text; on an `Err` memory ran out, and a part of it may be there.
+//! A text in pieces. Each function appends a text. `Err`: out of memory; a part of the text may be
+//! there.
 
 ghost use Rattle.std.specs.Prelude.{◌≡◌, ◌++◌, OnOk, string_bytes};
 ghost use Rattle.std.specs.List.{flat_map};

@@ -1,5 +1,5 @@
-//! Findings as a log of SARIF 2.1.0. Each function writes tokens; on an `Err` memory ran out, and some of them may be
-//! there.
+//! Findings as a log of SARIF 2.1.0. Each function writes tokens. `Err`: out of memory; some tokens
+//! may be there.
 
 ghost use Rattle.std.specs.Prelude.{◌≡◌, ◌++◌, OnOk};
 ghost use Rattle.std.specs.List.{flat_map};
@@ -65,7 +65,7 @@ fn put_rules(alloc: Global, writer: &mut Writer, rules: &[Rule<'_>]) -> Result<(
     Ok(())
 }
 
-// where a line is to blame, its region
+// the region, if a line is to blame
 #[tactic(auto, unfolding(crate::specs::SarifForm::region_members, crate::specs::JsonForm::message_member))]
 fn put_region(
     writer: &mut Writer,
@@ -95,7 +95,7 @@ fn put_region(
     )
 }
 
-// the file, and where a line is to blame the region
+// the file, and the region if a line is to blame
 #[tactic(auto, unfolding(crate::specs::SarifForm::locations_member, crate::specs::SarifForm::location_tokens, crate::specs::SarifForm::uri_member))]
 fn put_locations(
     writer: &mut Writer,

@@ -1,5 +1,5 @@
-//! Findings as compilers print them. Each function appends a text; on an `Err` memory ran out, and a part of it may be
-//! there.
+//! Findings as compilers print them. Each function appends a text. `Err`: out of memory; a part of
+//! the text may be there.
 
 ghost use Rattle.std.specs.Prelude.{◌≡◌, ◌++◌, codes, OnOk, string_bytes};
 ghost use Rattle.conode_lint_text.specs.Characters.{characters_of};
@@ -226,8 +226,8 @@ fn push_lines(
     push_help_line(text, colours, finding)
 }
 
-/// Appends the lines of a finding: `motor.eds:59:1: error[BadList]:` and what is wrong, the line itself, and how it is
-/// fixed.
+/// Appends the lines of a finding: `motor.eds:59:1: error[BadList]:` with what is wrong, the line
+/// itself, and how to fix it.
 pub fn push_finding(
     alloc: Global,
     text: &mut String,

@@ -13,7 +13,7 @@ use crate::finding::{About, Finding, Severity};
 use crate::pieces::{Piece, push_pieces};
 use std::alloc::{AllocError, Global};
 
-/// How severe it is, in a word.
+/// The severity, in a word.
 pub(crate) fn severity_name(severity: Severity) -> &'static str
     ensures { result.now ≡ severity_name severity }
 {
@@ -57,7 +57,7 @@ fn push_about(text: &mut String, about: About) -> Result<(), AllocError>
     }
 }
 
-/// Appends what is wrong. On an `Err` memory ran out.
+/// Appends what is wrong. `Err`: out of memory; a part of the text may be there.
 #[tactic(auto, unfolding(crate::specs::Findings::message_of))]
 pub(crate) fn push_message(text: &mut String, finding: &Finding<'_>) -> Result<(), AllocError>
     ensures { OnOk result
@@ -67,7 +67,7 @@ pub(crate) fn push_message(text: &mut String, finding: &Finding<'_>) -> Result<(
     text.push_str(finding.meaning)
 }
 
-/// What is wrong. It fails out of memory.
+/// What is wrong. `Err`: out of memory.
 pub(crate) fn message_of(alloc: Global, finding: &Finding<'_>) -> Result<String, AllocError>
     ensures { IfOk result (λ text. string_bytes text ≡ message_of finding.now) }
 {
@@ -76,7 +76,8 @@ pub(crate) fn message_of(alloc: Global, finding: &Finding<'_>) -> Result<String,
     Ok(text)
 }
 
-/// Appends how it is fixed, and the subject of the standard that says so. On an `Err` memory ran out.
+/// Appends how to fix it, and the subject of the standard. `Err`: out of memory; a part of the text
+/// may be there.
 #[tactic(auto, unfolding(crate::specs::Findings::help_of))]
 pub(crate) fn push_help(text: &mut String, fix: &str, subject: &str) -> Result<(), AllocError>
     ensures { OnOk result
@@ -92,7 +93,7 @@ pub(crate) fn push_help(text: &mut String, fix: &str, subject: &str) -> Result<(
     )
 }
 
-/// How it is fixed, and the subject of the standard that says so. It fails out of memory.
+/// How to fix it, and the subject of the standard. `Err`: out of memory.
 pub(crate) fn help_of(alloc: Global, fix: &str, subject: &str) -> Result<String, AllocError>
     ensures { IfOk result (λ text. string_bytes text ≡ help_of fix.now subject.now) }
 {

@@ -16,6 +16,7 @@ of_record record_bad.Data = bad.Data
 of_record record_bad.TooManyBytes = bad.TooManyBytes
 of_record record_bad.Ending = bad.Ending
 
+-- what is wrong, in words
 abbrev pub bad_words : BadLogLine → List ℕ
 bad_words bad.Unknown = codes "no recorder is known that writes such a line; --log FORM names one"
 bad_words bad.Version = codes "the version of the .trc isn't 1.1, 1.3, 2.0 or 2.1"

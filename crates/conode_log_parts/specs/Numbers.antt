@@ -10,7 +10,7 @@ use Rattle.conode_log_parts.specs.declared.numbers.Base.TheVariants.{Hexadecimal
 
 -- ---- stamps, in microseconds
 
--- the digits after a point; none where nothing follows
+-- the digits after a point; no digits at the end of the text
 abbrev pub fraction_of : List ℕ → Option (List ℕ)
 fraction_of [] = Some []
 fraction_of (byte ∷ digits) = if (byte == 46) && list_all is_digit digits then Some digits else None
@@ -41,7 +41,7 @@ seconds_in word = do
   fraction ← fraction_of whole.1
   let thousandths = with_three whole.0 fraction in Some (with_three thousandths.0 thousandths.1).0
 
--- the clock at a stamp, where stamps are summed or stand for themselves; none from 10^12 seconds on
+-- the time of a stamp: it counts from the clock if it sums, else from 0; none from 10^12 seconds on
 abbrev pub moved : Bool → ℕ → ℕ → Option ℕ
 moved sums clock stamp =
     let now = (if sums then clock + stamp else stamp) in
@@ -49,13 +49,15 @@ moved sums clock stamp =
 
 -- ---- dates, as `2023-11-14 22:13:20`
 
--- the days from 1 January 1970 to a date; years are counted from March on, so that a leap day is the last of its year
+-- the days from 1 January 1970 to a date; years are counted from March on, so that a leap day is
+-- the last of its year
 unfoldable pub day_of : ℕ → ℕ → ℕ → ℕ
 day_of year month day =
     let y = (if nat_lt 2 month then year else year - 1) in
     let m = (if nat_lt 2 month then month - 3 else month + 9) in
     (365 * y + y / 4 + y / 400 + (153 * m + 2) / 5 + day) - (y / 100 + 719469)
 
+-- a day from 1970 to 9999; a 31st passes in every month
 abbrev pub is_date : ℕ → ℕ → ℕ → Bool
 is_date year month day =
     nat_le 1970 year && (nat_le year 9999 && (nat_le 1 month && (nat_le month 12 && (nat_le 1 day && nat_le day 31))))
@@ -70,6 +72,7 @@ date_at text = do
   day ← number_at 2 2 second
   if is_date year.0 month.0 day.0 then Some (day_of year.0 month.0 day.0, day.1) else None
 
+-- a time of day; second 60 is a leap second
 abbrev pub is_time : ℕ → ℕ → ℕ → Bool
 is_time hour minute second = nat_le hour 23 && (nat_le minute 59 && nat_le second 60)
 

@@ -19,15 +19,15 @@ use Rattle.conode_log_parts.specs.Words.{word_at}
 abbrev pub short_id : ℕ → Option Identifier
 short_id number = if nat_lt number 0x800 then Some (Short number) else None
 
--- one of 29 bits
+-- an identifier of 29 bits
 abbrev pub extended_id : ℕ → Option Identifier
 extended_id number = if nat_lt number 0x20000000 then Some (Extended number) else None
 
--- the byte that the first word is, and what follows
+-- the first word as a byte, and what follows
 unfoldable pub byte_at : Base → List ℕ → Option (ℕ × List ℕ)
 byte_at base text = word_at text >>= λ word. option_map (λ byte. (byte, word.1)) (byte_of base word.0)
 
--- so many words that are bytes, and what follows
+-- the next words, so many, as bytes, and what follows
 unfoldable pub bytes_at : Base → ℕ → List ℕ → Option (List ℕ × List ℕ)
 bytes_at base zero text = Some ([], text)
 bytes_at base (suc count) text = do
@@ -63,12 +63,13 @@ fd_length code =
     if nat_le code 8 then code
     else (if nat_le code 12 then 12 + 4 * (code - 9) else (if code == 13 then 32 else (if code == 14 then 48 else 64)))
 
--- a frame
+-- the line of a frame
 abbrev pub frame_of : ℕ → Place → Identifier → LogContent → Option Direction → LogLine
 frame_of micros place id content direction =
     Frame (record { micros = micros; place = place; id = id; content = content; direction = direction })
 
--- an error frame, as other tools write one of which the log says no more: a bus error (class 80h), and eight bytes of 0
+-- an error frame without details in the log, as other tools write it: a bus error (class 80h), and
+-- eight bytes of 0
 abbrev pub error_frame : ℕ → Place → LogLine
 error_frame micros place =
     frame_of micros place (Error 0x80) (Data (0 ∷ 0 ∷ 0 ∷ 0 ∷ 0 ∷ 0 ∷ 0 ∷ 0 ∷ [])) None

@@ -1,10 +1,10 @@
--- The words of a line: what blanks part. The escape sequences of colours count as blanks.
+-- The words of a line, between blanks. The escape sequences of colours count as blanks.
 use Rattle.std.specs.Prelude.{ℕ, ◌==◌, Bool, true, false, not, ◌||◌, if◌then◌else◌, List, [], ◌∷◌, take, drop, Option, Some, None, bytes_eq}
 use Rattle.std.specs.List.{prefix_len}
 use Rattle.std.specs.Option.{option_map_or}
 use Rattle.co_text.specs.Texts.{is_blank}
 
--- any byte but a blank and the first one of an escape sequence
+-- any byte but a blank and the ESC of an escape sequence
 abbrev pub is_word_byte : ℕ → Bool
 is_word_byte byte = not (is_blank byte || (byte == 27))
 

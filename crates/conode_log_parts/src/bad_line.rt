@@ -5,38 +5,39 @@ ghost use Rattle.conode_log_parts.specs.BadWords.{bad_words, of_record};
 
 use conode_record::BadLine;
 
-/// What is wrong with a line of a log: the first part of it that isn't what it has to be.
+/// What is wrong with a line of a log: its first wrong part.
 #[derive(Clone, Copy, Debug, PartialEq, Eq)]
 pub enum BadLogLine {
-    /// No line so far says of which recorder the log is, and this one doesn't either.
+    /// Neither this line nor one before it shows which recorder wrote the log.
     Unknown,
     /// A `.trc` of another version than 1.1, 1.3, 2.0 and 2.1.
     Version,
     /// A `.trc` with other columns, or in another order.
     Columns,
-    /// In a `.asc`, `base` is followed by something else than `hex` or `dec`, and `timestamps absolute` or `relative`.
+    /// In a `.asc`, `base` isn't followed by `hex` or `dec`, and `timestamps absolute` or
+    /// `relative`.
     Base,
     /// There is no stamp, or none of this form.
     Stamp,
-    /// Stamps that are counted from the one before come to 10^12 seconds.
+    /// The stamps, each counted from the one before, add up to 10^12 seconds or more.
     TooLate,
     /// There is no interface of 1 to 15 bytes, or no channel from 1 to 255.
     Interface,
-    /// The message is of no type that this form has.
+    /// This form of log has no such type of message.
     Type,
     /// There is no direction.
     Direction,
     /// The identifier is no number, or above 7FF or 1FFFFFFF.
     Identifier,
-    /// The flags of a CAN FD frame are none.
+    /// A CAN FD frame has no flags, or none that can be read.
     Flags,
     /// The length is no number, or greater than such a frame may have.
     Length,
-    /// The data are fewer bytes than the length says, or none.
+    /// The data aren't as many bytes as the length says.
     Data,
     /// There are more than 8 data bytes, or in a CAN FD frame more than 64.
     TooManyBytes,
-    /// After the frame comes something else.
+    /// The frame is followed by something else.
     Ending,
 }
 

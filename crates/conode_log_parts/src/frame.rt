@@ -23,6 +23,7 @@ impl Model for LogBytes {
 }
 
 impl LogBytes {
+    /// No bytes.
     pub fn new() -> LogBytes
         ensures { result ≡ [] }
     {
@@ -31,7 +32,7 @@ impl LogBytes {
         }
     }
 
-    // appends a byte
+    /// Appends a byte.
     #[inline(always)]
     pub fn append(&mut self, byte: u8)
         requires { length self.old < 64 }
@@ -40,7 +41,7 @@ impl LogBytes {
         self.bytes.push(byte);
     }
 
-    /// The data of an error frame of which the log says no more: eight bytes, each 0.
+    /// The data of an error frame without details in the log: eight bytes, each 0.
     pub fn of_error() -> LogBytes
         ensures { result ≡ 0 ∷ 0 ∷ 0 ∷ 0 ∷ 0 ∷ 0 ∷ 0 ∷ 0 ∷ [] }
     {
@@ -75,6 +76,7 @@ impl<'a> Model for Name<'a> {
 }
 
 impl<'a> Name<'a> {
+    /// The name with these bytes, 15 at most.
     pub fn new(name: &'a [u8]) -> Name<'a>
         requires { length name.now ≤ 15 }
         ensures { result ≡ name.now }
@@ -95,18 +97,19 @@ impl<'a> Name<'a> {
 pub enum Place<'a> {
     /// On the interface of this name.
     Interface(Name<'a>),
-    /// On the channel of this number, 1 to 255: it is written as `can0` for channel 1.
+    /// On the channel of this number, 1 to 255; channel 1 is written as `can0`.
     Channel(u8),
 }
 
-/// What a frame has.
+/// The content of a frame.
 #[derive(Drop)]
 pub enum LogContent {
     /// Data, at most 8 bytes.
     Data(LogBytes),
     /// A remote frame: the length of the data that it asks for, at most 8.
     Remote(u8),
-    /// A CAN FD frame: its flags (bit 0 bit rate switch, bit 1 error state indicator), and its data.
+    /// A CAN FD frame: its flags (bit 0 bit rate switch, bit 1 error state indicator), and its
+    /// data.
     Fd(u8, LogBytes),
 }
 
@@ -119,7 +122,7 @@ pub struct LogFrame<'a> {
     pub place: Place<'a>,
     /// Its identifier.
     pub id: Identifier,
-    /// Its data, or the length that a remote frame has.
+    /// Its data, or the length of a remote frame.
     pub content: LogContent,
     /// Whether it was received or sent, where the log says so.
     pub direction: Option<Direction>,

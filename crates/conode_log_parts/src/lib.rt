@@ -1,4 +1,5 @@
-//! Parts of the lines of logs that several recorders write: words, numbers and stamps, bytes, and the frame that a line says.
+//! Parts of the lines of logs that several recorders write: words, numbers and stamps, bytes, and
+//! the frame of a line.
 #![tactic(auto)]
 
 mod bad_line;

@@ -34,7 +34,8 @@ pub enum Base {
     Decimal,
 }
 
-/// 10^12 seconds in microseconds: a line as `candump -L` writes it has at most twelve digits of seconds.
+/// 10^12 seconds in microseconds: a line as `candump -L` writes it has at most twelve digits of
+/// seconds.
 const TOO_LATE: u64 = 1_000_000_000_000_000_000;
 
 #[inline(always)]
@@ -81,7 +82,7 @@ fn are_digits(text: &[u8]) -> bool
     text.iter().all(|byte| is_digit(*byte))
 }
 
-// the digits after a point; none where nothing follows
+// the digits after a point; no digits at the end of the text, and `None` if anything else follows
 #[inline(always)]
 fn fraction_of(text: &[u8]) -> Option<&[u8]>
     ensures exact { option_copied result ≡ fraction_of text.now }
@@ -124,7 +125,8 @@ fn with_three(number: u64, digits: &[u8]) -> (u64, &[u8])
     with_digit(number, digits)
 }
 
-/// Milliseconds, perhaps with a fraction, in microseconds.
+/// Milliseconds, perhaps with a fraction, in microseconds; further digits are left out. `None` if
+/// the word is no such number.
 #[tactic(auto, unfolding(crate::specs::Numbers::millis_in))]
 #[inline(always)]
 pub fn millis_in(word: &[u8]) -> Option<u64>
@@ -135,7 +137,8 @@ pub fn millis_in(word: &[u8]) -> Option<u64>
     Some(with_three(whole, fraction).0)
 }
 
-/// Seconds, perhaps with a fraction, in microseconds.
+/// Seconds, perhaps with a fraction, in microseconds; further digits are left out. `None` if the
+/// word is no such number.
 #[tactic(auto, unfolding(crate::specs::Numbers::seconds_in))]
 #[inline(always)]
 pub fn seconds_in(word: &[u8]) -> Option<u64>
@@ -147,7 +150,8 @@ pub fn seconds_in(word: &[u8]) -> Option<u64>
     Some(with_three(thousandths, fraction).0)
 }
 
-/// The clock at a stamp, where stamps are summed or stand for themselves; `None` from 10^12 seconds on.
+/// The time of a stamp, in microseconds: it counts from the clock if it `sums`, else from 0. `None`
+/// from 10^12 seconds on.
 #[inline(always)]
 pub fn moved(sums: bool, clock: u64, stamp: u64) -> Option<u64>
     ensures { result ≡ moved sums clock stamp }
@@ -269,7 +273,7 @@ pub fn hex_number(digits: &[u8]) -> Option<u32>
     Some(number as u32)
 }
 
-/// A number below 2^32 in a base.
+/// A number below 2^32 in this base: at most eight hexadecimal digits, or decimal ones.
 pub fn number_in(base: Base, digits: &[u8]) -> Option<u32>
     ensures { result ≡ number_in base digits.now }
 {

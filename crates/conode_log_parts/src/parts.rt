@@ -23,7 +23,7 @@ use crate::words::{is_word, word_at};
 use co_text::decimal_in;
 use conode_record::{Direction, Identifier};
 
-/// An identifier of 11 bits.
+/// An identifier of 11 bits; `None` if the number is above 7FF.
 #[inline(always)]
 pub fn short_id(number: u32) -> Option<Identifier>
     ensures { result ≡ short_id number }
@@ -35,7 +35,7 @@ pub fn short_id(number: u32) -> Option<Identifier>
     }
 }
 
-/// One of 29 bits.
+/// An identifier of 29 bits; `None` if the number is above 1FFFFFFF.
 #[inline(always)]
 pub fn extended_id(number: u32) -> Option<Identifier>
     ensures { result ≡ extended_id number }
@@ -58,7 +58,7 @@ fn byte_at(base: Base, text: &[u8]) -> Option<(u8, &[u8])>
     Some((byte, rest))
 }
 
-/// So many words that are bytes, and what follows.
+/// The next `count` words as bytes, and what follows; `None` if one of them isn't a byte.
 pub fn bytes_at(base: Base, count: usize, text: &[u8]) -> Option<(LogBytes, &[u8])>
     requires { count ≤ 64 }
     ensures { option_map (λ found. (found.0, found.1.now)) result ≡ bytes_at base count text.now }
@@ -100,7 +100,7 @@ pub fn channel_at(text: &[u8]) -> Option<(u8, &[u8])>
     Some((channel as u8, rest))
 }
 
-/// `Rx` or `Tx`.
+/// The direction of the word: `Rx` or `Tx`.
 pub fn direction_of(word: &[u8]) -> Option<Direction>
     ensures { result ≡ direction_of word.now }
 {
@@ -150,7 +150,7 @@ pub fn fd_length(code: u32) -> usize
     }
 }
 
-/// A frame.
+/// The line of a frame.
 pub fn frame_of(
     micros: u64,
     place: Place<'_>,
@@ -169,7 +169,7 @@ pub fn frame_of(
     })
 }
 
-/// An error frame of which the log says no more.
+/// An error frame without details in the log: a bus error (class 80h), and eight bytes of 0.
 pub fn error_frame(micros: u64, place: Place<'_>) -> LogLine<'_>
     ensures { result ≡ error_frame micros place.entry }
 {

@@ -1,7 +1,8 @@
--- What CANalyzer and CANoe write, a `.asc`: header lines, then events, each with a stamp in seconds. A frame has its channel,
--- its identifier (with an `x` one of 29 bits), its direction, `d` or `r` (remote), its length and data; a CAN FD frame `CANFD`,
--- channel, direction, identifier, perhaps a name, two flags, data length code, number of bytes, data, and after them its
--- duration, its length in bits and its flags.
+-- The `.asc` logs of CANalyzer and CANoe: header lines, then events, each with a stamp in seconds.
+-- A frame has its channel, its identifier (with an `x` one of 29 bits), its direction, `d` or `r`
+-- (remote), its length and data; a CAN FD frame `CANFD`, channel, direction, identifier, perhaps a
+-- name, two flags, data length code, number of bytes, data, and after them its duration, its length
+-- in bits and its flags.
 use Rattle.std.specs.Prelude.{ℕ, ◌+◌, ◌-◌, ◌*◌, ◌/◌, ◌%◌, ◌==◌, nat_eq, nat_le, Bool, true, false, not, ◌||◌, if◌then◌else◌, List, length, take, slice_index, Option, Some, None, unwrap_or, Result, Ok, Err, codes, bytes_eq}
 use Rattle.std.specs.List.{starts_with}
 use Rattle.std.specs.Option.{option_map, option_map_or}
@@ -39,7 +40,7 @@ base_at text =
     if bytes_eq word.0 (codes "hex") then Some (Hexadecimal, word.1)
     else (if bytes_eq word.0 (codes "dec") then Some (Decimal, word.1) else None)
 
--- whether stamps are counted from the event before; nothing is said where nothing follows
+-- whether stamps are counted from the event before; they aren't if no word follows
 unfoldable pub relative_in : List ℕ → Option Bool
 relative_in text =
     if is_over text then Some false
@@ -67,11 +68,11 @@ asc_id base word =
 unfoldable pub asc_id_at : Base → List ℕ → Option (Identifier × List ℕ)
 asc_id_at base text = word_at text >>= λ word. option_map (λ id. (id, word.1)) (asc_id base word.0)
 
--- so many bytes, whatever follows them
+-- so many bytes; what follows them is ignored
 abbrev pub asc_data : Base → ℕ → List ℕ → Result LogContent BadLogLine
 asc_data base count text = need bad.Data (bytes_at base count text) (λ found. Ok (Data found.0))
 
--- the length of a remote frame, where one is there
+-- the length of a remote frame, else 0
 unfoldable pub remote_length : List ℕ → ℕ
 remote_length text = option_map_or (λ count. count.0) (count_at 8 text) 0
 
@@ -95,13 +96,13 @@ asc_frame base micros channel text =
     and_then (asc_content base direction.1) (λ content.
     Ok (frame_of micros (Channel channel) id.0 content (Some direction.0)))))
 
--- the first words of what is on a channel and is no frame: how busy the bus is, an overload frame, which carries nothing, and
--- J1939's transport, whose frames have lines of their own
+-- the first words of a channel's events that are no frames: bus load, overload frames (which carry
+-- nothing), and J1939 transport (whose frames have lines of their own)
 unfoldable pub is_note : List ℕ → Bool
 is_note text =
     next_is (codes "Statistic:") text || (next_is (codes "OverloadFrame") text || next_is (codes "J1939TP") text)
 
--- what is on a channel: an error frame, what is no frame, or a frame
+-- an event of a channel: an error frame, one that is no frame, or a frame
 unfoldable pub asc_on : Base → ℕ → ℕ → List ℕ → Result LogLine BadLogLine
 asc_on base micros channel text =
     if next_is (codes "ErrorFrame") text then Ok (error_frame micros (Channel channel))
@@ -109,7 +110,7 @@ asc_on base micros channel text =
 
 -- ---- CAN FD
 
--- what follows a name, where one is there: a word that doesn't begin with a digit
+-- what follows a name, if there is one: a word that doesn't begin with a digit
 unfoldable pub past_name : List ℕ → List ℕ
 past_name text =
     option_map_or (λ word. if is_digit (slice_index word.0 0) then text else word.1) (word_at text) text
@@ -137,7 +138,8 @@ flags_after text = do
   flags ← word_at bits.1
   number_in Hexadecimal flags.0
 
--- what a frame is by its last flags: CAN FD (bit 12), remote (bit 4), or a classical data frame
+-- the kind of a frame, by its last flags: CAN FD (bit 12), remote (bit 4), or a classical data
+-- frame
 unfoldable pub asc_kind : ℕ → ℕ → ℕ → List ℕ → Result LogContent BadLogLine
 asc_kind last flags code bytes =
     if last / 4096 % 2 == 1 then Ok (Fd flags bytes)
@@ -153,7 +155,7 @@ asc_fd_content base text =
     need bad.Data (bytes_at base sizes.0.1 sizes.1) (λ found.
     asc_kind (unwrap_or (flags_after found.1) 0x1000) flags.0 sizes.0.0 found.0)))
 
--- a frame of a channel that has CAN FD, from its identifier on
+-- a frame of a CAN FD channel, from its identifier on
 unfoldable pub asc_fd_frame : Base → ℕ → ℕ → Direction → List ℕ → Result LogLine BadLogLine
 asc_fd_frame base micros channel direction text =
     need bad.Identifier (asc_id_at base text) (λ id.
@@ -171,7 +173,7 @@ asc_fd base micros text =
 
 -- ---- lines
 
--- what an event is: `CANFD`, a channel, or a word that doesn't begin with a digit, for one that is no frame
+-- an event, by its first word: `CANFD`, a channel, or another word, for an event that is no frame
 unfoldable pub asc_event : Base → ℕ → List ℕ → Result LogLine BadLogLine
 asc_event base micros text =
     need bad.Interface (word_at text) (λ word.

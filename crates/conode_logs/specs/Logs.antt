@@ -20,7 +20,7 @@ use Rattle.conode_logs.specs.Screen.{is_screen_note, screen_line}
 use Rattle.conode_logs.specs.Trc.{is_version, trc_line, version_of}
 use Rattle.conode_log_parts.specs.Words.{is_over, word_at}
 
--- a `.asc` whose header says nothing
+-- a `.asc` until its header says otherwise
 abbrev pub asc_of_old : AscForm
 asc_of_old = record { base = Hexadecimal; relative = false }
 
@@ -44,7 +44,7 @@ abbrev pub begins_asc : List ℕ → Bool
 begins_asc line =
     option_map_or (λ word. bytes_eq word.0 (codes "date") || bytes_eq word.0 (codes "base")) (word_at line) false
 
--- the form of a log that has this line
+-- the form that this line shows
 unfoldable pub form_of : List ℕ → Form
 form_of line =
     if is_version line then option_map_or (λ columns. Trc columns) (version_of line) Unknown
@@ -54,12 +54,13 @@ form_of line =
 
 -- ---- what a line says
 
--- a line as `candump -L` writes it; comments, event lines of this project's traces and empty lines are such lines too
+-- a line as `candump -L` writes it; comments, event lines of this project's traces and empty lines
+-- are such lines too
 abbrev pub record_line_of : Result RecordLine BadLine → Result LogLine BadLogLine
 record_line_of (Ok says) = Ok AsItIs
 record_line_of (Err wrong) = Err (of_record wrong)
 
--- a line by which no form is known yet
+-- a line that leaves the form unknown
 unfoldable pub unknown_line : List ℕ → Result LogLine BadLogLine
 unknown_line line =
     if is_version line then Err bad.Version
@@ -69,7 +70,7 @@ unknown_line line =
 abbrev pub at_time : Form → ℕ × Result LogLine BadLogLine → Log × Result LogLine BadLogLine
 at_time form says = (record { form = form; clock = says.0 }, says.1)
 
--- a line of a log of a form, and the log after it
+-- what a line says in a log of this form, and the log after it
 unfoldable pub says_by : Form → ℕ → List ℕ → Log × Result LogLine BadLogLine
 says_by Unknown clock line = (record { form = Unknown; clock = clock }, unknown_line line)
 says_by Candump clock line = (record { form = Candump; clock = clock }, record_line_of (line_in line))
@@ -79,7 +80,7 @@ says_by (Trc columns) clock line =
     let says = trc_line columns line in (record { form = Trc says.0; clock = clock }, says.1)
 says_by (Asc form) clock line = let says = asc_line form clock line in at_time (Asc says.0) says.1
 
--- the form of a log at a line: by that line, where it isn't known before
+-- the form of a log, or the one that this line shows if it isn't known yet
 abbrev pub form_at : Form → List ℕ → Form
 form_at Unknown line = form_of line
 form_at known line = known

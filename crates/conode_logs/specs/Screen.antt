@@ -1,5 +1,6 @@
--- What candump shows on a screen: a stamp, if there is one, the interface, with `-x` the direction and the flags of a CAN FD
--- frame, the identifier, the length in brackets, the bytes, and with `-a` their characters.
+-- What candump shows on a screen: a stamp, if there is one, the interface, with `-x` the direction
+-- and the flags of a CAN FD frame, the identifier, the length in brackets, the bytes, and with `-a`
+-- their characters.
 use Rattle.std.specs.Prelude.{ℕ, ◌+◌, ◌-◌, ◌==◌, nat_lt, Bool, true, false, ◌&&◌, ◌||◌, if◌then◌else◌, List, length, take, drop, slice_index, Option, Some, None, is_some, Result, Ok, Err, codes, bytes_eq}
 use Rattle.std.specs.Option.{option_map, option_map_or}
 use Rattle.co_text.specs.Texts.{◌>>=◌, decimal_in}
@@ -21,8 +22,8 @@ use Rattle.conode_log_parts.specs.Numbers.{moment_at, moved}
 use Rattle.conode_log_parts.specs.Parts.{bytes_at, frame_of, name_at, short_id}
 use Rattle.conode_log_parts.specs.Words.{is_over, next_is, past_gap, word_at}
 
--- the stamp at the front in microseconds, seconds (`-t a`, `-t z`, `-t d`) or a date in UTC (`-t A`) in parentheses; 0 where
--- none is there; and what follows
+-- the stamp at the front in microseconds, seconds (`-t a`, `-t z`, `-t d`) or a date in UTC
+-- (`-t A`) in parentheses; 0 if there is none; and what follows
 unfoldable pub screen_stamp_at : List ℕ → Option (ℕ × List ℕ)
 screen_stamp_at line =
     let text = past_gap false line in
@@ -54,7 +55,7 @@ mark_of word =
 unfoldable pub mark_at : List ℕ → Option (Direction × List ℕ)
 mark_at text = word_at text >>= λ word. option_map (λ direction. (direction, word.1)) (mark_of word.0)
 
--- direction and flags, where they are there, and what follows
+-- direction and flags, if there are any, and what follows
 unfoldable pub marks_at : List ℕ → Option (Marks × List ℕ)
 marks_at text =
     option_map_or
@@ -97,7 +98,7 @@ screen_classic count text =
     if next_is (codes "remote") text then Ok (Remote count)
     else and_then (screen_bytes count text) (λ bytes. Ok (Data bytes))
 
--- a length, and what it is of
+-- a length in brackets, and the data
 unfoldable pub screen_content : ℕ → List ℕ → Result LogContent BadLogLine
 screen_content flags text =
     need bad.Length (word_at text) (λ word.

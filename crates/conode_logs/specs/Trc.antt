@@ -1,7 +1,8 @@
--- What PCAN-View and PCAN-Explorer write, a `.trc`. Versions 1.1 and 1.3 have the columns number, time in ms, with 1.3 the bus,
--- type, identifier, with 1.3 a reserved column, data length code, data. Versions 2.0 and 2.1 name theirs: number (N), time in
--- ms (O), type (T), perhaps the bus (B), identifier (I), direction (d), perhaps a reserved column (R), data length code (L) or
--- data length (l), data (D).
+-- The `.trc` logs of PCAN-View and PCAN-Explorer. Versions 1.1 and 1.3 have the columns number,
+-- time in ms, with 1.3 the bus, type, identifier, with 1.3 a reserved column, data length code,
+-- data. Versions 2.0 and 2.1 name theirs: number (N), time in ms (O), type (T), perhaps the bus
+-- (B), identifier (I), direction (d), perhaps a reserved column (R), data length code (L) or data
+-- length (l), data (D).
 use Rattle.std.specs.Prelude.{ℕ, ◌==◌, nat_eq, nat_le, Bool, ◌&&◌, true, false, ◌||◌, if◌then◌else◌, List, length, slice_index, Option, Some, None, Result, Ok, Err, codes, bytes_eq}
 use Rattle.std.specs.List.{starts_with}
 use Rattle.std.specs.Option.{option_map, option_map_or}
@@ -41,7 +42,8 @@ named bus reserved counted = record { typed = true; bus = bus; reserved = reserv
 abbrev pub is_version : List ℕ → Bool
 is_version line = starts_with nat_eq line (codes ";$FILEVERSION=")
 
--- the columns by that line, of version 2.0 and 2.1 those that their files have; none of another version
+-- the columns of the version in that line, for 2.0 and 2.1 those of their files; none for another
+-- version
 unfoldable pub version_of : List ℕ → Option Columns
 version_of line =
     if bytes_eq line (codes ";$FILEVERSION=1.1") then Some version_1_1
@@ -53,7 +55,7 @@ version_of line =
 abbrev pub is_columns : List ℕ → Bool
 is_columns line = starts_with nat_eq line (codes ";$COLUMNS=")
 
--- the columns by that line; none where others are there
+-- the columns that the line names; none if they are others
 unfoldable pub columns_of : List ℕ → Option Columns
 columns_of line =
     if bytes_eq line (codes ";$COLUMNS=N,O,T,B,I,d,R,L,D") then Some (named true true false)
@@ -67,15 +69,17 @@ columns_of line =
 
 -- ---- a message
 
--- its type in version 1.1 and 1.3: a frame by its direction, an error, or a warning of the controller
+-- its type in version 1.1 and 1.3: a frame by its direction, an error, or a warning of the
+-- controller
 unfoldable pub old_message : List ℕ → Option Message
 old_message word =
     if bytes_eq word (codes "Error") then Some message.Error
     else (if bytes_eq word (codes "Warng") then Some message.Event
     else option_map (λ direction. message.Old direction) (direction_of word))
 
--- its type in version 2.0 and 2.1: data (DT), remote request (RR), CAN FD (FD), with bit rate switch (FB), with error state
--- indicator (FE), with both (BI), error (ER), or status (ST), error counters (EC) and event (EV), which are no frames
+-- its type in version 2.0 and 2.1: data (DT), remote request (RR), CAN FD (FD), with bit rate
+-- switch (FB), with error state indicator (FE), with both (BI), error (ER), or status (ST), error
+-- counters (EC) and event (EV), which are no frames
 unfoldable pub new_message : List ℕ → Option Message
 new_message word =
     if bytes_eq word (codes "DT") then Some message.Classic
@@ -96,7 +100,8 @@ message_at typed text =
 
 -- ---- a frame
 
--- an identifier of four digits, or of 29 bits: eight digits of PCAN's tools, seven or eight of python-can
+-- an identifier of four digits, or of 29 bits: eight digits of PCAN's tools, seven or eight of
+-- python-can
 abbrev pub trc_id : List ℕ → Option Identifier
 trc_id word =
     if length word == 4 then hex_number word >>= short_id
@@ -106,7 +111,7 @@ trc_id word =
 unfoldable pub trc_id_at : List ℕ → Option (Identifier × List ℕ)
 trc_id_at text = word_at text >>= λ word. option_map (λ id. (id, word.1)) (trc_id word.0)
 
--- what follows the reserved column, where it is there
+-- what follows the reserved column, if there is one
 unfoldable pub past_reserved : Bool → List ℕ → Option (List ℕ)
 past_reserved reserved text = if reserved then option_map (λ word. word.1) (word_at text) else Some text
 
@@ -155,7 +160,7 @@ trc_on columns message.Event micros channel text = Ok Skipped
 trc_on columns message.Error micros channel text = Ok (error_frame micros (Channel channel))
 trc_on columns kind micros channel text = trc_frame columns kind micros channel text
 
--- the channel, where there is a column for it, else 1; and what follows
+-- the channel, if there is a column for it, else 1; and what follows
 unfoldable pub bus_at : Bool → List ℕ → Option (ℕ × List ℕ)
 bus_at bus text = if bus then channel_at text else Some (1, text)
 
@@ -165,7 +170,7 @@ old_line columns micros text =
     need bad.Interface (bus_at columns.bus text) (λ bus.
     need bad.Type (message_at false bus.1) (λ kind. trc_on columns kind.0 micros bus.0 kind.1))
 
--- a message of this type in version 2.0 and 2.1: its bus, where it is a frame, and what follows
+-- a message of this type in version 2.0 and 2.1: its bus, if it is a frame, and what follows
 unfoldable pub new_on : Columns → Message → ℕ → List ℕ → Result LogLine BadLogLine
 new_on columns message.Event micros text = Ok Skipped
 new_on columns kind micros text =
@@ -176,7 +181,7 @@ unfoldable pub new_line : Columns → ℕ → List ℕ → Result LogLine BadLog
 new_line columns micros text =
     need bad.Type (message_at true text) (λ kind. new_on columns kind.0 micros kind.1)
 
--- what a line says that isn't a comment: its number isn't looked at
+-- what a line says that isn't a comment; its number is ignored
 unfoldable pub trc_message : Columns → List ℕ → Result LogLine BadLogLine
 trc_message columns line =
     need bad.Stamp (word_at line) (λ number.

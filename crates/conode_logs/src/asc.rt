@@ -1,4 +1,4 @@
-//! What CANalyzer and CANoe write, a `.asc`.
+//! The `.asc` logs of CANalyzer and CANoe.
 
 ghost use Rattle.std.specs.Prelude.{◌≡◌, ◌≤◌, length, slice_index, IfSome};
 ghost use Rattle.std.specs.Option.{option_map};
@@ -47,7 +47,7 @@ pub struct AscForm {
     pub relative: bool,
 }
 
-/// The flag of a CAN FD frame, as it is where nothing follows the data.
+/// The flag of a CAN FD frame, assumed if nothing follows the data.
 const FLEXIBLE: u32 = 0x1000;
 
 #[tactic(auto, unfolding(crate::specs::Asc::is_header))]
@@ -130,7 +130,7 @@ fn asc_id_at(base: Base, text: &[u8]) -> Option<(Identifier, &[u8])>
     Some((id, rest))
 }
 
-// so many bytes, whatever follows them
+// `count` bytes; what follows them is ignored
 fn asc_data(base: Base, count: u32, text: &[u8]) -> Result<LogContent, BadLogLine>
     requires { count ≤ 8 }
     ensures { result ≡ asc_data base count text.now }
@@ -141,7 +141,7 @@ fn asc_data(base: Base, count: u32, text: &[u8]) -> Result<LogContent, BadLogLin
     }
 }
 
-// the length of a remote frame, where one is there
+// the length of a remote frame, else 0
 #[tactic(auto, unfolding(crate::specs::Asc::remote_length))]
 fn remote_length(text: &[u8]) -> u8
     ensures { result ≡ remote_length text.now }
@@ -198,7 +198,7 @@ fn asc_frame(base: Base, micros: u64, channel: u8, text: &[u8]) -> Result<LogLin
     Ok(frame_of(micros, place, id, content, Some(direction)))
 }
 
-// what is on a channel and is no frame
+// whether an event of a channel is no frame
 #[tactic(auto, unfolding(crate::specs::Asc::is_note))]
 fn is_note(text: &[u8]) -> bool
     ensures { result ≡ is_note text.now }
@@ -206,7 +206,7 @@ fn is_note(text: &[u8]) -> bool
     next_is(b"Statistic:", text) || next_is(b"OverloadFrame", text) || next_is(b"J1939TP", text)
 }
 
-// what is on a channel
+// an event of a channel
 #[tactic(auto, unfolding(crate::specs::Asc::asc_on))]
 fn asc_on(base: Base, micros: u64, channel: u8, text: &[u8]) -> Result<LogLine<'_>, BadLogLine>
     ensures { result ≡ asc_on base micros channel text.now }
@@ -227,7 +227,7 @@ fn is_numeric(word: &[u8]) -> bool
     !word.is_empty() && is_digit(word[0])
 }
 
-// what follows a name, where one is there
+// what follows a name, if there is one
 #[tactic(auto, unfolding(crate::specs::Asc::past_name))]
 fn past_name(text: &[u8]) -> &[u8]
     ensures { result.now ≡ past_name text.now }
@@ -271,7 +271,7 @@ fn flags_after(text: &[u8]) -> Option<u32>
     number_in(Base::Hexadecimal, flags)
 }
 
-// what a frame is by its last flags
+// the kind of a frame, by its last flags
 #[tactic(auto, unfolding(crate::specs::Asc::asc_kind))]
 fn asc_kind(last: u32, flags: u8, code: u32, bytes: LogBytes) -> Result<LogContent, BadLogLine>
     ensures { result ≡ asc_kind last flags code bytes }
@@ -309,7 +309,7 @@ fn asc_fd_content(base: Base, text: &[u8]) -> Result<LogContent, BadLogLine>
     asc_kind(flags_after(rest).unwrap_or(FLEXIBLE), flags, code, bytes)
 }
 
-// a frame of a channel that has CAN FD, from its identifier on
+// a frame of a CAN FD channel, from its identifier on
 #[tactic(auto, unfolding(crate::specs::Asc::asc_fd_frame))]
 fn asc_fd_frame(
     base: Base,

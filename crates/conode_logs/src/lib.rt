@@ -1,5 +1,5 @@
-//! The logs of other recorders: `candump -L` and what candump shows on a screen, `.trc` of PCAN-View, `.asc` of CANalyzer.
-//! Each is read line by line.
+//! The logs of other recorders: `candump -L` and what candump shows on a screen, `.trc` of
+//! PCAN-View, `.asc` of CANalyzer. Each is read line by line.
 #![tactic(auto)]
 
 mod asc;

@@ -1,4 +1,4 @@
-//! What a line of a log says, by the form that the log has.
+//! What a line of a log says, by the form of the log.
 
 ghost use Rattle.std.specs.Prelude.{◌≡◌, false};
 ghost use Rattle.conode_record.specs.Lines.{is_skipped, line_in};
@@ -27,13 +27,14 @@ use conode_record::RecordLine;
 /// The form of a log.
 #[derive(Clone, Copy, Debug, PartialEq, Eq)]
 pub enum Form {
-    /// No line showed it yet.
+    /// No line has shown it yet.
     Unknown,
     /// Lines as `candump -L` writes them.
     Candump,
-    /// What candump shows on a screen: without stamps, or with stamps that stand for themselves (`-t a`, `-t z`, `-t A`).
+    /// What candump shows on a screen: without stamps, or with stamps that don't depend on the line
+    /// before (`-t a`, `-t z`, `-t A`).
     Screen,
-    /// The same, with stamps that are counted from the line before (`-t d`).
+    /// The same, with stamps counted from the line before (`-t d`).
     Deltas,
     /// A `.trc`, and its columns.
     Trc(Columns),
@@ -41,7 +42,8 @@ pub enum Form {
     Asc(AscForm),
 }
 
-/// What is known of a log: its form, and its clock in microseconds, for stamps that are counted from the line before.
+/// What is known of a log so far: its form, and its clock in microseconds, for stamps counted from
+/// the line before.
 #[derive(Clone, Copy, Debug, PartialEq, Eq)]
 pub struct Log {
     /// Its form.
@@ -51,7 +53,7 @@ pub struct Log {
 }
 
 impl AscForm {
-    /// A `.asc` whose header says nothing.
+    /// A `.asc` until its header says otherwise: hexadecimal digits, absolute stamps.
     pub(crate) fn of_old() -> AscForm
         ensures { result ≡ asc_of_old }
     {
@@ -101,7 +103,7 @@ impl Form {
         Form::Asc(AscForm::of_old())
     }
 
-    // the form of a log that has this line
+    // the form that this line shows
     #[tactic(auto, unfolding(crate::specs::Logs::form_of))]
     fn of_line(line: &[u8]) -> Form
         ensures { result ≡ form_of line.now }
@@ -123,7 +125,7 @@ impl Form {
         }
     }
 
-    // the form at a line: by that line, where it isn't known before
+    // the form, or the one that this line shows if it isn't known yet
     fn at_line(self, line: &[u8]) -> Form
         ensures { result ≡ form_at self line.now }
     {
@@ -150,7 +152,7 @@ fn is_skipped(line: &[u8]) -> bool
     line.is_empty() || line[0] == b';' || line[0] == b'!'
 }
 
-// a line by which no form is known yet
+// a line that leaves the form unknown
 #[tactic(auto, unfolding(crate::specs::Logs::unknown_line))]
 fn unknown_line(line: &[u8]) -> Result<LogLine<'_>, BadLogLine>
     ensures { result ≡ unknown_line line.now }
@@ -166,7 +168,7 @@ fn unknown_line(line: &[u8]) -> Result<LogLine<'_>, BadLogLine>
     }
 }
 
-// what a line of a log of a form says, and the log after it
+// what a line says in a log of this form, and the log after it
 #[tactic(auto, unfolding(crate::specs::Logs::says_by))]
 fn says_by(form: Form, clock: u64, line: &[u8]) -> (Log, Result<LogLine<'_>, BadLogLine>)
     ensures { result ≡ says_by form clock line.now }
@@ -196,8 +198,8 @@ fn says_by(form: Form, clock: u64, line: &[u8]) -> (Log, Result<LogLine<'_>, Bad
 }
 
 impl Log {
-    /// What a line says, without its line feed, or what is wrong with it. Where the form isn't known yet, the line shows it
-    /// where it can.
+    /// Reads a line without its line feed; `Err` says what is wrong with it. A line may show the
+    /// form of the log, if it isn't known yet.
     #[tactic(auto, unfolding(crate::specs::Logs::says))]
     pub fn read<'a>(&mut self, line: &'a [u8]) -> Result<LogLine<'a>, BadLogLine>
         ensures { (self.new, result) ≡ says self.old line.now }

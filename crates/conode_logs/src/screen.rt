@@ -31,7 +31,7 @@ use conode_log_parts::{
 use conode_record::{Direction, Identifier};
 
 /// What `candump -x` shows between the interface and the identifier.
-#[derive(Clone, Copy, Debug, PartialEq, Eq)]
+#[derive(Clone, Copy, PartialEq, Eq)]
 pub(crate) struct Marks {
     pub(crate) direction: Option<Direction>,
     /// The flags of a CAN FD frame: bit 0 bit rate switch, bit 1 error state indicator.
@@ -101,7 +101,7 @@ fn mark_at(text: &[u8]) -> Option<(Direction, &[u8])>
     Some((direction, rest))
 }
 
-// direction and flags, where they are there, and what follows
+// direction and flags, if there are any, and what follows
 #[tactic(auto, unfolding(crate::specs::Screen::marks_at))]
 fn marks_at(text: &[u8]) -> Option<(Marks, &[u8])>
     ensures { option_map (λ found. (found.0, found.1.now)) result ≡ marks_at text.now }
@@ -121,7 +121,7 @@ fn marks_at(text: &[u8]) -> Option<(Marks, &[u8])>
     Some((marks, rest))
 }
 
-// what eight digits are
+// an identifier of 29 bits, or with bit 29 set the class of an error frame
 fn eight_digits(number: u32) -> Option<Identifier>
     ensures { result ≡ eight_digits number }
 {
@@ -184,7 +184,7 @@ fn screen_ends(text: &[u8]) -> bool
     }
 }
 
-// so many bytes, and an ending
+// `count` bytes, and an ending
 fn screen_bytes(count: u32, text: &[u8]) -> Result<LogBytes, BadLogLine>
     requires { count ≤ 64 }
     ensures { result ≡ screen_bytes count text.now }
@@ -199,7 +199,7 @@ fn screen_bytes(count: u32, text: &[u8]) -> Result<LogBytes, BadLogLine>
     }
 }
 
-// `remote request`, or so many bytes
+// `remote request`, or `count` bytes
 fn screen_classic(count: u32, text: &[u8]) -> Result<LogContent, BadLogLine>
     requires { count ≤ 64 }
     ensures { result ≡ screen_classic count text.now }
@@ -210,7 +210,7 @@ fn screen_classic(count: u32, text: &[u8]) -> Result<LogContent, BadLogLine>
     Ok(LogContent::Data(screen_bytes(count, text)?))
 }
 
-// a length, and what it is of
+// a length in brackets, and the data
 #[tactic(auto, unfolding(crate::specs::Screen::screen_content))]
 fn screen_content(flags: u8, text: &[u8]) -> Result<LogContent, BadLogLine>
     ensures { result ≡ screen_content flags text.now }
@@ -267,7 +267,8 @@ fn screen_timed(sums: bool, clock: u64, line: &[u8]) -> (u64, Result<LogLine<'_>
     }
 }
 
-/// What a line says, and the clock after it. Stamps are summed, or stand for themselves.
+/// What a line says, and the clock after it, in microseconds. With `sums` a stamp is counted from
+/// the line before.
 #[tactic(auto, unfolding(crate::specs::Screen::screen_line))]
 pub(crate) fn screen_line(
     sums: bool,

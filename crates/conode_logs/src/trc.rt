@@ -1,4 +1,4 @@
-//! What PCAN-View and PCAN-Explorer write, a `.trc`.
+//! The `.trc` logs of PCAN-View and PCAN-Explorer.
 
 ghost use Rattle.std.specs.Prelude.{◌≡◌, ◌≤◌, ◌||◌, length, IfSome, codes, bytes_eq};
 ghost use Rattle.std.specs.Option.{option_map, option_copied};
@@ -42,7 +42,8 @@ use conode_record::{Direction, Identifier};
 /// The columns of a `.trc`.
 #[derive(Clone, Copy, Debug, PartialEq, Eq)]
 pub struct Columns {
-    /// Whether a column has the type of each message, and another one its direction: version 2.0 and 2.1.
+    /// Whether a column has the type of each message, and another one its direction: version 2.0
+    /// and 2.1.
     pub typed: bool,
     /// Whether a column has the bus.
     pub bus: bool,
@@ -53,7 +54,7 @@ pub struct Columns {
 }
 
 /// What a message of a `.trc` is.
-#[derive(Clone, Copy, Debug, PartialEq, Eq)]
+#[derive(Clone, Copy, PartialEq, Eq)]
 pub(crate) enum Message {
     /// A frame of version 1.1 or 1.3, which has no column for its direction.
     Old(Direction),
@@ -93,7 +94,7 @@ impl Columns {
         }
     }
 
-    // those that a file names
+    // the columns that a file of version 2.0 or 2.1 names
     fn named(bus: bool, reserved: bool, counted: bool) -> Columns
         ensures { result ≡ named bus reserved counted }
     {
@@ -105,7 +106,7 @@ impl Columns {
         }
     }
 
-    /// The columns by the line with the version; `None` of another version.
+    /// The columns of the version in this line; `None` if it is another version.
     #[tactic(auto, unfolding(crate::specs::Trc::version_of))]
     pub(crate) fn of_version(line: &[u8]) -> Option<Columns>
         ensures { result ≡ version_of line.now }
@@ -123,7 +124,7 @@ impl Columns {
         }
     }
 
-    // the columns by the line that names them; `None` where others are there
+    // the columns that this line names; `None` if they are others
     #[tactic(auto, unfolding(crate::specs::Trc::columns_of))]
     fn of_names(line: &[u8]) -> Option<Columns>
         ensures { result ≡ columns_of line.now }
@@ -244,7 +245,7 @@ fn trc_id_at(text: &[u8]) -> Option<(Identifier, &[u8])>
     Some((id, rest))
 }
 
-// what follows the reserved column, where it is there
+// what follows the reserved column, if there is one
 #[tactic(auto, unfolding(crate::specs::Trc::past_reserved))]
 fn past_reserved(reserved: bool, text: &[u8]) -> Option<&[u8]>
     ensures { option_copied result ≡ past_reserved reserved text.now }
@@ -256,7 +257,7 @@ fn past_reserved(reserved: bool, text: &[u8]) -> Option<&[u8]>
     Some(rest)
 }
 
-// so many bytes, and nothing after them
+// `count` bytes, and nothing after them
 #[tactic(auto, unfolding(crate::specs::Trc::trc_bytes))]
 fn trc_bytes(count: usize, text: &[u8]) -> Result<LogBytes, BadLogLine>
     requires { count ≤ 64 }
@@ -379,7 +380,7 @@ fn trc_on(
     }
 }
 
-// the channel, where there is a column for it, else 1; and what follows
+// the channel, if there is a column for it, else 1; and what follows
 #[tactic(auto, unfolding(crate::specs::Trc::bus_at))]
 fn bus_at(bus: bool, text: &[u8]) -> Option<(u8, &[u8])>
     ensures { option_map (λ found. (found.0, found.1.now)) result ≡ bus_at bus text.now }
@@ -405,7 +406,7 @@ fn old_line(columns: Columns, micros: u64, text: &[u8]) -> Result<LogLine<'_>, B
     trc_on(columns, message, micros, channel, rest)
 }
 
-// a message of this type in version 2.0 and 2.1: its bus, where it is a frame, and what follows
+// a message of this type in version 2.0 and 2.1: its bus, if it is a frame, and what follows
 #[tactic(auto, unfolding(crate::specs::Trc::new_on))]
 fn new_on(
     columns: Columns,

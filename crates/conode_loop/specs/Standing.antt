@@ -30,7 +30,7 @@ use Rattle.conode_io.specs.declared.fault.CmdFault.TheVariants.{BadLine, Memory,
 use Rattle.conode_io.specs.Written.{WritesFront, WritesLines, WritesSome}
 use Rattle.conode_loop.specs.Printed.{WritesFirst, frame_lines, lines_from, loop_lines}
 
--- a client and a node stand so, and these requests wait
+-- a client and a node are in the state of both ends, and these requests are queued
 pub record EndsStand (l : Loop) (e : BothEnds) (node : Node) (client : Standing)
     (waiting : List FrameContent) : Type 0 where
   pub node_stands : Stands l.node node e.inputs
@@ -39,8 +39,8 @@ pub record EndsStand (l : Loop) (e : BothEnds) (node : Node) (client : Standing)
   pub response : client.answer ≡ response_id l
   pub same_waiting : waiting ≡ e.waiting
 
--- The node stands after some rounds, counted from there. All lines of these rounds but those of the last one are
--- written, at least; `old` and `new` are what the writer has before and after, where that is known.
+-- The node is in its state after some rounds from `e`. At least the lines of all these rounds but
+-- the last are written; `old` and `new` are what the writer has before and after, as far as known.
 pub record StandsAfterSome (l : Loop) (e : BothEnds) (node : Node) (old new : Option (List ℕ)) : Type 0 where
   pub number : ℕ
   pub within : number ≤ 20000
@@ -56,10 +56,10 @@ pub record EndsDone (k : Constants) (before : Inputs) (key : Key) (bytes : List 
   pub done : state_at (download_of k key bytes mode) (last_ends (download_of k key bytes mode) before) ≡ Done
   pub written : WritesLines old new (loop_lines (download_of k key bytes mode) before)
 
--- ---- what private calls come to
+-- ---- results of private calls
 
--- lines were written, by how that ended: all; where the writer failed a front; where memory ran out the first of them,
--- perhaps all
+-- lines were written, by how that ended: all of them; a front if the writer failed; the first of
+-- them, perhaps all, if memory ran out
 abbrev pub WrittenBy : Option (List ℕ) → Option (List ℕ) → List (List ℕ) → Result (Unit {0}) CmdFault → Type 0
 WrittenBy old new lines (Ok done) = WritesLines old new lines
 WrittenBy old new lines (Err Write) = WritesFront old new lines
@@ -68,7 +68,8 @@ WrittenBy old new lines (Err Read) = ⊥
 WrittenBy old new lines (Err NeverEnds) = ⊥
 WrittenBy old new lines (Err (BadLine number)) = ⊥
 
--- a round: the node took its input, its lines were written, and both ends stand after it where all went well
+-- a round: the node took its input, its lines were written, and if all went well both ends are in
+-- the state after it
 pub record RoundMade (l : Loop) (e : BothEnds) (node : Node) (client : Standing)
     (waiting : List FrameContent) (old new : Option (List ℕ)) (result : Result (Unit {0}) CmdFault) : Type 0 where
   pub node_stands : Stands l.node node (after_round l e).inputs

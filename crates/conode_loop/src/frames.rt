@@ -1,4 +1,4 @@
-//! Frames that are printed, and that come to the client.
+//! Printing frames, and passing them to the client.
 
 ghost use Rattle.std.specs.Prelude.{◌≡◌, ◌++◌, ◌∷◌, List, OnOk, IfErr};
 ghost use Rattle.co_sdo_client.specs.Calls.{Call, Event, Ticked, frames_on};
@@ -15,7 +15,7 @@ use conode_trace::frame_line;
 use std::alloc::AllocError;
 use std::io::Write;
 
-/// Writes the line of each frame, at time 0.
+/// Writes the line of each frame, at time 0. `Write` if the writer fails.
 pub(crate) fn write_frames<W: Write>(frames: &[Frame], writer: &mut W) -> Result<(), CmdFault>
     ensures ok { OnOk result
         (WritesLines (W.contents writer.old) (W.contents writer.new) (frame_lines frames.now)) }
@@ -30,7 +30,8 @@ pub(crate) fn write_frames<W: Write>(frames: &[Frame], writer: &mut W) -> Result
     Ok(())
 }
 
-/// Gives frames of the node to the client. What it then sends waits.
+/// Passes frames of the node to the client, and queues what the client then sends. `Err`: out of
+/// memory.
 pub(crate) fn take_frames(
     client: &mut Client<'_>,
     frames: &[Frame],
@@ -54,7 +55,8 @@ pub(crate) fn take_frames(
     Ok(())
 }
 
-/// A tick of 1 ms at the client. What it then sends waits.
+/// Passes a tick of 1 ms to the client, and queues what the client then sends. `Err`: out of
+/// memory.
 pub(crate) fn take_tick(client: &mut Client<'_>, waiting: &mut Vec<Frame>) -> Result<(), AllocError>
     ensures stands { (call : Call) (events : List Event) → ClientStands call events client.old →
         OnOk result (ClientStands call (Ticked ∷ events) client.new) }

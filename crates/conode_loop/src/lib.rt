@@ -1,5 +1,5 @@
-//! A client's download looped against a node: the bytes go by SDO over the node's default channel (CiA 301, 7.2.4.3),
-//! and each frame is printed as the line of a trace.
+//! A client's download looped against a node: the bytes go over the node's default SDO channel
+//! (CiA 301, 7.2.4.3), and each frame is printed as the line of a trace.
 #![tactic(auto)]
 
 mod frames;

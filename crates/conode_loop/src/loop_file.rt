@@ -25,10 +25,10 @@ use std::io::Write;
 use std::process::ExitCode;
 use std::rt::Files;
 
-/// How many bytes a client downloads at most.
+/// The most bytes that a client downloads.
 const MOST_BYTES: usize = 65_535;
 
-// All bytes of pairs of digits.
+// The bytes of pairs of digits.
 fn collected(alloc: Global, pairs: HexPairs<'_>) -> Result<Vec<u8>, AllocError>
     ensures { IfOk result (λ bytes. bytes.items ≡ pairs.entry) }
 {
@@ -40,7 +40,8 @@ fn collected(alloc: Global, pairs: HexPairs<'_>) -> Result<Vec<u8>, AllocError>
     Ok(bytes)
 }
 
-// The bytes that a word spells in pairs of hexadecimal digits, at most 65,535, or `-` for none; `None` for other words.
+// The bytes that a word spells in pairs of hexadecimal digits, at most 65,535, or `-` for none;
+// `None` for other words.
 #[tactic(auto, unfolding(crate::specs::Words::bytes_in))]
 fn bytes_in(alloc: Global, word: &str) -> Result<Option<Vec<u8>>, AllocError>
     ensures spelled { IfOk result (λ bytes. option_map (λ b. b.items) bytes ≡ bytes_in word.now) }
@@ -63,7 +64,7 @@ struct Job<'a> {
     mode: Mode,
 }
 
-// Loops a download against a node on `out`, and says why it stopped where it did.
+// Loops a download against a node, prints on `out`, and says why it stopped early, if it did.
 fn loop_node<O: Write, E: Write>(
     alloc: Global,
     node: &mut Node,
@@ -73,7 +74,7 @@ fn loop_node<O: Write, E: Write>(
 ) -> ExitCode
     requires { length job.now.bytes.now ≤ 65535 }
     ensures status { (exit_status result ≡ 0) ⊎ (exit_status result ≡ 1) }
-    // The status is 0 only where the client is done and all is written.
+    // The status is 0 only if the client is done and all is written.
     ensures done { exit_status result ≡ 0 → (k : Constants) (before : Inputs) →
         Stands k node.old before → EndsDone k before job.now.key job.now.bytes.now job.now.mode
         (O.contents out.old) (O.contents out.new) }
@@ -98,7 +99,7 @@ fn loop_device<O: Write, E: Write>(
 ) -> ExitCode
     requires { length job.now.bytes.now ≤ 65535 }
     ensures status { (exit_status result ≡ 0) ⊎ (exit_status result ≡ 1) }
-    // It is the device of this sheet, node-ID, rooms and SDO timeout.
+    // The device is that of this sheet, node-ID, rooms and SDO timeout.
     ensures done { exit_status result ≡ 0 → EndsDone
         (built_constants (planned sheet.now node_id config.now) config.now.time) []
         job.now.key job.now.bytes.now job.now.mode (O.contents out.old) (O.contents out.new) }
@@ -109,7 +110,7 @@ fn loop_device<O: Write, E: Write>(
     }
 }
 
-// Loops a download against the node of a data sheet, at the node-ID that is given, or else the sheet's own.
+// Loops a download against the node of a data sheet, at the given node-ID, or else the sheet's own.
 fn loop_sheet<O: Write, E: Write>(
     alloc: Global,
     sheet: &Sheet<'_>,
@@ -123,7 +124,7 @@ fn loop_sheet<O: Write, E: Write>(
     ensures none { option_or node sheet.now.node_id ≡ None → exit_status result ≡ 2 }
     ensures some { IfSome (option_or node sheet.now.node_id)
         (λ id. (exit_status result ≡ 0) ⊎ (exit_status result ≡ 1)) }
-    // The node-ID that is given goes before the sheet's own.
+    // A given node-ID takes precedence over the sheet's own.
     ensures done { exit_status result ≡ 0 → IsSomeAnd (option_or node sheet.now.node_id) (λ id.
         EndsDone (built_constants (planned sheet.now id config.now) config.now.time) []
         job.now.key job.now.bytes.now job.now.mode (O.contents out.old) (O.contents out.new)) }
@@ -134,7 +135,7 @@ fn loop_sheet<O: Write, E: Write>(
     }
 }
 
-// Loops a download against the node of a data sheet's text, if the text is one.
+// Loops a download against the node of a data sheet, if this text is one.
 fn loop_text<O: Write, E: Write>(
     alloc: Global,
     text: &[u8],
@@ -176,13 +177,15 @@ fn loop_path<R: Files + AllocGlobal, O: Write, E: Write>(
     }
 }
 
-/// Loops a download against the node of the data sheet of a path, as `loop_back` does, on `out`. Its node-ID is the one
-/// that is given, or else the sheet's own, that of a device configuration file. `key` is a key as `2001:00`; `hex` are
-/// the bytes in pairs of hexadecimal digits, or `-` for none.
+/// Loops a download against the node of the data sheet of a path, as `loop_back` does, and prints
+/// on `out`. The node-ID is the given one, or else the sheet's own, as a device configuration file
+/// has it. `key` is a key as `2001:00`; `hex` are the bytes in pairs of hexadecimal digits, or `-`
+/// for none.
 ///
-/// `bad key` and then `bad bytes`, also for more than 65,535 bytes, go to `err` before the file is opened, and
-/// `no node-ID` after the sheet was read; the status is then 2. A file that can't be read is named on `err`; a fault of
-/// the sheet and one of its build go to `out`. The status is 0 where the client is done, else 1.
+/// `bad key` and then `bad bytes`, also for more than 65,535 bytes, go to `err` before the file is
+/// opened, and `no node-ID` after the sheet was read; the status is then 2. A file that can't be
+/// read is named on `err`; a fault of the sheet and one of its build go to `out`. The status is 0
+/// if the client is done, else 1.
 pub fn loop_files<R: Files + AllocGlobal, O: Write, E: Write>(
     rt: &R,
     sheet: &str,

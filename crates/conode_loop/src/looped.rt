@@ -20,7 +20,7 @@ use conode_io::{CmdFault, hand_over};
 use std::alloc::{AllocError, Global};
 use std::io::Write;
 
-// Appends how many frames the client sent. On an `Err` memory ran out, and a part of it may be there.
+// Appends how many frames the client sent. `Err`: out of memory; a part of it may be there.
 #[tactic(auto, unfolding(crate::specs::Printed::requests_text))]
 fn push_requests(text: &mut String, sent: u64) -> Result<(), AllocError>
     ensures { OnOk result (string_bytes text.new ≡ string_bytes text.old ++ requests_text sent) }
@@ -29,8 +29,8 @@ fn push_requests(text: &mut String, sent: u64) -> Result<(), AllocError>
     text.push_str(" requests\n")
 }
 
-// Makes the text the last line: how the client stands, and how many frames it sent. On an `Err` memory ran out, and
-// the text holds a part of the line.
+// Sets the text to the last line: the state of the client, and how many frames it sent. `Err`: out
+// of memory; the text then has a part of the line.
 #[tactic(auto, unfolding(crate::specs::Printed::last_line))]
 fn set_last_line(text: &mut String, state: ClientState, sent: u64) -> Result<(), AllocError>
     ensures { OnOk result (string_bytes text.new ≡ last_line state sent) }
@@ -51,7 +51,7 @@ fn set_last_line(text: &mut String, state: ClientState, sent: u64) -> Result<(),
     }
 }
 
-// All rounds of a client that has begun, and the last line.
+// Runs all rounds of a client that has begun, and writes the last line.
 fn loop_client<W: Write>(
     node: &mut Node,
     client: &mut Client<'_>,
@@ -70,7 +70,7 @@ fn loop_client<W: Write>(
     Ok(state)
 }
 
-// A client begins its download, and all rounds and the last line follow.
+// Begins a client's download, runs all rounds, and writes the last line.
 fn loop_download<W: Write>(
     alloc: Global,
     node: &mut Node,
@@ -99,25 +99,30 @@ fn loop_download<W: Write>(
     loop_client(node, &mut client, &mut waiting, &mut line, writer)
 }
 
-/// Downloads bytes, at most 65,535, to an entry of a node by an SDO client over the node's default channel (CiA 301,
-/// 7.2.4.3): 600h + node-ID and 580h + node-ID. The client indicates their number and waits for each answer for ever.
+/// Downloads bytes, at most 65,535, to an entry of a node by an SDO client over the node's default
+/// channel (CiA 301, 7.2.4.3): 600h + node-ID and 580h + node-ID. The client indicates the size,
+/// and has no timeout.
 ///
-/// In a round one request of the client is given to the node; where none waits, 1 ms passes at both. All frames that
-/// the node then sends come to the client. Rounds go on as long as the client waits for an answer, or a request of it
-/// to be given to the node, and at most 20,000. So an abort that the client sends is given to the node, too.
+/// In each round the node takes one request of the client; if none is queued, 1 ms elapses for
+/// both. The client then takes all frames that the node sends. Rounds go on while the client waits
+/// for an answer, or one of its requests is queued; at most 20,000. So the node also takes an abort
+/// that the client sends.
 ///
-/// Each frame is written as the line of a trace at time 0: a request, and after it what the node sends; of a tick the
-/// latter alone. The last line is `; done, 3 requests` or `; failed 06070012, 1 requests`, with the number of frames
-/// that the client sent, or `; gave up` where it still waits after the last round. The answer is how the client
-/// stands.
+/// Each frame is written as the line of a trace at time 0: a request, and after it what the node
+/// sends; in a round with a tick only the latter. The last line is `; done, 3 requests` or
+/// `; failed 06070012, 1 requests`, with the number of frames that the client sent, or `; gave up`
+/// if it still waits after the last round. Returns the state of the client.
 ///
-/// A segmented download that the node permits ends done: after one request and one for each seven bytes or fewer, with
-/// the bytes in the entry (`done`).
+/// A segmented download that the node permits completes: it takes one request, and one for each
+/// segment of at most seven bytes, and the entry then has the bytes (`done`).
 ///
-/// `Write` where the writer failed: then some of the lines have been written, and perhaps a part of the next one.
-/// `Memory` where memory ran out: some of the lines have been written, never all. The node has then taken the inputs
-/// of some of the rounds, and all lines of these rounds but the last have been written (`some`): where already the
-/// first write fails, the node has taken the first request at most.
+/// * `Write`: the writer failed. Some of the lines have been written, and perhaps a part of the
+///   next one.
+/// * `Memory`: memory ran out. Some of the lines have been written, never all.
+///
+/// The node has then taken the inputs of some rounds, and the lines of all but the last of these
+/// have been written (`some`). So if the first write fails, the node has taken at most the first
+/// request.
 pub fn loop_back<W: Write>(
     alloc: Global,
     node: &mut Node,

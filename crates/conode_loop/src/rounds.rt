@@ -14,7 +14,7 @@ use co_sdo_client::{Client, ClientState};
 use conode_io::CmdFault;
 use std::io::Write;
 
-// Whether another round follows: the client waits for an answer, or a request of it to be given to the node.
+// Whether another round follows: the client waits for an answer, or one of its requests is queued.
 fn goes_on(client: &Client<'_>, waiting: &[Frame]) -> bool
     ensures { (l : Loop) (e : BothEnds) → ClientStands l.call e.events client.now →
         waiting.now ≡ e.waiting → result ≡ goes_on l e }
@@ -25,7 +25,7 @@ fn goes_on(client: &Client<'_>, waiting: &[Frame]) -> bool
     }
 }
 
-// A round in which no request waits: a tick at both.
+// A round without a queued request: both take a tick.
 fn tick<W: Write>(
     node: &mut Node,
     client: &mut Client<'_>,
@@ -46,7 +46,7 @@ fn tick<W: Write>(
     Ok(())
 }
 
-// A round in which a request waits: the oldest is given to the node.
+// A round with a queued request: the node takes the oldest.
 fn exchange<W: Write>(
     node: &mut Node,
     client: &mut Client<'_>,
@@ -68,7 +68,7 @@ fn exchange<W: Write>(
     Ok(())
 }
 
-// A round.
+// One round.
 fn round<W: Write>(
     node: &mut Node,
     client: &mut Client<'_>,

@@ -1,4 +1,5 @@
--- What follows the number sign of a frame line: its data, or a remote frame's length, and the direction.
+-- What follows the number sign of a frame line: its data, or a remote frame's length, and the
+-- direction.
 use Rattle.std.specs.Prelude.{ℕ, Bool, ◌-◌, ◌==◌, nat_le, nat_lt, not, ◌&&◌, if◌then◌else◌, List, [], ◌∷◌, length, take, drop, slice_index, Option, Some, None, Result, Ok, Err}
 use Rattle.std.specs.List.{list_all}
 use Rattle.conode_record.specs.declared.bad_line.BadLine.{BadLine}
@@ -11,12 +12,12 @@ use Rattle.co_text.specs.Texts.{is_blank, is_digit, hex_digit}
 use Rattle.co_text.specs.HexPairs.{pairs_at}
 use Rattle.conode_trace.specs.FrameLines.{is_mark}
 
--- what comes of a part of the line, or what is wrong where it isn't there
+-- f of a part of the line, or what is wrong if the part is missing
 abbrev pub need : {A B : Type 0} → BadLine → Option A → (A → Result B BadLine) → Result B BadLine
 need wrong None f = Err wrong
 need wrong (Some found) f = f found
 
--- what comes of a part of the line, unless it is wrong
+-- f of a part of the line, unless the part is wrong
 abbrev pub and_then : {A B : Type 0} → Result A BadLine → (A → Result B BadLine) → Result B BadLine
 and_then (Err wrong) f = Err wrong
 and_then (Ok found) f = f found
@@ -31,14 +32,15 @@ is_marked text =
     let last = length text - 1 in
     nat_lt 0 last && (is_mark (slice_index text last) && list_all is_blank (take last text))
 
--- the direction, if there is one, as the rest of a line has it
+-- the direction in the rest of a line, if there is one
 abbrev pub ending_in : List ℕ → Result (Option Direction) BadLine
 ending_in text =
     if length text == 0 then Ok None
     else (if not (is_blank (slice_index text 0)) then Err bad.Data
     else (if is_marked text then Ok (Some (direction_of (slice_index text (length text - 1)))) else Err bad.Ending))
 
--- the bytes that the pairs of digits at the front spell, where they are at most so many, and what follows
+-- the bytes that the pairs of digits at the front spell, if they are at most so many, and what
+-- follows
 abbrev pub few_pairs : ℕ → List ℕ → Option (List ℕ × List ℕ)
 few_pairs most text = let pairs = pairs_at text in if nat_le (length pairs.0) most then Some pairs else None
 

@@ -7,7 +7,8 @@ use Rattle.conode_record.specs.declared.fields.Identifier.TheVariants.{Base, Ext
 use Rattle.co_text.specs.Texts.{◌>>=◌, is_blank, hex_digit, is_hex_digit}
 use Rattle.conode_trace.specs.FrameLines.{past_byte, number_at, is_name_byte}
 
--- the stamp in microseconds: seconds and microseconds in parentheses, a point between them; and what follows
+-- the stamp in microseconds: seconds and microseconds in parentheses, a point between them; and
+-- what follows
 unfoldable pub stamp_at : List ℕ → Option (ℕ × List ℕ)
 stamp_at text = do
   opened ← past_byte 40 text

@@ -1,4 +1,5 @@
--- The grammar of a recording's line, as `candump -L` writes it: a line is the join of its parts. Reading is apart from it.
+-- The grammar of a recording's line, as `candump -L` writes it: a line is its parts, one after the
+-- other. It doesn't say how a line is read.
 use Rattle.std.specs.Prelude.{◌≡◌, ℕ, ◌+◌, ◌*◌, ◌<◌, ◌≤◌, true, ◌⊎◌, List, [], ◌∷◌, ◌++◌, length, Option, Some, None}
 use Rattle.std.specs.List.{list_all}
 use Rattle.conode_record.specs.declared.content.Content.{Content}
@@ -29,7 +30,8 @@ pub record AreBlanks (text : List ℕ) : Type 0 where
   pub all : list_all is_blank text ≡ true
   pub some : 0 < length text
 
--- an identifier of 11 bits in three digits; one of 29 bits, or with bit 29 the class of an error frame, in eight
+-- an identifier of 11 bits in three digits; one of 29 bits, or with bit 29 the class of an error
+-- frame, in eight
 abbrev pub SpellsIdentifier : Identifier → List ℕ → Type 0
 SpellsIdentifier (Base id) text = (length text ≡ 3) × (hex_number text ≡ Some id) × (id < 2048)
 SpellsIdentifier (Extended id) text = (length text ≡ 8) × (hex_number text ≡ Some id) × (id < 0x20000000)
@@ -45,7 +47,7 @@ abbrev pub SpellsEnding : Option Direction → List ℕ → Type 0
 SpellsEnding None text = text ≡ []
 SpellsEnding (Some direction) text = (blanks : List ℕ) × AreBlanks blanks × (text ≡ blanks ++ mark_of direction ∷ [])
 
--- two digits for each of at most so many bytes, and an ending
+-- at most so many bytes in two digits each, and an ending
 pub record SpellsBytes (most : ℕ) (bytes : List ℕ) (direction : Option Direction) (text : List ℕ) : Type 0 where
   pub digits : List ℕ
   pub ending : List ℕ

@@ -1,23 +1,24 @@
-//! What is wrong with a line that is none of a recording.
+//! Why a line isn't one of a recording.
 
-/// What is wrong with a line: the first part of it that isn't what it has to be.
+/// What is wrong with a line: its first wrong part.
 #[derive(Clone, Copy, Debug, PartialEq, Eq)]
 pub enum BadLine {
-    /// It doesn't begin with a stamp, as `(1700000000.250000)`: seconds in 1 to 12 digits and microseconds in 6.
+    /// It doesn't begin with a stamp, as `(1700000000.250000)`: seconds in 1 to 12 digits and
+    /// microseconds in 6.
     Stamp,
     /// After the stamp there is no interface, as ` can0 `: 1 to 15 bytes between blanks.
     Interface,
-    /// After the interface there is no identifier, as `185#`: three hexadecimal digits up to 7FF, or eight up to
-    /// 3FFFFFFF, and a number sign.
+    /// After the interface there is no identifier, as `185#`: three hexadecimal digits up to 7FF,
+    /// or eight up to 3FFFFFFF, and a number sign.
     Identifier,
-    /// After the second number sign of a CAN FD frame there is no hexadecimal digit of its flags.
+    /// After the second number sign of a CAN FD frame there is no hexadecimal digit for its flags.
     Flags,
-    /// The length of a remote frame is no digit up to 8.
+    /// The length of a remote frame is greater than 8.
     Length,
-    /// The data are no pairs of hexadecimal digits.
+    /// The data aren't pairs of hexadecimal digits.
     Data,
     /// There are more than 8 data bytes, or in a CAN FD frame more than 64.
     TooManyBytes,
-    /// After the data comes something else than blanks and an `R` (received) or `T` (sent).
+    /// The data are followed by something other than blanks and an `R` (received) or `T` (sent).
     Ending,
 }

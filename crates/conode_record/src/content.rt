@@ -77,14 +77,15 @@ impl FdBytes {
     }
 }
 
-/// What a frame has.
+/// The content of a frame.
 #[derive(Drop)]
 pub enum Content {
     /// Data, at most 8 bytes.
     Data(PackedBytes),
     /// A remote frame: the length of the data that it asks for, at most 8.
     Remote(u8),
-    /// A CAN FD frame: its flags (bit 0 bit rate switch, bit 1 error state indicator), and its data.
+    /// A CAN FD frame: its flags (bit 0 bit rate switch, bit 1 error state indicator), and its
+    /// data.
     Fd(u8, FdBytes),
 }
 
@@ -119,7 +120,7 @@ fn is_marked(text: &[u8]) -> bool
     last > 0 && is_mark(text[last]) && are_blanks(&text[..last])
 }
 
-// the direction, if there is one, as the rest of a line has it
+// the direction in the rest of a line, if there is one
 #[inline(always)]
 fn ending_in(text: &[u8]) -> Result<Option<Direction>, BadLine>
     ensures { result ≡ ending_in text.now }
@@ -137,7 +138,7 @@ fn ending_in(text: &[u8]) -> Result<Option<Direction>, BadLine>
     }
 }
 
-// the bytes of the pairs at the front, where they are at most 8, and what follows
+// the bytes of the pairs at the front, if they are at most 8, and what follows
 #[inline(always)]
 fn few_pairs_at(text: &[u8]) -> Option<(PackedBytes, &[u8])>
     ensures { option_map (λ found. (found.0, found.1.now)) result ≡ few_pairs 8 text.now }
@@ -154,7 +155,7 @@ fn few_pairs_at(text: &[u8]) -> Option<(PackedBytes, &[u8])>
     Some((bytes, rest))
 }
 
-// the same of a CAN FD frame, where they are at most 64
+// the same for a CAN FD frame, if they are at most 64
 fn fd_pairs_at(text: &[u8]) -> Option<(FdBytes, &[u8])>
     ensures { option_map (λ found. (found.0, found.1.now)) result ≡ few_pairs 64 text.now }
 {

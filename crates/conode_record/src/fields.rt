@@ -25,7 +25,8 @@ pub enum Identifier {
     Base(u16),
     /// One of 29 bits, in eight digits.
     Extended(u32),
-    /// An error frame, in eight digits with bit 29 set: the class of the error, in the other 29 bits.
+    /// An error frame, in eight digits with bit 29 set: the class of the error, in the other 29
+    /// bits.
     Error(u32),
 }
 
@@ -167,7 +168,7 @@ fn has_sign(text: &[u8], place: usize) -> bool
     place < text.len() && text[place] == b'#'
 }
 
-// what eight digits are
+// an identifier of 29 bits, or with bit 29 set the class of an error frame
 #[inline(always)]
 fn eight_digits(number: u32) -> Option<Identifier>
     ensures { result ≡ eight_digits number }

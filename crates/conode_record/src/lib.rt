@@ -1,5 +1,5 @@
-//! The lines of a recording of a CAN bus, as `candump -L` writes them: every kind of frame, stamps in microseconds, and
-//! of a bad line what is wrong with it.
+//! The lines of a recording of a CAN bus, as `candump -L` writes them: every kind of frame, stamps
+//! in microseconds, and what is wrong with a bad line.
 #![tactic(auto)]
 
 mod bad_line;

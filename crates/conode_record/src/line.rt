@@ -19,7 +19,7 @@ pub struct Record<'a> {
     pub interface: Interface<'a>,
     /// Its identifier.
     pub id: Identifier,
-    /// Its data, or the length that a remote frame has.
+    /// Its data, or the length of a remote frame.
     pub content: Content,
     /// Whether it was received or sent, where the line says so.
     pub direction: Option<Direction>,
@@ -35,10 +35,10 @@ pub enum RecordLine<'a> {
 }
 
 impl<'a> RecordLine<'a> {
-    /// What a line says, without its line feed, or what is wrong with it.
+    /// Reads a line without its line feed; `Err` says what is wrong with it.
     pub fn read(line: &'a [u8]) -> Result<RecordLine<'a>, BadLine>
         ensures exact { result ≡ line_in line.now }
-        // What is found is spelled by the line, and what the line spells is found, so it spells one thing at most.
+        // The line spells what is found, and what it spells is found: it spells one thing at most.
         ensures found { IfOk result (λ says. SpellsLine says line.now) }
         ensures identifier { IfOk result HasIdentifier }
         ensures only { (says : RecordLine) → SpellsLine says line.now → result ≡ Ok says }

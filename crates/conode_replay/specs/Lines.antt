@@ -1,4 +1,5 @@
--- What is printed of inputs that a device takes: the frames that it sends, events that are refused, and the totals.
+-- What is printed for the inputs that a device takes: the frames that it sends, refused events, and
+-- the totals.
 use Rattle.std.specs.Prelude.{ℕ, ◌+◌, List, [], ◌∷◌, ◌++◌, length, map, sum_by, codes, decimal}
 use Rattle.std.specs.Option.{option_map_or}
 use Rattle.co_text.specs.Printed.{digits_text}
@@ -29,7 +30,7 @@ use Rattle.conode_replay.specs.declared.totals.Totals.{Totals}
 
 -- ---- inputs of a trace, as a device takes them
 
--- what an event line is to a device
+-- an event line as an event of the device
 abbrev pub app_of : AppLine → AppView
 app_of (line.Write key bytes) = Written key bytes
 app_of (line.Event number) = EventOn number
@@ -37,7 +38,7 @@ app_of (line.Changed key) = ChangedAt key
 app_of (line.Raise code bits manufacturer) = Raised code bits manufacturer
 app_of (line.Clear bits) = Cleared bits
 
--- what an input of a trace is to a device
+-- an input of a trace as one of the device
 abbrev pub view_of : Input → InputView
 view_of (frame content) = Framed content
 view_of tick = Ticked
@@ -47,7 +48,7 @@ view_of (app event) = Applied (app_of event)
 abbrev pub own_inputs : TimedLine → List TimedInput
 own_inputs t = option_map_or (λ input. record { line = t.number; ms = t.ms; input = input } ∷ []) (own_input t.said) []
 
--- what timed inputs are to a device
+-- timed inputs as inputs of the device
 abbrev pub views_of : List TimedInput → List InputView
 views_of inputs = map (λ t. view_of t.input) inputs
 
@@ -57,24 +58,26 @@ after_inputs before inputs = after_all before (views_of inputs)
 
 -- ---- their lines
 
--- the line of an event that is refused: the number of its line in the trace, and the abort code in eight digits
+-- the line of a refused event: the number of its line in the trace, and the abort code in eight
+-- digits
 unfoldable pub refused_line : ℕ → ℕ → List ℕ
 refused_line number code =
     codes "; line " ++ decimal number ++ codes " refused " ++ digits_text 16 8 code ++ 10 ∷ []
 
--- the line of an answer to an event, where that is a refusal
+-- the line of an answer to an event, if that is a refusal
 abbrev pub refused_lines : ℕ → AppAnswer → List (List ℕ)
 refused_lines number answer.None = []
 refused_lines number answer.Done = []
 refused_lines number (answer.Refused code) = refused_line number code.0 ∷ []
 
--- the lines of an input after those before it: a refusal, and the frames that it prescribes, with the input's clock
+-- the lines of an input, after the inputs before it: a refusal, and the prescribed frames, with the
+-- input's clock
 abbrev pub input_lines : Constants → Inputs → TimedInput → List (List ℕ)
 input_lines k before t =
     refused_lines t.line (app_after k (view_of t.input ∷ before))
     ++ map (frame_line t.ms) (prescribed k before (view_of t.input))
 
--- the lines of inputs in their order, of each after those before it
+-- the lines of inputs in their order, each after the inputs before it
 abbrev pub replayed_lines : Constants → Inputs → List TimedInput → List (List ℕ)
 replayed_lines k before [] = []
 replayed_lines k before (t ∷ more) = input_lines k before t ++ replayed_lines k (view_of t.input ∷ before) more
@@ -100,7 +103,7 @@ ticks_by (frame content) = 0
 ticks_by tick = 1
 ticks_by (app event) = 0
 
--- the totals of inputs; the boot-up is a frame that is printed too
+-- the totals of inputs; the boot-up counts as a printed frame
 abbrev pub totals_of : Constants → Inputs → List TimedInput → Totals
 totals_of k before inputs = record {
   handed = sum_by (λ t. handed_by t.input) inputs;
@@ -108,7 +111,7 @@ totals_of k before inputs = record {
   ticks = sum_by (λ t. ticks_by t.input) inputs;
 }
 
--- their line
+-- the line of the totals
 unfoldable pub totals_line : Totals → List ℕ
 totals_line totals =
     codes "; in " ++ decimal totals.handed ++ codes ", out " ++ decimal totals.printed

@@ -1,4 +1,4 @@
--- How far a device took the inputs of a trace, and what was written of them.
+-- How far a device came in a trace, and what was written.
 use Rattle.std.specs.Prelude.{
   ◌≡◌,
   ℕ,
@@ -48,10 +48,10 @@ use Rattle.conode_replay.specs.Lines.{
   views_of,
 }
 
--- ---- what was written where it broke off
+-- ---- what was written when it broke off
 
--- a writer's bytes have grown by some whole lines, and by a front of the next ones: some of these, and perhaps a part
--- of one
+-- a writer's bytes have grown by some whole lines, and by a front of the next ones: some of these,
+-- and perhaps a part of one
 abbrev pub WritesPart : Option (List ℕ) → Option (List ℕ) → List (List ℕ) → List (List ℕ) → Type 0
 WritesPart old new whole next =
     (front : List ℕ) × IsFront front (flat_map (λ line. line) next)
@@ -64,18 +64,18 @@ WritesWhole old new whole next =
 
 -- ---- how far the device came
 
--- this holds, whatever the device took before
+-- P holds, whatever the device took before
 abbrev pub AfterAny : Node → (Constants → Inputs → Type 0) → Type 0
 AfterAny node P = (k : Constants) (before : Inputs) → Stands k node before → P k before
 
--- it took the own input of what a line says, and sent these frames
+-- it took a line's own input, and sent these frames
 pub record TakesOwn (first last : Node) (said : TraceLine) (sent : List FrameContent) : Type 0 where
   pub input : Input
   pub is_own : own_input said ≡ Some input
   pub stands : AfterAny first (λ k before. Stands k last (view_of input ∷ before))
   pub frames : AfterAny first (λ k before. sent ≡ prescribed k before (view_of input))
 
--- whether it did: where a line has no own input, nothing happened
+-- whether it did; if a line has no own input, nothing happened
 abbrev pub TookOwn : Node → Node → TraceLine → List FrameContent → Bool → Type 0
 TookOwn first last said sent true = TakesOwn first last said sent
 TookOwn first last said sent false = (own_input said ≡ None) × (last ≡ first)
@@ -120,15 +120,16 @@ pub record StopsAt (k : Constants) (before : Inputs) (node : Node) (inputs : Lis
   pub joined : inputs ≡ earlier ++ last ∷ later
   pub stands : Stands k node (after_inputs before (earlier ++ last ∷ []))
 
--- it stopped so, of what is written after the boot-up
+-- the same, with what was written after the boot-up
 abbrev pub StopsIn : Constants → Inputs → Node → (List (List ℕ) → List (List ℕ) → Type 0) → List TimedInput → Type 0
 StopsIn k before node Writes inputs =
     (at : StopsAt k before node inputs)
     × Writes (replayed_lines k before at.earlier) (input_lines k (after_inputs before at.earlier) at.last)
 
--- ---- what private calls come to
+-- ---- results of private calls
 
--- lines were written, by how that ended: all; where the writer failed a front; where memory ran out some, never all
+-- lines were written, by how that ended: all of them; a front if the writer failed; some, never
+-- all, if memory ran out
 abbrev pub WrittenBy : Option (List ℕ) → Option (List ℕ) → List (List ℕ) → Result (Unit {0}) CmdFault → Type 0
 WrittenBy old new lines (Ok done) = WritesLines old new lines
 WrittenBy old new lines (Err Write) = WritesFront old new lines
@@ -137,7 +138,7 @@ WrittenBy old new lines (Err Read) = ⊥
 WrittenBy old new lines (Err NeverEnds) = ⊥
 WrittenBy old new lines (Err (BadLine number)) = ⊥
 
--- the same of lines that what the device took before prescribes
+-- the same for lines that depend on what the device took before
 abbrev pub WrittenAfter : Node → Option (List ℕ) → Option (List ℕ) → (Constants → Inputs → List (List ℕ))
     → Result (Unit {0}) CmdFault → Type 0
 WrittenAfter node old new lines (Ok done) = AfterAny node (λ k before. WritesLines old new (lines k before))
@@ -170,7 +171,8 @@ BreaksOff k before node Writes inputs =
     ⊎ (Stands k node (after_inputs before inputs)
     × Writes (started_lines k before inputs) (totals_line (totals_of k before inputs) ∷ [])))
 
--- it took some of the inputs, from the first on, or all of them, and the boot-up and the lines of these were written
+-- it took some of the inputs, from the first on, or all of them, and the boot-up and the lines of
+-- these were written
 pub record HasRunSome (k : Constants) (before : Inputs) (old new : Option (List ℕ)) (node : Node)
     (inputs : List TimedInput) : Type 0 where
   pub taken : List TimedInput
@@ -185,8 +187,8 @@ abbrev pub FailsToWrite : Constants → Inputs → Option (List ℕ) → Option 
 FailsToWrite k before old new node inputs =
     BreaksOff k before node (WritesPart old new) inputs ⊎ HasRunSome k before old new node inputs
 
--- `known` and `rest` are what the reader has before and after, `old` and `new` what the writer has, where that is
--- known; `Ends` is what holds after the last line
+-- how a replay ends, by its result; `known` and `rest` are what the reader has before and after,
+-- `old` and `new` what the writer has, as far as known; `Ends` is what holds after the last line
 abbrev pub Replayed : (Constants → Inputs → Totals → List TimedInput → Type 0) → Node → Node
     → Option (List ℕ) → Option (List ℕ) → Option (List ℕ) → Option (List ℕ)
     → Result Totals CmdFault → Type 0

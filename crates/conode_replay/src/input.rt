@@ -1,4 +1,4 @@
-//! One input of a trace: the device takes it, and what comes of it is printed.
+//! One input of a trace: the device takes it, and the result is printed.
 
 ghost use Rattle.std.specs.Prelude.{◌≡◌, ◌∷◌};
 ghost use Rattle.co_node_model.specs.Inputs.{Inputs, Framed, Ticked, Applied};
@@ -29,7 +29,8 @@ pub(crate) fn take(node: &mut Node, frame: Frame, sent: &mut Outbox)
     node.take_frame(&frame, sent);
 }
 
-/// The same of what an event line says.
+/// The device takes an event of the application. The outbox then holds the frames that it sends,
+/// and no others.
 pub(crate) fn apply(node: &mut Node, event: &AppLine<'_>, sent: &mut Outbox)
     requires { HasFewBytes (App event.now) }
     ensures frames { (k : Constants) (before : Inputs) → Stands k node.old before →
@@ -51,7 +52,7 @@ pub(crate) fn apply(node: &mut Node, event: &AppLine<'_>, sent: &mut Outbox)
     }
 }
 
-/// The device takes the tick of a line at a time in ms, and what it sends is printed.
+/// The device takes a tick of a line, at a time in ms, and what it sends is printed.
 #[inline]
 pub(crate) fn tick<W: Write>(
     text: &mut String,

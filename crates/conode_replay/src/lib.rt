@@ -1,4 +1,5 @@
-//! A CAN trace replayed against a CANopen device: what comes to it, line by line, and what it then sends.
+//! A CAN trace replayed against a CANopen device: what it receives, line by line, and what it then
+//! sends.
 #![tactic(auto)]
 
 mod input;

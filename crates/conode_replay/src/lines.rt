@@ -1,4 +1,4 @@
-//! The lines that are printed of a replay.
+//! The lines that a replay prints.
 
 ghost use Rattle.std.specs.Prelude.{◌≡◌, [], ◌∷◌, ◌++◌, map, OnOk, string_bytes};
 ghost use Rattle.conode_trace.specs.Printed.{frame_line};
@@ -14,8 +14,8 @@ use conode_trace::frame_line;
 use std::alloc::AllocError;
 use std::io::Write;
 
-/// Makes the text the line of an event that is refused, as `; line 7 refused 06090030`. On an `Err` memory ran out, and
-/// the text holds a part of the line.
+/// Sets the text to the line of a refused event, as `; line 7 refused 06090030`. `Err`: out of
+/// memory; the text then has a part of the line.
 #[tactic(auto, unfolding(crate::specs::Lines::refused_line))]
 fn set_refused_line(text: &mut String, number: usize, code: AbortCode) -> Result<(), AllocError>
     ensures { OnOk result (string_bytes text.new ≡ refused_line number code.0) }
@@ -28,8 +28,8 @@ fn set_refused_line(text: &mut String, number: usize, code: AbortCode) -> Result
     text.push('\n')
 }
 
-/// Makes the text the line of the totals, as `; in 1, out 3, ticks 1000`. On an `Err` memory ran out, and the text
-/// holds a part of the line.
+/// Sets the text to the line of the totals, as `; in 1, out 3, ticks 1000`. `Err`: out of memory;
+/// the text then has a part of the line.
 #[tactic(auto, unfolding(crate::specs::Lines::totals_line))]
 fn set_totals_line(text: &mut String, totals: Totals) -> Result<(), AllocError>
     ensures { OnOk result (string_bytes text.new ≡ totals_line totals) }
@@ -54,7 +54,7 @@ pub(crate) fn print_totals<W: Write>(
     hand_over(text.as_bytes(), writer)
 }
 
-/// Prints frames that are sent at a time in ms. It isn't inlined, so that a tick without frames is short.
+/// Prints frames that are sent at a time in ms. Not inlined, to keep a tick without frames short.
 #[inline(never)]
 pub(crate) fn print_frames<W: Write>(
     ms: u128,
@@ -71,7 +71,7 @@ pub(crate) fn print_frames<W: Write>(
     Ok(())
 }
 
-// prints that an event is refused, if it is
+// prints the line of a refused event, if it is refused
 #[inline(always)]
 fn print_refusal<W: Write>(
     text: &mut String,
@@ -91,7 +91,8 @@ fn print_refusal<W: Write>(
     }
 }
 
-/// Prints what came of the input of a line at a time in ms: that it was refused, and then the frames that are sent.
+/// Prints the result of a line's input, at a time in ms: whether it was refused, and then the
+/// frames that are sent.
 #[inline(always)]
 pub(crate) fn print_input<W: Write>(
     text: &mut String,

@@ -25,7 +25,8 @@ use std::rt::Files;
 /// The path that stands for standard input.
 const STANDARD_INPUT: &str = "-";
 
-/// The data sheet of a device with the mandatory objects alone: device type 191h, error register, and identity.
+/// The data sheet of a device with only the mandatory objects: device type 191h, error register,
+/// and identity.
 const STORED_SHEET: &[u8] =
     b"[MandatoryObjects]\nSupportedObjects=3\n1=0x1000\n2=0x1001\n3=0x1018\n\
     [1000]\nDataType=7\nAccessType=ro\nDefaultValue=0x191\n\
@@ -47,8 +48,8 @@ const STORED_CONFIG: Config<'static> = Config {
     time: 1000,
 };
 
-/// Replays an input, a trace, against a device on `out`, and says why it stopped where it did: on `out`, after what was
-/// printed before, or where that can't be written on `err`.
+/// Replays a trace from an input against a device, and prints on `out`. If it stops early, it says
+/// why: on `out`, after what was printed before, or on `err` if `out` can't be written.
 fn replay_input<R: Read, P: Waits<R>, O: Write, E: Write>(
     alloc: Global,
     node: &mut Node,
@@ -69,7 +70,7 @@ fn replay_input<R: Read, P: Waits<R>, O: Write, E: Write>(
     }
 }
 
-// replays an input through a buffer, so that few bytes cost few calls of the system
+// replays an input through a buffer, to need few system calls
 fn replay_buffered<R: Read + Drop, O: Write, E: Write>(
     alloc: Global,
     node: &mut Node,
@@ -87,7 +88,7 @@ fn replay_buffered<R: Read + Drop, O: Write, E: Write>(
     replay_input::<BufReader<R>, BufferedRead, O, E>(alloc, node, &mut input, out, err).status()
 }
 
-// replays the trace of a path, or where that is `-` standard input
+// replays the trace of a path, or of standard input for `-`
 fn replay_trace<R: Files + AllocGlobal + Input, O: Write, E: Write>(
     rt: &R,
     node: &mut Node,
@@ -119,7 +120,8 @@ fn replay_device<R: Files + AllocGlobal + Input, O: Write, E: Write>(
     err: &mut E,
 ) -> ExitCode
     ensures status { (exit_status result ≡ 0) ⊎ (exit_status result ≡ 1) }
-    // It is the device of this sheet, node-ID, rooms and SDO timeout, and it took a whole trace, which is good.
+    // The device is that of this sheet, node-ID, rooms and SDO timeout; it took a whole trace
+    // without a bad line.
     ensures whole { exit_status result ≡ 0 → (text : List ℕ) × ReplaysAll
         (built_constants (planned sheet.now node_id config.now) config.now.time) []
         (O.contents out.old) (O.contents out.new) text }
@@ -130,7 +132,8 @@ fn replay_device<R: Files + AllocGlobal + Input, O: Write, E: Write>(
     }
 }
 
-// replays the trace of a path against the device of a data sheet, at the node-ID that is given, or else the sheet's own
+// replays the trace of a path against the device of a data sheet, at the given node-ID, or else the
+// sheet's own
 fn replay_sheet<R: Files + AllocGlobal + Input, O: Write, E: Write>(
     rt: &R,
     sheet: &Sheet<'_>,
@@ -143,7 +146,7 @@ fn replay_sheet<R: Files + AllocGlobal + Input, O: Write, E: Write>(
     ensures none { option_or node sheet.now.node_id ≡ None → exit_status result ≡ 2 }
     ensures some { IfSome (option_or node sheet.now.node_id)
         (λ id. (exit_status result ≡ 0) ⊎ (exit_status result ≡ 1)) }
-    // The node-ID that is given goes before the sheet's own.
+    // A given node-ID takes precedence over the sheet's own.
     ensures whole { exit_status result ≡ 0 → IsSomeAnd (option_or node sheet.now.node_id) (λ id.
         (text : List ℕ) × ReplaysAll
         (built_constants (planned sheet.now id config.now) config.now.time) []
@@ -155,7 +158,7 @@ fn replay_sheet<R: Files + AllocGlobal + Input, O: Write, E: Write>(
     }
 }
 
-// replays the trace of a path against the device of a data sheet's text, if the text is one
+// replays the trace of a path against the device of a data sheet, if this text is one
 fn replay_text<R: Files + AllocGlobal + Input, O: Write, E: Write>(
     rt: &R,
     text: &[u8],
@@ -175,13 +178,15 @@ fn replay_text<R: Files + AllocGlobal + Input, O: Write, E: Write>(
     }
 }
 
-/// Replays the trace of a path, or of standard input where that is `-`, against the device of the data sheet of
-/// another path, as `replay` does. Its node-ID is the one that is given, or else the sheet's own, that of a device
-/// configuration file. What it prints, a fault of the sheet and one of its build go to `out`, as does the line that
-/// says why it stopped; a file that can't be read is named on `err`, which has `no node-ID` where there is none.
+/// Replays the trace of a path, or of standard input for `-`, against the device of the data sheet
+/// of another path, as `replay` does. Its node-ID is the given one, or else the sheet's own, as a
+/// device configuration file has it. The replay goes to `out`, and so do a fault of the sheet or
+/// its build, and the line that says why the replay stopped early. A file that can't be read is
+/// named on `err`; `no node-ID` is said there if there is none.
 ///
-/// Mistakes are looked for in this order: the sheet's file, the sheet, node-ID, build, the trace's file, the trace. The
-/// status is 2 without a node-ID, 1 after another fault, also of the trace, else 0; an event that is refused is none.
+/// Faults are looked for in this order: the sheet's file, the sheet, node-ID, build, the trace's
+/// file, the trace. The status is 2 without a node-ID, 1 after any other fault, also of the trace,
+/// else 0. A refused event is no fault.
 pub fn replay_files<R: Files + AllocGlobal + Input, O: Write, E: Write>(
     rt: &R,
     sheet: &str,
@@ -201,7 +206,7 @@ pub fn replay_files<R: Files + AllocGlobal + Input, O: Write, E: Write>(
     }
 }
 
-// replays an input against the device of a data sheet, at the node-ID and with the configuration that are stored
+// replays an input against the device of a data sheet, with the stored node-ID and configuration
 fn replay_stored_sheet<R: Read + Drop, O: Write, E: Write>(
     alloc: Global,
     sheet: &Sheet<'_>,
@@ -217,7 +222,8 @@ fn replay_stored_sheet<R: Read + Drop, O: Write, E: Write>(
     }
 }
 
-/// Replays an input, a trace, against a device with the mandatory objects alone: device type 191h at node-ID 5.
+/// Replays a trace from an input against a device with only the mandatory objects: device type
+/// 191h, at node-ID 5.
 pub fn replay_stored<R: Read + Drop, O: Write, E: Write>(
     alloc: Global,
     input: R,

@@ -16,7 +16,7 @@ use conode_io::CmdFault;
 use conode_trace::{EventLine, TimedLine, TraceLine};
 use std::io::Write;
 
-// the clock at the tick after so many, in ms
+// the clock in ms at a line's tick, after `elapsed` ticks of that line
 #[inline(always)]
 fn clock_after(before: u128, elapsed: u32) -> u128
     requires { before + 2 ^ 32 < 2 ^ 128 }
@@ -25,7 +25,7 @@ fn clock_after(before: u128, elapsed: u32) -> u128
     before + 1 + u128::from(elapsed)
 }
 
-// the ticks of a line: how many frames are printed
+// replays the ticks of a line, and returns how many frames are printed
 fn replay_ticks<W: Write>(
     text: &mut String,
     node: &mut Node,
@@ -47,7 +47,7 @@ fn replay_ticks<W: Write>(
     Ok(printed)
 }
 
-// the device takes an event of the application, if an event line is one
+// the device takes an event of the application, if the event line has one; returns whether it has
 fn take_event(node: &mut Node, event: &EventLine<'_>, sent: &mut Outbox) -> bool
     requires { HasFewBytes event.now }
     ensures { TookOwn node.old node.new (Event event.now) sent.new.items result }
@@ -61,7 +61,7 @@ fn take_event(node: &mut Node, event: &EventLine<'_>, sent: &mut Outbox) -> bool
     }
 }
 
-// the device takes the own input of what a line says, if it has one
+// the device takes a line's own input, if it has one; returns whether it has
 fn take_own(node: &mut Node, said: &TraceLine<'_>, sent: &mut Outbox) -> bool
     requires { WritesFewBytes said.now }
     ensures { TookOwn node.old node.new said.now sent.new.items result }
@@ -77,7 +77,7 @@ fn take_own(node: &mut Node, said: &TraceLine<'_>, sent: &mut Outbox) -> bool
     }
 }
 
-// the own input of a line, if it has one: how many frames are printed
+// replays the own input of a line, if it has one, and returns how many frames are printed
 fn replay_own<W: Write>(
     text: &mut String,
     node: &mut Node,
@@ -105,8 +105,9 @@ fn replay_own<W: Write>(
     Ok(sent.len() as u64)
 }
 
-/// The device takes the inputs of a line, and what comes of each is printed at once. How many frames are printed. The
-/// outbox comes from the caller, since a new one for each line takes longer than the line.
+/// Replays the inputs of a line: the device takes each of them, and its result is printed at once.
+/// Returns how many frames are printed. The caller keeps the outbox, since making one for each line
+/// takes longer than the line.
 pub(crate) fn replay_line<W: Write>(
     text: &mut String,
     node: &mut Node,

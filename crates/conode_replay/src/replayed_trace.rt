@@ -1,4 +1,4 @@
-//! A trace replayed: a device takes its inputs, and what it sends is printed.
+//! Replaying a trace: a device takes its inputs, and what it sends is printed.
 
 ghost use Rattle.std.specs.Prelude.{
   ◌≡◌,
@@ -55,7 +55,7 @@ fn print_boot<W: Write>(node: &Node, sent: &mut Outbox, writer: &mut W) -> Resul
     print_frames(0, sent.as_slice(), writer)
 }
 
-// the boot-up, and all inputs, with a line reader that has read nothing
+// replays the boot-up and all inputs, with a new line reader
 fn replay_lines<R: Read, P: Waits<R>, W: Write>(
     text: &mut String,
     node: &mut Node,
@@ -77,7 +77,7 @@ fn replay_lines<R: Read, P: Waits<R>, W: Write>(
     print_boot(node, sent, writer)?;
     let mut totals = Totals::new();
     let mut progress = TraceProgress::new();
-    // its invariant goes by the label
+    // the label names the loop's invariant
     'trace: loop {
         let_out::<R, P, W>(lines, reader, writer)?;
         match lines.next(reader) {
@@ -94,7 +94,7 @@ fn replay_lines<R: Read, P: Waits<R>, W: Write>(
     }
 }
 
-// the boot-up, all inputs, and the totals
+// replays the boot-up and all inputs, and prints the totals
 fn replay_whole<R: Read, P: Waits<R>, W: Write>(
     alloc: Global,
     node: &mut Node,
@@ -116,7 +116,7 @@ fn replay_whole<R: Read, P: Waits<R>, W: Write>(
     Ok(totals)
 }
 
-/// Replays a trace as `replay` does, where the reader says whether a read could wait.
+/// Replays a trace as `replay` does; `P` says whether a read could wait.
 pub(crate) fn replay_from<R: Read, P: Waits<R>, W: Write>(
     alloc: Global,
     node: &mut Node,
@@ -136,48 +136,56 @@ pub(crate) fn replay_from<R: Read, P: Waits<R>, W: Write>(
     replay_whole::<R, P, W>(alloc, node, reader, writer)
 }
 
-/// Replays a trace as `candump -L` writes it against a device, line by line and in constant memory. What the device
-/// sends is printed as such a trace: first its boot-up, at clock 0 (CiA 301, 7.2.8.3.3); then of each input in its
-/// turn, which is a tick of 1 ms, a data frame or an event line, the frames that it sends, with the clock of that
-/// input; last the totals, as `; in 1, out 3, ticks 1000`. An event that is refused is printed first, as
-/// `; line 7 refused 06090030`, with the number of its line and the abort code. Frames that are passed over move the
-/// clock.
+/// Replays a trace as `candump -L` writes it against a device, line by line and in constant memory.
+/// What the device sends is printed as such a trace. First comes its boot-up, at clock 0 (CiA 301,
+/// 7.2.8.3.3). Each input is a tick of 1 ms, a data frame or an event line; the frames that the
+/// device sends at it have the clock of that input. A refused event is printed before its frames,
+/// as `; line 7 refused 06090030`, with the number of its line and the abort code. The totals come
+/// last, as `; in 1, out 3, ticks 1000`. Frames that are passed over move the clock.
 ///
-/// The writer is flushed before each read, and not while a whole line is held: so what is due for a line has gone out
-/// before the next one is waited for.
+/// The writer is flushed before each read, but not while a whole line is held. So the result of a
+/// line has gone out before the next line is waited for.
 ///
-/// `BadLine` is the first line that is no line of a trace, that has more than 512 bytes, or whose stamp is more than
-/// a day past the clock. After `BadLine`, `Read` and `NeverEnds` the device has taken all inputs of the lines before,
-/// and what is due for these has been written; the totals have not. After `Write` and `Memory` the input whose line
-/// it was has been taken as well, and the lines before this one have been written; of this one a part at most, after
-/// `Memory` nothing.
+/// * `BadLine`: the first line that is no line of a trace, that has more than 512 bytes, or whose
+///   stamp is more than a day past the clock.
+/// * `Read`, `NeverEnds`: the reader failed within a line.
+/// * `Write`, `Memory`: a printed line couldn't be written, or made. The device has taken the input
+///   of that line. The printed lines before it have been written, and at most a part of it, after
+///   `Memory` nothing of it.
+///
+/// After `BadLine`, `Read` and `NeverEnds` the device has taken all inputs of the lines before, and
+/// all their lines have been written, but not the totals.
 pub fn replay<R: Read, W: Write>(
     alloc: Global,
     node: &mut Node,
     reader: &mut R,
     writer: &mut W,
 ) -> Result<Totals, CmdFault>
-    // All of the trace is good; the device has taken its inputs; their lines are written, and last the totals.
+    // All of the trace is good: the device has taken its inputs, and their lines are written, last
+    // the totals.
     ensures good { OnOk result
         (IfSome (R.remaining reader.old) (λ text. (trace_in text).bad ≡ None)) }
     ensures ended { IfOk result (λ totals. IfSome (R.remaining reader.old) (λ text.
         AfterAny node.old (λ k before. HasEnded k before
         (W.contents writer.old) (W.contents writer.new) node.new totals (trace_in text).inputs))) }
 
-    // A line is the first bad one; the device has taken the inputs before it, and their lines are written.
+    // There is a bad line: the device has taken the inputs before the first one, and their lines
+    // are written.
     ensures bad_line { (number : ℕ) → result ≡ Err (CmdFault.BadLine number) →
         IfSome (R.remaining reader.old) (λ text. (trace_in text).bad ≡ Some number) }
     ensures until_bad { (number : ℕ) → result ≡ Err (CmdFault.BadLine number) →
         IfSome (R.remaining reader.old) (λ text. AfterAny node.old (λ k before. HasRun k before
         (W.contents writer.old) (W.contents writer.new) node.new (trace_in text).inputs)) }
 
-    // The reader fails within a line; the device has taken the inputs before it, and their lines are written.
+    // The reader fails within a line; the device has taken the inputs before it, and their lines
+    // are written.
     ensures unread { IfErr result (λ fault. (fault ≡ CmdFault.Read) ⊎ (fault ≡ CmdFault.NeverEnds) →
         FailsWithinLine (R.remaining reader.old) (R.remaining reader.new) (λ taken.
         AfterAny node.old (λ k before. HasRun k before
         (W.contents writer.old) (W.contents writer.new) node.new (trace_of taken).inputs))) }
 
-    // A line can't be written, or made: the device has taken the input whose line it is, and those before it.
+    // A line can't be written, or made: the device has taken the input whose line it is, and those
+    // before it.
     ensures write { result ≡ Err CmdFault.Write → IfSome (R.remaining reader.old) (λ text.
         AfterAny node.old (λ k before. FailsToWrite k before
         (W.contents writer.old) (W.contents writer.new) node.new (trace_in text).inputs)) }
@@ -185,7 +193,7 @@ pub fn replay<R: Read, W: Write>(
         AfterAny node.old (λ k before. BreaksOff k before node.new
         (WritesWhole (W.contents writer.old) (W.contents writer.new)) (trace_in text).inputs)) }
 
-    // Whatever the reader: it gave a text, and all this is so of that text.
+    // For any reader: it gave a text, and all this holds of that text.
     ensures any_reader { GaveText (R.remaining reader.old) (R.remaining reader.new) (λ text.
         Replayed (λ k before.
         HasEnded k before (W.contents writer.old) (W.contents writer.new) node.new)

@@ -1,18 +1,18 @@
-//! What is counted of a trace.
+//! The totals of a trace.
 
 ghost use Rattle.std.specs.Prelude.{◌≡◌, ◌+◌, ◌≤◌, ◌<◌, ◌^◌};
 ghost use Rattle.conode_replay.specs.Counts.{counted, room_taken};
 
 use conode_trace::{TimedLine, TraceLine};
 
-/// What is counted of a trace that a device replays.
+/// The totals of a trace that a device replays.
 #[derive(Clone, Copy, Debug, PartialEq, Eq)]
 pub struct Totals {
     /// How many frames were handed to the device.
     pub handed: u128,
-    /// How many frames were printed, the boot-up counted.
+    /// How many frames were printed, with the boot-up.
     pub printed: u128,
-    /// How many ticks of 1 ms the device was given.
+    /// How many ticks of 1 ms the device took.
     pub ticks: u128,
 }
 

@@ -40,36 +40,37 @@ object_begin name = key name ∷ begin_object ∷ []
 unfoldable pub array_begin : List ℕ → List Token
 array_begin name = key name ∷ begin_array ∷ []
 
--- up to 2^53 - 1 in magnitude, which every reader of JSON keeps
+-- whether a number is at most 2^53 - 1 in magnitude, which every reader of JSON keeps exactly
 abbrev pub is_exact : ℤ → Bool
 is_exact (pos n) = nat_lt n (2 ^ 53)
 is_exact (negsuc n) = nat_lt n (2 ^ 53 - 1)
 
--- a number; a greater one as a string
+-- a number; one that isn't exact as a string
 abbrev pub number_token : ℤ → Token
 number_token z = if is_exact z then number (signed_decimal z) else string (signed_decimal z)
 
 unfoldable pub number_member : List ℕ → ℤ → List Token
 number_member name z = key name ∷ number_token z ∷ []
 
--- left out where there is none
+-- a number, left out if there is none
 abbrev pub number_if : List ℕ → Option ℤ → List Token
 number_if name n = option_map_or (number_member name) n []
 
--- a text of the sheet: in UTF-8 as it is, else read as Windows-1252; left out where the section has none
+-- a text of the sheet: as it is in UTF-8, else read as Windows-1252; left out if the section has
+-- none
 unfoldable pub property_member : List ℕ → List ℕ → TextSection → List Token
 property_member name property section =
     option_map_or (λ k. text_member name (utf8_of k.value)) (property_at property section) []
 
 -- ---- entries
 
--- what the sheet has, and its number, left out where it is none
+-- a value as the sheet has it, and its number, left out if it is none
 unfoldable pub quantity_member : List ℕ → Option ℤ → List ℕ → List Token
 quantity_member name n value =
     object_begin name ++ number_if (codes "number") n ++ text_member (codes "text") (utf8_of value)
     ++ end_object ∷ []
 
--- a value and a limit, left out where the section has none
+-- a value, and a limit; left out if the section has none
 unfoldable pub value_member : List ℕ → Option ℕ → Option DataType → Option Property → List Token
 value_member name node t property =
     option_map_or (λ k. quantity_member name (value_number node t k.value) k.value) property []
@@ -121,14 +122,14 @@ section_tokens node section = described_tokens node section section.kind
 
 -- ---- words of the communication profile
 
--- the number of a word, where it is known without `$NODEID`
+-- the number of a word, if it is known without `$NODEID`
 abbrev pub absolute_number : Word → Option ℤ
 absolute_number word = if word.relative then None else Some (pos word.number)
 
 abbrev pub word_number : Option ℕ → TextSection → Option ℤ
 word_number node section = option_and_then absolute_number (section_word node section)
 
--- what an entry says: its number, left out where it isn't known, and its words
+-- the value of an entry: its number, left out if it isn't known, and its words
 unfoldable pub said_members : Meaning → Option ℕ → TextSection → List Token
 said_members meaning node section =
     number_if (codes "number") (word_number node section)
@@ -138,14 +139,14 @@ unfoldable pub said_member : List ℕ → Meaning → Option ℕ → TextSection
 said_member name meaning node section =
     object_begin name ++ said_members meaning node section ++ end_object ∷ []
 
--- that of a sub-index, left out where it isn't there
+-- the value of a sub-index, left out if it isn't there
 unfoldable pub said_at_member : List ℕ → Meaning → Option ℕ → List TextSection → Key → List Token
 said_at_member name meaning node sections k =
     option_map_or (said_member name meaning node) (section_at (SubIndex k) sections) []
 
 -- ---- PDOs
 
--- the name of an entry, left out where there is none
+-- the name of an entry, left out if there is none
 abbrev pub name_at : List TextSection → Key → List Token
 name_at sections k =
     option_map_or (property_member (codes "name") (codes "ParameterName")) (entry_section sections k) []
@@ -155,7 +156,7 @@ mapped_members sections word =
     key_members (mapped_key word.number) ++ number_member (codes "bits") (pos (word.number % 0x100))
     ++ name_at sections (mapped_key word.number)
 
--- a word of a mapping: what it names, left out where it is no number, and the word in words
+-- a word of a mapping: what it names, left out if it is no number, and its meaning
 unfoldable pub mapped_tokens : Option ℕ → List TextSection → TextSection → List Token
 mapped_tokens node sections section =
     begin_object
@@ -171,7 +172,7 @@ unfoldable pub mapping_tokens : Option ℕ → List TextSection → ℕ → List
 mapping_tokens node sections index =
     flat_map (counted_tokens node sections index (mapping_count node sections index)) sections
 
--- its COB-ID, transmission type and timers
+-- the COB-ID, transmission type and timers of a PDO
 unfoldable pub pdo_members : Option ℕ → List TextSection → ℕ → TextSection → List Token
 pdo_members node sections index section =
     text_member (codes "pdo") (pdo_name index) ++ number_member (codes "index") (pos index)
@@ -215,7 +216,7 @@ chapter_name Entries = codes "entries"
 chapter_name Pdos = codes "pdos"
 chapter_name Services = codes "services"
 
--- what a chapter says of a section
+-- what a chapter has for a section
 abbrev pub chapter_tokens : Chapter → Option ℕ → List TextSection → TextSection → List Token
 chapter_tokens Entries given sections section = section_tokens given section
 chapter_tokens Pdos given sections section = pdo_of given sections section

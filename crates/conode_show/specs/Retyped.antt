@@ -1,4 +1,4 @@
--- A section with properties of its own, without where they lie in memory.
+-- A section with properties of its own, as contracts see it.
 use Rattle.std.specs.Prelude.{map}
 use Rattle.co_sheet_text.specs.Sections.{TextSection}
 use Rattle.co_sheet_text.specs.Views.{property_view}

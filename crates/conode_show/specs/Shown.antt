@@ -1,4 +1,4 @@
--- What is written of a text.
+-- What is written for a text.
 use Rattle.std.specs.Prelude.{ℕ, nat_lt, Bool, List, [], ◌∷◌, ◌++◌, length, map, codes, if◌then◌else◌, Option}
 use Rattle.std.specs.Option.{option_map_or}
 use Rattle.co_sheet_rows.specs.declared.fault.FaultKind.TheVariants.{TooLarge}
@@ -14,7 +14,7 @@ use Rattle.conode_show.specs.declared.form.Form.TheVariants.{Lines, Json}
 use Rattle.conode_show_text.specs.Document.{document, node_for, ordered}
 use Rattle.conode_show.specs.JsonForm.{json_document, json_fault}
 
--- a text that isn't read
+-- a text that is too large to be read
 abbrev pub is_too_large : List ℕ → Bool
 is_too_large text = nat_lt 1048576 (length text)
 
@@ -31,7 +31,7 @@ abbrev pub fault_in : Form → SheetFault → List ℕ
 fault_in (Lines format) fault = fault_line fault
 fault_in Json fault = json_fault fault
 
--- a property with the code of the original type in the place of the one that stands for it
+-- a property; DataType with the code of the original type
 abbrev pub retyped_property : List ℕ → Property → Property
 retyped_property code k =
     if same_name k.name (codes "DataType") then record k { value = code } else k
@@ -43,11 +43,12 @@ properties_with code properties = option_map_or (λ c. map (retyped_property c) 
 abbrev pub retyped : (ℕ → Option (List ℕ)) → TextSection → TextSection
 retyped originals s = record s { properties = properties_with (originals s.line) s.properties }
 
--- the sections of a text, read in spite of its lines at fault, with the original types of one that was adapted
+-- the sections of a text, read in spite of faulty lines, with their original types if the sheet was
+-- adapted
 unfoldable pub sections_of : List ℕ → List TextSection
 sections_of text = map (retyped (original_at text)) (sections_read (lines_of text))
 
--- the document of sections, which are put in order, for the node-ID that is given or else theirs
+-- the document of sections, put in order, for the given node-ID or else theirs
 abbrev pub document_of : Form → Option ℕ → List TextSection → List ℕ
 document_of form node sections = document_in form (node_for node sections) (ordered sections)
 

@@ -2,7 +2,7 @@
 
 use conode_show_text::Format;
 
-/// What is written.
+/// The form in which a dictionary is shown.
 #[derive(Clone, Copy)]
 pub enum Form {
     /// Lines.

@@ -1,5 +1,5 @@
-//! Entries and objects as objects of JSON. Each function appends tokens; on an `Err` memory ran out, and some of them may
-//! be there.
+//! Entries and objects as objects of JSON. Each function appends tokens. `Err`: out of memory; some
+//! tokens may be there.
 
 ghost use Rattle.std.specs.Prelude.{◌≡◌, ◌++◌, option_map, OnOk};
 ghost use Rattle.co_sheet_text.specs.Views.{property_view, section_view};
@@ -24,7 +24,7 @@ use conode_show_text::{
 };
 use std::alloc::{AllocError, Global};
 
-// what the sheet has, and its number
+// a value as the sheet has it, and its number
 #[tactic(auto, unfolding(crate::specs::JsonForm::quantity_member))]
 fn put_quantity(
     alloc: Global,
@@ -79,7 +79,7 @@ fn put_limit(
     put_quantity(alloc, writer, name, number, limit.value)
 }
 
-/// A text of the sheet.
+/// Appends a text of the sheet, if the section has it.
 #[tactic(auto, unfolding(crate::specs::JsonForm::property_member))]
 pub(crate) fn put_property(
     alloc: Global,
@@ -134,7 +134,7 @@ fn put_values(
     put_limit(alloc, writer, "high", data_type, high)
 }
 
-/// A key.
+/// Appends an index and a sub-index.
 #[tactic(auto, unfolding(crate::specs::JsonForm::key_members))]
 pub(crate) fn put_key(alloc: Global, writer: &mut JsonWriter, key: Key) -> Result<(), AllocError>
     ensures { OnOk result (writer.new ≡ writer.old ++ key_members key) }
@@ -180,7 +180,7 @@ fn put_object(
     writer.end_object()
 }
 
-/// An entry or an object; nothing for every other section.
+/// Appends an entry or an object; nothing for any other section.
 pub(crate) fn put_section(
     alloc: Global,
     writer: &mut JsonWriter,

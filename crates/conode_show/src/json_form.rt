@@ -1,5 +1,5 @@
-//! The object dictionary of a sheet as one document of JSON (RFC 8259). Each function that is given a writer appends
-//! tokens; on an `Err` memory ran out, and some of them may be there.
+//! The object dictionary of a sheet as one document of JSON (RFC 8259). Each function with a writer
+//! appends tokens. `Err`: out of memory; some tokens may be there.
 
 ghost use Rattle.std.specs.Prelude.{◌≡◌, ◌++◌, map, option_map, pos, IfOk, OnOk};
 ghost use Rattle.co_sheet_text.specs.Views.{section_view};
@@ -32,7 +32,7 @@ fn chapter_name(chapter: Chapter) -> &'static str
     }
 }
 
-// what a chapter says of a section
+// what a chapter has for a section
 fn put_tokens(
     alloc: Global,
     writer: &mut JsonWriter,
@@ -94,7 +94,7 @@ fn put_document(
     writer.end_object()
 }
 
-/// The object dictionary that sections in order describe, as a document of JSON. It fails out of memory.
+/// The object dictionary of sections in order, as a JSON document. `Err`: out of memory.
 #[tactic(auto, unfolding(crate::specs::JsonForm::json_document))]
 pub(crate) fn json_document(
     alloc: Global,
@@ -119,7 +119,7 @@ fn put_fault(alloc: Global, writer: &mut JsonWriter, fault: SheetFault) -> Resul
     writer.end_object()
 }
 
-/// Why a text can't be shown, as a document of JSON. It fails out of memory.
+/// Why a text can't be shown, as a JSON document. `Err`: out of memory.
 #[tactic(auto, unfolding(crate::specs::JsonForm::json_fault))]
 pub(crate) fn json_fault(alloc: Global, fault: SheetFault) -> Result<Vec<u8>, AllocError>
     ensures { IfOk result (λ text. text.items ≡ json_fault fault) }

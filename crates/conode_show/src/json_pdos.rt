@@ -1,4 +1,5 @@
-//! PDOs as objects of JSON. Each function appends tokens; on an `Err` memory ran out, and some of them may be there.
+//! PDOs as objects of JSON. Each function appends tokens. `Err`: out of memory; some tokens may be
+//! there.
 
 ghost use Rattle.std.specs.Prelude.{◌≡◌, ◌++◌, [], ◌≤◌, codes, map, OnOk};
 ghost use Rattle.std.specs.Option.{option_map_or};
@@ -59,7 +60,7 @@ fn put_mapped_members(
     put_name_at(alloc, writer, sections, key)
 }
 
-// what a word of a mapping names, nothing where it is no number
+// what a word of a mapping names, nothing if it is no number
 fn put_mapped_if(
     alloc: Global,
     writer: &mut JsonWriter,
@@ -138,7 +139,7 @@ fn put_pdo_name(alloc: Global, writer: &mut JsonWriter, index: u16) -> Result<()
     writer.put_text("pdo", name.as_str())
 }
 
-// its COB-ID, transmission type and timers
+// the COB-ID, transmission type and timers of a PDO
 #[tactic(auto, unfolding(crate::specs::JsonForm::pdo_members))]
 fn put_pdo_members(
     alloc: Global,
@@ -207,7 +208,7 @@ fn put_pdo_tokens(
     writer.end_object()
 }
 
-/// A PDO, by the section of its COB-ID; nothing for every other section.
+/// Appends a PDO, by the section of its COB-ID; nothing for any other section.
 pub(crate) fn put_pdo(
     alloc: Global,
     writer: &mut JsonWriter,

@@ -1,5 +1,5 @@
-//! SYNC, EMCY, heartbeats and SDO channels as objects of JSON. Each function appends tokens; on an `Err` memory ran out, and
-//! some of them may be there.
+//! SYNC, EMCY, heartbeats and SDO channels as objects of JSON. Each function appends tokens. `Err`:
+//! out of memory; some tokens may be there.
 
 ghost use Rattle.std.specs.Prelude.{◌≡◌, ◌++◌, codes, OnOk};
 ghost use Rattle.co_sheet_text.specs.Views.{section_view};
@@ -46,7 +46,7 @@ fn put_service_tokens(
     writer.end_object()
 }
 
-/// An entry that is of a service; nothing for every other section.
+/// Appends an entry of a service; nothing for any other section.
 pub(crate) fn put_service(
     alloc: Global,
     writer: &mut JsonWriter,

@@ -1,5 +1,5 @@
-//! What entries of the communication profile say, as members of JSON. Each function that is given a writer appends tokens;
-//! on an `Err` memory ran out, and some of them may be there.
+//! The values of entries of the communication profile, as members of JSON. Each function with a
+//! writer appends tokens. `Err`: out of memory; some tokens may be there.
 
 ghost use Rattle.std.specs.Prelude.{◌≡◌, ◌++◌, codes, map, OnOk};
 ghost use Rattle.co_sheet_text.specs.Views.{section_view};
@@ -13,7 +13,7 @@ use co_value::Key;
 use conode_show_text::{Meaning, push_said, section_word};
 use std::alloc::{AllocError, Global};
 
-// the number of the word that an entry has, where it is known without `$NODEID`
+// the number of an entry's word, if it is known without `$NODEID`
 fn word_number(node: Option<u8>, section: &TextSection<'_, '_>) -> Option<i128>
     ensures { result ≡ word_number node (section_view section.now) }
 {
@@ -25,7 +25,7 @@ fn word_number(node: Option<u8>, section: &TextSection<'_, '_>) -> Option<i128>
     }
 }
 
-/// What an entry says, in words.
+/// Appends the value of an entry in words.
 pub(crate) fn put_words(
     alloc: Global,
     writer: &mut JsonWriter,
@@ -41,7 +41,7 @@ pub(crate) fn put_words(
     writer.put_text("words", words.as_str())
 }
 
-/// What an entry says: its number and its words.
+/// Appends the value of an entry: its number and its words.
 #[tactic(auto, unfolding(crate::specs::JsonForm::said_members))]
 pub(crate) fn put_said_members(
     alloc: Global,
@@ -57,7 +57,7 @@ pub(crate) fn put_said_members(
     put_words(alloc, writer, meaning, node, section)
 }
 
-/// The same as a member.
+/// Appends a member with the value of an entry.
 #[tactic(auto, unfolding(crate::specs::JsonForm::said_member))]
 pub(crate) fn put_said(
     alloc: Global,
@@ -75,7 +75,7 @@ pub(crate) fn put_said(
     writer.end_object()
 }
 
-/// The same of a sub-index, nothing where it isn't there.
+/// Appends a member with the value of a sub-index, nothing if it isn't there.
 #[tactic(auto, unfolding(crate::specs::JsonForm::said_at_member))]
 pub(crate) fn put_said_at(
     alloc: Global,

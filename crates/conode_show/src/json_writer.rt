@@ -1,4 +1,4 @@
-//! A document of JSON that is being written (RFC 8259).
+//! A JSON document that is being written (RFC 8259).
 
 ghost use Rattle.std.specs.Prelude.{◌≡◌, ◌++◌, [], ◌∷◌, IfOk, OnOk};
 ghost use Rattle.json.specs.Print.{print};
@@ -12,7 +12,7 @@ use json::Writer;
 use std::alloc::{AllocError, Global};
 use std::marker::Model;
 
-/// The greatest number that every reader of JSON keeps as it is, 2^53 - 1, and the least one.
+/// The greatest number that every reader of JSON keeps exactly, 2^53 - 1, and the smallest one.
 const GREATEST_EXACT: i128 = 9_007_199_254_740_991;
 
 const LEAST_EXACT: i128 = -9_007_199_254_740_991;
@@ -23,8 +23,8 @@ fn is_exact(number: i128) -> bool
     LEAST_EXACT <= number && number <= GREATEST_EXACT
 }
 
-/// A document that is being written. Contracts see its tokens. Each method appends tokens; on an `Err` memory ran out, and
-/// some of them may be there.
+/// A document that is being written. Contracts see its tokens. Each method appends tokens. `Err`:
+/// out of memory; some tokens may be there.
 #[derive(Drop)]
 pub(crate) struct JsonWriter {
     writer: Writer,
@@ -53,7 +53,7 @@ impl JsonWriter {
         }
     }
 
-    /// The document, ended by a line feed.
+    /// The document, with a line feed at its end.
     pub(crate) fn into_text(self) -> Result<Vec<u8>, AllocError>
         ensures { IfOk result (λ text. text.items ≡ print self ++ 10 ∷ []) }
     {
@@ -113,7 +113,7 @@ impl JsonWriter {
         Ok(())
     }
 
-    /// A text of the sheet, in UTF-8.
+    /// Appends a text of the sheet, in UTF-8.
     pub(crate) fn put_own(
         &mut self,
         alloc: Global,
@@ -149,7 +149,7 @@ impl JsonWriter {
         Ok(())
     }
 
-    /// A number; one that readers might not keep as it is becomes a string of its digits.
+    /// Appends a number; one that readers might not keep exactly becomes a string of its digits.
     #[tactic(auto, unfolding(crate::specs::JsonForm::number_member))]
     pub(crate) fn put_number(
         &mut self,
@@ -163,7 +163,7 @@ impl JsonWriter {
         self.number(alloc, number)
     }
 
-    /// The same, left out where there is none.
+    /// Appends a number, nothing for `None`.
     pub(crate) fn put_number_if(
         &mut self,
         alloc: Global,

@@ -1,4 +1,4 @@
-//! The object dictionary of a data sheet, shown as people read it (CiA 306, CiA 301), or as one document of JSON.
+//! The object dictionary of a data sheet (CiA 306, CiA 301), shown as text or as one JSON document.
 #![tactic(auto)]
 
 mod form;

@@ -1,4 +1,4 @@
-//! The sections of a sheet, with the original types of one that was adapted.
+//! The sections of a sheet, with their original types if the sheet was adapted.
 
 ghost use Rattle.std.specs.Prelude.{◌≡◌, map, IfOk, OnOk};
 ghost use Rattle.std.specs.Option.{option_copied};
@@ -84,7 +84,7 @@ impl<'a> Retyped<'a> {
     }
 }
 
-/// Sections with their original types.
+/// Sections with their original types. `Err`: out of memory.
 pub(crate) fn all_retyped<'a>(
     alloc: Global,
     originals: &Originals,
@@ -100,7 +100,7 @@ pub(crate) fn all_retyped<'a>(
     Ok(made)
 }
 
-/// The sections that these are.
+/// These as sections. `Err`: out of memory.
 pub(crate) fn sections_in<'r, 'a>(
     alloc: Global,
     retyped: &'r [Retyped<'a>],

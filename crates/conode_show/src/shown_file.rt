@@ -54,7 +54,7 @@ fn ordered_document(
     document_in(alloc, form, node, sections)
 }
 
-// the document of a text's sections, with the original types of one that was adapted
+// the document of a text's sections, with their original types if the sheet was adapted
 fn document_of(
     alloc: Global,
     form: Form,
@@ -94,7 +94,7 @@ fn fault_in(alloc: Global, form: Form, fault: SheetFault) -> Result<Vec<u8>, All
     }
 }
 
-// the fault of a text that isn't read
+// the fault of a text that is too large to be read
 const TOO_LARGE: SheetFault = SheetFault {
     kind: FaultKind::TooLarge,
     line: 0,
@@ -112,12 +112,13 @@ fn shown(alloc: Global, form: Form, node: Option<u8>, text: &[u8]) -> Result<Vec
     document_of(alloc, form, node, text, &parsed)
 }
 
-/// Shows the object dictionary of a data sheet (CiA 306): an entry in each line, by index and sub-index, then its PDOs and
-/// the other services of the communication profile in words. A line at fault gives nothing, and the others are shown. A
-/// text of more than 1,048,576 bytes isn't read: then it is that fault, in JSON as a document. Whether the dictionary is
-/// shown.
+/// Shows the object dictionary of a data sheet (CiA 306): its entries by index and sub-index, then
+/// its PDOs and the other services of the communication profile in words. A faulty line is left
+/// out, and the others are shown. A text of more than 1,048,576 bytes isn't read; that fault is
+/// written instead, in JSON as a document. Returns whether the dictionary is shown.
 ///
-/// All is written at once: after `Memory` nothing has been written, after `Write` a part of it.
+/// All is written at once. `Memory`: memory ran out, and nothing has been written. `Write`: the
+/// writer failed, and at most a part has been written.
 pub fn show<W: Write>(
     alloc: Global,
     text: &[u8],
@@ -140,9 +141,9 @@ pub fn show<W: Write>(
     Ok(text.len() <= GREATEST_SIZE)
 }
 
-/// Shows the data sheet of a path, as `show` does. Where not all of it could be written, `out` has why, or where `out`
-/// can't be written `err`. A file that can't be read is named on `err`. The status is 0 where the dictionary is shown,
-/// else 1.
+/// Shows the data sheet of a path, as `show` does. If not all of it could be written, `out` has
+/// why, or `err` if `out` can't be written. A file that can't be read is named on `err`. The status
+/// is 0 if the dictionary is shown, else 1.
 pub fn show_file<R: Files + AllocGlobal, O: Write, E: Write>(
     rt: &R,
     path: &str,

@@ -17,7 +17,7 @@ has_bit_29 n = n / 0x20000000 % 2 == 1
 abbrev pub low_bits : ℕ → ℕ
 low_bits n = n % 0x20000000
 
--- the identifier: with bit 29 of 29 bits, else of 11 bits, and bits 28 to 11 are 0
+-- how many bits the identifier has: 29 with bit 29, else 11, and then bits 28 to 11 have to be 0
 abbrev pub frame_name : ℕ → List ℕ
 frame_name n =
     if has_bit_29 n then codes ", 29-bit"
@@ -39,11 +39,11 @@ use_name word =
 unfoldable pub cob_id_text : Word → List ℕ
 cob_id_text word = identifier_text word.number ++ use_name word
 
--- that of a PDO, with its bit 30: no RTR
+-- the COB-ID of a PDO, with its bit 30: no RTR
 unfoldable pub pdo_cob_id_text : Word → List ℕ
 pdo_cob_id_text word = cob_id_text word ++ (if has_bit_30 word.number then codes ", no RTR" else [])
 
--- that of SYNC, with its bit 30: the device produces it; bit 31 says nothing
+-- the COB-ID of SYNC, with its bit 30: the device produces it; bit 31 says nothing
 abbrev pub sync_name : Word → List ℕ
 sync_name word =
     if is_not_used word then codes ", not used"

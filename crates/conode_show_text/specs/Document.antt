@@ -26,7 +26,7 @@ rank other = 0
 abbrev pub ordered : List TextSection → List TextSection
 ordered sections = in_order (λ s t. nat_lt (rank s.kind) (rank t.kind)) sections
 
--- what is before a chapter
+-- the head of a chapter
 abbrev pub head_of : Chapter → Format → List ℕ
 head_of Entries Text = entries_head Text
 head_of Entries Markdown = codes "## Objects\n"
@@ -36,7 +36,7 @@ head_of Pdos Markdown =
 head_of Services Text = codes "\nEntry   Service                       Says\n"
 head_of Services Markdown = codes "\n## Services\n\n| Entry | Service | Says |\n| --- | --- | --- |\n"
 
--- what a chapter says of a section
+-- what a chapter has for a section
 abbrev pub chapter_text : Chapter → Format → Option ℕ → List TextSection → TextSection → List ℕ
 chapter_text Entries format given sections section = section_text format given section
 chapter_text Pdos format given sections section = pdo_text format given sections section
@@ -46,7 +46,7 @@ abbrev pub chapter_lines : Chapter → Format → Option ℕ → List TextSectio
 chapter_lines chapter format node sections =
     flat_map (chapter_text chapter format node sections) sections
 
--- a text with its head, nothing where it is empty
+-- a text with its head, nothing if the text is empty
 abbrev pub with_head : List ℕ → List ℕ → List ℕ
 with_head front text = if is_empty text then [] else front ++ text
 
@@ -60,6 +60,6 @@ document format node sections =
     head_of Entries format ++ chapter_lines Entries format node sections
     ++ chapter_of Pdos format node sections ++ chapter_of Services format node sections
 
--- the node-ID that is given, or else that of a device configuration file
+-- the given node-ID, or else that of a device configuration file
 abbrev pub node_for : Option ℕ → List TextSection → Option ℕ
 node_for node sections = option_or node (node_id_in sections)

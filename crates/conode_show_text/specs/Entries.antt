@@ -29,20 +29,20 @@ type_names =
     ∷ (0x15, codes "INTEGER64") ∷ (0x16, codes "UNSIGNED24") ∷ (0x18, codes "UNSIGNED40") ∷ (0x19, codes "UNSIGNED48")
     ∷ (0x1A, codes "UNSIGNED56") ∷ (0x1B, codes "UNSIGNED64") ∷ []
 
--- the name of a data type; that of a code that is none is its number
+-- the name of a data type, or its number if the code has no name
 unfoldable pub type_name : ℕ → List ℕ
 type_name code =
     option_map_or (λ name. name) (option_map (λ row. row.1) (find (λ row. row.0 == code) type_names))
     (codes "type " ++ hex_text code)
 
--- the name of an object type (CiA 301, object codes)
+-- whether an object is an ARRAY, or a RECORD (CiA 301, object codes)
 abbrev pub is_array : TextSection → Bool
 is_array section = is_one_of (8 ∷ []) (object_code section)
 
 abbrev pub is_record : TextSection → Bool
 is_record section = is_one_of (9 ∷ []) (object_code section)
 
--- the type of an entry; DOMAIN where object type 2 states none
+-- the type of an entry; DOMAIN if object type 2 has none
 unfoldable pub entry_type : TextSection → List ℕ
 entry_type section =
     option_map_or (λ k. option_map_or type_name (property_number k) (plain_text k.value))
@@ -102,12 +102,14 @@ object_heading index section =
     codes "\n### " ++ digits_text 16 4 index ++ codes "h "
     ++ flat_map cell_byte (property_text (codes "ParameterName") section) ++ codes "\n\n" ++ entries_head Markdown
 
--- what is before the entries of an object: in columns the line of an object with sub-indices, in Markdown a heading
+-- what comes before the entries of an object: in columns the line of an object with sub-indices, in
+-- Markdown a heading
 unfoldable pub object_head : Format → ℕ → TextSection → List ℕ
 object_head Text index section = if has_sub_indices section then object_line index section else []
 object_head Markdown index section = object_heading index section
 
--- what a section of a sheet says: an object, with its entry where it has no sub-indices, or the entry of a sub-index
+-- the lines of a section: an object, with its entry if it has no sub-indices, or the entry of a
+-- sub-index
 abbrev pub described : Format → Option ℕ → TextSection → SectionKind → List ℕ
 described format given section (Object index) =
     object_head format index section

@@ -18,7 +18,7 @@ begins_character byte = nat_lt byte 128 || nat_le 192 byte
 abbrev pub columns : List ℕ → ℕ
 columns text = length (filter begins_character text)
 
--- the blanks in front of a part: up to its column, or one where the line is past it
+-- the blanks before a part: up to its column, or one if the line is past it
 abbrev pub gap : ℕ → List ℕ → ℕ
 gap column line = if nat_lt (columns line) column then column - columns line else if is_empty line then 0 else 1
 
@@ -30,7 +30,7 @@ is_markup byte = list_any (λ other. byte == other) (codes "\\|<*_`[$")
 abbrev pub cell_byte : ℕ → List ℕ
 cell_byte byte = if is_markup byte then 92 ∷ byte ∷ [] else byte ∷ []
 
--- a line with one part more; a part without text takes no place in columns
+-- a line with one more part; in columns a part without text takes no place
 unfoldable pub placed : Format → ℕ → List ℕ → List ℕ → List ℕ
 placed Text column line text =
     if is_empty text then line else line ++ replicate (gap column line) 32 ++ text

@@ -31,18 +31,18 @@ counted_syncs n =
 unfoldable pub transmission_text : ℕ → List ℕ
 transmission_text n = option_map_or (λ name. name) (transmission_name n) (counted_syncs n)
 
--- a time in ms, where it is in 100 µs with its tenths
+-- a time in ms; with tenths, if the number is in 100 µs
 unfoldable pub millis_text : Bool → ℕ → List ℕ
 millis_text in_tenths n =
     if in_tenths then decimal (n / 10) ++ codes "." ++ decimal (n % 10) else decimal n
 
--- a time after its words; one that is 0 has others
+-- a time after the words `before`, or the words `off` for 0
 unfoldable pub time_text : List ℕ → List ℕ → Bool → ℕ → List ℕ
 time_text off before in_tenths n =
     if n == 0 then off else before ++ millis_text in_tenths n ++ codes " ms"
 
--- a consumer heartbeat time: the node-ID in bits 23 to 16, below it the time in ms; bits 31 to 24 are reserved. The entry
--- isn't used without a time, and where the node-ID is none of 1 to 127
+-- a consumer heartbeat time: the node-ID in bits 23 to 16, below it the time in ms; bits 31 to 24
+-- are reserved. The entry isn't used if the time is 0, or the node-ID isn't 1 to 127
 abbrev pub is_consumer_used : ℕ → Bool
 is_consumer_used n = is_node_number (n / 0x10000 % 0x100) && not (n % 0x10000 == 0)
 
@@ -63,7 +63,7 @@ mapped_key n = record { index = n / 0x10000 % 0x10000; sub = n / 0x100 % 0x100 }
 unfoldable pub mapped_text : ℕ → List ℕ
 mapped_text n = key_text (mapped_key n) ++ codes ", " ++ decimal (n % 0x100) ++ codes " bits"
 
--- a word in words: a number, which may be added to the node-ID
+-- the meaning of a word
 abbrev pub meaning_text : Meaning → Word → List ℕ
 meaning_text PdoCobId word = pdo_cob_id_text word
 meaning_text CobId word = cob_id_text word
@@ -79,7 +79,7 @@ meaning_text Mapped word = mapped_text word.number
 unfoldable pub word_text : Meaning → Word → List ℕ
 word_text meaning word = (if word.relative then codes "$NODEID+" else []) ++ meaning_text meaning word
 
--- what an entry says in words; a text that is no number is printed as it is
+-- the value of an entry in words; a text that is no number is printed as it is
 unfoldable pub said : Meaning → Option ℕ → TextSection → List ℕ
 said meaning node section =
     option_map_or (λ k. option_map_or (word_text meaning) (word_of node k.value) (plain_text k.value))

@@ -21,8 +21,8 @@ is_one_digit (negsuc n) = false
 unfoldable pub in_parentheses : Option ℕ → List ℕ
 in_parentheses number = option_map_or (λ n. codes " (" ++ hex_text n ++ codes ")") number []
 
--- a number of a type of so many bytes: decimal, and in hexadecimal digits where these differ, a negative one in two's
--- complement, as `1000 (3E8h)`, `-100 (FF9Ch)`
+-- a number of a type of so many bytes: in decimal, and in hexadecimal digits if these differ, as
+-- `1000 (3E8h)`; a negative one in two's complement, as `-100 (FF9Ch)`
 unfoldable pub number_text : ℕ → ℤ → List ℕ
 number_text width number =
     signed_decimal number

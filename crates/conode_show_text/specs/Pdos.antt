@@ -16,24 +16,24 @@ use Rattle.conode_show_text.specs.declared.values.Word.{Word}
 use Rattle.conode_show_text.specs.Values.{word_of, value_of}
 use Rattle.conode_show_text.specs.Meanings.{mapped_key, said}
 
--- the number of a PDO, from 1, by the index of its communication parameter
+-- the name of a PDO with its number, from 1, by the index of its communication parameter
 unfoldable pub pdo_name : ℕ → List ℕ
 pdo_name index =
     if is_within rpdo_communication index then codes "RPDO " ++ decimal (index - 0x13FF)
     else codes "TPDO " ++ decimal (index - 0x17FF)
 
--- the COB-ID of a PDO
+-- whether an entry is the COB-ID of a PDO
 abbrev pub is_pdo_cob_id : Key → Bool
 is_pdo_cob_id key =
     key.sub == 1 && (is_within rpdo_communication key.index || is_within tpdo_communication key.index)
 
--- the section of an entry: of its sub-index, or where there is none at sub-index 0 of its object
+-- the section of an entry: that of its sub-index, or else for sub-index 0 that of its object
 abbrev pub entry_section : List TextSection → Key → Option TextSection
 entry_section sections key =
     option_or (section_at (SubIndex key) sections)
     (if key.sub == 0 then section_at (Object key.index) sections else None)
 
--- what a sub-index says in words, nothing where it isn't there
+-- the value of a sub-index in words, nothing if it isn't there
 unfoldable pub said_at : Meaning → Option ℕ → List TextSection → Key → List ℕ
 said_at meaning node sections key = option_map_or (said meaning node) (section_at (SubIndex key) sections) []
 
@@ -49,7 +49,7 @@ pdo_parts node sections index section =
 unfoldable pub pdo_line : Format → Option ℕ → List TextSection → ℕ → TextSection → List ℕ
 pdo_line format node sections index section = line_of format (pdo_parts node sections index section)
 
--- the word that an entry has
+-- the value of an entry as a word, if it is one
 abbrev pub section_word : Option ℕ → TextSection → Option Word
 section_word node section = option_and_then (λ k. word_of node k.value) (value_of section)
 
@@ -74,13 +74,13 @@ mapped_line format node sections section = line_of format (mapped_parts node sec
 abbrev pub mapping_index : ℕ → ℕ
 mapping_index index = index + 0x200
 
--- how many words of a mapping count; more than 64 are none (CiA 301, 7.5.2.36)
+-- how many words of a mapping count; none, if there are more than 64 (CiA 301, 7.5.2.36)
 abbrev pub mapping_count : Option ℕ → List TextSection → ℕ → ℕ
 mapping_count node sections index =
     option_map_or (λ word. if nat_le word.number 64 then word.number else 0)
     (option_and_then (section_word node) (section_at (SubIndex (record { index = index; sub = 0 })) sections)) 0
 
--- whether a section is a word of a mapping that counts
+-- whether a section is one of the words that count in the mapping of this index
 abbrev pub is_counted : ℕ → ℕ → SectionKind → Bool
 is_counted index count (SubIndex key) = key.index == index && nat_le 1 key.sub && nat_le key.sub count
 is_counted index count other = false

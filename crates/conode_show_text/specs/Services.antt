@@ -14,7 +14,7 @@ use Rattle.conode_show_text.specs.declared.service.Service.TheVariants.{Sync, Em
 use Rattle.conode_show_text.specs.Layout.{Part, line_of}
 use Rattle.conode_show_text.specs.Meanings.{said}
 
--- the service that an entry is of (CiA 301, 7.5.2)
+-- the service of an entry (CiA 301, 7.5.2)
 abbrev pub service_of : Key → Option Service
 service_of key =
     if key.index == 0x1005 && key.sub == 0 then Some Sync
@@ -28,11 +28,11 @@ service_of key =
     else if nat_le 0x1280 key.index && nat_le key.index 0x12FF && key.sub == 2 then Some (ClientResponses (key.index - 0x1280 + 1))
     else None
 
--- one way of an SDO channel, of which the device is the server or the client
+-- one direction of an SDO channel, of which the device is the server or the client
 unfoldable pub channel_name : List ℕ → ℕ → List ℕ → List ℕ
 channel_name end channel way = end ++ decimal channel ++ way
 
--- what it is called
+-- the name of a service
 unfoldable pub service_name : Service → List ℕ
 service_name Sync = codes "SYNC"
 service_name Emcy = codes "EMCY"
@@ -44,7 +44,7 @@ service_name (SdoResponses channel) = channel_name (codes "SDO ") channel (codes
 service_name (ClientRequests channel) = channel_name (codes "SDO client ") channel (codes ", client to server")
 service_name (ClientResponses channel) = channel_name (codes "SDO client ") channel (codes ", server to client")
 
--- what its number means
+-- the meaning of its number
 abbrev pub service_meaning : Service → Meaning
 service_meaning Sync = SyncCobId
 service_meaning Emcy = CobId
@@ -72,7 +72,7 @@ service_parts node key service section =
 unfoldable pub service_line : Format → Option ℕ → Key → Service → TextSection → List ℕ
 service_line format node key service section = line_of format (service_parts node key service section)
 
--- of an entry that is of a service its line
+-- the line of an entry of a service; nothing for any other
 abbrev pub line_of_key : Format → Option ℕ → TextSection → Key → List ℕ
 line_of_key format node section key =
     option_map_or (λ service. service_line format node key service section) (service_of key) []

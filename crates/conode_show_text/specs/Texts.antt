@@ -10,15 +10,15 @@ use Rattle.co_sheet_text.specs.Sections.{TextSection, property_at}
 abbrev pub is_control : ℕ → Bool
 is_control byte = nat_lt byte 32 || byte == 127
 
--- no control character, and UTF-8: printed as it is
+-- a text that is printed as it is: UTF-8 without control characters
 abbrev pub is_plain : List ℕ → Bool
 is_plain text = list_all (λ byte. not (is_control byte)) text && is_utf8 text
 
--- a byte of any other text: itself where it is ASCII and printable, else `\x` and two hexadecimal digits
+-- a byte of any other text: as it is if it is printable ASCII, else `\x` and two hexadecimal digits
 abbrev pub escaped_byte : ℕ → List ℕ
 escaped_byte byte = if nat_le 32 byte && nat_le byte 126 then byte ∷ [] else 92 ∷ 120 ∷ byte_text byte
 
--- a text that is printed as it is
+-- the text, if it is printed as it is
 abbrev pub if_plain : List ℕ → Option (List ℕ)
 if_plain text = if is_plain text then Some text else None
 
@@ -26,6 +26,6 @@ if_plain text = if is_plain text then Some text else None
 unfoldable pub plain_text : List ℕ → List ℕ
 plain_text text = option_map_or (λ plain. plain) (if_plain text) (flat_map escaped_byte text)
 
--- the text of a property, empty where the section has none
+-- the text of a property, empty if the section has none
 unfoldable pub property_text : List ℕ → TextSection → List ℕ
 property_text name section = option_map_or (λ k. plain_text k.value) (property_at name section) []

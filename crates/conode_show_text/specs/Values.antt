@@ -20,13 +20,13 @@ use Rattle.conode_show_text.specs.Texts.{plain_text}
 abbrev pub numeric_value : DataType → List ℕ → Default
 numeric_value t value = unwrap_or (result_ok (numeric_default t value)) absent
 
--- a sum with the node-ID as it is written, and for a given node what it is, as `$NODEID+600h = 605h`
+-- a sum with the node-ID as it is written, and its value for a given node, as `$NODEID+600h = 605h`
 unfoldable pub sum_text : Option ℕ → ℕ → List ℕ
 sum_text node addend =
     codes "$NODEID" ++ (if addend == 0 then [] else codes "+" ++ hex_text addend)
     ++ option_map_or (λ sum. codes " = " ++ hex_text sum) (option_and_then (λ id. if_small (addend + id)) node) []
 
--- a numeric value of so many bytes; a text that is none is printed as it is
+-- a numeric value of so many bytes; any other text is printed as it is
 unfoldable pub known_text : Option ℕ → ℕ → List ℕ → Default → List ℕ
 known_text given width value (number z) = number_text width z
 known_text given width value (node_id addend) = sum_text given addend
@@ -40,33 +40,34 @@ quoted value = 34 ∷ plain_text value ++ 34 ∷ []
 unfoldable pub unnumbered_text : DataType → List ℕ → List ℕ
 unnumbered_text t value = if code_of t == 0x09 then quoted value else plain_text value
 
--- the value of a text at a type
+-- the value of a text of this type
 unfoldable pub value_text : Option ℕ → Option DataType → List ℕ → List ℕ
 value_text given None value = plain_text value
 value_text given (Some t) value =
     option_map_or (λ width. known_text given width value (numeric_value t value)) (width_of t)
     (unnumbered_text t value)
 
--- the number of a value; of a sum with the node-ID for the node that is given
+-- the number of a value; a sum with the node-ID needs the given node
 abbrev pub number_for : Option ℕ → Default → Option ℤ
 number_for given (number z) = Some z
 number_for given (node_id addend) = option_map (λ id. pos (addend + id)) given
 number_for given other = None
 
--- the number of a text at a type, where that is numeric
+-- the number of a text, if its type is numeric
 abbrev pub value_number : Option ℕ → Option DataType → List ℕ → Option ℤ
 value_number given None value = None
 value_number given (Some t) value =
     option_and_then (λ width. number_for given (numeric_value t value)) (width_of t)
 
--- the type that a section states, where its code is one of those that are supported
+-- the data type of a section, if its code is a supported one
 abbrev pub type_of : TextSection → Option DataType
 type_of section = option_and_then data_type_with (number_at (codes "DataType") section)
 
--- the value that a device configuration file gives, and beside it the default; or the one of both that is there
+-- the value of a property, nothing if there is none
 unfoldable pub property_value : Option ℕ → Option DataType → Option Property → List ℕ
 property_value node t property = option_map_or (λ k. value_text node t k.value) property []
 
+-- the value of a device configuration file and then the default, or the one of them that is there
 unfoldable pub default_text : Option ℕ → TextSection → List ℕ
 default_text node section =
     let value = property_at (codes "ParameterValue") section in
@@ -75,7 +76,7 @@ default_text node section =
     ++ (if is_some value && is_some default then codes ", default " else [])
     ++ property_value node (type_of section) default
 
--- a limit: its number at the type, or the text where it is none
+-- the number of a limit of this type, if it is one
 abbrev pub limit_number : Option DataType → List ℕ → Option ℤ
 limit_number t value = option_and_then (λ t. result_ok (number_at_type t value)) t
 
@@ -83,7 +84,7 @@ unfoldable pub limit_text : Option DataType → Option Property → List ℕ
 limit_text t limit =
     option_map_or (λ k. option_map_or signed_decimal (limit_number t k.value) (plain_text k.value)) limit []
 
--- both limits, as `0..100`, empty where there is neither
+-- both limits, as `0..100`, empty if there is neither
 unfoldable pub limits_text : TextSection → List ℕ
 limits_text section =
     let low = property_at (codes "LowLimit") section in
@@ -93,7 +94,7 @@ limits_text section =
 
 -- ---- words of the communication profile
 
--- a value as a number of the communication profile, of at most 32 bits; with a node-ID, the sum
+-- a number of the communication profile, of at most 32 bits
 abbrev pub if_word : ℕ → Option ℕ
 if_word n = if nat_lt n (2 ^ 32) then Some n else None
 
@@ -110,9 +111,10 @@ word_with None (node_id addend) = word_from true (if_word addend)
 word_with (Some id) (node_id addend) = word_from false (if_word (addend + id))
 word_with given other = None
 
+-- a text as such a number; with a node-ID, a sum is added up
 abbrev pub word_of : Option ℕ → List ℕ → Option Word
 word_of node value = word_with node (numeric_value Unsigned32 value)
 
--- what states the value that an entry begins with: ParameterValue, or where it is absent DefaultValue
+-- the property with the value that an entry begins with: ParameterValue, or else DefaultValue
 abbrev pub value_of : TextSection → Option Property
 value_of section = option_or (property_at (codes "ParameterValue") section) (property_at (codes "DefaultValue") section)

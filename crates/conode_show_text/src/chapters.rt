@@ -18,7 +18,7 @@ use crate::service::push_service;
 use co_sheet_text::TextSection;
 use std::alloc::{AllocError, Global};
 
-/// A chapter of what is shown.
+/// A chapter of the shown dictionary.
 #[derive(Clone, Copy)]
 pub enum Chapter {
     /// Entries and objects.
@@ -44,7 +44,7 @@ fn head_of(chapter: Chapter, format: Format) -> &'static str
     }
 }
 
-// what a chapter says of a section
+// what a chapter has for a section
 fn push_text(
     text: &mut Vec<u8>,
     line: &mut Vec<u8>,
@@ -84,7 +84,7 @@ fn push_lines(
     Ok(())
 }
 
-// a text with its head, nothing where it is empty
+// a text with its head, nothing if the text is empty
 fn push_with_head(text: &mut Vec<u8>, front: &str, body: &[u8]) -> Result<(), AllocError>
     ensures { OnOk result (text.new.items ≡ text.old.items ++ with_head front.now body.now) }
 {
@@ -113,8 +113,8 @@ fn push_chapter(
     push_with_head(text, head_of(chapter, format), body.as_slice())
 }
 
-/// The object dictionary that sections in order describe: its entries, its PDOs, and its services. It fails out of
-/// memory.
+/// The object dictionary of sections in order: its entries, its PDOs, and its services. `Err`: out
+/// of memory.
 #[tactic(auto, unfolding(crate::specs::Document::document))]
 pub fn document(
     alloc: Global,

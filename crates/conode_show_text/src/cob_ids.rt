@@ -1,5 +1,5 @@
-//! COB-IDs in words (CiA 301, 7.2.2.7 and 7.5.2). Each function that is given a text appends to it; on an `Err` memory ran
-//! out, and a part may be there.
+//! COB-IDs in words (CiA 301, 7.2.2.7 and 7.5.2). Each function with a text appends to it. `Err`:
+//! out of memory; a part of the text may be there.
 
 ghost use Rattle.std.specs.Prelude.{◌≡◌, ◌++◌, OnOk, string_bytes};
 ghost use Rattle.conode_show_text.specs.CobIds.{
@@ -29,7 +29,7 @@ const EXTENDED: u64 = 0x2000_0000;
 /// The greatest identifier of 11 bits.
 const GREATEST_BASE: u64 = 0x7FF;
 
-// how many bits the identifier has, where these aren't 11
+// how many bits the identifier has, if not 11
 fn frame_name(number: u64) -> &'static str
     ensures { result.now ≡ frame_name number }
 {
@@ -69,7 +69,7 @@ fn use_name(word: Word) -> &'static str
     }
 }
 
-/// Appends what the COB-ID of EMCY or of an SDO channel is.
+/// Appends the COB-ID of EMCY or of an SDO channel in words.
 #[tactic(auto, unfolding(crate::specs::CobIds::cob_id_text))]
 pub(crate) fn push_cob_id(text: &mut String, word: Word) -> Result<(), AllocError>
     ensures { OnOk result (string_bytes text.new ≡ string_bytes text.old ++ cob_id_text word) }
@@ -78,7 +78,7 @@ pub(crate) fn push_cob_id(text: &mut String, word: Word) -> Result<(), AllocErro
     push_words(text, use_name(word))
 }
 
-/// The same of a PDO.
+/// Appends the COB-ID of a PDO in words.
 #[tactic(auto, unfolding(crate::specs::CobIds::pdo_cob_id_text))]
 pub(crate) fn push_pdo_cob_id(text: &mut String, word: Word) -> Result<(), AllocError>
     ensures { OnOk result (string_bytes text.new ≡ string_bytes text.old ++ pdo_cob_id_text word) }
@@ -103,7 +103,7 @@ fn sync_name(word: Word) -> &'static str
     }
 }
 
-/// The same of SYNC.
+/// Appends the COB-ID of SYNC in words.
 #[tactic(auto, unfolding(crate::specs::CobIds::sync_text))]
 pub(crate) fn push_sync(text: &mut String, word: Word) -> Result<(), AllocError>
     ensures { OnOk result (string_bytes text.new ≡ string_bytes text.old ++ sync_text word) }

@@ -67,7 +67,8 @@ fn push_entry_type(text: &mut String, section: &TextSection<'_, '_>) -> Result<(
     }
 }
 
-/// Appends the type of an object with sub-indices, or of an entry. On an `Err` memory ran out, and a part may be there.
+/// Appends the type of an object with sub-indices, or of an entry. `Err`: out of memory; a part of
+/// the text may be there.
 #[tactic(auto, unfolding(crate::specs::Entries::type_text))]
 pub fn push_type(text: &mut String, section: &TextSection<'_, '_>) -> Result<(), AllocError>
     ensures { OnOk result (string_bytes text.new
@@ -185,7 +186,7 @@ fn push_heading(
     text.extend_from_slice(entries_head(Format::Markdown).as_bytes())
 }
 
-// what is before the entries of an object
+// what comes before the entries of an object
 #[tactic(auto, unfolding(crate::specs::Entries::object_head))]
 fn push_object_head(
     text: &mut Vec<u8>,
@@ -208,8 +209,8 @@ fn push_object_head(
     }
 }
 
-/// Appends what a section of a sheet says: an object, with its entry where it has no sub-indices, or the entry of a
-/// sub-index.
+/// Appends the lines of a section: an object, with its entry if it has no sub-indices, or the entry
+/// of a sub-index.
 pub(crate) fn push_section(
     text: &mut Vec<u8>,
     line: &mut Vec<u8>,

@@ -1,4 +1,5 @@
-//! A line, made of parts. Each function appends to a line; on an `Err` memory ran out, and a part may be there.
+//! A line, made of parts. Each function appends to a line. `Err`: out of memory; a part of it may
+//! be there.
 
 ghost use Rattle.std.specs.Prelude.{◌≡◌, ◌++◌, [], ◌∷◌, replicate, OnOk, string_bytes};
 ghost use Rattle.std.specs.List.{flat_map};
@@ -78,7 +79,7 @@ fn push_cell_byte(line: &mut Vec<u8>, byte: u8) -> Result<(), AllocError>
     Ok(())
 }
 
-/// Appends a text of a table's cell, or of a heading.
+/// Appends the text of a table's cell, or of a heading.
 pub(crate) fn push_cell(line: &mut Vec<u8>, part: &[u8]) -> Result<(), AllocError>
     ensures { OnOk result (line.new.items ≡ line.old.items ++ flat_map cell_byte part.now) }
 {
@@ -99,7 +100,7 @@ fn place_in_row(line: &mut Vec<u8>, column: usize, part: &[u8]) -> Result<(), Al
     line.extend_from_slice(b" |")
 }
 
-/// Appends a part to a line, and empties it.
+/// Appends a part to a line, and empties the part.
 pub(crate) fn place(
     line: &mut Vec<u8>,
     format: Format,

@@ -1,4 +1,5 @@
-//! What is said of the object dictionary of a data sheet (CiA 306, CiA 301), in columns or as tables of Markdown.
+//! The object dictionary of a data sheet in words (CiA 306, CiA 301), in columns or as tables of
+//! Markdown.
 #![tactic(auto)]
 
 mod chapters;

@@ -1,5 +1,5 @@
-//! What the numbers of the communication profile mean, in words (CiA 301, 7.5.2). Each function appends a text; on an
-//! `Err` memory ran out, and a part of it may be there.
+//! What the numbers of the communication profile mean, in words (CiA 301, 7.5.2). Each function
+//! appends a text. `Err`: out of memory; a part of the text may be there.
 
 ghost use Rattle.std.specs.Prelude.{◌≡◌, ◌++◌, OnOk, string_bytes};
 ghost use Rattle.std.specs.Option.{option_copied};
@@ -29,7 +29,7 @@ use co_text::push_decimal;
 use co_value::Key;
 use std::alloc::AllocError;
 
-/// What a number means.
+/// The meaning of a number in the communication profile.
 #[derive(Clone, Copy)]
 pub enum Meaning {
     /// The COB-ID of a PDO.
@@ -69,7 +69,7 @@ fn transmission_name(number: u64) -> Option<&'static str>
     }
 }
 
-// any other
+// any other transmission type: a number of SYNCs, or reserved
 #[tactic(auto, unfolding(crate::specs::Meanings::counted_syncs))]
 fn push_counted_syncs(text: &mut String, number: u64) -> Result<(), AllocError>
     ensures { OnOk result (string_bytes text.new ≡ string_bytes text.old ++ counted_syncs number) }
@@ -94,7 +94,7 @@ fn push_transmission(text: &mut String, number: u64) -> Result<(), AllocError>
     }
 }
 
-// a time in ms, where it is in 100 µs with its tenths
+// a time in ms; with tenths, if the number is in 100 µs
 #[tactic(auto, unfolding(crate::specs::Meanings::millis_text))]
 fn push_millis(text: &mut String, in_tenths: bool, number: u64) -> Result<(), AllocError>
     ensures { OnOk result
@@ -108,7 +108,7 @@ fn push_millis(text: &mut String, in_tenths: bool, number: u64) -> Result<(), Al
     push_decimal(text, number % 10)
 }
 
-// a time after its words; one that is 0 has others
+// a time after the words `before`, or the words `off` for 0
 #[tactic(auto, unfolding(crate::specs::Meanings::time_text))]
 fn push_time(
     text: &mut String,
@@ -211,7 +211,7 @@ fn push_word(text: &mut String, meaning: Meaning, word: Word) -> Result<(), Allo
     push_meaning(text, meaning, word)
 }
 
-/// Appends what an entry says in words; a text that is no number as it is.
+/// Appends the value of an entry in words; a text that is no number as it is.
 #[tactic(auto, unfolding(crate::specs::Meanings::said))]
 pub fn push_said(
     text: &mut String,

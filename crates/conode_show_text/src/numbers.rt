@@ -1,4 +1,5 @@
-//! Numbers in both bases. Each function appends a text; on an `Err` memory ran out, and a part of it may be there.
+//! Numbers in both bases. Each function appends a text. `Err`: out of memory; a part of the text
+//! may be there.
 
 ghost use Rattle.std.specs.Prelude.{◌≡◌, ◌≤◌, ◌++◌, ◌*◌, ◌^◌, pos, OnOk, string_bytes};
 ghost use Rattle.std.specs.Fmt.{signed_decimal};
@@ -28,7 +29,7 @@ fn power_of_two(bits: usize) -> i128
     (1u128 << bits) as i128
 }
 
-// the bits of a number, where 64 are enough; a negative one is in two's complement
+// the bits of a number, if 64 are enough; a negative one is in two's complement
 fn small_bits(width: usize, number: i128) -> Option<u64>
     requires { width ≤ 8 }
     ensures { result ≡ if_small (bits_of (8 * width) number) }
@@ -65,7 +66,7 @@ fn push_in_parentheses(text: &mut String, number: Option<u64>) -> Result<(), All
     push_words(text, ")")
 }
 
-/// Appends a number in decimal. On an `Err` memory ran out, and a part may be there.
+/// Appends a number in decimal. `Err`: out of memory; a part of the text may be there.
 pub fn push_decimal_of(text: &mut String, number: i128) -> Result<(), AllocError>
     ensures { OnOk result
         (string_bytes text.new ≡ string_bytes text.old ++ signed_decimal number) }
@@ -73,7 +74,8 @@ pub fn push_decimal_of(text: &mut String, number: i128) -> Result<(), AllocError
     write!(text, "{number}")
 }
 
-/// Appends a number of a type of so many bytes: decimal, and in hexadecimal digits where these differ.
+/// Appends a number of a type of `width` bytes: in decimal, and in hexadecimal digits if these
+/// differ.
 #[tactic(auto, unfolding(crate::specs::Numbers::number_text))]
 pub(crate) fn push_number(text: &mut String, width: usize, number: i128) -> Result<(), AllocError>
     requires { width ≤ 8 }

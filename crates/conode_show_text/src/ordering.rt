@@ -18,7 +18,7 @@ fn rank(kind: SectionKind) -> u32
     }
 }
 
-/// Orders sections: by index, an object before its sub-indices. It fails out of memory.
+/// Orders sections: by index, an object before its sub-indices. `Err`: out of memory.
 pub fn order(alloc: Global, sections: &mut [TextSection]) -> Result<(), AllocError>
     ensures { OnOk result
         (map section_view sections.new ≡ ordered (map section_view sections.old)) }

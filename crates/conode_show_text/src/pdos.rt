@@ -43,8 +43,8 @@ pub fn is_pdo_cob_id(key: Key) -> bool
             || IndexRange::TPDO_COMMUNICATION.contains(key.index))
 }
 
-/// Appends a PDO's name, with its number, from 1, by the index of its communication parameter. On an `Err` memory ran out,
-/// and a part may be there.
+/// Appends a PDO's name with its number, from 1, by the index of its communication parameter.
+/// `Err`: out of memory; a part of the text may be there.
 #[tactic(auto, unfolding(crate::specs::Pdos::pdo_name))]
 pub fn push_pdo_name(text: &mut String, index: u16) -> Result<(), AllocError>
     ensures { OnOk result (string_bytes text.new ≡ string_bytes text.old ++ pdo_name index) }
@@ -58,7 +58,7 @@ pub fn push_pdo_name(text: &mut String, index: u16) -> Result<(), AllocError>
     push_decimal(text, u64::from(index.saturating_sub(before)))
 }
 
-// what a sub-index says in words
+// the value of a sub-index in words
 #[tactic(auto, unfolding(crate::specs::Pdos::said_at))]
 fn push_said_at(
     text: &mut String,
@@ -121,7 +121,7 @@ fn set_pdo_line(
     end(line)
 }
 
-/// The section of an entry: of its sub-index, or where there is none at sub-index 0 of its object.
+/// The section of an entry: that of its sub-index, or else for sub-index 0 that of its object.
 pub fn entry_section<'s, 'a>(
     sections: &'s [TextSection<'s, 'a>],
     key: Key,
@@ -136,7 +136,7 @@ pub fn entry_section<'s, 'a>(
     }
 }
 
-/// The word that an entry has.
+/// The value of an entry as a word, if it is one.
 pub fn section_word(node: Option<u8>, section: &TextSection<'_, '_>) -> Option<Word>
     ensures { result ≡ section_word node (section_view section.now) }
 {
@@ -186,7 +186,8 @@ fn set_mapped_line(
     end(line)
 }
 
-/// How many words of a mapping count.
+/// How many words of a mapping count: the value of its sub-index 0, or 0 if that is above 64 or no
+/// number.
 pub fn mapping_count(node: Option<u8>, sections: &[TextSection], index: u16) -> u64
     ensures { result ≡ mapping_count node (map section_view sections.now) index }
 {
@@ -199,7 +200,7 @@ pub fn mapping_count(node: Option<u8>, sections: &[TextSection], index: u16) -> 
     }
 }
 
-/// Whether a section is a word of a mapping that counts.
+/// Whether a section is one of the words that count in the mapping of this index.
 pub fn is_counted(index: u16, count: u64, kind: SectionKind) -> bool
     ensures { result ≡ is_counted index count kind }
 {
@@ -211,7 +212,7 @@ pub fn is_counted(index: u16, count: u64, kind: SectionKind) -> bool
     }
 }
 
-// the line of a section that is a word of a mapping that counts
+// the line of a section, if it is a word that counts in the mapping
 fn push_if_counted(
     text: &mut Vec<u8>,
     line: &mut Vec<u8>,
@@ -279,7 +280,7 @@ fn push_pdo_lines(
     push_mapped_lines(text, line, part, format, node, sections, mapping, count)
 }
 
-/// Appends the lines of a PDO, by the section of its COB-ID; nothing for every other section.
+/// Appends the lines of a PDO, by the section of its COB-ID; nothing for any other section.
 pub(crate) fn push_pdo(
     text: &mut Vec<u8>,
     line: &mut Vec<u8>,

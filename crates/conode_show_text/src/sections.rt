@@ -9,7 +9,7 @@ ghost use Rattle.conode_show_text.specs.Document.{node_for};
 use co_sheet::section_at;
 use co_sheet_text::{Property, SectionKind, TextSection};
 
-// the node-ID that a NodeID is: its number, where that is 1 to 127 (CiA 306, device commissioning)
+// the node-ID of a property NodeID: its number, if that is 1 to 127 (CiA 306, device commissioning)
 fn node_id_of(given: &Property) -> Option<u8>
     ensures { result ≡ node_id_of (property_view given.now) }
 {
@@ -26,14 +26,14 @@ fn own_node(sections: &[TextSection]) -> Option<u8>
     node_id_of(&section.property(b"NodeID")?)
 }
 
-/// The node-ID that is given, or else that of a device configuration file.
+/// The given node-ID, or else that of a device configuration file.
 pub fn node_for(node: Option<u8>, sections: &[TextSection]) -> Option<u8>
     ensures { result ≡ node_for node (map section_view sections.now) }
 {
     node.or(own_node(sections))
 }
 
-/// The code of the object type that a section states, 7 where it states none.
+/// The code of a section's object type; 7 if it has none.
 pub(crate) fn object_code(section: &TextSection<'_, '_>) -> Option<u64>
     ensures { result ≡ object_code (section_view section.now) }
 {

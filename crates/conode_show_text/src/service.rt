@@ -13,7 +13,7 @@ use co_text::push_decimal;
 use co_value::Key;
 use std::alloc::AllocError;
 
-/// A service that an entry of the communication profile is of.
+/// The service of an entry in the communication profile.
 #[derive(Clone, Copy)]
 pub enum Service {
     Sync,
@@ -21,13 +21,14 @@ pub enum Service {
     EmcyInhibitTime,
     HeartbeatConsumer,
     HeartbeatProducer,
-    /// What the client of an SDO channel sends of which the device is the server, by the channel's number from 1.
+    /// Client to server, on an SDO channel of which the device is the server; by the channel's
+    /// number from 1.
     SdoRequests(u16),
-    /// What the server of such a channel sends.
+    /// Server to client, on such a channel.
     SdoResponses(u16),
-    /// What the client of an SDO channel sends of which the device is the client.
+    /// Client to server, on an SDO channel of which the device is the client.
     ClientRequests(u16),
-    /// What the server of such a channel sends.
+    /// Server to client, on such a channel.
     ClientResponses(u16),
 }
 
@@ -50,7 +51,7 @@ impl Service {
         }
     }
 
-    /// What its number means.
+    /// The meaning of its number.
     pub fn meaning(self) -> Meaning
         ensures { result ≡ service_meaning self }
     {
@@ -68,7 +69,7 @@ impl Service {
     }
 }
 
-/// Which way a request goes, and a response.
+/// The directions of requests and responses.
 const TO_SERVER: &str = ", client to server";
 
 const TO_CLIENT: &str = ", server to client";
@@ -83,7 +84,7 @@ fn push_channel(text: &mut String, end: &str, channel: u16, way: &str) -> Result
     push_words(text, way)
 }
 
-/// Appends what a service is called. On an `Err` memory ran out, and a part may be there.
+/// Appends the name of a service. `Err`: out of memory; a part of the text may be there.
 #[tactic(auto, unfolding(crate::specs::Services::service_name))]
 pub fn push_service_name(text: &mut String, service: Service) -> Result<(), AllocError>
     ensures { OnOk result (string_bytes text.new ≡ string_bytes text.old ++ service_name service) }
@@ -135,7 +136,7 @@ pub fn key_of(kind: SectionKind) -> Option<Key>
     }
 }
 
-/// Appends the line of an entry that is of a service; nothing for every other section.
+/// Appends the line of an entry of a service; nothing for any other section.
 pub(crate) fn push_service(
     text: &mut Vec<u8>,
     line: &mut Vec<u8>,

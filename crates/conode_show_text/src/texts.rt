@@ -1,4 +1,5 @@
-//! Texts of a sheet. Each function appends a text; on an `Err` memory ran out, and a part of it may be there.
+//! Texts of a sheet. Each function appends a text. `Err`: out of memory; a part of the text may be
+//! there.
 
 ghost use Rattle.std.specs.Prelude.{◌≡◌, ◌++◌, OnOk, not, string_bytes};
 ghost use Rattle.std.specs.List.{flat_map, list_all};
@@ -19,7 +20,7 @@ fn has_no_control(text: &[u8]) -> bool
     text.iter().all(|byte| !(*byte < 32 || *byte == 127))
 }
 
-// a text that is printed as it is
+// the text, if it is printed as it is
 fn if_plain(text: &[u8]) -> Option<&str>
     ensures { option_copied result ≡ if_plain text.now }
 {
@@ -52,8 +53,8 @@ fn push_escaped(text: &mut String, bytes: &[u8]) -> Result<(), AllocError>
     Ok(())
 }
 
-/// Appends a text of the sheet: as it is, where it is UTF-8 without control characters; else other bytes than printable
-/// ASCII are escaped.
+/// Appends a text of the sheet: as it is, if it is UTF-8 without control characters; else bytes
+/// other than printable ASCII are escaped.
 #[tactic(auto, unfolding(crate::specs::Texts::plain_text))]
 pub(crate) fn push_plain(text: &mut String, bytes: &[u8]) -> Result<(), AllocError>
     ensures { OnOk result (string_bytes text.new ≡ string_bytes text.old ++ plain_text bytes.now) }
@@ -64,7 +65,7 @@ pub(crate) fn push_plain(text: &mut String, bytes: &[u8]) -> Result<(), AllocErr
     }
 }
 
-/// Appends the text of a property, nothing where the section has none.
+/// Appends the text of a property, nothing if the section has none.
 #[tactic(auto, unfolding(crate::specs::Texts::property_text))]
 pub(crate) fn push_property(
     text: &mut String,

@@ -42,7 +42,7 @@ fn known_name(code: u64) -> Option<&'static str>
     }
 }
 
-/// Appends the name of a data type; of a code that is none its number.
+/// Appends the name of a data type, or its number if the code has no name.
 #[tactic(auto, unfolding(crate::specs::Entries::type_name))]
 pub(crate) fn push_type_name(text: &mut String, code: u64) -> Result<(), AllocError>
     ensures { OnOk result (string_bytes text.new ≡ string_bytes text.old ++ type_name code) }

@@ -1,5 +1,5 @@
-//! The values that a sheet states (CiA 306, object description, device configuration file). Each function that appends
-//! a text does so up to an `Err`, where memory ran out; a part of it may be there then.
+//! The values that a sheet states (CiA 306, object description, device configuration file). Each
+//! function with a text appends to it. `Err`: out of memory; a part of the text may be there.
 
 ghost use Rattle.std.specs.Prelude.{◌≡◌, ◌++◌, ◌+◌, ◌≤◌, OnOk, option_map, option_and_then, string_bytes};
 ghost use Rattle.co_sheet_text.specs.Views.{property_view, section_view};
@@ -38,12 +38,13 @@ use std::alloc::AllocError;
 /// A number of the communication profile, of at most 32 bits.
 #[derive(Clone, Copy)]
 pub struct Word {
-    /// Whether the node-ID is to be added.
+    /// Whether the node-ID has to be added.
     pub relative: bool,
+    /// The number; without the node-ID, if that has to be added.
     pub number: u64,
 }
 
-// a numeric text as a value, `Absent` where it is none
+// a numeric text as a value, `Absent` if it isn't one
 fn numeric_value(data_type: DataType, text: &[u8]) -> Preset<'static>
     ensures { default_view result ≡ numeric_value data_type text.now }
 {
@@ -120,7 +121,7 @@ fn push_unnumbered(text: &mut String, data_type: DataType, value: &[u8]) -> Resu
     }
 }
 
-// the value of a text at a type
+// the value of a text of this type
 #[tactic(auto, unfolding(crate::specs::Values::value_text))]
 fn push_value(
     text: &mut String,
@@ -150,7 +151,7 @@ fn number_for(node: Option<u8>, value: Preset<'static>) -> Option<i128>
     }
 }
 
-/// The number of a text at a type, where that is numeric; of a sum with the node-ID for the node that is given.
+/// The number of a text, if the type is numeric; a sum with the node-ID needs the given node.
 pub fn value_number(node: Option<u8>, data_type: Option<DataType>, value: &[u8]) -> Option<i128>
     ensures { result ≡ value_number node data_type value.now }
 {
@@ -159,14 +160,14 @@ pub fn value_number(node: Option<u8>, data_type: Option<DataType>, value: &[u8])
     number_for(node, numeric_value(data_type, value))
 }
 
-/// The type that a section states, where its code is one of those that are supported.
+/// The data type of a section, if its code is a supported one.
 pub fn type_of(section: &TextSection<'_, '_>) -> Option<DataType>
     ensures { result ≡ type_of (section_view section.now) }
 {
     data_type_with(section.number_at(b"DataType")?)
 }
 
-// the value of a property, nothing where there is none
+// the value of a property, nothing if there is none
 #[tactic(auto, unfolding(crate::specs::Values::property_value))]
 fn push_value_of(
     text: &mut String,
@@ -183,8 +184,8 @@ fn push_value_of(
     }
 }
 
-/// Appends the value that a device configuration file gives, and beside it the default; or the one of both that is
-/// there.
+/// Appends the value of a device configuration file and then the default, or the one of them that
+/// is there.
 #[tactic(auto, unfolding(crate::specs::Values::default_text))]
 pub(crate) fn push_default(
     text: &mut String,
@@ -204,7 +205,7 @@ pub(crate) fn push_default(
     push_value_of(text, node, data_type, default)
 }
 
-/// The number of a limit at a type.
+/// The number of a limit of this type, if it is one.
 pub fn limit_number(data_type: Option<DataType>, value: &[u8]) -> Option<i128>
     ensures { result ≡ limit_number data_type value.now }
 {
@@ -232,7 +233,7 @@ fn push_limit(
     }
 }
 
-/// Appends both limits, as `0..100`, nothing where there is neither.
+/// Appends both limits, as `0..100`, nothing if there is neither.
 #[tactic(auto, unfolding(crate::specs::Values::limits_text))]
 pub(crate) fn push_limits(
     text: &mut String,
@@ -289,7 +290,8 @@ fn word_from(relative: bool, number: Option<u64>) -> Option<Word>
     })
 }
 
-/// The number of the communication profile that a text is, of at most 32 bits; with a node-ID, the sum.
+/// A text as a number of the communication profile, of at most 32 bits; with a node-ID, a sum is
+/// added up.
 pub(crate) fn word_of(node: Option<u8>, value: &[u8]) -> Option<Word>
     ensures { result ≡ word_of node value.now }
 {
@@ -301,7 +303,7 @@ pub(crate) fn word_of(node: Option<u8>, value: &[u8]) -> Option<Word>
     }
 }
 
-/// What states the value that an entry begins with: ParameterValue, or where it is absent DefaultValue.
+/// The property with the value that an entry begins with: ParameterValue, or else DefaultValue.
 pub(crate) fn value_of<'a>(section: &TextSection<'_, 'a>) -> Option<Property<'a>>
     ensures { option_map property_view result ≡ value_of (section_view section.now) }
 {

@@ -1,4 +1,4 @@
--- How far a recording is counted.
+-- Progress through a recording.
 use Rattle.std.specs.Prelude.{◌≡◌, ℕ, ◌+◌, List, Option, Some, None, ⊤}
 use Rattle.std.specs.Str.Lines.{lines}
 use Rattle.co_bounded_lines.specs.Held.{Held, to_come}
@@ -10,8 +10,8 @@ use Rattle.conode_record.specs.declared.line.Record.{Record}
 use Rattle.conode_stats_counts.specs.Buses.{Counted, counts_of}
 use Rattle.conode_stats.specs.Frames.{bad_count, frames_from, frames_of}
 
--- of known bytes the frames so far are these, and what those that are left have comes after them; and so many lines are bad. A
--- reader whose bytes are known stays one.
+-- If the bytes are known: their frames are these and then those of the bytes left, and so many
+-- lines are bad. A reader whose bytes are known stays one.
 abbrev pub Gives : Option (List ℕ) → Option (List ℕ) → Log → Log → List Record → List Record → ℕ → Type 0
 Gives None left log after first next bad = ⊤
 Gives (Some text) None log after first next bad = ⊥
@@ -19,8 +19,8 @@ Gives (Some text) (Some rest) log after first next bad =
     (frames_from log first (lines text) ≡ frames_from after next (lines rest))
     × (bad_count log text ≡ bad + bad_count after rest)
 
--- Lines were taken after these frames: what is counted is that of all frames then. `held` and `holds` are what is held of the
--- reader before and after, `before` and `after` what is known of its bytes.
+-- Lines were taken after these frames: the counts are then those of all frames. `held` and `holds`
+-- are what is held of the reader before and after, `before` and `after` its bytes, as far as known.
 pub record Takes (held holds : Held) (before after : Option (List ℕ)) (log left : Log) (first : List Record) (counts : Counted) (bad : ℕ) : Type 0 where
   pub frames : List Record
   pub stands : counts ≡ counts_of frames

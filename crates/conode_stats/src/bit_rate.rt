@@ -1,4 +1,4 @@
-//! The bit rate of a bus: as a word says it, and as a device configuration file has it.
+//! The bit rate of a bus, from a word of the command line or a device configuration file.
 
 ghost use Rattle.std.specs.Prelude.{◌≤◌, IfSome};
 
@@ -8,7 +8,7 @@ use co_text::{decimal_in, split_line};
 /// The greatest number that a word may have.
 const GREATEST: u32 = 1_000_000;
 
-// so many bits, thousands or millions of them, if they are a bit rate from 1,000 to 1,000,000
+// the number times its scale, if that is a bit rate from 1,000 to 1,000,000 bit/s
 fn rate_in(digits: &[u8], scale: u32) -> Option<u32>
     ensures { IfSome result (λ rate. rate ≤ 1000000) }
 {
@@ -20,7 +20,7 @@ fn rate_in(digits: &[u8], scale: u32) -> Option<u32>
     }
 }
 
-/// The bits of a second that a word says, 1,000 to 1,000,000: `500k`, `1M` or `125000`.
+/// The bit rate of a word, in bit/s, from 1,000 to 1,000,000: `500k`, `1M` or `125000`.
 pub(crate) fn rate_of(word: &str) -> Option<u32>
     ensures { IfSome result (λ rate. rate ≤ 1000000) }
 {
@@ -39,12 +39,12 @@ fn section_name(line: &[u8]) -> Option<&[u8]> {
     }
 }
 
-// whether it is the section of the node in a network (CiA 306, 4.5), also as it is often spelled
+// whether it is DeviceComissioning (CiA 306, 4.5), which many spell with mm
 fn is_commissioning(name: &[u8]) -> bool {
     same_name(name, b"DeviceComissioning") || same_name(name, b"DeviceCommissioning")
 }
 
-// the bits of a second that a line says, in kbit/s
+// the bit rate of a line, in bit/s; the line has it in kbit/s
 fn bit_rate_at(line: &[u8]) -> Option<u32>
     ensures { IfSome result (λ rate. rate ≤ 1000000) }
 {
@@ -55,8 +55,8 @@ fn bit_rate_at(line: &[u8]) -> Option<u32>
     rate_in(trim(&line[place + 1..]), 1000)
 }
 
-/// The bits of a second that a device configuration file has for its node: Baudrate of DeviceComissioning, 1 to 1,000
-/// kbit/s.
+/// The bit rate of a device configuration file, in bit/s: Baudrate of DeviceComissioning, 1 to
+/// 1,000 kbit/s.
 pub(crate) fn bit_rate_in(text: &[u8]) -> Option<u32>
     ensures { IfSome result (λ rate. rate ≤ 1000000) }
 {

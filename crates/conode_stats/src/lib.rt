@@ -1,4 +1,4 @@
-//! What buses do, of a recording as any recorder writes it, on one page.
+//! The statistics of the buses in a recording of any recorder, on one page.
 #![tactic(auto)]
 
 mod bit_rate;

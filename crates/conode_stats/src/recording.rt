@@ -1,4 +1,4 @@
-//! The frames of a recording counted.
+//! The frames of a recording, counted.
 
 ghost use Rattle.std.specs.Prelude.{IfOk, IfSome};
 ghost use Rattle.conode_lines.specs.TraceTexts.{GaveText};
@@ -11,7 +11,7 @@ use conode_stats_counts::Counts;
 use std::alloc::Global;
 use std::io::{Read, Write};
 
-/// A recording counted.
+/// The counts of a recording.
 #[derive(Drop)]
 pub struct Recording {
     /// Its frames.
@@ -20,10 +20,10 @@ pub struct Recording {
     pub bad: u64,
 }
 
-/// Counts the frames of a log of the form that is given, or that its first lines show, line by line and in bounded
-/// memory. A bad line, or one of more than 512 bytes, is named on `err` with its number and what is wrong with it, and
-/// the rest goes on; a last line that no line feed ends is counted as bad only where it is too long, since whoever
-/// stops a recording cuts it off there.
+/// Counts the frames of a log line by line, in bounded memory. The log has this form; if that is
+/// unknown, its first lines show it. A bad line, or one of more than 512 bytes, is named on `err`
+/// with its number and what is wrong with it, and the next line is read. A last line without a line
+/// feed counts as bad only if it is too long: a recording that is stopped ends within a line.
 ///
 /// * `Read`: the reader failed. `NeverEnds`: there are 2^64 - 1 lines. `Memory`: memory ran out.
 pub fn count<R: Read, E: Write>(
@@ -35,7 +35,7 @@ pub fn count<R: Read, E: Write>(
     // The counts are those of the frames of the bytes, by definition.
     ensures known { IfOk result (λ recording. IfSome (R.remaining reader.old)
         (CountsText form recording.counts recording.bad)) }
-    // Whatever the reader: it gave a text, and this is so of that text.
+    // For any reader: it gave a text, and this holds of that text.
     ensures any_reader { IfOk result (λ recording.
         GaveText (R.remaining reader.old) (R.remaining reader.new)
         (CountsText form recording.counts recording.bad)) }

@@ -1,4 +1,4 @@
-//! The file of a recording, and the page of what its buses do.
+//! The file of a recording, and the page of its statistics.
 
 ghost use Rattle.std.specs.Prelude.{◌≡◌, ◌⊎◌, ◌≤◌, IfSome};
 ghost use Rattle.std.specs.Process.{exit_status};
@@ -22,15 +22,15 @@ use std::rt::Files;
 /// The path that stands for standard input.
 const STANDARD_INPUT: &str = "-";
 
-/// What is asked for of a recording.
+/// What the command line asks for.
 #[derive(Clone, Copy)]
 pub struct StatsWords<'a> {
-    /// The path of a data sheet, perhaps with the node-ID that it is for before it, as `5=sensor.dcf`: it has the bit
-    /// rate, where none is given.
+    /// The path of a data sheet, perhaps after its node-ID, as `5=sensor.dcf`. Its bit rate counts
+    /// if none is given.
     pub sheet: Option<&'a str>,
-    /// The bits of a second, 1,000 to 1,000,000, where they are given: `500k`, `1M`, `125000`.
+    /// The bit rate, 1,000 to 1,000,000 bit/s, if one is given: `500k`, `1M`, `125000`.
     pub bit_rate: Option<&'a str>,
-    /// Whether JSON is written, in place of the page.
+    /// Whether to write JSON in place of the page.
     pub json: bool,
     /// The form of the log.
     pub log: Form,
@@ -84,7 +84,7 @@ fn write_page<O: Write>(
     hand_over(text.as_slice(), out)
 }
 
-// counts an input, and writes its page: how many lines are bad
+// counts an input, writes its page, and returns the number of bad lines
 fn stats<R: Read, O: Write, E: Write>(
     alloc: Global,
     input: &mut R,
@@ -118,7 +118,7 @@ fn stats_input<R: Read, O: Write, E: Write>(
     }
 }
 
-// the page of a path, or where that is `-` of standard input
+// the page of a path, or of standard input for `-`
 fn stats_path<R: Files + AllocGlobal + Input, O: Write, E: Write>(
     rt: &R,
     path: &str,
@@ -138,7 +138,7 @@ fn stats_path<R: Files + AllocGlobal + Input, O: Write, E: Write>(
     }
 }
 
-// the path of a sheet, without the node-ID that it is for
+// the path of a sheet, without the node-ID before it
 fn path_of(word: &str) -> &str {
     match word.split_once('=') {
         Some((front, path)) => match decimal_in(front.as_bytes(), 1, 127) {
@@ -149,7 +149,7 @@ fn path_of(word: &str) -> &str {
     }
 }
 
-// the page with the bit rate of a sheet's text, if it is one and none is given
+// the page with the bit rate of a sheet's text, if none is given; the text has to be a sheet
 fn stats_with<R: Files + AllocGlobal + Input, O: Write, E: Write>(
     rt: &R,
     path: &str,
@@ -176,7 +176,7 @@ fn stats_with<R: Files + AllocGlobal + Input, O: Write, E: Write>(
     stats_path(rt, path, &settings, out, err)
 }
 
-// the page with a sheet, where there is one
+// the page, with a sheet if one is given
 fn stats_in<R: Files + AllocGlobal + Input, O: Write, E: Write>(
     rt: &R,
     path: &str,
@@ -209,9 +209,10 @@ fn bad_rate<E: Write>(word: &str, err: &mut E) -> ExitCode
     ExitCode::from(2)
 }
 
-/// Writes what the buses of a recording do on one page: of a path, or of standard input where that is `-`. A bit rate
-/// that is none is named on `err`, and the status is 2. Then a sheet is read: its fault goes to `out`. Bad lines, and a
-/// file that can't be read, are named on `err`. The status is 0 where all lines are good, else 1.
+/// Writes the statistics of a recording on one page: of the file at the path, or of standard input
+/// for `-`. A word that is no bit rate is named on `err`, and the status is 2. Then the sheet is
+/// read, and its fault goes to `out`. Bad lines, and a file that can't be read, are named on `err`.
+/// The status is 0 if all lines are good, else 1.
 pub fn stats_file<R: Files + AllocGlobal + Input, O: Write, E: Write>(
     rt: &R,
     path: &str,

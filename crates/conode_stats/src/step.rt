@@ -25,7 +25,7 @@ use std::io::{Read, Write};
 /// What is wrong with a line that has more than 512 bytes.
 const TOO_LONG: &str = "it has more than 512 bytes";
 
-/// How far a recording is counted.
+/// Progress through a recording.
 #[derive(Drop)]
 pub(crate) struct Counting {
     lines: BoundedLines,
@@ -34,7 +34,7 @@ pub(crate) struct Counting {
     text: Vec<u8>,
 }
 
-// Names a bad line. Where even this can't be written, the status alone tells of it.
+// Names a bad line. If even this can't be written, only the status shows it.
 fn name_bad_line<E: Write>(number: u64, words: &str, err: &mut E) {
     let _ = writeln!(err, "line {number}: {words}");
 }
@@ -47,7 +47,8 @@ fn read_fault(fault: ReadFault) -> CmdFault {
     }
 }
 
-// Counts the frame of a line as `candump -L` writes it, if it has one. 1 where the line is bad: then it is named.
+// Counts the frame of a line as `candump -L` writes it, if it has one. Returns 1 and names the line
+// if it is bad, else 0.
 fn count_record<E: Write>(
     alloc: Global,
     counts: &mut Counts,
@@ -72,7 +73,7 @@ fn count_record<E: Write>(
     }
 }
 
-// Counts a line's frame, if it has one. 1 where the line is bad: then it is named.
+// Counts a line's frame, if it has one. Returns 1 and names the line if it is bad, else 0.
 #[tactic(auto, unfolding(crate::specs::Frames::line_at), using(crate::proofs::LogLemmas::candump_line, crate::proofs::LogLemmas::candump_log))]
 fn count_line<E: Write>(
     alloc: Global,
@@ -107,7 +108,7 @@ fn count_line<E: Write>(
 }
 
 impl Counting {
-    /// No line was taken.
+    /// Before the first line.
     pub(crate) fn new(alloc: Global, form: Form) -> Counting
         ensures lines { result.lines ≡ nothing_held }
         ensures log { result.log ≡ at_start form }
@@ -121,7 +122,7 @@ impl Counting {
         }
     }
 
-    /// What is counted.
+    /// The counts so far.
     pub(crate) fn into_counts(self) -> Counts
         ensures { result ≡ self.counts }
     {
@@ -134,8 +135,8 @@ impl Counting {
         counts
     }
 
-    /// Takes the next line: counts its frame, if it has one, or names it where it is bad. 1 where it is bad and counts,
-    /// else 0; `None` where no line is left.
+    /// Takes the next line: counts its frame, if it has one, or names it if it is bad. Returns 1 if
+    /// it is bad and counts, else 0; `None` if no line is left.
     pub(crate) fn take_line<R: Read, E: Write>(
         &mut self,
         alloc: Global,

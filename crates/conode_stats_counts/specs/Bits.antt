@@ -1,4 +1,5 @@
--- The bits of a classical CAN frame on the bus (ISO 11898-1): its fields, the CRC over them, stuff bits, and its end.
+-- The bits of a classical CAN frame on the bus (ISO 11898-1): its fields, the CRC over them, stuff
+-- bits, and its end.
 use Rattle.std.specs.Prelude.{ℕ, zero, suc, ◌+◌, ◌-◌, ◌*◌, ◌/◌, ◌%◌, ◌^◌, ◌==◌, bit_xor, if◌then◌else◌, List, [], ◌∷◌, ◌++◌, length, fold}
 use Rattle.std.specs.List.{flat_map}
 
@@ -9,23 +10,25 @@ bits_of (suc count) number = number / 2 ^ count % 2 ∷ bits_of count number
 
 -- ---- from the start of a frame to its data
 
--- start of frame, identifier, remote bit, two dominant bits, data length code: 1, 11, 1, 2 and 4 bits
+-- start of frame, identifier, remote bit, two dominant bits, data length code: 1, 11, 1, 2 and 4
+-- bits
 abbrev pub base_head : ℕ → ℕ → ℕ → List ℕ
 base_head id remote code = bits_of 19 (128 * id + 64 * remote + code)
 
--- of 29 bits: start of frame, the upper 11, two recessive bits, the lower 18, remote bit, two dominant bits, data length code
+-- of 29 bits: start of frame, the upper 11, two recessive bits, the lower 18, remote bit, two
+-- dominant bits, data length code
 abbrev pub extended_head : ℕ → ℕ → ℕ → List ℕ
 extended_head id remote code =
     bits_of 39 (0x8000000 * (id / 0x40000) + 0x6000000 + 128 * (id % 0x40000) + 64 * remote + code)
 
--- of bytes
+-- the bits of bytes
 abbrev pub data_bits : List ℕ → List ℕ
 data_bits bytes = flat_map (bits_of 8) bytes
 
 -- ---- the CRC of 15 bits
 
--- One bit more: shifted by one, and the polynomial x^15 + x^14 + x^10 + x^8 + x^7 + x^4 + x^3 + 1 (4599h without x^15) added where
--- the bit that is shifted out and the bit of the frame differ.
+-- One bit more: shifted by one, and the polynomial x^15 + x^14 + x^10 + x^8 + x^7 + x^4 + x^3 + 1
+-- (4599h without x^15) added where the bit that is shifted out and the bit of the frame differ.
 unfoldable pub crc_with : ℕ → ℕ → ℕ
 crc_with crc bit = if crc / 0x4000 % 2 == bit then 2 * (crc % 0x4000) else bit_xor (2 * (crc % 0x4000)) 0x4599
 
@@ -34,8 +37,8 @@ crc_of bits = fold crc_with 0 bits
 
 -- ---- stuff bits
 
--- How many stuff bits follow, where the last bits were so many of this one: after five bits that are the same one of the other
--- kind is put in, and counts itself.
+-- How many stuff bits follow after so many equal bits: after five equal bits one of the other value
+-- is inserted, and counts itself.
 unfoldable pub stuffed_from : ℕ → ℕ → List ℕ → ℕ
 stuffed_from last run [] = 0
 stuffed_from last run (bit ∷ more) =
@@ -60,7 +63,7 @@ with_crc bits = bits ++ bits_of 15 (crc_of bits)
 unfoldable pub frame_bits : List ℕ → ℕ
 frame_bits bits = length (with_crc bits) + stuff_bits (with_crc bits) + tail_bits
 
--- the most that a frame can take that has so many bits from its start to the end of its CRC: a stuff bit after the first five, and
--- after each four that follow
+-- the most bits of a frame with so many from its start to the end of its CRC: a stuff bit after the
+-- first five, and after each four that follow
 abbrev pub most_bits : ℕ → ℕ
 most_bits count = count + (count - 1) / 4 + tail_bits

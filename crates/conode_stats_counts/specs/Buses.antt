@@ -12,7 +12,7 @@ use Rattle.conode_stats_counts.specs.Groups.{grouped, group_with, left_out, no_r
 use Rattle.conode_stats_counts.specs.Loads.{frame_size, load_of, load_with, second_of}
 use Rattle.conode_stats_counts.specs.Tallies.{tally_of, tally_with}
 
--- at most so many identifiers of a bus, and so many buses, are counted
+-- the most identifiers counted on a bus, and the most buses
 abbrev pub most_rows : ℕ
 most_rows = 4096
 
@@ -21,7 +21,8 @@ most_buses = 16
 
 -- ---- the frames of an identifier
 
--- an identifier as one number: one of 29 bits with bit 31, an error frame's class with bit 29 (linux/can.h)
+-- an identifier as one number: one of 29 bits with bit 31, an error frame's class with bit 29
+-- (linux/can.h)
 abbrev pub can_id : Identifier → ℕ
 can_id (Base id) = id
 can_id (Extended id) = id + 0x80000000
@@ -36,7 +37,7 @@ same_id a b = a == b
 abbrev pub stamps_of : List Record → List ℕ
 stamps_of frames = map (λ frame. frame.micros) frames
 
--- of an identifier with these frames
+-- the row of an identifier with these frames
 abbrev pub row_of : ℕ → List Record → Row
 row_of id frames = record { can_id = id; tally = tally_of (stamps_of frames) }
 
@@ -49,8 +50,8 @@ pub record BusCounts : Type 0 where
   pub rows : List Row
   pub left_out : ℕ
 
--- of an interface with these frames: of all, the bits, by identifier in the order in which they came first, and how many frames
--- have an identifier for which there was no room
+-- the counts of an interface with these frames: all frames, their bits, the rows by identifier in
+-- the order in which they came first, and how many frames have no row
 unfoldable pub bus_of : List ℕ → List Record → BusCounts
 bus_of interface frames = record {
   interface = interface;
@@ -69,8 +70,8 @@ pub record Counted : Type 0 where
 abbrev pub bus_name : Record → List ℕ
 bus_name frame = frame.interface
 
--- of frames, the newest first: by interface in the order in which they came first, and how many frames are of an interface for
--- which there was no room
+-- the counts of frames, the newest first: by interface in the order in which they came first, and
+-- how many frames have no bus
 unfoldable pub counts_of : List Record → Counted
 counts_of frames = record {
   buses = grouped bytes_eq bus_name most_buses bus_of frames;

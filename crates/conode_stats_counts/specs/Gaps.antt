@@ -5,11 +5,11 @@ use Rattle.std.specs.Prelude.{ℕ, ◌+◌, ◌-◌, ◌^◌, nat_lt, min, max, 
 abbrev pub most : ℕ
 most = 2 ^ 64 - 1
 
--- a count or a sum stays at the greatest number
+-- a count or a sum saturates at the greatest number
 abbrev pub counted : ℕ → ℕ
 counted number = min number most
 
--- the gaps, each to the stamp before; none where a stamp steps back
+-- the gaps, each to the stamp before; no gap where a stamp steps back
 unfoldable pub gaps : List ℕ → List ℕ
 gaps [] = []
 gaps (stamp ∷ []) = []

@@ -1,4 +1,4 @@
--- How many bits frames take on a bus: of all, and in the busiest second.
+-- How many bits frames take on a bus: in all, and in the busiest second.
 use Rattle.std.specs.Prelude.{ℕ, ◌+◌, ◌/◌, ◌==◌, nat_lt, if◌then◌else◌, List, [], ◌∷◌}
 use Rattle.std.specs.List.{sum_by}
 use Rattle.conode_record.specs.declared.line.Record.{Record}
@@ -8,7 +8,7 @@ use Rattle.conode_stats_counts.specs.declared.size.Size.{Size}
 use Rattle.conode_stats_counts.specs.Gaps.{counted}
 use Rattle.conode_stats_counts.specs.Sizes.{size_of}
 
--- those of a frame
+-- the bits of a frame
 abbrev pub frame_size : Record → Size
 frame_size frame = size_of frame.id frame.content
 
@@ -18,7 +18,8 @@ second_of frame = frame.micros / 1000000
 
 -- ---- by definition
 
--- The bits of the newest frame and of those that came in a row before it, all in one second of stamps; and that second.
+-- The bits of the newest frame and of those that came in a row before it, all in one second of
+-- stamps; and that second.
 unfoldable pub newest_second : List Record → Second
 newest_second [] = record { second = 0; bits = 0; most = 0 }
 newest_second (frame ∷ older) =
@@ -31,7 +32,7 @@ newest_second (frame ∷ older) =
     }
     else record { second = second_of frame; bits = (frame_size frame).bits; most = (frame_size frame).most }
 
--- the second with the most bits, the first of those that have as many
+-- the second with the most bits; the first one, if several have as many
 unfoldable pub busiest_second : List Record → Second
 busiest_second [] = record { second = 0; bits = 0; most = 0 }
 busiest_second (frame ∷ older) =
@@ -39,11 +40,11 @@ busiest_second (frame ∷ older) =
     then newest_second (frame ∷ older)
     else busiest_second older
 
--- 1 for a frame whose bits aren't known
+-- 1 for a frame of unknown size
 abbrev pub unknown : Record → ℕ
 unknown frame = if (frame_size frame).bits == 0 then 1 else 0
 
--- of frames, the newest first
+-- the load of frames, the newest first
 unfoldable pub load_of : List Record → Load
 load_of frames = record {
   bits = counted (sum_by (λ frame. (frame_size frame).bits) frames);

@@ -7,15 +7,16 @@ use Rattle.conode_record.specs.declared.fields.Identifier.TheVariants.{Base, Ext
 use Rattle.conode_stats_counts.specs.declared.size.Size.{Size}
 use Rattle.conode_stats_counts.specs.Bits.{base_head, extended_head, data_bits, frame_bits, most_bits}
 
--- as they are sent, and the most that such a frame can take
+-- the size of a frame with these bits up to its CRC, and the most for so many bits
 abbrev pub size_as : ℕ → List ℕ → Size
 size_as count bits = record { bits = frame_bits bits; most = most_bits count }
 
--- none are known
+-- an unknown size
 abbrev pub no_size : Size
 no_size = record { bits = 0; most = 0 }
 
--- Of a CAN FD frame, which has two bit rates, and of an error frame, which ends where the error is, they aren't known.
+-- The size of a frame. It is unknown for a CAN FD frame, which has two bit rates, and for an error
+-- frame, which ends where the error is.
 unfoldable pub size_of : Identifier → Content → Size
 size_of (Base id) (Data bytes) =
     size_as (34 + 8 * length bytes) (base_head id 0 (length bytes) ++ data_bits bytes)

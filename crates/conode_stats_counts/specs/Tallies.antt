@@ -3,7 +3,7 @@ use Rattle.std.specs.Prelude.{ℕ, ◌+◌, ◌-◌, ◌==◌, nat_lt, min, max,
 use Rattle.conode_stats_counts.specs.declared.tally.Tally.{Tally}
 use Rattle.conode_stats_counts.specs.Gaps.{counted, gaps, greatest, most, newest, oldest, smallest, steps_back}
 
--- of stamps, the newest first
+-- the tally of stamps, the newest first
 unfoldable pub tally_of : List ℕ → Tally
 tally_of stamps = record {
   first = oldest stamps;
@@ -18,7 +18,7 @@ tally_of stamps = record {
 
 -- ---- one stamp more, as it is counted
 
--- the first one
+-- the first stamp
 abbrev pub first_tally : ℕ → Tally
 first_tally micros = record {
   first = micros;
@@ -31,12 +31,12 @@ first_tally micros = record {
   greatest = 0;
 }
 
--- one that steps back
+-- a stamp that steps back
 abbrev pub tally_back : Tally → ℕ → Tally
 tally_back tally micros =
     record tally { last = micros; frames = counted (tally.frames + 1); steps_back = counted (tally.steps_back + 1) }
 
--- one that doesn't
+-- a stamp that doesn't
 abbrev pub tally_on : Tally → ℕ → Tally
 tally_on tally micros = record tally {
   last = micros;

@@ -1,4 +1,4 @@
--- The bits that are counted while they are sent.
+-- The bits of a frame, counted as they are sent.
 use Rattle.std.specs.Prelude.{ℕ, ◌+◌, ◌-◌, ◌==◌, if◌then◌else◌, List, fold}
 use Rattle.conode_stats_counts.specs.declared.wire.Wire.{Wire}
 use Rattle.conode_stats_counts.specs.Bits.{crc_with}
@@ -12,7 +12,7 @@ wire_with wire bit =
     else record { crc = crc_with wire.crc bit; last = wire.last; run = wire.run + 1; bits = wire.bits + 1 })
     else record { crc = crc_with wire.crc bit; last = bit; run = 1; bits = wire.bits + 1 }
 
--- and bits after bits
+-- several bits more
 unfoldable pub wire_after : Wire → List ℕ → Wire
 wire_after wire bits = fold wire_with wire bits
 

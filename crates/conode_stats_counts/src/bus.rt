@@ -22,14 +22,14 @@ use conode_record::Record;
 use std::alloc::{AllocError, Global};
 use std::marker::Model;
 
-/// How many identifiers of a bus are counted at most.
+/// The most identifiers counted on a bus.
 const MOST_ROWS: usize = 4096;
 
 /// Stamps are in microseconds.
 const SECOND: u64 = 1_000_000;
 
-/// The frames of one bus, counted: all of them, their bits, and by identifier. At most 4,096 identifiers are counted;
-/// how many frames have another is counted too.
+/// The counts of one bus: all frames, their bits, and the frames by identifier. At most 4,096
+/// identifiers have a row; the frames of further ones are only counted together.
 #[derive(Drop)]
 pub struct Bus {
     interface: ArrayVec<u8, 15>,
@@ -61,7 +61,8 @@ fn place_of(rows: &[Row], id: u32) -> Option<usize>
     rows.iter().position(|row| row.can_id == id)
 }
 
-// Adds a frame to the row of its identifier. 1 where there is none, and no room, else 0. On an `Err` memory ran out.
+// Adds a frame to the row of its identifier, a new one if there is none. Returns 1 if there is no
+// room for a new row, else 0. `Err`: out of memory.
 #[tactic(auto, unfolding(crate::specs::Groups::group_with, crate::specs::Groups::no_room))]
 fn add_to_row(rows: &mut Vec<Row>, id: u32, micros: u64) -> Result<u64, AllocError>
     ensures rows { OnOk result (rows.new.items
@@ -87,7 +88,7 @@ fn add_to_row(rows: &mut Vec<Row>, id: u32, micros: u64) -> Result<u64, AllocErr
 }
 
 impl Bus {
-    /// No frame came on the interface.
+    /// An interface without frames.
     #[tactic(auto, unfolding(crate::specs::Buses::bus_of, crate::specs::Groups::grouped, crate::specs::Groups::keys_of, crate::specs::Groups::left_out))]
     pub(crate) fn new(alloc: Global, interface: &[u8]) -> Bus
         requires { length interface.now ≤ 15 }
@@ -104,7 +105,7 @@ impl Bus {
         }
     }
 
-    /// One frame more. On an `Err` memory ran out.
+    /// Counts a frame. `Err`: out of memory.
     #[tactic(auto, unfolding(crate::specs::Buses::bus_with))]
     pub(crate) fn add(&mut self, frame: &Record<'_>) -> Result<(), AllocError>
         requires { IsIdentifier frame.now.id }
@@ -125,14 +126,14 @@ impl Bus {
         self.interface.as_slice()
     }
 
-    /// All frames.
+    /// The counts of all frames.
     pub fn all(&self) -> Tally
         ensures { result ≡ self.now.all }
     {
         self.all
     }
 
-    /// Their bits.
+    /// The bits of all frames.
     pub fn load(&self) -> Load
         ensures { result ≡ self.now.load }
     {
@@ -146,7 +147,7 @@ impl Bus {
         self.rows.as_slice()
     }
 
-    /// How many frames have an identifier for which there was no room.
+    /// How many frames have no row, since there was no room for their identifier.
     pub fn left_out(&self) -> u64
         ensures { result ≡ self.now.left_out }
     {

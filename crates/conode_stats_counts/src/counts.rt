@@ -19,11 +19,12 @@ use conode_record::Record;
 use std::alloc::{AllocError, Global};
 use std::marker::Model;
 
-/// How many buses are counted at most.
+/// The most buses counted.
 const MOST_BUSES: usize = 16;
 
-/// The frames of a recording, counted by interface. At most 16 interfaces are counted; how many frames are of another
-/// is counted too. Memory is asked for where an interface or an identifier comes first, and by no other frame.
+/// The frames of a recording, counted by interface. At most 16 interfaces are counted each; the
+/// frames of further ones are only counted together. Only the first frame of an interface or an
+/// identifier asks for memory.
 #[derive(Drop)]
 pub struct Counts {
     buses: Vec<Bus>,
@@ -46,7 +47,8 @@ fn place_of(buses: &[Bus], interface: &[u8]) -> Option<usize>
     buses.iter().position(|bus| bus.interface() == interface)
 }
 
-// Adds a frame to the bus of its interface. 1 where there is none, and no room, else 0. On an `Err` memory ran out.
+// Adds a frame to the bus of its interface, a new one if there is none. Returns 1 if there is no
+// room for a new bus, else 0. `Err`: out of memory.
 #[tactic(auto, using(crate::proofs::Places::same_at), unfolding(crate::specs::Groups::group_with, crate::specs::Groups::no_room))]
 fn add_to_bus(alloc: Global, buses: &mut Vec<Bus>, frame: &Record<'_>) -> Result<u64, AllocError>
     requires { IsIdentifier frame.now.id }
@@ -74,7 +76,7 @@ fn add_to_bus(alloc: Global, buses: &mut Vec<Bus>, frame: &Record<'_>) -> Result
 }
 
 impl Counts {
-    /// Of no frame.
+    /// The counts of no frame.
     #[tactic(auto, unfolding(crate::specs::Buses::counts_of, crate::specs::Groups::grouped, crate::specs::Groups::keys_of, crate::specs::Groups::left_out))]
     pub fn new(alloc: Global) -> Counts
         ensures { result ≡ counts_of [] }
@@ -95,7 +97,8 @@ impl Counts {
         Ok(())
     }
 
-    /// One frame more: the counts of all frames by definition. On an `Err` memory ran out.
+    /// Counts a frame: the counts are then those of all frames so far, by definition. `Err`: out of
+    /// memory.
     pub fn take(&mut self, alloc: Global, frame: &Record<'_>) -> Result<(), AllocError>
         requires { IsIdentifier frame.now.id }
         ensures step { OnOk result (self.new ≡ counts_with self.old frame.now) }
@@ -113,7 +116,7 @@ impl Counts {
         self.buses.as_slice()
     }
 
-    /// How many frames are of an interface for which there was no room.
+    /// How many frames have no bus, since there was no room for their interface.
     pub fn left_out(&self) -> u64
         ensures { result ≡ self.now.left_out }
     {

@@ -1,5 +1,5 @@
-//! What buses do: the frames of a recording counted, by interface and identifier, with the gaps between their stamps
-//! and the bits that they take on the bus.
+//! Statistics of buses: the frames of a recording, counted by interface and identifier, with the
+//! gaps between their stamps and the bits that they take on the bus.
 #![tactic(auto)]
 
 mod bus;

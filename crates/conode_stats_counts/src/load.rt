@@ -7,23 +7,29 @@ ghost use Rattle.conode_stats_counts.specs.Loads.{busier, load_of, load_with, se
 use crate::size::Size;
 use crate::tally::counted;
 
-/// Frames in a row whose stamps are in one second: that second, counted from the stamp 0, their bits, and the most that
-/// such frames can take.
+/// Consecutive frames with stamps in the same second. Sums saturate at 2^64 - 1.
 #[derive(Clone, Copy, Debug, PartialEq, Eq)]
 pub struct Second {
+    /// The second, counted from stamp 0.
     pub second: u64,
+    /// The bits of these frames.
     pub bits: u64,
+    /// The most bits that such frames can take.
     pub most: u64,
 }
 
-/// The bits of frames, the most that such frames can take, how many of them have bits that aren't known, and the second
-/// with the most bits. Sums stay at 2^64 - 1.
+/// The bits that the frames of a bus take. Sums saturate at 2^64 - 1.
 #[derive(Clone, Copy, Debug, PartialEq, Eq)]
 pub struct Load {
+    /// The bits of all frames.
     pub bits: u64,
+    /// The most bits that such frames can take.
     pub most: u64,
+    /// How many frames have an unknown size; their bits count as 0.
     pub unknown: u64,
+    /// The second of the newest frame.
     pub now: Second,
+    /// The second with the most bits, the first one if several have as many.
     pub busiest: Second,
 }
 
@@ -56,7 +62,7 @@ impl Second {
 }
 
 impl Load {
-    /// Of no frame.
+    /// The load of no frame.
     #[tactic(auto, using(crate::proofs::Loaded::none))]
     pub fn new() -> Load
         ensures { result ≡ load_of [] }
@@ -75,7 +81,7 @@ impl Load {
         }
     }
 
-    /// One frame more.
+    /// Adds a frame of this size, with its stamp in this second.
     #[tactic(auto, unfolding(crate::specs::Loads::load_with))]
     pub(crate) fn add(&mut self, second: u64, size: Size)
         ensures { self.new ≡ load_with self.old second size }

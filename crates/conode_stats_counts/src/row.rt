@@ -12,6 +12,7 @@ use conode_record::Identifier;
 pub struct Row {
     /// The identifier; one of 29 bits with bit 31, the class of an error frame with bit 29.
     pub can_id: u32,
+    /// Its frames and their gaps.
     pub tally: Tally,
 }
 
@@ -28,7 +29,7 @@ pub(crate) fn can_id(id: Identifier) -> u32
 }
 
 impl Row {
-    /// No frame came.
+    /// A row without frames.
     pub(crate) fn new(can_id: u32) -> Row
         ensures { result ≡ new_row can_id }
     {
@@ -38,7 +39,7 @@ impl Row {
         }
     }
 
-    /// One frame more.
+    /// Counts a frame with this stamp, in microseconds.
     pub(crate) fn add(&mut self, micros: u64)
         ensures { self.new ≡ row_with micros self.old }
     {

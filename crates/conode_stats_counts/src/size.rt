@@ -14,18 +14,20 @@ ghost use Rattle.conode_stats_counts.specs.Sizes.{size_as, size_of};
 use crate::wire::Wire;
 use conode_record::{Content, Identifier};
 
-/// The bits that a frame takes on the bus, the intermission after it among them (ISO 11898-1): as it was sent, with its
-/// stuff bits, and the most that a frame of its length can take. Both are 0 where they aren't known.
+/// The bits of a frame on the bus, with the intermission after it (ISO 11898-1). Both numbers are 0
+/// if they are unknown.
 #[derive(Clone, Copy, Debug, PartialEq, Eq)]
 pub struct Size {
+    /// The bits as sent, with the stuff bits.
     pub bits: u32,
+    /// The most bits that a frame of its length can take.
     pub most: u32,
 }
 
 /// The bits after the CRC: delimiters, acknowledge, end of frame and intermission.
 const TAIL_BITS: u32 = 13;
 
-// of a frame whose start, up to its data, is a number in so many bits
+// the size of a frame whose bits up to its data are a number in `count` bits
 fn size_from(count: u32, head: u64, bytes: &[u8]) -> Size
     requires few { length bytes.now ≤ 8 }
     requires count { count ≤ 39 }
@@ -41,7 +43,7 @@ fn size_from(count: u32, head: u64, bytes: &[u8]) -> Size
     }
 }
 
-// with an identifier of 11 bits; of a remote frame without data
+// the size of a frame with an identifier of 11 bits; a remote frame has no data
 fn base_size(id: u16, remote: u64, code: u64, bytes: &[u8]) -> Size
     requires few { length bytes.now ≤ 8 }
     requires id { id < 2048 }
@@ -53,7 +55,7 @@ fn base_size(id: u16, remote: u64, code: u64, bytes: &[u8]) -> Size
     size_from(19, 128 * u64::from(id) + 64 * remote + code, bytes)
 }
 
-// with one of 29 bits
+// the size of a frame with an identifier of 29 bits
 fn extended_size(id: u32, remote: u64, code: u64, bytes: &[u8]) -> Size
     requires few { length bytes.now ≤ 8 }
     requires id { id < 0x20000000 }
@@ -69,8 +71,8 @@ fn extended_size(id: u32, remote: u64, code: u64, bytes: &[u8]) -> Size
 }
 
 impl Size {
-    /// Of a frame with this identifier and content; none is known of a CAN FD frame, which has two bit rates, and of an
-    /// error frame.
+    /// The size of a frame with this identifier and content. It is unknown for a CAN FD frame,
+    /// which has two bit rates, and for an error frame.
     #[tactic(auto, using(crate::proofs::Sent::nothing_after), unfolding(crate::specs::Sizes::size_of))]
     pub fn of(id: Identifier, content: &Content) -> Size
         requires { IsIdentifier id }

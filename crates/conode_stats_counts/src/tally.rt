@@ -4,23 +4,29 @@ ghost use Rattle.std.specs.Prelude.{◌≡◌, [], ◌+◌, ◌^◌};
 ghost use Rattle.conode_stats_counts.specs.Gaps.{counted};
 ghost use Rattle.conode_stats_counts.specs.Tallies.{tally_of, tally_with};
 
-/// Frames counted: the stamps of the first and the last one, in microseconds, how many frames there are, and how many
-/// of their stamps step back, to before the one before them. All others but the first have a gap, in microseconds: how
-/// many gaps there are, their sum, the smallest and the greatest (2^64 - 1 and 0 where there is none). Counts and sums
-/// stay at 2^64 - 1.
+/// Frames and the gaps between their stamps, in microseconds. Every frame has a gap but the first,
+/// and those that step back. Counts and sums saturate at 2^64 - 1.
 #[derive(Clone, Copy, Debug, PartialEq, Eq)]
 pub struct Tally {
+    /// The stamp of the first frame; 0 without frames.
     pub first: u64,
+    /// The stamp of the last frame; 0 without frames.
     pub last: u64,
+    /// The number of frames.
     pub frames: u64,
+    /// How many frames have a stamp before that of the frame before them.
     pub steps_back: u64,
+    /// The number of gaps.
     pub gaps: u64,
+    /// The sum of the gaps.
     pub total: u64,
+    /// The smallest gap; 2^64 - 1 without gaps.
     pub smallest: u64,
+    /// The greatest gap; 0 without gaps.
     pub greatest: u64,
 }
 
-/// A sum that stays at the greatest number.
+/// A sum that saturates at 2^64 - 1.
 pub(crate) fn counted(count: u64, more: u64) -> u64
     ensures { result ≡ counted (count + more) }
 {
@@ -28,7 +34,7 @@ pub(crate) fn counted(count: u64, more: u64) -> u64
 }
 
 impl Tally {
-    /// Of no frame.
+    /// The tally of no frame.
     #[tactic(auto, using(crate::proofs::Tallied::none))]
     pub fn new() -> Tally
         ensures { result ≡ tally_of [] }
@@ -45,7 +51,7 @@ impl Tally {
         }
     }
 
-    /// One frame more.
+    /// Counts a frame with this stamp, in microseconds.
     #[tactic(auto, unfolding(crate::specs::Tallies::tally_with))]
     pub(crate) fn add(&mut self, micros: u64)
         ensures { self.new ≡ tally_with self.old micros }

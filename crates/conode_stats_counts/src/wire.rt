@@ -1,11 +1,11 @@
-//! The bits of a frame counted while they are sent.
+//! The bits of a frame, counted as they are sent.
 
 ghost use Rattle.std.specs.Prelude.{◌≡◌, ◌+◌, ◌*◌, ◌<◌, ◌≤◌, length};
 ghost use Rattle.conode_stats_counts.specs.Bits.{bits_of, crc_with, data_bits};
 ghost use Rattle.conode_stats_counts.specs.Wires.{wire_with, wire_after, idle};
 
-/// A bus after some bits of a frame: the CRC, the last bit, how many of it came in a row, and how many bits were sent,
-/// stuff bits among them.
+/// A bus after some bits of a frame: the CRC, the last bit, how many equal bits came in a row, and
+/// how many bits were sent, with stuff bits.
 #[derive(Clone, Copy)]
 pub(crate) struct Wire {
     pub(crate) crc: u16,
@@ -40,7 +40,7 @@ impl Wire {
         }
     }
 
-    // one bit more
+    // the bus after one more bit
     #[tactic(auto, unfolding(crate::specs::Wires::wire_with))]
     #[inline(always)]
     fn with_bit(self, bit: u8) -> Wire
@@ -79,7 +79,7 @@ impl Wire {
         }
     }
 
-    /// A number in so many bits more.
+    /// The bus after a number in `count` more bits, the highest first.
     #[tactic(auto, unfolding(crate::specs::Bits::bits_of, crate::specs::Wires::wire_after))]
     pub(crate) fn with_number(self, count: u32, number: u64) -> Wire
         requires count { count < 64 }
@@ -97,7 +97,7 @@ impl Wire {
         self.with_bit(bit).with_number(low, number)
     }
 
-    /// Bytes more.
+    /// The bus after these bytes too.
     #[tactic(auto, using(crate::proofs::Sent::after_both), unfolding(crate::specs::Wires::wire_after))]
     pub(crate) fn with_bytes(self, bytes: &[u8]) -> Wire
         requires few { length bytes.now ≤ 8 }

@@ -3,11 +3,11 @@ use Rattle.std.specs.Prelude.{ℕ, ◌-◌, ◌/◌, ◌%◌, nat_le, ◌&&◌, 
 use Rattle.std.specs.List.{flat_map}
 use Rattle.co_text.specs.Printed.{byte_text, digits_text}
 
--- in a column of this width, blanks before it
+-- right-aligned in a column of this width
 abbrev pub right : ℕ → List ℕ → List ℕ
 right width text = replicate (width - length text) 32 ++ text
 
--- or after it
+-- left-aligned
 abbrev pub left : ℕ → List ℕ → List ℕ
 left width text = text ++ replicate (width - length text) 32
 
@@ -27,7 +27,7 @@ abbrev pub or_none : (ℕ → List ℕ) → Option ℕ → List ℕ
 or_none text None = codes "-"
 or_none text (Some number) = text number
 
--- a byte of a name; one that can't be printed as `\x07`
+-- a byte of a name; one that can't be printed is escaped, as `\x07`
 abbrev pub escaped : ℕ → List ℕ
 escaped byte = if nat_le 0x21 byte && nat_le byte 0x7E then byte ∷ [] else codes "\\x" ++ byte_text byte
 

@@ -8,7 +8,7 @@ use Rattle.conode_stats_counts.specs.declared.tally.Tally.{Tally}
 use Rattle.conode_stats_text.specs.Cells.{left, name_text, or_none, right, seconds, tenths, thousandths}
 use Rattle.conode_stats_text.specs.Figures.{gap_of, has_lost, is_emergency, is_heartbeat, is_silent, load, mean, rate, room_in}
 
--- an identifier in three digits, or where it is one of 29 bits or of an error frame in eight
+-- an identifier in three digits; in eight, if it has 29 bits or is of an error frame
 unfoldable pub id_text : ℕ → List ℕ
 id_text id = if nat_lt id 0x800 then digits_text 16 3 id else digits_text 16 8 (id % 0x80000000)
 
@@ -18,7 +18,7 @@ gap_cells tally =
     right 15 (or_none thousandths (gap_of tally tally.smallest)) ++ right 12 (or_none thousandths (mean tally))
     ++ right 14 (or_none thousandths (gap_of tally tally.greatest))
 
--- of an identifier on an interface
+-- the line of an identifier on an interface
 unfoldable pub row_line : List ℕ → Row → List ℕ
 row_line interface row =
     left 15 (name_text interface) ++ codes "  " ++ right 8 (id_text row.can_id) ++ right 13 (decimal row.tally.frames)
@@ -28,12 +28,12 @@ row_line interface row =
 unfoldable pub load_tenths : ℕ → ℕ → List ℕ
 load_tenths bits room = or_none tenths (load bits room)
 
--- a load, and the greatest that there can be
+-- a load, and the greatest possible one
 unfoldable pub load_text : ℕ → ℕ → ℕ → List ℕ
 load_text bits most room =
     load_tenths bits room ++ codes " % (worst case " ++ load_tenths most room ++ codes " %)"
 
--- where the bits of some frames aren't known, it is the least
+-- if some frames have an unknown size, the load is a lower bound
 abbrev pub load_word : Load → List ℕ
 load_word load = if load.unknown == 0 then codes "    load " else codes "    load at least "
 
@@ -47,7 +47,7 @@ unfoldable pub load_line : ℕ → Tally → Load → List ℕ
 load_line bit_rate all load =
     load_word load ++ load_text load.bits load.most (room_in bit_rate all.total) ++ busiest_text bit_rate load.busiest
 
--- over which time frames came
+-- the time over which frames came
 unfoldable pub bus_times : Tally → List ℕ
 bus_times all =
     codes " frames in " ++ seconds all.total ++ codes " s, the first at " ++ seconds all.first ++ codes "\n"
@@ -59,7 +59,7 @@ bus_line interface all =
 
 -- ---- what looks wrong
 
--- of a node of a bus
+-- the front of a line about a node
 abbrev pub node_front : List ℕ → ℕ → List ℕ
 node_front interface node = codes "  " ++ name_text interface ++ codes ": node " ++ decimal node
 
@@ -77,15 +77,15 @@ unfoldable pub emergency_line : List ℕ → ℕ → Tally → List ℕ
 emergency_line interface node tally =
     node_front interface node ++ codes " EMCY messages: " ++ decimal tally.frames ++ codes ", the last at " ++ seconds tally.last ++ codes "\n"
 
--- one of other things, with how many there are
+-- the line of other things, with their count
 unfoldable pub count_line : List ℕ → List ℕ → ℕ → List ℕ
 count_line front what count = codes "  " ++ front ++ what ++ codes ": " ++ decimal count ++ codes "\n"
 
--- none where there is none
+-- nothing for a count of 0
 abbrev pub if_any : List ℕ → List ℕ → ℕ → List ℕ
 if_any front what count = if count == 0 then [] else count_line front what count
 
--- of an identifier of a bus whose last frame has this stamp
+-- what looks wrong with an identifier, if the last frame of the bus has this stamp
 unfoldable pub wrong_in : List ℕ → ℕ → Row → List ℕ
 wrong_in interface end row =
     if is_heartbeat row.can_id

@@ -1,4 +1,4 @@
--- What is counted, as one document of JSON (RFC 8259). Times are in microseconds.
+-- The statistics as one JSON document (RFC 8259). Times are in microseconds.
 use Rattle.std.specs.Prelude.{ℕ, ◌==◌, nat_le, if◌then◌else◌, List, [], ◌∷◌, ◌++◌, codes, decimal}
 use Rattle.json.specs.Token.{Token, begin_object, end_object, key, number, string}
 use Rattle.conode_stats_counts.specs.declared.load.Load.{Load}
@@ -7,7 +7,7 @@ use Rattle.conode_stats_counts.specs.declared.row.Row.{Row}
 use Rattle.conode_stats_counts.specs.declared.tally.Tally.{Tally}
 use Rattle.conode_stats_text.specs.StatsLines.{id_text}
 
--- a number; one that not every reader holds is a text (RFC 8259, 6)
+-- a number; a text if not every reader holds it (RFC 8259, 6)
 abbrev pub number_token : ℕ → Token
 number_token count = if nat_le count 9007199254740991 then number (decimal count) else string (decimal count)
 
@@ -22,7 +22,7 @@ unfoldable pub gap_members : Tally → List Token
 gap_members tally =
     number_member (codes "smallestGap") tally.smallest ++ number_member (codes "greatestGap") tally.greatest
 
--- where there is one
+-- the same, if there are gaps
 abbrev pub any_gap_members : Tally → List Token
 any_gap_members tally = if tally.gaps == 0 then [] else gap_members tally
 

@@ -1,4 +1,5 @@
-//! Numbers in columns. Each function appends a text; on an `Err` memory ran out, and a part of it may be there.
+//! Numbers in columns. Each function appends a text. `Err`: out of memory; a part of the text may
+//! be there.
 
 ghost use Rattle.std.specs.Prelude.{◌≡◌, ◌++◌, ◌<◌, ◌^◌, OnOk, List, ℕ, string_bytes, replicate};
 ghost use Rattle.co_text.specs.Printed.{digits_text};
@@ -32,7 +33,7 @@ pub(crate) fn push_words(text: &mut String, words: &str) -> Result<(), AllocErro
     text.push_str(words)
 }
 
-/// Appends a cell that ends a column of this width.
+/// Appends a cell, right-aligned in a column of this width.
 pub(crate) fn push_right(text: &mut String, width: usize, cell: &str) -> Result<(), AllocError>
     ensures { OnOk result
         (string_bytes text.new ≡ string_bytes text.old ++ right width cell.now) }
@@ -41,7 +42,7 @@ pub(crate) fn push_right(text: &mut String, width: usize, cell: &str) -> Result<
     text.push_str(cell)
 }
 
-/// Appends a cell that begins a column of this width.
+/// Appends a cell, left-aligned in a column of this width.
 pub(crate) fn push_left(text: &mut String, width: usize, cell: &str) -> Result<(), AllocError>
     ensures { OnOk result (string_bytes text.new ≡ string_bytes text.old ++ left width cell.now) }
 {
@@ -49,7 +50,7 @@ pub(crate) fn push_left(text: &mut String, width: usize, cell: &str) -> Result<(
     push_blanks(text, width.saturating_sub(cell.len()))
 }
 
-/// Appends thousandths.
+/// Appends a number of thousandths, as `1.234`.
 #[tactic(auto, unfolding(crate::specs::Cells::thousandths, co_text::specs::Printed::digits_text))]
 pub(crate) fn push_thousandths(text: &mut String, number: u64) -> Result<(), AllocError>
     ensures { OnOk result
@@ -63,7 +64,7 @@ pub(crate) fn push_thousandths(text: &mut String, number: u64) -> Result<(), All
     push_digit(text, (digits % 10) as u8)
 }
 
-/// Appends tenths.
+/// Appends a number of tenths, as `1.2`.
 #[tactic(auto, unfolding(crate::specs::Cells::tenths, co_text::specs::Printed::digits_text))]
 pub(crate) fn push_tenths(text: &mut String, number: u64) -> Result<(), AllocError>
     ensures { OnOk result (string_bytes text.new ≡ string_bytes text.old ++ tenths number) }
@@ -87,7 +88,7 @@ fn push_micros(text: &mut String, micros: u32) -> Result<(), AllocError>
     push_digit(text, (micros % 10) as u8)
 }
 
-/// Appends microseconds in seconds.
+/// Appends a time in microseconds as seconds, as `1.000250`.
 #[tactic(auto, unfolding(crate::specs::Cells::seconds))]
 pub(crate) fn push_seconds(text: &mut String, micros: u64) -> Result<(), AllocError>
     ensures { OnOk result (string_bytes text.new ≡ string_bytes text.old ++ seconds micros) }
@@ -97,7 +98,7 @@ pub(crate) fn push_seconds(text: &mut String, micros: u64) -> Result<(), AllocEr
     push_micros(text, (micros % 1_000_000) as u32)
 }
 
-/// Makes the text thousandths, or a hyphen where there are none.
+/// Sets the text to a number of thousandths, or to a hyphen for `None`.
 pub(crate) fn set_thousandths(cell: &mut String, number: Option<u64>) -> Result<(), AllocError>
     ensures { OnOk result (string_bytes cell.new ≡ or_none thousandths number) }
 {
@@ -108,7 +109,7 @@ pub(crate) fn set_thousandths(cell: &mut String, number: Option<u64>) -> Result<
     }
 }
 
-/// Makes the text tenths, or a hyphen where there are none.
+/// Sets the text to a number of tenths, or to a hyphen for `None`.
 pub(crate) fn set_tenths(cell: &mut String, number: Option<u64>) -> Result<(), AllocError>
     ensures { OnOk result (string_bytes cell.new ≡ or_none tenths number) }
 {
@@ -119,7 +120,7 @@ pub(crate) fn set_tenths(cell: &mut String, number: Option<u64>) -> Result<(), A
     }
 }
 
-/// Appends tenths, or a hyphen where there are none.
+/// Appends a number of tenths, or a hyphen for `None`.
 pub(crate) fn push_tenths_in(text: &mut String, number: Option<u64>) -> Result<(), AllocError>
     ensures { OnOk result
         (string_bytes text.new ≡ string_bytes text.old ++ or_none tenths number) }
@@ -140,7 +141,7 @@ fn push_escaped(text: &mut String, byte: u8) -> Result<(), AllocError>
     push_byte(text, byte)
 }
 
-/// Appends a name, its bytes that can't be printed as `\x07`.
+/// Appends a name; bytes that can't be printed are escaped, as `\x07`.
 pub(crate) fn push_name(text: &mut String, name: &[u8]) -> Result<(), AllocError>
     ensures { OnOk result (string_bytes text.new ≡ string_bytes text.old ++ name_text name.now) }
 {

@@ -1,11 +1,12 @@
-//! The figures of what is counted.
+//! Figures derived from the counts.
 
 ghost use Rattle.std.specs.Prelude.{◌≡◌, ◌≤◌};
 ghost use Rattle.conode_stats_text.specs.Figures.{gap_of, is_long, mean, ratio, room_in};
 
 use conode_stats_counts::Tally;
 
-/// A fraction rounded down; none of nothing, or where the product doesn't fit.
+/// number * scale / whole, rounded down; `None` if `whole` is 0, or the product needs more than 64
+/// bits.
 #[tactic(auto, unfolding(crate::specs::Figures::ratio))]
 pub(crate) fn ratio(number: u64, scale: u64, whole: u64) -> Option<u64>
     ensures { result ≡ ratio number scale whole }
@@ -19,7 +20,7 @@ pub(crate) fn ratio(number: u64, scale: u64, whole: u64) -> Option<u64>
     }
 }
 
-/// A gap, where there is one and the log has stamps.
+/// This gap; `None` if there are no gaps, or the log has no stamps.
 pub(crate) fn gap_of(tally: &Tally, gap: u64) -> Option<u64>
     ensures { result ≡ gap_of tally.now gap }
 {
@@ -30,7 +31,7 @@ pub(crate) fn gap_of(tally: &Tally, gap: u64) -> Option<u64>
     }
 }
 
-/// The mean gap.
+/// The mean gap, in microseconds; `None` if there are no gaps, or the log has no stamps.
 pub(crate) fn mean(tally: &Tally) -> Option<u64>
     ensures { result ≡ mean tally.now }
 {
@@ -40,7 +41,7 @@ pub(crate) fn mean(tally: &Tally) -> Option<u64>
     gap_of(tally, tally.total / tally.gaps)
 }
 
-/// How many bits a bus has room for in a time in microseconds.
+/// How many bits fit on a bus with this bit rate, in a time in microseconds.
 #[tactic(auto, unfolding(crate::specs::Figures::room_in))]
 pub(crate) fn room_in(bit_rate: u32, micros: u64) -> u64
     requires { bit_rate ≤ 1000000 }
@@ -50,7 +51,7 @@ pub(crate) fn room_in(bit_rate: u32, micros: u64) -> u64
     micros / 1_000_000 * rate + micros % 1_000_000 * rate / 1_000_000
 }
 
-/// Whether a time is above one and a half times the mean gap, where there are two gaps at least.
+/// Whether a time is more than one and a half times the mean gap; false with fewer than two gaps.
 pub(crate) fn is_long(tally: &Tally, micros: u64) -> bool
     ensures { result ≡ is_long tally.now micros }
 {

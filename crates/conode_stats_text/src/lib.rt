@@ -1,4 +1,4 @@
-//! What is counted of buses, on one page for people, and as JSON.
+//! The statistics of buses, as a page of text and as JSON.
 #![tactic(auto)]
 
 mod cells;

@@ -1,4 +1,5 @@
-//! The lines of the page. Each function appends a text; on an `Err` memory ran out, and a part of it may be there.
+//! The lines of the page. Each function appends a text. `Err`: out of memory; a part of the text
+//! may be there.
 
 ghost use Rattle.std.specs.Prelude.{◌≡◌, ◌++◌, ◌<◌, ◌≤◌, OnOk, string_bytes};
 ghost use Rattle.co_text.specs.Printed.{digits_text};
@@ -26,7 +27,7 @@ use co_text::{decimal_digits, push_byte, push_decimal, push_digit, push_u32};
 use conode_stats_counts::{Load, Row, Second, Tally};
 use std::alloc::AllocError;
 
-/// Makes the text an identifier.
+/// Sets the text to an identifier.
 #[tactic(auto, unfolding(crate::specs::StatsLines::id_text, co_text::specs::Printed::digits_text))]
 pub(crate) fn set_id(cell: &mut String, id: u32) -> Result<(), AllocError>
     ensures { OnOk result (string_bytes cell.new ≡ id_text id) }
@@ -59,7 +60,7 @@ fn set_name(cell: &mut String, name: &[u8]) -> Result<(), AllocError>
     push_name(cell, name)
 }
 
-/// Appends the line of an identifier on an interface. `cell` is for the work.
+/// Appends the line of an identifier on an interface. `cell` is scratch space.
 #[tactic(auto, unfolding(crate::specs::StatsLines::row_line))]
 pub(crate) fn push_row(
     text: &mut String,
@@ -123,7 +124,7 @@ fn push_busiest(text: &mut String, bit_rate: u32, busiest: Second) -> Result<(),
     text.push_str("\n")
 }
 
-/// Appends how busy a bus with this many bits in a second is, up to 1,000,000.
+/// Appends the load of a bus with this bit rate, in bit/s, at most 1,000,000.
 #[tactic(auto, unfolding(crate::specs::StatsLines::load_line))]
 pub(crate) fn push_load(
     text: &mut String,

@@ -9,13 +9,14 @@ use co_text::push_decimal;
 use conode_stats_counts::{Bus, Counts, Row};
 use std::alloc::{AllocError, Global};
 
-/// What the page says.
+/// The contents of the page.
 #[derive(Drop)]
 pub struct Page<'a> {
+    /// The counts of the recording.
     pub counts: &'a Counts,
     /// How many lines of the recording are bad.
     pub bad: u64,
-    /// The bits of a second, up to 1,000,000, where they are known.
+    /// The bit rate in bit/s, at most 1,000,000, if it is known.
     pub bit_rate: Option<u32>,
 }
 
@@ -23,7 +24,7 @@ pub struct Page<'a> {
 const HEAD: &str =
     "interface              id       frames    frames/s    smallest ms     mean ms   greatest ms\n";
 
-/// What is said of frames for which there was no room.
+/// The words about frames without a row, and about frames without a bus.
 const MORE_IDENTIFIERS: &str = "frames of more than 4,096 identifiers, not in the table";
 
 const MORE_INTERFACES: &str = "frames of more than 16 interfaces, not counted";
@@ -133,8 +134,8 @@ fn push_rows(
     Ok(())
 }
 
-/// Makes the text the page: what looks wrong, the buses, and their identifiers. On an `Err` memory ran out, and the
-/// text is any part of it.
+/// Sets the text to the page: what looks wrong, the buses, and their identifiers. `Err`: out of
+/// memory; the text is then any part of the page.
 pub fn set_page(alloc: Global, text: &mut String, page: &Page<'_>) -> Result<(), AllocError>
     requires { IfSome page.now.bit_rate (λ rate. rate ≤ 1000000) }
 {

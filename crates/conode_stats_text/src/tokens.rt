@@ -1,5 +1,5 @@
-//! What is counted, as one document of JSON. Each function writes tokens; on an `Err` memory ran out, and some of them
-//! may be there.
+//! The statistics as one JSON document. Each function writes tokens. `Err`: out of memory; some
+//! tokens may be there.
 
 ghost use Rattle.std.specs.Prelude.{◌≡◌, ◌++◌, ◌∷◌, [], OnOk};
 ghost use Rattle.conode_stats_text.specs.StatsTokens.{
@@ -170,7 +170,7 @@ fn put_head(writer: &mut Writer, page: &Page<'_>) -> Result<(), AllocError> {
     Ok(())
 }
 
-/// Writes all that is counted. On an `Err` memory ran out.
+/// Writes the statistics as one JSON object. `Err`: out of memory; some tokens may be there.
 pub fn put_page(alloc: Global, writer: &mut Writer, page: &Page<'_>) -> Result<(), AllocError> {
     let mut cell = String::new(alloc);
     writer.begin_object()?;

@@ -1,5 +1,5 @@
-//! The lines of what looks wrong. Each function appends a text; on an `Err` memory ran out, and a part of it may be
-//! there.
+//! The lines of what looks wrong. Each function appends a text. `Err`: out of memory; a part of the
+//! text may be there.
 
 ghost use Rattle.std.specs.Prelude.{◌≡◌, ◌++◌, ◌-◌, ◌/◌, ◌<◌, ◌≤◌, OnOk, string_bytes, [], if◌then◌else◌};
 ghost use Rattle.conode_stats_text.specs.Cells.{name_text, or_none, seconds, thousandths};
@@ -94,7 +94,7 @@ fn push_emergencies(
     push_words(text, "\n")
 }
 
-// what looks wrong of a node by its heartbeats
+// what looks wrong with a node, by its heartbeats
 fn push_wrong_heartbeats(
     text: &mut String,
     cell: &mut String,
@@ -116,7 +116,8 @@ fn push_wrong_heartbeats(
     Ok(())
 }
 
-/// Appends what looks wrong of an identifier of a bus whose last frame has this stamp. `cell` is for the work.
+/// Appends what looks wrong with an identifier. `end` is the stamp of the bus's last frame, in
+/// microseconds; `cell` is scratch space.
 #[tactic(auto, unfolding(crate::specs::StatsLines::wrong_in))]
 pub(crate) fn push_wrong_in(
     text: &mut String,
@@ -151,7 +152,7 @@ fn push_count_line(text: &mut String, front: &str, what: &str, count: u64) -> Re
     text.push_str("\n")
 }
 
-/// Appends how many there are of something, where there is any.
+/// Appends how many there are of something, if there are any.
 pub(crate) fn push_count(
     text: &mut String,
     front: &str,

@@ -10,9 +10,9 @@ pub record ClockState : Type 0 where
 abbrev pub clock_at_start : ClockState
 clock_at_start = record { ms = 0; started = false }
 
--- how many ticks a frame line gives, and the clock after it: the first line sets the clock to its stamp, also
--- backwards, and gives none; a later one gives a tick a ms until the clock is its stamp, an older one none; none
--- may be more than a day past the clock
+-- the ticks of a frame line, and the clock after it. The first line sets the clock to its stamp,
+-- also backwards, without a tick. A later line gives a tick for each ms up to its stamp, an older
+-- one none. None where the stamp is more than a day past the clock
 abbrev pub move_to : ClockState → ℕ → Option (ℕ × ClockState)
 move_to clock stamp =
     if not clock.started then Some (0, record { ms = stamp; started = true })

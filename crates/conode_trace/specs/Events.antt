@@ -1,4 +1,4 @@
--- Event lines, this project's own. A line is words that single spaces part; what they are is the grammar.
+-- Event lines, this project's own. A line is words between single spaces; the grammar says which.
 use Rattle.std.specs.Prelude.{ℕ, ◌==◌, ◌≤◌, if◌then◌else◌, List, [], ◌∷◌, length, Option, Some, None, codes, bytes_eq}
 use Rattle.std.specs.List.{slice_split}
 use Rattle.std.specs.Option.{option_map}
@@ -9,7 +9,8 @@ use Rattle.co_text.specs.Texts.{◌>>=◌, decimal_in}
 use Rattle.co_text.specs.HexPairs.{hex_in, byte_in, word_in, bytes_in}
 use Rattle.co_value.specs.KeyTexts.{key_in}
 
--- the parts of a line between its single spaces: two spaces in a row have an empty word between them
+-- the parts of a line between its single spaces: two spaces in a row have an empty word between
+-- them
 abbrev pub words : List ℕ → List (List ℕ)
 words line = slice_split (λ byte. byte == 32) line
 

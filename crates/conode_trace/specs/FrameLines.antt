@@ -17,13 +17,13 @@ abbrev pub past_byte : ℕ → List ℕ → Option (List ℕ)
 past_byte wanted [] = None
 past_byte wanted (byte ∷ text) = if byte == wanted then Some text else None
 
--- what follows the bytes at the front that pass, if they are from least to most
+-- what follows the bytes at the front that pass, if there are least to most of them
 abbrev pub past_run : (ℕ → Bool) → ℕ → ℕ → List ℕ → Option (List ℕ)
 past_run passes least most text =
     let n = prefix_len passes text in
     if nat_le least n && nat_le n most then Some (drop n text) else None
 
--- the digits at the front as a number, if they are from least to most, and what follows
+-- the digits at the front as a number, if there are least to most of them, and what follows
 abbrev pub number_at : ℕ → ℕ → List ℕ → Option (ℕ × List ℕ)
 number_at least most text =
     let n = prefix_len is_digit text in
@@ -64,7 +64,8 @@ identifier_at text =
     else (if (slice_index text 8 == 35) && list_all is_hex_digit (take 8 text)
     then Some (Extended, drop 9 text) else None)
 
--- the bytes that the pairs of digits at the front spell, if they are at most eight, and what follows
+-- the bytes that the pairs of digits at the front spell, if they are at most eight, and what
+-- follows
 abbrev pub few_pairs_at : List ℕ → Option (List ℕ × List ℕ)
 few_pairs_at text = let pairs = pairs_at text in if nat_le (length pairs.0) 8 then Some pairs else None
 
@@ -83,7 +84,8 @@ is_ending text =
 abbrev pub past_digit : List ℕ → List ℕ
 past_digit text = if is_digit (slice_index text 0) then drop 1 text else text
 
--- what follows the number sign: another sign (CAN FD), `R` (a remote frame), or at most eight pairs of digits
+-- what follows the number sign: another sign (CAN FD), `R` (a remote frame), or at most eight pairs
+-- of digits
 unfoldable pub body_in : List ℕ → Option Body
 body_in text =
     if slice_index text 0 == 35 then Some Other

@@ -1,5 +1,5 @@
--- The grammar of a frame line, as `candump -L` writes it, and of an event line: a line is the join of its parts. Reading is
--- apart from it.
+-- The grammar of a frame line, as `candump -L` writes it, and of an event line: a line is its
+-- parts, one after the other. It doesn't say how a line is read.
 use Rattle.std.specs.Prelude.{◌≡◌, ℕ, ◌+◌, ◌*◌, ◌/◌, ◌<◌, ◌≤◌, Bool, true, ◌⊎◌, List, [], ◌∷◌, ◌++◌, length, Some, codes}
 use Rattle.std.specs.List.{list_all}
 use Rattle.conode_trace.specs.declared.trace_line.TraceLine.{TraceLine}
@@ -15,7 +15,7 @@ use Rattle.conode_trace.specs.declared.frame_fields.Body.TheVariants.{Bytes, Oth
 use Rattle.co_text.specs.Texts.{is_blank, is_digit, is_hex_digit, decimal_value, hex_pair}
 use Rattle.conode_trace.specs.FrameLines.{is_name_byte, three_digits, line_of}
 
--- from least to most bytes that all pass
+-- least to most bytes, each of which passes
 pub record IsRun (passes : ℕ → Bool) (least most : ℕ) (text : List ℕ) : Type 0 where
   pub all : list_all passes text ≡ true
   pub enough : least ≤ length text
@@ -71,6 +71,7 @@ pub record IsRemote (text : List ℕ) : Type 0 where
 abbrev pub IsCanFd : List ℕ → Type 0
 IsCanFd text = (rest : List ℕ) × (text ≡ 35 ∷ rest)
 
+-- what follows the number sign of a frame line
 abbrev pub SpellsBody : Body → List ℕ → Type 0
 SpellsBody (Bytes bytes) text = SpellsData bytes text
 SpellsBody Other text = IsRemote text ⊎ IsCanFd text
@@ -125,8 +126,8 @@ pub record SpellsKey (key : Key) (text : List ℕ) : Type 0 where
 abbrev pub SpellsHex : List ℕ → List ℕ → Type 0
 SpellsHex bytes text = ((bytes ≡ []) × (text ≡ codes "-")) ⊎ ((0 < length text) × SpellsPairs bytes text)
 
--- the name of an event, and after a space its words, with a space between two: `!tick N`, `!event K`, `!changed KEY`,
--- `!clear BITS`, `!write KEY HEX`, `!raise CODE BITS EXTRA`
+-- the name of an event, and after a space its words, with a space between two: `!tick N`,
+-- `!event K`, `!changed KEY`, `!clear BITS`, `!write KEY HEX`, `!raise CODE BITS EXTRA`
 abbrev pub SpellsEvent : EventLine → List ℕ → Type 0
 SpellsEvent (Ticks count) line =
     (number : List ℕ) × SpellsNumber 1 86400000 count number × (line ≡ codes "!tick " ++ number)

@@ -8,7 +8,7 @@ use Rattle.co_frame.specs.FrameContent.{FrameContent}
 unfoldable pub frame_text : FrameContent → List ℕ
 frame_text frame = digits_text 16 3 frame.id ++ codes "#" ++ flat_map byte_text frame.bytes
 
--- seconds in ten digits, or in more where it takes more
+-- seconds in ten digits, or in more where ten don't suffice
 unfoldable pub seconds_text : ℕ → List ℕ
 seconds_text seconds = if nat_lt seconds (10 ^ 10) then digits_text 10 10 seconds else decimal seconds
 

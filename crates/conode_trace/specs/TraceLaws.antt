@@ -1,4 +1,4 @@
--- Laws of traces, for those who go through one line by line.
+-- Laws of traces, for callers that read one line by line.
 use Rattle.std.specs.Prelude.{◌≡◌, ℕ, zero, suc, ◌+◌, List, [], ◌∷◌, Option, Some, None}
 use Rattle.std.specs.Option.{option_map_or}
 use Rattle.std.specs.List.{flat_map}

@@ -11,7 +11,7 @@ use Rattle.co_text.specs.Texts.{◌>>=◌}
 use Rattle.conode_trace.specs.FrameLines.{line_in}
 use Rattle.conode_trace.specs.Clocks.{ClockState, clock_at_start, move_to, move_by}
 
--- what a device is given: a frame, a tick of 1 ms, or an event of the application
+-- an input of a device: a frame, a tick of 1 ms, or an event of the application
 pub data Input : Type 0 where
   frame : FrameContent → Input
   tick : Input
@@ -28,7 +28,8 @@ pub record Trace : Type 0 where
   pub inputs : List TimedInput
   pub bad : Option ℕ
 
--- how many ticks a line gives, and the clock after it; none where its stamp is too far past the clock
+-- how many ticks a line gives, and the clock after it; none where its stamp is too far past the
+-- clock
 abbrev pub moved : ClockState → TraceLine → Option (ℕ × ClockState)
 moved clock Skipped = Some (0, clock)
 moved clock (PassedOver stamp) = move_to clock stamp

@@ -11,8 +11,8 @@ const GREATEST_STEP: u32 = 86_400_000;
 
 /// The clock of a trace in ms. It begins at 0 and follows the stamps of the frame lines.
 ///
-/// A stamp is below 2^64 ms, and a line moves the clock by at most a day: so the time stays far below 2^128 whatever
-/// the number of lines.
+/// A stamp is below 2^64 ms, and a line moves the clock by at most a day: so the time stays far
+/// below 2^128 whatever the number of lines.
 #[derive(Clone, Copy, Debug)]
 pub(crate) struct Clock {
     ms: u128,
@@ -47,9 +47,10 @@ impl Clock {
         self.ms
     }
 
-    /// Moves the clock to the stamp of a frame line in ms, and gives the ticks of 1 ms on the way. The first frame line
-    /// sets it without a tick, also backwards; a later one moves it forward, or where its stamp is older not at all.
-    /// `None` where the stamp is more than a day past it: then it stays.
+    /// Advances the clock to the stamp of a frame line, in ms, and returns the ticks of 1 ms
+    /// elapsed. The first frame line sets the clock without a tick, also backwards. After that an
+    /// older stamp doesn't move it. `None` if the stamp is more than a day past the clock: the
+    /// clock stays.
     pub(crate) fn move_to(&mut self, stamp: u64) -> Option<u32>
         ensures exact { option_map (λ ticks. (ticks, self.new)) result ≡ move_to self.old stamp }
         ensures within { IfSome result (λ ticks. ticks ≤ 86400000) }

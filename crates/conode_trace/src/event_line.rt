@@ -16,8 +16,8 @@ pub enum AppLine<'a> {
     Event(u16),
     /// `!changed KEY`: the entry has changed.
     Changed(Key),
-    /// `!raise CODE BITS EXTRA`: an emergency error code, the bits of the error register that it sets, and the
-    /// manufacturer's five bytes (CiA 301, 7.2.7).
+    /// `!raise CODE BITS EXTRA`: an emergency error code, the bits of the error register that it
+    /// sets, and the manufacturer's five bytes (CiA 301, 7.2.7).
     Raise(u16, u8, [u8; 5]),
     /// `!clear BITS`: the bits of the error register that are cleared.
     Clear(u8),
@@ -98,7 +98,7 @@ fn event_of_three<'a>(
     Some(EventLine::App(AppLine::Raise(code, bits, extra)))
 }
 
-/// What an event line says; `None` where it is none.
+/// Reads an event line from its words; `None` if it isn't one.
 #[tactic(auto, using(crate::proofs::Words::four_words))]
 pub(crate) fn event_line(line: &[u8]) -> Option<EventLine<'_>>
     ensures { result ≡ event_in (words line.now) }

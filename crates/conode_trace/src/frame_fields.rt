@@ -24,7 +24,7 @@ use co_text::{hex_digit, is_blank, is_digit, pair_at};
 use co_value::PackedBytes;
 
 /// The identifier of a frame line.
-#[derive(Clone, Copy, Debug, PartialEq, Eq)]
+#[derive(Clone, Copy, PartialEq, Eq)]
 pub(crate) enum Identifier {
     /// Three digits, at most 7FF.
     Base(u16),
@@ -79,6 +79,7 @@ fn number_at(text: &[u8], least: usize, most: usize) -> Option<(u64, &[u8])>
     }
 }
 
+/// The stamp in ms, and what follows.
 #[tactic(auto, unfolding(crate::specs::FrameLines::stamp_at))]
 #[inline(always)]
 pub(crate) fn stamp_at(text: &[u8]) -> Option<(u64, &[u8])>
@@ -168,6 +169,7 @@ fn are_hex_digits(text: &[u8]) -> bool
     text.iter().all(|byte| hex_digit(*byte).is_some())
 }
 
+/// The identifier with its number sign, and what follows.
 #[tactic(auto, unfolding(crate::specs::FrameLines::identifier_at))]
 #[inline(always)]
 pub(crate) fn identifier_at(text: &[u8]) -> Option<(Identifier, &[u8])>
@@ -237,6 +239,7 @@ fn few_pairs_at(text: &[u8]) -> Option<(PackedBytes, &[u8])>
     Some((bytes, rest))
 }
 
+/// What follows the number sign, up to the end of the line.
 #[tactic(auto, unfolding(crate::specs::FrameLines::body_in))]
 #[inline(always)]
 pub(crate) fn body_in(text: &[u8]) -> Option<Body>

@@ -15,14 +15,14 @@ use std::alloc::AllocError;
 /// The line of a frame. It has a fixed size and asks for no memory.
 pub type FrameLine = ArrayVec<u8, 80>;
 
-/// A look-up has no branch on the kind of digit.
+/// The hexadecimal digits: a look-up needs no branch between digits and letters.
 static DIGITS: [u8; 16] = *b"0123456789ABCDEF";
 
 /// From this time on, in ms, the seconds have more than ten digits.
 const LONG_TIME: u128 = 10_000_000_000_000;
 
-/// Appends a frame, as `605#2B17`: its identifier in three hexadecimal digits, a number sign, and two digits a byte. On
-/// an `Err` memory ran out, and the text may have a part of it.
+/// Appends a frame, as `605#2B17`: its identifier in three hexadecimal digits, a number sign, and
+/// two digits a byte. `Err`: out of memory; the text may then have a part of it.
 #[tactic(auto, unfolding(crate::specs::Printed::frame_text, co_text::specs::Printed::digits_text))]
 pub fn push_frame(text: &mut String, frame: &Frame) -> Result<(), AllocError>
     ensures { OnOk result (string_bytes text.new ≡ string_bytes text.old ++ frame_text frame.now) }
@@ -207,8 +207,8 @@ fn put_frame(line: &mut FrameLine, frame: &Frame)
     put_bytes(line, frame.bytes());
 }
 
-/// The line of a frame that is sent at a time in ms: the time as seconds and microseconds in parentheses, `can0`, the
-/// frame, and a line feed.
+/// The line of a frame that is sent at a time in ms: the time as seconds and microseconds in
+/// parentheses, `can0`, the frame, and a line feed.
 #[tactic(auto, unfolding(crate::specs::Printed::frame_line))]
 pub fn frame_line(ms: u128, frame: &Frame) -> FrameLine
     ensures { result.items ≡ frame_line ms frame.now }

@@ -1,5 +1,5 @@
-//! CAN traces as `candump -L` writes them, with event lines of this project's own: what each line says, the clock that
-//! they set, the inputs that they give, and the line of a frame that is sent.
+//! CAN traces as `candump -L` writes them, with event lines of this project's own: what each line
+//! says, the clock that they set, the inputs that they give, and the line of a frame that is sent.
 #![tactic(auto)]
 
 mod clock;

@@ -9,23 +9,24 @@ use crate::clock::Clock;
 use crate::event_line::EventLine;
 use crate::trace_line::TraceLine;
 
-/// What a line of a trace gives.
+/// A line of a trace, with the ticks before its own input, and the times of both.
 #[derive(Debug, Drop)]
 pub struct TimedLine<'a> {
     /// The number of the line, from 1.
     pub number: usize,
     /// The clock before the line, in ms.
     pub before: u128,
-    /// How many ticks of 1 ms come first, at most 86,400,000: the clock at the i-th of them, from 1, is `before` + i.
+    /// How many ticks of 1 ms come first, at most 86,400,000: the clock at the i-th of them, from
+    /// 1, is `before` + i.
     pub ticks: u32,
     /// The clock after the ticks, at the line's own input, in ms.
     pub ms: u128,
-    /// What the line says. A data frame, or an event of the application, is the line's own input after its ticks; the
-    /// others have none.
+    /// What the line says. A data frame, or an event of the application, is the line's own input
+    /// after its ticks; the others have none.
     pub said: TraceLine<'a>,
 }
 
-// moves the clock as a line says, and gives the ticks on the way
+// advances the clock by what a line says, and returns the ticks elapsed
 fn moved(clock: &mut Clock, said: &TraceLine<'_>) -> Option<u32>
     requires { clock.old.ms + 2 ^ 32 < 2 ^ 128 }
     ensures exact { option_map (λ ticks. (ticks, clock.new)) result ≡ moved clock.old said.now }
@@ -43,8 +44,8 @@ fn moved(clock: &mut Clock, said: &TraceLine<'_>) -> Option<u32>
 }
 
 impl<'a> TimedLine<'a> {
-    /// What the line of this number gives from this clock, which it moves; `None` where it is bad, and then the clock
-    /// stays.
+    /// Reads the line of this number, and advances the clock. `None` if it is no line of a trace,
+    /// or its stamp is more than a day past the clock: the clock stays.
     #[tactic(auto, unfolding(crate::specs::Traces::timed))]
     pub(crate) fn read(number: usize, clock: &mut Clock, line: &'a [u8]) -> Option<TimedLine<'a>>
         requires { clock.old.ms + 2 ^ 32 < 2 ^ 128 }

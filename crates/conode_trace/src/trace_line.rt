@@ -27,7 +27,8 @@ const LONGEST: usize = 512;
 pub enum TraceLine<'a> {
     /// An empty line, or a comment.
     Skipped,
-    /// A frame that this device doesn't take: a remote frame, a CAN FD frame, or one with an identifier of 29 bits.
+    /// A frame that this device doesn't take: a remote frame, a CAN FD frame, or one with an
+    /// identifier of 29 bits.
     PassedOver {
         /// When the frame was seen, in ms.
         stamp: u64,
@@ -44,11 +45,12 @@ pub enum TraceLine<'a> {
 }
 
 impl<'a> TraceLine<'a> {
-    /// What a line says, without its line feed; `None` where it is no line of a trace.
+    /// Reads a line without its line feed; `None` if it is no line of a trace, or longer than 512
+    /// bytes.
     pub fn read(line: &'a [u8]) -> Option<TraceLine<'a>>
         ensures exact { result ≡ line_in line.now }
         ensures few { IfSome result WritesFewBytes }
-        // What is found is spelled by the line, and what the line spells is found, so it spells one thing at most.
+        // The line spells what is found, and what it spells is found: it spells one thing at most.
         ensures found { IfSome result (λ says. SpellsLine says line.now) }
         ensures only { (says : TraceLine) → SpellsLine says line.now → result ≡ Some says }
     {

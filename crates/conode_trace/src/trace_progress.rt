@@ -1,4 +1,4 @@
-//! How far a trace is read.
+//! Progress through a trace.
 
 ghost use Rattle.std.specs.Prelude.{◌≡◌, ℕ, ◌+◌, ◌<◌, ◌^◌, List, [], ◌∷◌, length, Some, IfOk, IfErr, OnOk, OnErr};
 ghost use Rattle.conode_trace.specs.FrameLines.{WritesFewBytes};
@@ -8,12 +8,13 @@ use crate::clock::Clock;
 use crate::timed_line::TimedLine;
 use std::marker::Model;
 
-/// A line that is no line of a trace, or whose stamp is too far past the clock, by its number from 1.
+/// A line that is no line of a trace, or whose stamp is too far past the clock, by its number from
+/// 1.
 #[derive(Clone, Copy, Debug, PartialEq, Eq)]
 pub struct BadLine(pub usize);
 
-/// How far a trace is read: the number of its lines so far, and the clock after them. It takes one line at a time,
-/// wherever the lines come from. Contracts see both.
+/// Progress through a trace: the number of lines read, and the clock after them. It takes one line
+/// at a time, from any source. Contracts see both.
 #[derive(Debug, Drop)]
 pub struct TraceProgress {
     number: usize,
@@ -44,10 +45,11 @@ impl TraceProgress {
         }
     }
 
-    /// What the next line gives, or that it is bad; after a bad line nothing changes.
+    /// Reads the next line. `Err` has its number if it is no line of a trace, or if its stamp is
+    /// more than a day past the clock: nothing then changes.
     pub fn read<'a>(&mut self, line: &'a [u8]) -> Result<TimedLine<'a>, BadLine>
         requires { self.old.number + 1 < 2 ^ 64 }
-        // what is read and what the lines after it give is what all of them give
+        // the inputs of this line and of those after it are the inputs of all
         ensures line { IfOk result (λ read. (more : List (List ℕ)) →
             trace_next self.old (line.now ∷ more)
             ≡ preceded (inputs_of read) (trace_next self.new more)) }
@@ -68,7 +70,7 @@ impl TraceProgress {
         Ok(timed)
     }
 
-    /// The next line, where it has more than 512 bytes: it is bad.
+    /// The fault of the next line, if that has more than 512 bytes.
     pub fn too_long(&self) -> BadLine
         requires { self.now.number + 1 < 2 ^ 64 }
         ensures { (line : List ℕ) (more : List (List ℕ)) → 512 < length line →

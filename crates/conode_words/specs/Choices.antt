@@ -58,7 +58,7 @@ shown_for rows = option_and_then shown_as (first_of (codes "format") rows)
 unfoldable pub zeros_of : Text → Option LeadingZeros
 zeros_of = choice_named ((codes "octal", Octal) ∷ (codes "decimal", Decimal) ∷ [])
 
--- the same of matches: not at all where the option isn't used; None where its word is no such word
+-- the same for the option: `Some None` if it isn't used, `None` for another word
 unfoldable pub zeros_for : List Row → Option (Option LeadingZeros)
 zeros_for rows =
     option_map_or (λ word. option_map (λ zeros. Some zeros) (zeros_of word))

@@ -7,7 +7,7 @@ use Rattle.clap.specs.declared.builder.command.Command.{Command}
 use Rattle.clap.specs.declared.builder.command.Command.TheViews.{out-Command}
 use Rattle.clap.specs.declared.builder.value_parser.ValueParser.TheVariants.{Unsigned}
 
--- it is built as this command, and has no option that its subcommands take too
+-- a command is built as this one, and has no option that its subcommands take too
 pub record IsCommand (command : Command) (app : App) : Type 0 where
   pub shape : app_of command ≡ app
   pub local : (out-Command command).has_globals ≡ false
@@ -22,17 +22,19 @@ abbrev pub many_wanted : Text → Rule
 many_wanted id =
     record (wanted id) { range = Some (record { start_inclusive = 1; end_inclusive = usize_max }) }
 
--- an option `--NAME` without a value; one with a value; one with a value that may be used again and again; and one with a
--- value and what stands for it where it isn't used
+-- an option `--NAME` without a value
 abbrev pub flag : Text → Rule
 flag name = record (new_rule name) { long = Some name; action = Some SetTrue }
 
+-- an option with a value
 abbrev pub valued : Text → Rule
 valued name = record (new_rule name) { long = Some name; value_names = 1 }
 
+-- an option with a value, which may be used several times
 abbrev pub repeated : Text → Rule
 repeated name = record (valued name) { action = Some Append }
 
+-- an option with a value, and its default
 abbrev pub worded : Text → Text → Rule
 worded name default = record (valued name) { defaults = default ∷ [] }
 
@@ -40,7 +42,7 @@ worded name default = record (valued name) { defaults = default ∷ [] }
 abbrev pub lettered : Text → ℕ → Text → Rule
 lettered name letter default = record (worded name default) { short = Some letter }
 
--- an option `--NAME N` with a number from one to another, and what stands for it where it isn't used
+-- an option `--NAME N` with a number from low to high, and its default, if it has one
 abbrev pub numbered : Text → ℕ → ℕ → List Text → Rule
 numbered name low high default =
     record (valued name) { parser = Some (Unsigned low high); defaults = default }
@@ -79,8 +81,8 @@ unfoldable pub check_command : App
 check_command =
     with_limits (with_rule (with_rule (new_app (codes "check")) (wanted (codes "SHEET"))) node_option)
 
--- `lint SHEET|DIR.. [--node N] [--strings N] [--domains N] [--format FORMAT] [--strict] [--all] [--allow NAME]..
--- [--color WHEN]`
+-- `lint SHEET|DIR.. [--node N] [--strings N] [--domains N] [--format FORMAT] [--strict] [--all]
+-- [--allow NAME].. [--color WHEN]`
 unfoldable pub lint_of_sheets : App
 lint_of_sheets =
     with_limits (with_rule (with_rule (new_app (codes "lint")) (many_wanted (codes "SHEET"))) node_option)
@@ -122,15 +124,16 @@ adapt_command =
     with_rule (with_rule (with_rule (new_app (codes "adapt")) (wanted (codes "SHEET")))
     (valued (codes "leading-zeros"))) (flag (codes "force"))
 
--- `--log FORM`, of `explain` and `convert`
+-- `--log FORM`, of `explain`, `convert`, `stats` and `compare`
 abbrev pub log_option : Rule
 log_option = worded (codes "log") (codes "auto")
 
--- `explain TRACE [--sheet SHEET].. [--stamps FORM|-t FORM] [--transfers] [--changes] [--format FORMAT] [--log FORM]
--- [--of NODES] [--id IDS] [--kind KINDS] [--from TIME] [--to TIME]`
+-- `--stamps FORM` or `-t FORM`
 abbrev pub stamps_option : Rule
 stamps_option = lettered (codes "stamps") 116 (codes "relative")
 
+-- `explain TRACE [--sheet SHEET].. [--stamps FORM|-t FORM] [--transfers] [--changes]
+-- [--format FORMAT] [--log FORM] [--of NODES] [--id IDS] [--kind KINDS] [--from TIME] [--to TIME]`
 unfoldable pub explain_command : App
 explain_command =
     with_filters (with_rule (with_rule (with_rule (with_rule (with_rule (with_rule (with_rule (new_app (codes "explain"))
@@ -148,17 +151,20 @@ stats_command =
     with_rule (with_rule (with_rule (with_rule (with_rule (new_app (codes "stats")) (wanted (codes "TRACE")))
     (valued (codes "sheet"))) (valued (codes "bitrate"))) (worded (codes "format") (codes "text"))) log_option
 
--- a command with how far times may be off, in ms and percent
+-- the most ms that an option takes
 abbrev pub most_ms : ℕ
 most_ms = 4294967295
 
+-- a command with how far times may be off, in ms and percent, and how long an answer and a boot-up
+-- may take, in ms
 abbrev pub with_timing : App → App
 with_timing app =
     with_rule (with_rule (with_rule (with_rule app (numbered (codes "tolerance") 0 most_ms (codes "10" ∷ [])))
     (numbered (codes "drift") 0 100 (codes "1" ∷ []))) (numbered (codes "answer") 0 most_ms (codes "1000" ∷ [])))
     (numbered (codes "boot") 0 most_ms (codes "10000" ∷ []))
 
--- `compare SHEET TRACE [--node N] [--interface NAME] [--log FORM] [--tolerance MS] [--drift PERCENT] [--answer MS] [--boot MS]`
+-- `compare SHEET TRACE [--node N] [--interface NAME] [--log FORM] [--tolerance MS]
+-- [--drift PERCENT] [--answer MS] [--boot MS]`
 unfoldable pub compare_command : App
 compare_command =
     with_timing (with_rule (with_rule (with_rule (with_rule (with_rule (new_app (codes "compare")) (wanted (codes "SHEET")))

@@ -1,4 +1,4 @@
--- Which word and which option gives which field of what is asked for.
+-- Which word or option gives each field of a task.
 use Rattle.std.specs.Prelude.{◌≡◌, ℕ, List, codes, Option, Some, IsSomeAnd, option_map}
 use Rattle.clap.specs.Words.{Row, Text, first_of}
 use Rattle.conode_words.specs.declared.tasks.DeviceWords.{DeviceWords}
@@ -7,7 +7,7 @@ use Rattle.conode_words.specs.declared.tasks.TimingWords.{TimingWords}
 use Rattle.conode_words.specs.Choices.{colours_of, format_of, lines_as_of, log_form_of, mode_of, shown_as, stamps_of, zeros_of}
 use Rattle.conode_words.specs.Tasks.{Asked, check, lint, decode, replay, loop_back, show, adapt, explain, convert, stats, compare, asked_lines, is_used, number_for, number_of_bits, words_for}
 
--- the word, or the value of an option, is this one
+-- a word, or the value of an option, is this one
 abbrev pub IsWord : Text → List Row → Text → Type 0
 IsWord name rows word = first_of name rows ≡ Some word
 

@@ -1,4 +1,4 @@
--- A command as a table of its words and options says it.
+-- Commands built from tables of their words and options.
 use Rattle.std.specs.Prelude.{List, ◌∷◌, []}
 use Rattle.std.specs.List.{fold}
 use Rattle.clap.specs.Words.{App, Rule, Text, new_app, with_rule, with_subcommand}
@@ -30,6 +30,6 @@ with_words app words = fold (λ a word. with_rule a (rule_by word)) app words
 abbrev pub app_by : Subcommand → App
 app_by row = with_words (new_app row.name.now) row.words.now
 
--- a command with these below it
+-- a command with these subcommands
 abbrev pub with_commands : App → List Subcommand → App
 with_commands app rows = fold (λ a row. with_subcommand a (app_by row).top) app rows

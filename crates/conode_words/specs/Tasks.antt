@@ -198,14 +198,14 @@ number_of_bits bits word =
 unfoldable pub number_for : ℕ → Text → List Row → Option ℕ
 number_for bits name rows = option_and_then (number_of_bits bits) (first_of name rows)
 
--- what the matches say of a dictionary
+-- the dictionary that the matches ask for
 unfoldable pub asked_dictionary : List Row → Option DictionaryWords
 asked_dictionary rows =
     option_and_then (λ strings. option_map (λ domains.
     record { node = number_for 8 (codes "node") rows; strings = strings; domains = domains })
     (number_for 16 (codes "domains") rows)) (number_for 16 (codes "strings") rows)
 
--- what the matches say of a device
+-- the device that the matches ask for
 unfoldable pub asked_device : List Row → Option DeviceWords
 asked_device rows =
     option_and_then (λ dictionary. option_map (λ time. record { dictionary = dictionary; time = time })
@@ -218,7 +218,7 @@ asked_check rows =
     check (record { sheet = sheet; dictionary = dictionary }))
     (asked_dictionary rows)) (first_of (codes "SHEET") rows)
 
--- all words of an option or of what has to be there
+-- all words of an option, or of a word that may be repeated
 unfoldable pub words_for : Text → List Row → List Text
 words_for name rows = option_map_or (λ words. words) (all_of name rows) []
 
@@ -375,18 +375,20 @@ asked_in name rows =
 unfoldable pub asked_of : Option (Text × List Row) → Option Asked
 asked_of matches = option_and_then (λ m. asked_in m.0 m.1) matches
 
--- the matches of a subcommand have a word that is none of those that it takes: the mode of `loop`, the format and
--- the colours of `lint`, the form of `show`, the leading zeros of `adapt`, the stamps, the format
--- and the log's form of `explain`, the format and the log's form of `stats`, the log's form of `convert` and `compare`
+-- whether a word of `lint` is none of the choices: its format, its colours
 unfoldable pub is_other_lint : List Row → Bool
 is_other_lint rows = is_none (format_for rows) || is_none (colours_for rows)
 
+-- the same for `stats`: its format, the log's form
 unfoldable pub is_other_stats : List Row → Bool
 is_other_stats rows = is_none (lines_as_for rows) || is_none (log_form_for rows)
 
+-- the same for `explain`: also its stamps
 unfoldable pub is_other_explain : List Row → Bool
 is_other_explain rows = is_none (stamps_for rows) || is_other_stats rows
 
+-- the same for each subcommand: also the mode of `loop`, the form of `show`, the leading zeros of
+-- `adapt`, and the log's form of `convert` and `compare`
 unfoldable pub is_other : Text → List Row → Bool
 is_other name rows =
     if bytes_eq name (codes "loop") then is_none (mode_for rows)

@@ -34,7 +34,7 @@ use crate::tasks::{DeviceWords, DictionaryWords, LintWords, OnlyWords, Task, Tim
 use clap::ArgMatches;
 use std::alloc::{AllocError, Global};
 
-// what the words say of a dictionary
+// the dictionary that the words ask for
 #[tactic(auto, unfolding(crate::specs::Tasks::asked_dictionary))]
 fn dictionary_words(found: &ArgMatches<'_>) -> Option<DictionaryWords>
     ensures { result ≡ asked_dictionary (rows_of (found_of found.now)) }
@@ -48,7 +48,7 @@ fn dictionary_words(found: &ArgMatches<'_>) -> Option<DictionaryWords>
     })
 }
 
-// what the words say of a device
+// the device that the words ask for
 #[tactic(auto, unfolding(crate::specs::Tasks::asked_device))]
 fn device_words(found: &ArgMatches<'_>) -> Option<DeviceWords>
     ensures { result ≡ asked_device (rows_of (found_of found.now)) }
@@ -253,7 +253,7 @@ fn asked_stats<'a>(found: &ArgMatches<'a>) -> Option<Task<'a>>
     })
 }
 
-// how far the words say that times may be off
+// how far times may be off, by the words
 #[tactic(auto, unfolding(crate::specs::Tasks::asked_timing))]
 fn timing_words(found: &ArgMatches<'_>) -> Option<TimingWords>
     ensures { result ≡ asked_timing (rows_of (found_of found.now)) }

@@ -1,4 +1,5 @@
-//! Words of options that name a choice.
+//! Words of options that name a choice. Each function returns `None` for a word that is none of its
+//! choices.
 
 ghost use Rattle.std.specs.Prelude.{◌≡◌, map, option_and_then};
 ghost use Rattle.clap.specs.Words.{first_of, found_of, rows_of};
@@ -104,7 +105,7 @@ pub(crate) fn shown_for(found: &ArgMatches<'_>) -> Option<ShownAs>
     )
 }
 
-// how a word says that leading zeros are read
+// how leading zeros are read, by a word
 #[tactic(auto, unfolding(crate::specs::Choices::zeros_of))]
 fn zeros_of(word: &str) -> Option<LeadingZeros>
     ensures { result ≡ zeros_of word.now }
@@ -116,7 +117,7 @@ fn zeros_of(word: &str) -> Option<LeadingZeros>
     choice_named(word, &bases)
 }
 
-/// How `adapt` reads leading zeros.
+/// How `adapt` reads leading zeros; `Some(None)` if the option isn't used.
 #[tactic(auto, unfolding(crate::specs::Choices::zeros_for))]
 pub(crate) fn zeros_for(found: &ArgMatches<'_>) -> Option<Option<LeadingZeros>>
     ensures { result ≡ zeros_for (rows_of (found_of found.now)) }

@@ -28,14 +28,14 @@ use clap::error::ErrorKind;
 use clap::{ArgMatches, Command, Error};
 use std::alloc::{AllocError, Global};
 
-// what is said of a word, where it is none of those that an option takes
+// the message about a word of an option, if it is none of the choices
 fn said_if(is_other: bool, text: &'static str) -> Option<&'static str>
     ensures { is_some result ≡ is_other }
 {
     if is_other { Some(text) } else { None }
 }
 
-// the same of the words of `lint`
+// the message about a word of `lint` that is none of the choices
 #[tactic(auto, unfolding(crate::specs::Tasks::is_other_lint))]
 fn other_lint(found: &ArgMatches<'_>) -> Option<&'static str>
     ensures { is_some result ≡ is_other_lint (rows_of (found_of found.now)) }
@@ -44,7 +44,7 @@ fn other_lint(found: &ArgMatches<'_>) -> Option<&'static str>
     format.or(said_if(colours_for(found).is_none(), help::COLOURS))
 }
 
-// the same of the words of `stats`, and of those of `explain` that it takes too
+// the same for the words of `stats`, which `explain` takes too
 #[tactic(auto, unfolding(crate::specs::Tasks::is_other_stats))]
 fn other_stats(found: &ArgMatches<'_>) -> Option<&'static str>
     ensures { is_some result ≡ is_other_stats (rows_of (found_of found.now)) }
@@ -53,7 +53,7 @@ fn other_stats(found: &ArgMatches<'_>) -> Option<&'static str>
     lines_as.or(said_if(log_form_for(found).is_none(), help::LOG_FORMS))
 }
 
-// the same of the words of `explain`
+// the same for the words of `explain`
 #[tactic(auto, unfolding(crate::specs::Tasks::is_other_explain))]
 fn other_explain(found: &ArgMatches<'_>) -> Option<&'static str>
     ensures { is_some result ≡ is_other_explain (rows_of (found_of found.now)) }
@@ -61,7 +61,7 @@ fn other_explain(found: &ArgMatches<'_>) -> Option<&'static str>
     said_if(stamps_for(found).is_none(), help::STAMPS).or(other_stats(found))
 }
 
-// what is said of a subcommand's word that is none of those that it takes
+// the same for the words of this subcommand
 #[tactic(auto, unfolding(crate::specs::Tasks::is_other))]
 fn other_of(name: &str, found: &ArgMatches<'_>) -> Option<&'static str>
     ensures { is_some result ≡ is_other name.now (rows_of (found_of found.now)) }
@@ -87,7 +87,7 @@ fn other_of(name: &str, found: &ArgMatches<'_>) -> Option<&'static str>
     }
 }
 
-// what is said of a word that is none of those that its subcommand takes
+// the same for the words of the subcommand that is used
 #[tactic(auto, unfolding(crate::specs::Tasks::has_other_word))]
 fn other_word(matches: &ArgMatches<'_>) -> Option<&'static str>
     ensures { is_some result ≡ has_other_word (subcommand_rows_of matches.now) }
@@ -109,7 +109,7 @@ fn asked_of<'a>(alloc: Global, matches: &ArgMatches<'a>) -> Result<Option<Task<'
     }
 }
 
-// what words that the command takes ask for, unless one is none of those that its subcommand takes
+// what words that the command accepts ask for, unless one of them is none of the choices
 #[tactic(auto, unfolding(crate::specs::Tasks::word_fault))]
 fn task_of<'a>(
     alloc: Global,
@@ -126,8 +126,9 @@ fn task_of<'a>(
     Ok(asked_of(alloc, matches)?)
 }
 
-/// What the words ask for, the program's name first; `None` without a subcommand. The error has the text for the user,
-/// a mistake in the words or the help that was asked for, and the exit status.
+/// What the words ask for; the first of them is the program's name. `None` without a subcommand.
+/// The error has the text for the user, which is about a wrong word or the help that was asked for,
+/// and the exit status.
 pub fn task<'a>(alloc: Global, words: &'a [&'a str]) -> Result<Option<Task<'a>>, Error>
     ensures ok { IfOk result (λ task. option_map asked_by task
         ≡ asked_of (subcommand_of conode_command (map (λ word. word.now) words.entry.now))) }

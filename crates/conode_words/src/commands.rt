@@ -1,4 +1,4 @@
-//! The program's commands, a table of words and options each.
+//! The program's commands, each a table of words and options.
 
 ghost use Rattle.std.specs.Prelude.{◌≡◌, IfOk, codes};
 ghost use Rattle.clap.specs.Words.{new_app};
@@ -15,7 +15,7 @@ use std::alloc::{AllocError, Global};
 /// The most ms that an option takes.
 const MOST_MS: u64 = 4_294_967_295;
 
-/// The most bytes of room, and ms of a device, that an option takes.
+/// The most bytes of room, and ms of an SDO timeout, that an option takes.
 const MOST_ROOM: u64 = 65_535;
 
 const STRINGS: Word = Word(
@@ -352,7 +352,7 @@ const COMMANDS: [Subcommand; 11] = [
     },
 ];
 
-// the command without the commands below it
+// the command without its subcommands
 fn only_conode<'a>(alloc: Global) -> Command<'a>
     ensures { IsCommand result (versioned (new_app (codes "conode"))) }
 {
@@ -365,7 +365,7 @@ fn only_conode<'a>(alloc: Global) -> Command<'a>
     .version(help::VERSION)
 }
 
-/// The command of the program, with one below it for each thing that it does.
+/// The program's command with its subcommands.
 pub(crate) fn conode_command<'a>(alloc: Global) -> Result<Command<'a>, AllocError>
     ensures { IfOk result (λ command. IsCommand command conode_command) }
 {

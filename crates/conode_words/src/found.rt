@@ -8,14 +8,14 @@ ghost use Rattle.conode_words.specs.Tasks.{is_used, number_for, words_for};
 use clap::ArgMatches;
 use std::alloc::{AllocError, Global};
 
-/// Whether a word is this one: the comparison, proved in one place for all that follow.
+/// Whether a word is this one; a function of its own, so that the comparison is proved once.
 pub(crate) fn is(word: &str, known: &str) -> bool
     ensures { result ≡ bytes_eq word.now known.now }
 {
     word == known
 }
 
-/// A word, or the value of an option.
+/// A word, or the value of an option, if it is there.
 #[tactic(auto, using(crate::proofs::TaskLemmas::first_in_rows))]
 pub(crate) fn word_for<'a>(found: &ArgMatches<'a>, name: &str) -> Option<&'a str>
     ensures { option_map (λ word. word.now) result
@@ -24,7 +24,7 @@ pub(crate) fn word_for<'a>(found: &ArgMatches<'a>, name: &str) -> Option<&'a str
     found.get_str(name)
 }
 
-/// All words of an option.
+/// All words of an option. `Err`: out of memory.
 #[tactic(auto, using(crate::proofs::TaskLemmas::all_in_rows), unfolding(crate::specs::Tasks::words_for))]
 pub(crate) fn words_for<'a>(
     alloc: Global,
@@ -52,7 +52,7 @@ pub(crate) fn is_used(found: &ArgMatches<'_>, name: &str) -> bool
     }
 }
 
-/// The number of an option, of 8 bits.
+/// The number of an option, if it is there and fits 8 bits.
 #[tactic(auto, using(crate::proofs::TaskLemmas::number_read), unfolding(crate::specs::Tasks::number_for))]
 pub(crate) fn number_u8(found: &ArgMatches<'_>, name: &str) -> Option<u8>
     ensures { result ≡ number_for 8 name.now (rows_of (found_of found.now)) }
@@ -60,7 +60,7 @@ pub(crate) fn number_u8(found: &ArgMatches<'_>, name: &str) -> Option<u8>
     word_for(found, name)?.parse().ok()
 }
 
-/// The number of an option, of 16 bits.
+/// The number of an option, if it is there and fits 16 bits.
 #[tactic(auto, using(crate::proofs::TaskLemmas::number_read), unfolding(crate::specs::Tasks::number_for))]
 pub(crate) fn number_u16(found: &ArgMatches<'_>, name: &str) -> Option<u16>
     ensures { result ≡ number_for 16 name.now (rows_of (found_of found.now)) }
@@ -68,7 +68,7 @@ pub(crate) fn number_u16(found: &ArgMatches<'_>, name: &str) -> Option<u16>
     word_for(found, name)?.parse().ok()
 }
 
-/// The number of an option, of 32 bits.
+/// The number of an option, if it is there and fits 32 bits.
 #[tactic(auto, using(crate::proofs::TaskLemmas::number_read), unfolding(crate::specs::Tasks::number_for))]
 pub(crate) fn number_u32(found: &ArgMatches<'_>, name: &str) -> Option<u32>
     ensures { result ≡ number_for 32 name.now (rows_of (found_of found.now)) }

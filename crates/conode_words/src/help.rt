@@ -112,7 +112,7 @@ Status: 0 without errors, 1 with an error (with --strict also with a warning),
 if the output can't be written or memory ran out, 2 if a file can't be read or
 the command line is wrong.";
 
-/// What is said of a format and of colours that are none.
+/// The messages about unknown formats and colours of `lint`.
 pub const FORMATS: &str = "invalid value for '--format <FORMAT>': text, json or sarif";
 
 pub const COLOURS: &str = "invalid value for '--color <WHEN>': auto, always or never";
@@ -150,10 +150,10 @@ file (DCF); where that has none, standard error has `no node-ID`.
 Status: 0 if it is done, 1 if it isn't or the sheet has a fault, 2 if the words
 are wrong, or there is no node-ID.";
 
-/// What is said of a mode that is none.
+/// The message about an unknown mode of `loop`.
 pub const MODES: &str = "invalid value for '--mode <MODE>': plain, segmented or block";
 
-/// What is said of a form of `show` that is none.
+/// The message about an unknown form of `show`.
 pub const SHOWN_FORMS: &str = "invalid value for '--format <FORMAT>': text, markdown or json";
 
 /// What `show` prints.
@@ -216,13 +216,13 @@ Status: 0 if all of the trace was decoded, 1 if not; then the last line says
 why, as `stopped: BadLine 3`, or `fault 9 BadList line 1` for the sheet; 2 if
 the words are wrong.";
 
-/// What is said of a base of leading zeros that is none.
+/// The message about an unknown base of leading zeros.
 pub const LEADING_ZEROS: &str = "invalid value for '--leading-zeros <BASE>': octal or decimal";
 
-/// What is said of a form of stamps that is none.
+/// The message about an unknown form of stamps.
 pub const STAMPS: &str = "invalid value for '--stamps <FORM>': relative, absolute, delta or date";
 
-/// What is said of a format of `explain` that is none.
+/// The message about an unknown format of `explain` and `stats`.
 pub const LINES_AS: &str = "invalid value for '--format <FORMAT>': text or json";
 
 /// What `explain` prints.
@@ -269,7 +269,7 @@ Status: 0 if all lines are good, or only the last line is bad and has no line
 feed; 1 if a line is bad or the recording can't be read; 2 if the command line
 is wrong.";
 
-/// What is said of a form of logs that is none.
+/// The message about an unknown form of logs.
 pub const LOG_FORMS: &str =
     "invalid value for '--log <FORM>': auto, candump, screen, screen-delta, trc or asc";
 

@@ -1,4 +1,4 @@
-//! Words and options by their kind, and how a command gets those of a table.
+//! The kinds of words and options, and commands built from tables of them.
 
 ghost use Rattle.std.specs.Prelude.{◌≡◌, ◌∷◌, [], false, IfOk};
 ghost use Rattle.clap.specs.Words.{App, Rule, new_app, rule_of, with_rule, with_subcommand};
@@ -19,7 +19,7 @@ use clap::builder::ValueParser;
 use clap::{Arg, ArgAction, Command};
 use std::alloc::{AllocError, Global};
 
-/// The kind of a word or an option. Help calls the value of an option by the first text.
+/// The kind of a word or an option.
 #[derive(Clone, Copy)]
 pub(crate) enum Kind {
     /// A word that has to be there.
@@ -28,21 +28,21 @@ pub(crate) enum Kind {
     ManyWanted,
     /// An option without a value.
     Flag,
-    /// An option with a value.
+    /// An option with a value, which help calls so.
     Valued(&'static str),
-    /// An option with a value that may be used again and again.
+    /// The same, which may be used several times.
     Repeated(&'static str),
-    /// An option with a value, and what stands for it where it isn't used.
+    /// An option with a value, which help calls so, and its default.
     Worded(&'static str, &'static str),
-    /// The same, which has a letter too.
+    /// The same with a letter too, as `-t`.
     Lettered(char, &'static str, &'static str),
-    /// An option with a number from one to another.
+    /// An option with a number between these two.
     Numbered(u64, u64),
-    /// An option with a number from 0 on, and what stands for it where it isn't used.
+    /// An option with a number from 0 to this one, and its default.
     NumberedOr(u64, &'static str),
 }
 
-/// A word or an option of a command: its name, its kind, and what help says of it.
+/// A word or an option of a command: its name, its kind, and its text in help.
 #[derive(Clone, Copy)]
 pub(crate) struct Word(
     pub(crate) &'static str,
@@ -50,7 +50,8 @@ pub(crate) struct Word(
     pub(crate) &'static str,
 );
 
-/// A command below the program's: its name, what help says of it in a line and at its end, and its words and options.
+/// A subcommand: its name, its line in help, the text at the end of its help, and its words and
+/// options.
 #[derive(Clone, Copy)]
 pub(crate) struct Subcommand {
     pub(crate) name: &'static str,
@@ -59,7 +60,7 @@ pub(crate) struct Subcommand {
     pub(crate) words: &'static [Word],
 }
 
-/// A command without words, with what help says of it.
+/// A command without words, with its texts in help.
 pub(crate) fn new_command<'a>(
     alloc: Global,
     name: &'a str,
@@ -81,7 +82,7 @@ fn with_arg<'a>(command: Command<'a>, arg: Arg<'a>) -> Result<Command<'a>, Alloc
     command.arg(arg)
 }
 
-// the command with one more command below it
+// the command with one more subcommand
 fn with_command<'a>(command: Command<'a>, below: Command<'a>) -> Result<Command<'a>, AllocError>
     ensures { IfOk result (λ r. (app sub : App) → IsCommand command.entry app
         → IsCommand below.entry sub → IsCommand r (with_subcommand app sub.top)) }
@@ -178,7 +179,7 @@ fn numbered_or<'a>(
     numbered(alloc, name, 0, high, help).default_value(default)
 }
 
-// a word or an option, as a row of a table says it
+// the word or option of a row in a table
 #[tactic(auto, unfolding(crate::specs::Tables::rule_of_kind))]
 fn arg_of<'a>(alloc: Global, word: &Word) -> Arg<'a>
     ensures rule { rule_of result ≡ rule_by word.now }
@@ -216,7 +217,7 @@ fn with_words<'a>(
     Ok(command)
 }
 
-// the command that a row of a table says
+// the command of a row in a table
 fn command_of<'a>(alloc: Global, row: &Subcommand) -> Result<Command<'a>, AllocError>
     ensures { IfOk result (λ command. IsCommand command (app_by row.now)) }
 {
@@ -224,7 +225,7 @@ fn command_of<'a>(alloc: Global, row: &Subcommand) -> Result<Command<'a>, AllocE
     with_words(alloc, command, row.words)
 }
 
-/// The command with those of a table below it.
+/// The command with the subcommands of a table. `Err`: out of memory.
 pub(crate) fn with_commands<'a>(
     alloc: Global,
     command: Command<'a>,

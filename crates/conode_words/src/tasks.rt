@@ -2,18 +2,18 @@
 
 use co_sdo_client::Mode;
 
-/// What the words say of the object dictionary that is built from a sheet.
+/// How the object dictionary of a sheet is built.
 #[derive(Clone, Copy, Debug, PartialEq, Eq)]
 pub struct DictionaryWords {
-    /// The node-ID that it is built for, 1 to 127; `None`: the one that the sheet itself has.
+    /// The node-ID that it is built for, 1 to 127; `None`: the sheet's own.
     pub node: Option<u8>,
-    /// The room of each string that may be written, in bytes.
+    /// The room of each writable string, in bytes.
     pub strings: u16,
     /// The room of each domain, in bytes.
     pub domains: u16,
 }
 
-/// What the words say of a device.
+/// How a device is built.
 #[derive(Clone, Copy, Debug, PartialEq, Eq)]
 pub struct DeviceWords {
     /// Its node-ID and its rooms.
@@ -53,16 +53,16 @@ pub enum Stamps {
     Date,
 }
 
-/// In which form a log is.
+/// The form of a log.
 #[derive(Clone, Copy, Debug, PartialEq, Eq)]
 pub enum LogForm {
-    /// In the one that its first lines show.
+    /// The one that its first lines show.
     Auto,
     /// Lines as `candump -L` writes them.
     Candump,
     /// What candump shows on a screen.
     Screen,
-    /// The same, with stamps that are counted from the line before.
+    /// The same, with stamps counted from the line before.
     ScreenDelta,
     /// A `.trc` of PCAN-View.
     Trc,
@@ -70,25 +70,25 @@ pub enum LogForm {
     Asc,
 }
 
-/// How far the times of a recorded device may be off what is prescribed.
+/// How far the times of a recorded device may be off, and how long it may take.
 #[derive(Clone, Copy, Debug, PartialEq, Eq)]
 pub struct TimingWords {
-    /// By so many ms.
+    /// The tolerance, in ms.
     pub tolerance: u32,
-    /// And so many percent.
+    /// The drift, in percent; it adds to the tolerance.
     pub drift: u8,
-    /// In ms, how long an answer may take.
+    /// How long an answer may take, in ms.
     pub answer: u32,
-    /// In ms, how long a boot-up may take.
+    /// How long a boot-up may take, in ms.
     pub boot: u32,
 }
 
 /// How `explain` and `stats` write.
 #[derive(Clone, Copy, Debug, PartialEq, Eq)]
 pub enum LinesAs {
-    /// For people.
+    /// As text.
     Text,
-    /// Each as an object of JSON.
+    /// As JSON.
     Json,
 }
 
@@ -112,24 +112,26 @@ pub enum Colours {
     Never,
 }
 
-/// What the words say of `lint`.
+/// What `lint` is asked to do.
 #[derive(Drop)]
 pub struct LintWords<'a> {
     /// The paths of sheets and folders, `-` for standard input.
     pub sheets: Vec<&'a str>,
-    /// The names of the findings that pass.
+    /// The names of the findings that are allowed.
     pub allowed: Vec<&'a str>,
     /// The dictionary that is to be built from each sheet.
     pub dictionary: DictionaryWords,
+    /// How it writes what it finds.
     pub format: Format,
+    /// When it writes in colours.
     pub colours: Colours,
     /// Whether a warning counts as an error.
     pub strict: bool,
-    /// Whether the warnings are given too that are left out otherwise.
+    /// Whether to include the quiet warnings.
     pub all: bool,
 }
 
-/// Which lines `explain` prints: the words of options, as they are; `None` where one isn't used.
+/// The options that choose which lines `explain` prints, as words; `None` if one isn't used.
 #[derive(Clone, Copy, Debug)]
 pub struct OnlyWords<'a> {
     /// Of which nodes.
@@ -158,11 +160,11 @@ pub enum Task<'a> {
     Lint(LintWords<'a>),
     /// To decode a trace.
     Decode {
-        /// The trace's path.
+        /// The trace's path, `-` for standard input.
         trace: &'a str,
-        /// The path of the data sheet that has the names of entries; `None`: they aren't named.
+        /// The path of a data sheet with the names of entries; `None`: they aren't named.
         sheet: Option<&'a str>,
-        /// The node-ID of the only node whose entries are named, 1 to 127; `None`: those of all nodes are.
+        /// The node-ID whose entries are named, 1 to 127; `None`: those of all nodes are.
         node: Option<u8>,
     },
     /// To play a trace to the device of a data sheet.
@@ -182,7 +184,7 @@ pub enum Task<'a> {
         key: &'a str,
         /// The word of the bytes.
         bytes: &'a str,
-        /// By which of the SDO protocols the client transfers.
+        /// The SDO protocol of the transfer.
         mode: Mode,
         /// The device.
         device: DeviceWords,
@@ -191,9 +193,9 @@ pub enum Task<'a> {
     Show {
         /// The sheet's path.
         sheet: &'a str,
-        /// The node-ID that `$NODEID` is, 1 to 127; `None`: the one that the sheet itself has, if any.
+        /// The node-ID that `$NODEID` stands for, 1 to 127; `None`: the sheet's own, if it has one.
         node: Option<u8>,
-        /// In which form.
+        /// The form in which it is shown.
         shown_as: ShownAs,
     },
     /// To rewrite a vendor's data sheet to one that is accepted.
@@ -202,21 +204,21 @@ pub enum Task<'a> {
         sheet: &'a str,
         /// How a number with a leading zero is read; `None`: it stays as it is.
         leading_zeros: Option<LeadingZeros>,
-        /// Whether what the rules leave at fault is forced.
+        /// Whether to force what the rules leave at fault.
         force: bool,
     },
     /// To explain a recording.
     Explain {
         /// The recording's path, `-` for standard input.
         trace: &'a str,
-        /// The words that name data sheets, each with its path, and perhaps the interface and the node-ID that it is
-        /// for, as `can1:5=sensor.eds`.
+        /// The words that name data sheets: each a path, perhaps after an interface and a node-ID,
+        /// as `can1:5=sensor.eds`.
         sheets: Vec<&'a str>,
         /// In which form stamps are written.
         stamps: Stamps,
         /// Whether only the SDO transfers that ended have lines.
         transfers: bool,
-        /// Whether a PDO, a heartbeat and a SYNC have lines only where what they say changes.
+        /// Whether PDOs, heartbeats and SYNCs have lines only where they change.
         changes: bool,
         /// How lines are written.
         lines_as: LinesAs,
@@ -225,13 +227,13 @@ pub enum Task<'a> {
         /// Which lines are printed.
         only: OnlyWords<'a>,
     },
-    /// To say on one page what a bus does.
+    /// To print the statistics of a bus on one page.
     Stats {
         /// The recording's path, `-` for standard input.
         trace: &'a str,
-        /// The path of a data sheet, perhaps with the node-ID that it is for, as `5=sensor.eds`.
+        /// The path of a data sheet, perhaps after its node-ID, as `5=sensor.eds`.
         sheet: Option<&'a str>,
-        /// The word for the bits per second of the bus, as it is; `None`: they aren't known.
+        /// The word for the bit rate of the bus; `None`: it isn't given.
         bit_rate: Option<&'a str>,
         /// How the page is written.
         lines_as: LinesAs,

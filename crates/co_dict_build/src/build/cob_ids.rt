@@ -1,4 +1,4 @@
-//! The COB-ID words that a dictionary begins with (CiA 301, 7.5.2).
+//! The initial COB-ID words of a dictionary (CiA 301, 7.5.2).
 
 ghost use Rattle.std.specs.Prelude.{◌≡◌, ◌≤◌, false, map};
 ghost use Rattle.co_dict_build.specs.BuildFaults.{
@@ -88,7 +88,8 @@ fn is_bad_word<S: ObjectStore>(store: &S, word: CobId) -> bool
     !(word.0 == 0 || is_good_word(store, word))
 }
 
-/// Whether an entry begins with a COB-ID word that it may not have (CiA 301, 7.5.2): `BuildFault::BadCobId`.
+/// Whether the initial COB-ID word of an entry isn't one that it may have (CiA 301, 7.5.2):
+/// `BuildFault::BadCobId`.
 #[tactic(auto, using(crate::proofs::CobIdKeys::word_type))]
 pub fn is_bad_cob_id<S: ObjectStore>(store: &S, key: Key) -> bool
     ensures { result ≡ is_bad_cob_id (S.description store.now).node (S.contents store.now) key }
@@ -105,7 +106,8 @@ pub fn is_bad_cob_id<S: ObjectStore>(store: &S, key: Key) -> bool
     }
 }
 
-/// The smallest key of an entry whose COB-ID word it may not have, among the rows of a sheet.
+/// The smallest key among the rows of a sheet whose entry has an initial COB-ID word that isn't
+/// allowed.
 pub(crate) fn bad_cob_id<S: ObjectStore>(store: &S, rows: &[EntryRow<'_>]) -> Option<Key>
     ensures { result
         ≡ smallest_key (is_bad_cob_id (S.description store.now).node (S.contents store.now))

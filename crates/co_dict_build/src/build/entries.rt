@@ -13,7 +13,7 @@ use crate::stored_entry::StoredEntry;
 use co_sheet::EntryRow;
 use std::alloc::{AllocError, Global};
 
-/// The entry of a row that is ready, with its initial bytes. `AllocError` where there is no memory.
+/// The entry of a row that is ready, with its initial bytes. `AllocError`: out of memory.
 pub fn entry_of_row(
     alloc: Global,
     node_id: u8,
@@ -28,7 +28,7 @@ pub fn entry_of_row(
     StoredEntry::new(alloc, row.key, limits.row(row), &initial)
 }
 
-/// The entries of rows that are ready, in their order. `AllocError` where there is no memory.
+/// The entries of rows that are ready, in their order. `AllocError`: out of memory.
 pub fn entries_of_rows(
     alloc: Global,
     node_id: u8,

@@ -1,4 +1,4 @@
-//! The mappings that a dictionary begins with (CiA 301, 7.5.2.36, 7.5.2.38).
+//! The initial mappings of a dictionary (CiA 301, 7.5.2.36, 7.5.2.38).
 
 ghost use Rattle.std.specs.Prelude.{◌≡◌, map};
 ghost use Rattle.co_dict.specs.MappingCounts.{is_mapping_index};
@@ -19,7 +19,8 @@ fn is_mapping_index(side: Side, index: u16) -> bool
     }
 }
 
-// whether the mapping of a PDO of a side begins with a count that would be refused while the PDO is not valid
+// whether the mapping of a PDO of a side begins with a count that would be refused while the PDO is
+// not valid
 fn is_bad_count<S: ObjectStore>(store: &S, side: Side, index: u16) -> bool
     ensures { result ≡ is_bad_count side (S.description store.now) (S.contents store.now) index }
 {
@@ -30,8 +31,8 @@ fn is_bad_count<S: ObjectStore>(store: &S, side: Side, index: u16) -> bool
     count != 0 && check_count(store, side, index, count).is_err()
 }
 
-/// Whether an entry is the count of a mapping that can't be as it begins (CiA 301, 7.5.2.36, 7.5.2.38):
-/// `BuildFault::BadMapping`.
+/// Whether an entry is the count of an initial mapping that isn't allowed (CiA 301, 7.5.2.36,
+/// 7.5.2.38): `BuildFault::BadMapping`.
 pub fn is_bad_mapping<S: ObjectStore>(store: &S, key: Key) -> bool
     ensures { result ≡ is_bad_mapping (S.description store.now) (S.contents store.now) key }
 {
@@ -40,7 +41,7 @@ pub fn is_bad_mapping<S: ObjectStore>(store: &S, key: Key) -> bool
             || is_bad_count(store, Side::Tpdo, key.index))
 }
 
-/// The smallest key, with sub-index 0, of a mapping that can't be as it begins.
+/// The smallest key, with sub-index 0, of an initial mapping that isn't allowed.
 pub(crate) fn bad_mapping<S: ObjectStore>(store: &S, rows: &[EntryRow<'_>]) -> Option<Key>
     ensures { result
         ≡ smallest_key (is_bad_mapping (S.description store.now) (S.contents store.now))

@@ -1,4 +1,5 @@
-//! Whether each PDO has its two objects and the entries that it needs (CiA 301, 7.5.2.35 to 7.5.2.38).
+//! Whether each PDO has its two objects and the entries that it needs (CiA 301, 7.5.2.35 to
+//! 7.5.2.38).
 
 ghost use Rattle.std.specs.Prelude.{◌≡◌, find, map};
 ghost use Rattle.co_dict_build.specs.BuildFaults.{
@@ -26,7 +27,8 @@ fn is_mapping(index: u16) -> bool
     IndexRange::RPDO_MAPPING.contains(index) || IndexRange::TPDO_MAPPING.contains(index)
 }
 
-// whether a PDO's communication parameter is without its mapping parameter, or without sub-index 1 or 2
+// whether a PDO's communication parameter is without its mapping parameter, or without sub-index 1
+// or 2
 fn is_lone_communication<S: ObjectStore>(store: &S, index: u16) -> bool
     ensures { result ≡ is_lone_communication (S.description store.now).rows index }
 {
@@ -43,15 +45,15 @@ fn is_lone_mapping<S: ObjectStore>(store: &S, index: u16) -> bool
     is_mapping(index) && !(has_object(store, index - 0x200) && has_sub(store, index, 0))
 }
 
-/// Whether an object is one of a PDO, and has no partner, or is without an entry that a PDO needs (CiA 301, 7.5.2.35 to
-/// 7.5.2.38): `BuildFault::PdoPair`.
+/// Whether an object of a PDO has no partner, or lacks an entry that a PDO needs (CiA 301, 7.5.2.35
+/// to 7.5.2.38): `BuildFault::PdoPair`.
 pub fn is_unpaired<S: ObjectStore>(store: &S, index: u16) -> bool
     ensures { result ≡ is_unpaired (S.description store.now).rows index }
 {
     is_lone_communication(store, index) || is_lone_mapping(store, index)
 }
 
-/// The smallest index of a PDO object that has no partner, or that is without an entry that a PDO needs.
+/// The smallest index of a PDO object that has no partner, or lacks an entry that a PDO needs.
 pub(crate) fn unpaired<S: ObjectStore>(store: &S, rows: &[EntryRow<'_>]) -> Option<u16>
     ensures { result
         ≡ find (is_unpaired (S.description store.now).rows) (map (λ row. row.key.index) rows.now) }

@@ -26,8 +26,8 @@ fn room(limits: &Limits<'_>, rows: &[EntryRow<'_>]) -> u64
     room
 }
 
-/// Whether there are more than 16,384 entries, or they have more than 16,777,216 bytes of room in all:
-/// `BuildFault::TooMany`.
+/// Whether there are more than 16,384 entries, or they have more than 16,777,216 bytes of room in
+/// all: `BuildFault::TooMany`.
 pub fn is_too_many(limits: &Limits<'_>, rows: &[EntryRow<'_>]) -> bool
     requires { All (λ row. IsSheetRow (row_view row)) rows.now }
     ensures { result ≡ is_too_many (length rows.now)

@@ -8,7 +8,7 @@ ghost use Rattle.co_dict_build.specs.BuildFaults.{is_allowed, is_sum_outside, va
 use co_sheet::{EntryRow, Preset};
 use co_value::Key;
 
-// whether two numbers, where both are there, are in order
+// whether the first number is at most the second; true where either is absent
 fn is_at_most(first: Option<i128>, second: Option<i128>) -> bool
     ensures { result ≡ at_most first second }
 {
@@ -28,8 +28,8 @@ fn is_allowed(row: &EntryRow<'_>, value: i128) -> bool
         && is_at_most(Some(value), row.high)
 }
 
-/// Whether the default of an entry is a sum with `$NODEID` that is outside its type or its limits (CiA 306):
-/// `BuildFault::ValueRange`.
+/// Whether the default of an entry is a sum with `$NODEID` that is outside its type or its limits
+/// (CiA 306): `BuildFault::ValueRange`.
 pub fn is_sum_outside(node_id: u8, row: &EntryRow<'_>) -> bool
     ensures { result ≡ is_sum_outside node_id (row_view row.now) (row_view row.now).default }
 {
@@ -39,7 +39,8 @@ pub fn is_sum_outside(node_id: u8, row: &EntryRow<'_>) -> bool
     }
 }
 
-/// The smallest key of an entry whose default is a sum with `$NODEID` that is outside its type or its limits.
+/// The smallest key of an entry whose default is a sum with `$NODEID` that is outside its type or
+/// its limits.
 pub(crate) fn value_out_of_range(node_id: u8, rows: &[EntryRow<'_>]) -> Option<Key>
     ensures { result ≡ value_out_of_range node_id (map row_view rows.now) }
 {

@@ -19,7 +19,7 @@ use Rattle.co_sheet.specs.private.Findings.{first_finding}
 abbrev pub is_key_to : ℕ → Property → Bool
 is_key_to count k = is_position k.name && nat_le (number_in 10 k.name) count
 
--- what an index from 1000h on at a line is
+-- the listing of an index from 1000h on, at a line
 abbrev pub listing_with : ℕ → ℕ → Option Listing
 listing_with line index =
     if nat_le 0x1000 index then Some (record { index = index; line = line }) else None

@@ -101,7 +101,7 @@ pub(crate) struct Values<'a> {
     parameter: Option<Stated<'a>>,
 }
 
-/// Whether two numbers, where both are there, are in order.
+/// Whether the first number is at most the second; true where either is absent.
 pub fn at_most(low: Option<i128>, high: Option<i128>) -> bool
     ensures { result ≡ at_most low high }
 {
@@ -257,7 +257,7 @@ impl<'a> Values<'a> {
         fault_if(is_bad, FaultKind::BadDefault, stated.line)
     }
 
-    // a bad default, of both the one with the smaller line
+    // a bad default; of two the one with the smaller line
     fn defaults_fault(&self, data_type: DataType) -> Option<SheetFault>
         ensures { result ≡ least_fault (defaults_found data_type self.now) }
     {
@@ -323,8 +323,8 @@ impl<'s, 'a> EntrySection<'s, 'a> {
         Ok((code.unwrap_or(0x0F), is_mappable))
     }
 
-    /// Whether this code of its DataType is none of a type, or another than DOMAIN's at object type 2, or another than
-    /// the type that is fixed (CiA 301, object dictionary).
+    /// Whether the code of its DataType is no type's, isn't DOMAIN's at object type 2, or isn't
+    /// that of the type that is fixed for its key (CiA 301, object dictionary).
     pub fn is_bad_type(&self, domain: bool, code: u64) -> bool
         requires { domain ≡ is_domain (entry_view self.now) }
         ensures { result ≡ is_bad_type (entry_view self.now) code }
@@ -338,7 +338,7 @@ impl<'s, 'a> EntrySection<'s, 'a> {
             || is_other
     }
 
-    // the data type of a code, which is supported, and the one that object type or key require
+    // the data type of a code, if it is supported, and the one that object type and key require
     fn data_type(&self, domain: bool, code: u64, line: usize) -> Result<DataType, Finding>
         requires domain { domain ≡ is_domain (entry_view self.now) }
         requires code { type_code (entry_view self.now) ≡ Some code }

@@ -14,7 +14,7 @@ ghost use Rattle.co_sheet.specs.private.LeastFaults.{earlier};
 use co_sheet_rows::{FaultKind, SheetFault};
 use co_sheet_text::{NumeralFault, Property, unsigned_number};
 
-// a fault at a line, where a test says so
+// a fault at a line, if a test holds
 pub(crate) fn fault_if(test: bool, kind: FaultKind, line: usize) -> Option<SheetFault>
     ensures { result ≡ least_fault (fault_if test kind line) }
 {

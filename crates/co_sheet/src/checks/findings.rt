@@ -7,7 +7,7 @@ ghost use Rattle.co_sheet.specs.private.Findings.{found_by, is_before, sooner, c
 use co_sheet_rows::SheetFault;
 
 /// What the first check that finds anything finds.
-#[derive(Clone, Copy, Debug, PartialEq, Eq)]
+#[derive(Clone, Copy, PartialEq, Eq)]
 pub(crate) struct Finding {
     /// The number of the check, from 1.
     pub(crate) check: u8,

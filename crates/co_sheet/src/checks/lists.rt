@@ -84,8 +84,8 @@ fn add_listing(
     Ok(())
 }
 
-// what the places of a list up to its count name, after what is there; whether one is missing, or
-// names an index above FFFFh
+// adds what the places of a list up to its count name; returns whether one is missing, or names an
+// index above FFFFh
 fn add_listings(
     listings: &mut Vec<Listing>,
     section: &TextSection,
@@ -112,9 +112,9 @@ fn add_listings(
     Ok(has_large)
 }
 
-/// Adds what a list names from 1000h on, at its places 1 to SupportedObjects (CiA 306, object lists). Whether the
-/// list is bad: it lacks its count, has one above FFFFh, lacks a place up to it, or names an index above FFFFh. It
-/// fails out of memory.
+/// Adds the indices from 1000h on that a list names, at its places 1 to SupportedObjects (CiA 306,
+/// object lists). Returns whether the list is bad: its count is missing or above FFFFh, a place up
+/// to it is missing, or an index is above FFFFh. `Err`: out of memory.
 pub fn read_list(listings: &mut Vec<Listing>, section: &TextSection) -> Result<bool, AllocError>
     ensures bad { IfOk result (λ bad. bad ≡ is_bad_section (section_view section.now)) }
     ensures named { OnOk result (map listing_view listings.new.items
@@ -126,7 +126,8 @@ pub fn read_list(listings: &mut Vec<Listing>, section: &TextSection) -> Result<b
     }
 }
 
-/// Whether the values of a section are all numbers: an object list, DummyUsage, DeviceInfo, the device commissioning.
+/// Whether all values that are read in a section must be numbers: an object list, DummyUsage,
+/// DeviceInfo, the device commissioning.
 pub fn has_numbers(kind: SectionKind) -> bool
     ensures { result ≡ has_numbers kind }
 {
@@ -143,7 +144,7 @@ fn unread_numbers(section: &TextSection) -> Option<SheetFault>
     least_over(section.properties, |given| number_of(given).err())
 }
 
-// what is found first in a section by itself; what it names, after what is there
+// what is found first in a section on its own; adds what the section names
 fn read_section(
     listings: &mut Vec<Listing>,
     section: &TextSection,
@@ -166,7 +167,7 @@ fn read_section(
 }
 
 /// What the object lists name from 1000h on, in the order of the text (CiA 306, object lists), or
-/// the fault that is found first in the lists, DummyUsage, DeviceInfo and the device commissioning by themselves.
+/// the first fault of the lists, DummyUsage, DeviceInfo and the device commissioning on their own.
 pub(crate) fn read_lists(
     alloc: Global,
     sections: &[TextSection],
@@ -219,7 +220,7 @@ pub(crate) fn listed_indices(
     Ok(indices)
 }
 
-/// 1000h, 1001h or 1018h is in no list.
+/// The fault if 1000h, 1001h or 1018h is in no list.
 pub(crate) fn missing_mandatory(indices: &IndexSet<u64>) -> Option<SheetFault>
     ensures { result ≡ least_fault (unlisted_mandatory (contains nat_eq indices.now)) }
 {

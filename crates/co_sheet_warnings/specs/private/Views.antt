@@ -65,7 +65,8 @@ text_view text lines sections keys node = record {
   node = node;
 }
 
--- what is looked up once: a set has the indices that the lists name, and a line is the first with a byte above 7Fh
+-- what is looked up once: a set has the indices that the lists name, and a line is the first with a
+-- byte above 7Fh
 pub record IsLookedUp {S : Type 0} (sections : List TextSection) (lines : List (List ℕ))
     (indices : HashSet ℕ S) (other : Option ℕ) : Type 0 where
   pub listed : (i : ℕ) → contains nat_eq indices i ≡ is_listed sections i
