@@ -33,7 +33,8 @@ use co_sdo_bank::Bank;
 use co_value::Key;
 use std::alloc::{AllocError, Global};
 
-// The parts of a device over a dictionary. It is lent, so that no way out has the drop of a store beside that of parts.
+// The parts of a device over a dictionary. It is borrowed, so that no exit drops a store as well as
+// parts.
 fn parts_of<S: ObjectStore>(
     alloc: Global,
     store: &S,

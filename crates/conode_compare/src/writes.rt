@@ -19,7 +19,7 @@ pub struct Settings<'s, 'a> {
     pub rows: &'s [EntryRow<'a>],
     /// The name of the recording, for the lines.
     pub recording: &'s str,
-    /// The interface whose frames are compared; `None`: those of all.
+    /// The interface whose frames are compared; `None`: that of the first frame.
     pub interface: Option<&'s [u8]>,
 }
 

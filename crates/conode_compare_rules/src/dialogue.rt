@@ -126,7 +126,8 @@ fn is_initiate(what: What) -> bool
     matches!(what, What::Initiate)
 }
 
-// whose frame the newest one is; none of a transfer that isn't judged, since its request came while an earlier one could be answered
+// Whose frame the newest one is; `None` if the transfer isn't judged, since an earlier request could
+// still be answered when its own came.
 fn newest_heard(certain: bool, side: Side, what: What, newest: Option<Newest>) -> Option<Newest>
     ensures { result ≡ newest_heard certain side what newest }
 {

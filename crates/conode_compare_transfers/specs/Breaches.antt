@@ -33,7 +33,8 @@ key_in frame = record { index = byte_at frame 1 + byte_at frame 2 * 256; sub = b
 
 -- ---- the end of a transfer
 
--- `abort-key`: an abort of another entry; a server that doesn't know a command may not know where its multiplexer is
+-- `abort-key`: an abort of another entry; a server that doesn't know a command may not know where
+-- its multiplexer is
 abbrev pub abort_breach : Key → Key → AbortCode → Option Breach
 abort_breach named key code = if same_key named key || (code.0 == unknown_command) then None else Some (AbortKey key)
 
@@ -41,7 +42,8 @@ abbrev pub is_segmented : Protocol → Bool
 is_segmented Segmented = true
 is_segmented other = false
 
--- The last segment of an upload may have n = 0, where its data end within it: so many bytes are no difference.
+-- The last segment of an upload may have n = 0, though its data end within it: so many bytes are no
+-- difference.
 abbrev pub is_padded : FrameContent → Ended → ℕ → Bool
 is_padded frame ended indicated =
     is_segmented ended.protocol && ((byte_at frame 0 / 2 % 8 == 0) && (nat_le indicated ended.bytes && nat_le ended.bytes (indicated + 6)))
@@ -61,9 +63,9 @@ ended_breach frame ended = ending_breach frame ended ended.direction ended.endin
 
 -- ---- another frame of the device
 
--- `answer-toggle`, `answer-form`, by the first byte: the answer to a request of the open transfer. Among the segments of a block
--- upload one whose number is 0 or above the block size; not what looks like the end of a block upload, before which segments may
--- be missing in the recording.
+-- `answer-toggle`, `answer-form`, by the first byte: the answer to a request of the open transfer.
+-- Also a segment of a block upload whose number is 0 or above the block size. Not what looks like
+-- the end of a block upload: segments before it may be missing in the recording.
 abbrev pub server_breach : Newest → Key → What → ℕ → Option Breach
 server_breach Request key Repeated first = Some (Toggle key)
 server_breach Request key Unexpected first = if first / 32 == 6 then None else Some (Form key)

@@ -52,7 +52,8 @@ pub fn key_in(frame: &Frame) -> Key
     }
 }
 
-// An abort of another entry; a server that doesn't know a command may not know where its multiplexer is.
+// An abort of another entry. A server that doesn't know a command may not know where its
+// multiplexer is.
 fn abort_breach(named: Key, key: Key, code: AbortCode) -> Option<Breach>
     ensures { result ≡ abort_breach named key code }
 {
@@ -63,7 +64,8 @@ fn abort_breach(named: Key, key: Key, code: AbortCode) -> Option<Breach>
     }
 }
 
-// whether an upload ends with a segment that has n = 0, and in which the data may end where the device indicated it
+// Whether an upload ends with a segment that has n = 0: the data may then end before the segment,
+// at the indicated size.
 fn is_padded(frame: &Frame, ended: &Ended, indicated: u32) -> bool
     ensures { result ≡ is_padded frame.now ended.now indicated }
 {
@@ -105,8 +107,8 @@ fn ended_breach(frame: &Frame, ended: &Ended) -> Option<Breach>
     }
 }
 
-// The difference of a frame of the device with this first byte that doesn't end the transfer. Where segments of a block upload may be
-// missing in the recording, its end comes before its turn.
+// The difference of a frame of the device with this first byte, which doesn't end the transfer. A
+// block upload seems to end too early if segments are missing in the recording.
 fn server_breach(newest: Newest, key: Key, what: What, first: u8) -> Option<Breach>
     ensures { result ≡ server_breach newest key what first }
 {
