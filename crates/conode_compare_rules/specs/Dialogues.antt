@@ -104,7 +104,8 @@ exchange_in limits started dialogue micros side frame = record {
 abbrev pub doubted_after : Side → Heard → FrameContent → Option ℕ → ℕ → Option ℕ
 doubted_after side heard frame doubted micros = if leaves_request_open side heard frame then Some micros else doubted
 
--- A transfer isn't judged whose initiate request comes while an earlier request may still be answered.
+-- A transfer isn't judged if its initiate request comes while an earlier request may still be
+-- answered.
 abbrev pub newest_heard : Bool → Side → What → Option Newest → Option Newest
 newest_heard certain side what newest = if is_initiate what && not certain then None else newest_after side what newest
 
