@@ -1,7 +1,4 @@
-/*
- * SocketCAN: a socket for each device, so that devices hear each other; frames that wait; and trouble, which
- * is said once, given to the device and mended. restart-ms is the interface's.
- */
+/* SocketCAN: a socket for each device, what waits, and trouble: said once, given to the device and mended. */
 #include "device.h"
 
 #include <linux/can.h>
@@ -89,10 +86,7 @@ static void forget(struct device *device, struct waiting *at)
     memmove(at, at + 1, (size_t)(device->queue + device->waiting - at) * sizeof *at);
 }
 
-/*
- * Sends a frame, or lets it wait. A TPDO that waits is replaced by its newer one, a heartbeat by its
- * repetition. Where MOST_WAITING frames wait the oldest TPDO is thrown away.
- */
+/* Sends a frame, or lets it wait: a TPDO in the place of its older one, a heartbeat in that of its like. */
 void put_on_bus(struct device *device, const bafokun_frame *frame)
 {
     if (device->waiting == 0 && send_now(device, frame)) return;
@@ -131,10 +125,7 @@ static void take_frame(struct device *device, const struct can_frame *in)
     send_frames(device, bafokun_take(&device->node, &frame, FRAMES));
 }
 
-/*
- * At each turn of the loop: an interface that is down is tried again, and so is what waits; then frames are
- * taken that came, while their answers have room to wait. True: more may have come.
- */
+/* At each turn of the loop: what is down or waits is tried again, what came is taken. True: more may have. */
 bool tend_bus(struct device *device)
 {
     struct can_frame in;

@@ -1,7 +1,4 @@
-/*
- * Lines: who gives them, when they are due, and what is answered. They come from standard input, the file of
- * --play and the connections of a Unix socket. With --stdio frames are lines of a trace (docs/TRACES.md).
- */
+/* Lines: who gives them, when they are due and what is answered. With --stdio they are those of a trace. */
 #include "device.h"
 
 #include <fcntl.h>
@@ -104,10 +101,7 @@ static char *read_stamp(char *line, uint64_t *ms)
     return line + end;
 }
 
-/*
- * Reads what follows a stamp: the interface, a frame, and perhaps R or T. A frame with an identifier of 29
- * bits, a remote frame and one of CAN FD get an identifier that no device takes.
- */
+/* Reads what follows a stamp, as docs/TRACES.md has it: the interface, a frame, and perhaps R or T. */
 static bool read_frame(const char *text, char interface[16], bafokun_frame *frame)
 {
     char id[9], digits[17] = "";
@@ -122,7 +116,7 @@ static bool read_frame(const char *text, char interface[16], bafokun_frame *fram
     mark += strspn(mark, " \t");
     if (is_short ? number > 0x7FF : strlen(id) != 8) return false;
     if (*mark && strcmp(mark, "R") != 0 && strcmp(mark, "T") != 0) return false;
-    *frame = (bafokun_frame){ UINT16_MAX, (uint16_t)(size / 2), { 0 } };
+    *frame = (bafokun_frame){ UINT16_MAX, (uint16_t)(size / 2), { 0 } }; /* which no device takes */
     if (*data == '#' || is_remote) return true;
     if (is_short) frame->id = (uint16_t)number;
     memcpy(digits, data, size <= 16 ? size : 0);
@@ -136,10 +130,7 @@ static bool is_due(const struct client *client)
     return client->due <= elapsed;
 }
 
-/*
- * Does a line of the application, or a frame. --play passes over frames, so that it plays sessions of `conode
- * replay`. The first stamp is the start; a line without one follows the one before. False: it isn't due yet.
- */
+/* Does a line, or takes a frame, which --play passes over. The first stamp is the start. False: not due. */
 static bool take_line(struct client *client, char *line)
 {
     char interface[16];

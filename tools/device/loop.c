@@ -1,7 +1,4 @@
-/*
- * What happens, and when: one epoll loop, each turn of which does all that is ready. Its clock is a timerfd,
- * set to when a device is due, so that devices that wait take no processor. SIGTERM, SIGINT, SIGHUP end it.
- */
+/* What happens, and when: one epoll loop, each turn of which does all that is ready, until a signal comes. */
 #include "device.h"
 
 #include <signal.h>
