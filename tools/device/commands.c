@@ -131,10 +131,8 @@ static bool act(const struct request *at, enum action action)
 /* The next word, cut off the rest of a line; empty at its end. */
 static char *next_word(char **rest)
 {
-    char *word = *rest;
-    *rest += strcspn(*rest, " \t");
-    if (**rest) *(*rest)++ = 0;
-    *rest += strspn(*rest, " \t");
+    char *word = strsep(rest, " \t");
+    *rest = *rest ? *rest + strspn(*rest, " \t") : word + strlen(word);
     return word;
 }
 

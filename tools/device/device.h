@@ -17,11 +17,12 @@
 #include <unistd.h>
 
 #define MOST_LINE 8191                 /* bytes of a line */
+#define PIECE 4096                     /* bytes that are read or written at once */
 #define MOST_BYTES 65535               /* bytes of an entry */
 #define MOST_TEXT (4 * MOST_BYTES + 1) /* and of what people read: each byte may be \xHH */
 #define MOST_UNREAD 262144             /* bytes of answers that wait, before their reader is dropped */
 #define MOST_WATCHES 32                /* of a client */
-#define MOST_WAITING 1024              /* frames of a device that wait, before it has to do with less */
+#define MOST_WAITING 1024              /* frames of a device that wait, before TPDOs or inputs yield */
 #define DAY_MS 86400000                /* most ms of a !tick */
 #define DOMAIN_TYPE 0x0F               /* the data type of bytes as they are */
 #define DIGITS "0123456789ABCDEFabcdef"
@@ -60,7 +61,7 @@ struct client {
         uint8_t *said;
     } watches[MOST_WATCHES];
     struct client *next;
-    char text[2 * MOST_LINE], answers[MOST_UNREAD + MOST_TEXT + 100]; /* which are used and unread so far */
+    char text[MOST_LINE + PIECE + 4], answers[MOST_UNREAD + MOST_TEXT + 100]; /* used; unread */
 };
 
 /* main.c: the words, and the devices that they name */

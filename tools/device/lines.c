@@ -7,7 +7,6 @@
 #include <sys/un.h>
 #include <time.h>
 
-#define PIECE 4096    /* a pipe that has room takes as many bytes at once */
 #define SAID_MS 10000 /* a trouble is said again where it was well for so long */
 #define MOST_HEARD 8192
 
@@ -166,7 +165,7 @@ static size_t read_text(struct client *client)
     char *end = client->text + client->used;
     if (client->has_ended || memchr(client->text, '\n', client->used)) return 0;
     if (!is_ready(client->in, POLLIN, false)) return 0;
-    ssize_t size = read(client->in, end, sizeof client->text - 2 - client->used);
+    ssize_t size = read(client->in, end, PIECE);
     if (size > 0) return (size_t)size;
     if (size < 0 && (errno == EAGAIN || errno == EINTR)) return 0;
     if (size < 0 && client->numbered) {
