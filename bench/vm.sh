@@ -171,13 +171,13 @@ for value in 1 2 3; do echo "8 set 6000:01 $value" >&3; done
 sleep 1
 is 'what waits' "$(echo '8 state' >&3; sleep 0.5; tail -n 1 out | cut -d , -f 2-4)" ' vcan0 down, 1 frames wait, 0 thrown away'
 listen 088 waited
-for _ in $(seq 600); do echo '8 raise 3120' >&3; done
+for _ in $(seq 1100); do echo '8 raise 3120' >&3; done
 sleep 2
-is 'no more than 501 wait' "$(tail -n 1 out)" 'error: 501 frames wait for vcan0'
+is 'no more than 1,024 wait' "$(tail -n 1 out)" 'error: 1024 frames wait for vcan0'
 ip link set vcan0 up
 await '088#00' waited
 kill $listener
-is 'all of them are sent' "$(cut -d ' ' -f 3 waited | cut -c 1-8 | uniq -c | tr -s ' \n' ' ')" ' 500 088#2031 1 088#4081 1 088#0000 '
+is 'all of them are sent' "$(cut -d ' ' -f 3 waited | cut -c 1-8 | uniq -c | tr -s ' \n' ' ')" ' 1024 088#2031 1 088#4081 1 088#0000 '
 is 'trouble, said once' "$(errors)" \
     'vcan0: error passive;vcan0: error active;vcan0: bus-off;vcan0: error active;vcan0: down;vcan0: error active;'
 is 'SDO after that' "$(answer 605#4000100000000000 585)" '585#4300100094010200'

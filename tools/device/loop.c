@@ -1,81 +1,65 @@
-/*
- * What happens, and when: one epoll loop. Its clock is a timerfd, set to when a device is due, so that devices that
- * wait take no processor. SIGTERM, SIGINT and SIGHUP end it; they come only while it waits.
- */
+/* What happens, and when: one epoll loop, each turn of which does all that is ready, until a signal comes. */
 #include "device.h"
 
-#include <poll.h>
 #include <signal.h>
+#include <sys/signalfd.h>
 #include <sys/timerfd.h>
 #include <time.h>
 
-#define MOST_EVENTS 64
-#define LAST_S 1 /* a signal that ends the run waits so long for each piece of output */
-#define MS_PER_S 1000
-#define NS_PER_MS 1000000
+#define MOST_EVENTS 16
+#define LAST_MS 1000 /* a signal that ends the run waits so long for each piece of output */
 
 uint64_t elapsed;
-static uint64_t begin; /* of the clock, in ms */
-static int epoll, timer;
-static bool is_over, is_bad;
-static volatile sig_atomic_t has_signal;
-static sigset_t while_waiting;
-static struct source *file; /* standard input where it is a file: epoll doesn't take it, since a read never waits */
+bool is_over, is_bad;
+static int epoll, timer, signals;
 
-/* Watches a source for these events, 0: no longer. False: errno says why. */
-bool want(struct source *source, uint32_t events)
+/* A descriptor wakes the loop when it becomes ready. epoll doesn't take a file, which always is. */
+bool wake_by(int fd, uint32_t events)
 {
-    struct epoll_event event = { events, { .ptr = source } };
-    int change = events == 0 ? EPOLL_CTL_DEL : source->wanted == 0 ? EPOLL_CTL_ADD : EPOLL_CTL_MOD;
-    if (events == source->wanted) return true;
-    source->wanted = events;
-    if (epoll_ctl(epoll, change, source->fd, &event) == 0) return true;
-    if (errno == EPERM) file = events ? source : NULL;
-    return errno == EPERM;
+    struct epoll_event event = { .events = events | EPOLLET };
+    return epoll_ctl(epoll, EPOLL_CTL_ADD, fd, &event) == 0 || errno == EPERM;
+}
+
+/* Whether there is something to read, or room to write. If it waits, that ends a second after a signal. */
+bool is_ready(int fd, short events, bool waits)
+{
+    struct pollfd either[] = { { fd, events, 0 }, { signals, POLLIN, 0 } };
+    if (waits) poll(either, 2, -1);
+    return poll(either, 1, waits ? LAST_MS : 0) > 0;
 }
 
 /* For so many ms nothing happens but what comes from outside: no device is due, and no line of --play. */
 static uint64_t quiet_ms(void)
 {
-    uint64_t least = play_quiet_ms();
+    uint64_t next = player.due > elapsed ? player.due : elapsed + DAY_MS;
     for (struct device *at = devices; at < devices_end; at++) {
-        uint64_t idle = bafokun_idle(&at->node), bus = bus_quiet_ms(at);
-        if (idle < least) least = idle;
-        if (bus < least) least = bus;
+        uint64_t due = is_crowded(at) ? UINT64_MAX : elapsed + bafokun_idle(&at->node) + 1;
+        if (due < next) next = due;
+        if (at->retry < next) next = at->retry;
     }
-    return least;
+    return next > elapsed ? next - elapsed - 1 : 0;
 }
 
-/* So many ms pass, up to each at which something happens at once. */
-void elapse(uint64_t ms)
+/* A device gets the ticks that elapsed, while there is room for what it sends. */
+void catch_up(struct device *device)
 {
-    while (ms > 0) {
-        uint64_t quiet = ms > 1 ? quiet_ms() : 0, step = quiet < ms ? quiet + 1 : ms;
-        uint32_t done;
-        elapsed += step;
-        ms -= step;
-        for (struct device *at = devices; at < devices_end; at++)
-            send_frames(at, bafokun_ticks(&at->node, (uint32_t)step, &done, FRAMES));
+    for (uint32_t done; device->ticks < elapsed && !is_crowded(device); device->ticks += done) {
+        uint64_t late = elapsed - device->ticks;
+        uint32_t most = late < DAY_MS ? (uint32_t)late : DAY_MS;
+        send_frames(device, bafokun_ticks(&device->node, most, &done, FRAMES));
+    }
+}
+
+/* Time passes, up to each ms at which something happens at once. */
+void elapse(uint64_t until)
+{
+    while (elapsed < until) {
+        uint64_t step = quiet_ms() + 1;
+        elapsed = step < until - elapsed ? elapsed + step : until;
+        for (struct device *at = devices; at < devices_end; at++) catch_up(at);
         deliver();
-        play_due();
+        while (take_lines(&player)) { }
     }
-}
-
-void end_loop(bool is_well)
-{
-    is_over = true;
-    is_bad |= !is_well;
-}
-
-static void take_signal(int number) { has_signal = number; }
-
-/* Whether there is room to write. Where it is waited for, there is none if a signal ends the run and nobody reads. */
-bool has_room(int fd, bool waits)
-{
-    static const struct timespec none, last = { LAST_S, 0 };
-    struct pollfd output = { fd, POLLOUT, 0 };
-    while (ppoll(&output, 1, !waits ? &none : has_signal ? &last : NULL, &while_waiting) < 0 && errno == EINTR) { }
-    return output.revents != 0;
 }
 
 /* The clock, in ms. */
@@ -83,47 +67,39 @@ static uint64_t now(void)
 {
     struct timespec time;
     clock_gettime(CLOCK_MONOTONIC, &time);
-    return (uint64_t)time.tv_sec * MS_PER_S + (uint64_t)time.tv_nsec / NS_PER_MS;
+    return (uint64_t)time.tv_sec * 1000 + (uint64_t)time.tv_nsec / 1000000;
 }
 
 void start_loop(void)
 {
-    static const int ends[] = { SIGTERM, SIGINT, SIGHUP };
-    sigset_t blocked;
-    sigemptyset(&blocked);
-    for (int i = 0; i < 3; i++) {
-        sigaddset(&blocked, ends[i]);
-        signal(ends[i], take_signal);
-    }
-    sigprocmask(SIG_BLOCK, &blocked, &while_waiting);
+    sigset_t ends;
+    sigemptyset(&ends);
+    sigaddset(&ends, SIGTERM);
+    sigaddset(&ends, SIGINT);
+    sigaddset(&ends, SIGHUP);
+    sigprocmask(SIG_BLOCK, &ends, NULL);
     signal(SIGPIPE, SIG_IGN);
     signal(SIGTTIN, SIG_IGN); /* in the background a terminal isn't read */
     epoll = epoll_create1(EPOLL_CLOEXEC);
-    timer = timerfd_create(CLOCK_MONOTONIC, TFD_NONBLOCK | TFD_CLOEXEC);
-    struct epoll_event rings = { .events = EPOLLIN };
-    if (epoll_ctl(epoll, EPOLL_CTL_ADD, timer, &rings) != 0) err(1, "canopen-device");
-    begin = now();
+    timer = timerfd_create(CLOCK_MONOTONIC, TFD_CLOEXEC);
+    signals = signalfd(-1, &ends, SFD_CLOEXEC);
+    if (!wake_by(timer, EPOLLIN) || !wake_by(signals, EPOLLIN)) err(1, "canopen-device");
 }
 
-/* Goes on until the end; true where all was well. */
-bool run_loop(void)
+/* Goes on until the end. */
+void run_loop(void)
 {
     struct epoll_event events[MOST_EVENTS];
+    uint64_t begin = now();
     for (;;) {
         deliver();
-        play_due();
-        for (struct device *at = devices; at < devices_end; at++) tend_bus(at);
-        tend_clients();
-        if (is_over || has_signal) return !is_bad;
+        bool is_busy = tend_clients();
+        for (struct device *at = devices; at < devices_end; at++) is_busy |= tend_bus(at);
+        if (is_over || is_ready(signals, POLLIN, false)) return;
         uint64_t next = begin + elapsed + quiet_ms() + 1;
-        struct itimerspec once = { { 0, 0 }, { (time_t)(next / MS_PER_S), (long)(next % MS_PER_S * NS_PER_MS) } };
-        if (!by_stamps && timerfd_settime(timer, TFD_TIMER_ABSTIME, &once, NULL) != 0) err(1, "canopen-device");
-        int count = epoll_pwait(epoll, events, MOST_EVENTS, file ? 0 : -1, &while_waiting);
-        if (!by_stamps) elapse(now() - begin - elapsed);
-        for (int i = 0; i < count; i++) {
-            struct source *source = events[i].data.ptr; /* none where the clock rang */
-            if (source) source->ready(source);
-        }
-        if (file) file->ready(file);
+        struct itimerspec once = { { 0, 0 }, { (time_t)(next / 1000), (long)(next % 1000 * 1000000) } };
+        if (!by_stamps) timerfd_settime(timer, TFD_TIMER_ABSTIME, &once, NULL);
+        epoll_wait(epoll, events, MOST_EVENTS, is_busy ? 0 : -1);
+        if (!by_stamps) elapse(now() - begin);
     }
 }

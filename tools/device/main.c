@@ -42,23 +42,20 @@ bool read_number(const char *word, int base, unsigned long least, unsigned long 
 /* Builds the device of a word [INTERFACE:]N=SHEET. */
 static void build(struct device *device, const char *word, const bafokun_config *config)
 {
-    char number[4] = "", what[128];
-    int end = 0;
+    char *sheet = strdupa(word), *place = strsep(&sheet, "="), *colon = strchr(place, ':'), what[128];
+    const char *number = colon ? colon + 1 : place;
+    const char *interface = colon ? strsep(&place, ":") : in_stdio ? "can0" : given[CAN];
     unsigned long node_id;
     bafokun_fault fault;
-    sscanf(word, "%15[^:=]:%3[0-9]=%n", device->interface, number, &end);
-    if (end == 0) {
-        device->hears_all = in_stdio;
-        strcpy(device->interface, in_stdio ? "can0" : given[CAN]);
-        sscanf(word, "%3[0-9]=%n", number, &end);
-    }
-    if (end == 0 || !read_number(number, 10, 1, 127, &node_id) || !*device->interface)
+    if (!sheet || !read_number(number, 10, 1, 127, &node_id) || !*interface || strlen(interface) > 15)
         errx(1, "%s: [INTERFACE:]N=SHEET, with N from 1 to 127, and --can without INTERFACE", word);
-    snprintf(device->name, sizeof device->name, "%s:%lu", device->interface, node_id);
+    device->hears_all = in_stdio && !colon;
+    device->retry = UINT64_MAX;
+    strcpy(device->interface, interface);
+    sprintf(device->name, "%s:%lu", interface, node_id);
     for (struct device *at = devices; at < device; at++)
         if (strcmp(at->name, device->name) == 0)
-            errx(1, "%s: there is a node %lu on %s already", word, node_id, device->interface);
-    const char *sheet = word + end;
+            errx(1, "%s: there is a node %lu on %s already", word, node_id, interface);
     char *text = calloc(1, MOST_SHEET + 1); /* names stay in it */
     FILE *file = fopen(sheet, "re");
     size_t length = text && file ? fread(text, 1, MOST_SHEET, file) : 0;
@@ -67,9 +64,10 @@ static void build(struct device *device, const char *word, const bafokun_config 
     if (!bafokun_build(&device->node, text, length, (uint8_t)node_id, config, &fault)) {
         bafokun_fault_text(&fault, what, sizeof what);
         if (fault.stage == BAFOKUN_FAULT_DEVICE)
-            errx(1, "%s: build fault %u %04X:%02X: %s", word, fault.number, fault.index, fault.sub_index, what);
-        errx(1, "%s: fault %u line %llu: %s; `conode adapt %s` may mend it", word, fault.number,
-             (unsigned long long)fault.line, what, sheet);
+            errx(1, "%s: build fault %u %04X:%02X: %s", word, fault.number, fault.index, fault.sub_index,
+                 what);
+        errx(1, "%s: fault %u line %lu: %s; `conode adapt %s` may mend it", word, fault.number,
+             (unsigned long)fault.line, what, sheet);
     }
     name_objects(device, text);
 }
@@ -85,9 +83,10 @@ static bool read_words(int count, char **words, bafokun_config *config)
     }
     if (wants_help) exit(fputs(usage, stdout) < 0 || fflush(stdout) != 0);
     for (int i = STRINGS; i <= TIME; i++) is_right &= read_number(given[i], 10, 0, 65535, &numbers[i]);
-    *config = (bafokun_config){ (uint16_t)numbers[STRINGS], (uint16_t)numbers[DOMAINS], (uint16_t)numbers[TIME] };
-    return is_right && optind < count && strlen(given[CAN]) < sizeof devices->interface
-        && (in_stdio ? !*given[CAN] : !by_stamps);
+    config->strings = (uint16_t)numbers[STRINGS];
+    config->domains = (uint16_t)numbers[DOMAINS];
+    config->time = (uint16_t)numbers[TIME];
+    return is_right && optind < count && (in_stdio ? !*given[CAN] : !by_stamps);
 }
 
 int main(int count, char **words)
@@ -100,13 +99,14 @@ int main(int count, char **words)
     if (!read_words(count, words, &config)) return fputs(usage, stderr), 2;
     devices_end = devices = calloc((size_t)(count - optind), sizeof *devices);
     if (!devices) err(1, "canopen-device");
-    for (int i = optind; i < count; i++) build(devices_end++, words[i], &config);
+    while (optind < count) build(devices_end++, words[optind++], &config);
     start_loop();
     for (struct device *at = devices; !in_stdio && at < devices_end; at++)
         if (!open_bus(at) && errno != ENETDOWN) err(1, "%s", at->interface);
     open_clients(given[PLAY], given[SOCKET]);
-    for (struct device *at = devices; at < devices_end; at++) send_frames(at, bafokun_boot(&at->node, FRAMES));
-    bool is_well = run_loop();
-    if (in_stdio) end_trace();
-    return close_clients() && is_well ? 0 : 1;
+    for (struct device *at = devices; at < devices_end; at++)
+        send_frames(at, bafokun_boot(&at->node, FRAMES));
+    run_loop();
+    close_clients();
+    return is_bad;
 }

@@ -14,7 +14,7 @@ char *trimmed(char *text)
     return text;
 }
 
-/* Keeps the names of a sheet's objects, since the library has those of entries alone. The text is cut into names. */
+/* Keeps the names of a sheet's objects, since the library has those of entries alone. It cuts the text. */
 void name_objects(struct device *device, char *text)
 {
     char **name = NULL, index[5], last;
@@ -30,41 +30,36 @@ void name_objects(struct device *device, char *text)
     }
 }
 
-/* How many bytes of a text are this name; 0: it begins otherwise. */
-static size_t match(const char *text, const char *name)
+/* How many bytes of a text are a name, or OBJECT.NAME; 0: it begins otherwise. */
+static size_t match(const char *text, const char *object, const char *name)
 {
-    size_t length = strlen(name);
+    size_t length = strlen(name), front = object ? strlen(object) + 1 : 0;
+    if (front > 0 && strncasecmp(text, object, front - 1) == 0 && text[front - 1] == '.') {
+        size_t rest = match(text + front, NULL, name);
+        if (rest > 0) return front + rest;
+    }
     return length > 0 && strncasecmp(text, name, length) == 0 && strchr(" \t", text[length]) ? length : 0;
 }
 
-/* How many bytes of a text are the name of an entry, or OBJECT.NAME. */
-static size_t match_entry(struct device *device, const char *text, size_t number, const char *object)
-{
-    static char name[MOST_LINE + 1];
-    size_t front = object ? (size_t)snprintf(name, sizeof name, "%s.", object) : 0;
-    if (front >= sizeof name) front = 0;
-    bafokun_entry_name(&device->node, number, name + front, sizeof name - front);
-    size_t length = match(text, name + front);
-    return length > 0 ? length : match(text, name);
-}
-
-/* The entry that a text begins with, by its key or its longest name: how many bytes that has. 0: none, as was said. */
+/* The entry that a text begins with, by key or longest name: how many bytes that has. 0: it says why. */
 size_t find_entry(struct client *client, struct device *device, const char *text, bafokun_entry_info *found)
 {
-    char index[5] = "", sub_index[3] = "";
-    int end = 0;
+    static char name[MOST_LINE + 1];
     size_t number, best = 0, count = 0;
     bafokun_entry_info entry;
+    char index[5], sub_index[3];
+    int end = 0;
     sscanf(text, "%4" HEX ":%2" HEX "%n", index, sub_index, &end);
-    *found = (bafokun_entry_info){ .index = (uint16_t)strtoul(index, NULL, 16), .type = DOMAIN_TYPE };
-    found->sub_index = (uint8_t)strtoul(sub_index, NULL, 16);
     if (end == 7 && strchr(" \t", text[end])) {
+        *found = (bafokun_entry_info){ .index = (uint16_t)strtoul(index, NULL, 16), .type = DOMAIN_TYPE };
+        found->sub_index = (uint8_t)strtoul(sub_index, NULL, 16);
         if (bafokun_find(&device->node, found->index, found->sub_index, &number))
             bafokun_entry(&device->node, number, found);
         return 7;
     }
     for (number = 0; bafokun_entry(&device->node, number, &entry); number++) {
-        size_t length = match_entry(device, text, number, device->objects[entry.index]);
+        bafokun_entry_name(&device->node, number, name, sizeof name);
+        size_t length = match(text, device->objects[entry.index], name);
         if (length == 0 || length < best) continue;
         count = length > best ? 1 : count + 1;
         if (length > best) *found = entry;
@@ -72,12 +67,9 @@ size_t find_entry(struct client *client, struct device *device, const char *text
     }
     if (count == 1) return best;
     if (count == 0) return say(client, TROUBLE, "error: no entry has this name");
-    return say(client, TROUBLE, "error: several entries have this name, first %04X:%02X: write OBJECT.NAME, or the key",
-               found->index, found->sub_index);
+    return say(client, TROUBLE, "error: several entries have this name, first %04X:%02X: "
+               "write OBJECT.NAME, or the key", found->index, found->sub_index);
 }
-
-/* ---- values */
-
 /* The bytes of a type of numbers, negative where these have a sign; 0 for other types. */
 static int width_of(unsigned type)
 {
@@ -122,7 +114,7 @@ bool bytes_of(unsigned type, const char *text, uint8_t *bytes, size_t *length)
     return *length > 0;
 }
 
-/* Writes a number in decimal, a VISIBLE_STRING as text where \xHH is any byte, other bytes as digits; "-" for none. */
+/* Writes a number in decimal, a VISIBLE_STRING as text where \xHH is any byte, else digits; "-" for none. */
 void write_value(unsigned type, const uint8_t *bytes, size_t length, char *text)
 {
     int width = width_of(type), shift = 64 - 8 * abs(width);
@@ -133,7 +125,8 @@ void write_value(unsigned type, const uint8_t *bytes, size_t length, char *text)
     else if (width > 0) sprintf(text, "%" PRIu64, number);
     else if (length == 0) strcpy(text, "-");
     for (size_t i = 0; width == 0 && i < length; i++) {
-        bool is_plain = bytes[i] >= ' ' && bytes[i] != 127 && bytes[i] != '\\' && !(length == 1 && *bytes == '-');
+        bool is_none = length == 1 && *bytes == '-';
+        bool is_plain = bytes[i] >= ' ' && bytes[i] != 127 && bytes[i] != '\\' && !is_none;
         text += sprintf(text, type != VISIBLE_STRING ? "%02X" : is_plain ? "%c" : "\\x%02X", bytes[i]);
     }
 }
