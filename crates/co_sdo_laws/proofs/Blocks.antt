@@ -1,8 +1,8 @@
 -- What the block transfers of both directions share: aborts among answers, what is on its way, and how many frames have come. `p`
 -- says that a transfer is permitted and that nothing disturbs it; what holds of every transfer needs no `p`.
-use Rattle.std.proofs.Common.{◌≡◌, ℕ, suc, ◌+◌, ◌<◌, ◌≤◌, Bool, true, false, List, [], ◌∷◌, ◌++◌, length, drop, map, not, refl, sym, ap, ◌∙◌, arith, eqb, subst, append-nil, ◌⊎◌, inl, inr}
+use Rattle.std.proofs.Common.{◌≡◌, ℕ, suc, ◌+◌, ◌<◌, ◌≤◌, Bool, true, false, List, [], ◌∷◌, ◌++◌, length, drop, map, not, Option, refl, sym, ap, ◌∙◌, arith, eqb, subst, append-nil, ◌⊎◌, inl, inr}
 use Rattle.std.specs.Prelude.{if◌then◌else◌, nat_le, slice_index}
-use Rattle.std.proofs.lemmas.Bool.{eqb-true, and_parts}
+use Rattle.std.proofs.lemmas.Bool.{eqb-true, false≢true, and_parts}
 use Rattle.std.proofs.lemmas.Bool.Decides.{nat_tests}
 use Rattle.co_frame.specs.BlockSegments.{is_abort_in_sub_block}
 use Rattle.co_frame.specs.SdoResponses.{response_row_in, response_in}
@@ -10,14 +10,16 @@ use Rattle.co_sdo_client.specs.declared.stage.Stage.{Stage}
 use Rattle.co_sdo_client.specs.declared.stage.Stage.TheVariants.{SubBlock}
 use Rattle.co_sdo_client.specs.declared.state.ClientState.{ClientState}
 use Rattle.co_sdo_client.specs.declared.state.ClientState.TheVariants.{Waiting, Done, Failed}
-use Rattle.co_sdo_client.specs.Calls.{Call, Message, message_bytes, Event as ClientEvent, Answered, Ticked as TickedAtClient, answers as answers_of, is_time_over as is_client_over}
-use Rattle.co_sdo_client.specs.Verdicts.{GoesOn, answer_verdict}
+use Rattle.co_sdo_client.specs.Calls.{Call, Message, Answers, message_bytes, Event as ClientEvent, Answered, Ticked as TickedAtClient, answers as answers_of, since_first, is_time_over as is_client_over}
+use Rattle.co_sdo_client.specs.Verdicts.{GoesOn, verdict, answer_verdict}
 use Rattle.co_sdo_client.specs.Outcomes.{state_by, while_waiting, outcome, result, asked}
+use Rattle.co_dict.specs.Rows.{Contents}
 use Rattle.co_sdo.specs.Log.{Answer, answer_bytes}
 use Rattle.co_sdo.specs.Replies.{reply_to}
-use Rattle.co_sdo_laws.specs.World.{Setup, World, Requests, Answers as Back, at_client, at_channel, without_front, front_arrives}
-use Rattle.co_sdo_laws.specs.Undisturbed.{arrived, on_their_way, GoesInBlocks}
+use Rattle.co_sdo_laws.specs.World.{Setup, World, Requests, Answers as Back, ClientTicked, at_client, at_channel, timed_out, ticked, without_front, front_arrives}
+use Rattle.co_sdo_laws.specs.Undisturbed.{IsCalm, arrived, on_their_way, GoesInBlocks}
 use Rattle.co_sdo_laws.proofs.Client.{follows, stays, tick_verdict}
+use Rattle.co_sdo_laws.proofs.Turns.{waiting≢done}
 use Rattle.co_sdo_laws.proofs.Failures.{aborted_fails, is_aborted, has_failed}
 
 -- ---- the frames among others that pass a test
@@ -108,6 +110,10 @@ cut_is_more x later given cut e f =
     let long : suc (length later) ≡ length (live later) = ap length (f ∙ sym e ∙ same) in
     absurd (omega arith)
 
+-- no entry is changed
+abbrev pub Lawful : Setup → Contents → Type 0
+Lawful s contents = contents ≡ s.contents
+
 -- ---- what is on its way
 
 -- how many requests and answers have come
@@ -184,15 +190,6 @@ nothing_came s Holds w e h = front_came s Holds w [] e (subst Holds (no_request 
 
 -- ---- the client
 
--- it is done, and gives these bytes
-pub record IsDone (s : Setup) (given : List ℕ) (events : List ClientEvent) : Type 0 where
-  pub done : outcome s.call events ≡ Done
-  pub gives : result s.call events ≡ given
-
-pub over_event : (s : Setup) (event : ClientEvent) {given : List ℕ} (w : World) → IsDone s given w.events
-    → IsDone s given (event ∷ w.events)
-over_event s event w b = let f = stays s.call w.events event b.done in record { done = f.state; gives = f.value ∙ b.gives }
-
 sends_none : (state : ClientState) → while_waiting {A = List Message} state [] [] ≡ []
 sends_none Waiting = refl
 sends_none Done = refl
@@ -204,6 +201,57 @@ calm_asks s events e = rw e (sends_none (outcome s.call events))
 pub calm_waits : (s : Setup) (events : List ClientEvent) → is_client_over s.call.time (TickedAtClient ∷ events) ≡ false → outcome s.call events ≡ Waiting → outcome s.call (TickedAtClient ∷ events) ≡ Waiting
 calm_waits s events e waits = (follows s.call events TickedAtClient (GoesOn []) waits (tick_verdict s.call events e)).state
 
+-- it waits, and these are the answers that it has taken; it is done; or it has failed, and no more is said
+pub data Standing (s : Setup) (p : Type 0) (Waits : Option Answers → World → Type 0) (Over : World → Type 0) (w : World) : Type 0 where
+  waiting : outcome s.call w.events ≡ Waiting → Waits (since_first (answers_of w.events)) w → Standing s p Waits Over w
+  over : Over w → Standing s p Waits Over w
+  failed : (p → ⊥) → has_failed (outcome s.call w.events) ≡ true → Standing s p Waits Over w
+
+-- a request that comes to the channel changes nothing of a client that waits
+pub still_waits : (s : Setup) (p : Type 0) (Waits : Option Answers → World → Type 0) (Over : World → Type 0) (xs : List (List ℕ)) (w : World)
+    → outcome s.call w.events ≡ Waiting → Waits (since_first (answers_of w.events)) (front_arrives s Requests xs w)
+    → Standing s p Waits Over (front_arrives s Requests xs w)
+still_waits s p Waits Over [] w b h = waiting b h
+still_waits s p Waits Over (x ∷ xs) w b h = waiting b h
+
+-- nor does another world with the same client
+pub same_client : (s : Setup) (p : Type 0) (Waits : Option Answers → World → Type 0) (Over : World → Type 0) (w w' : World) → w'.events ≡ w.events
+    → outcome s.call w.events ≡ Waiting → Waits (since_first (answers_of w.events)) w' → Standing s p Waits Over w'
+same_client s p Waits Over w w' e b h =
+    waiting (ap (outcome s.call) e ∙ b) (subst (λ (events : List ClientEvent). Waits (since_first (answers_of events)) w') (sym e) h)
+
+-- a client that gives up
+pub fails_by : (s : Setup) (p : Type 0) (Waits : Option Answers → World → Type 0) (Over : World → Type 0) (frame : List ℕ) (w : World) → (p → ⊥)
+    → outcome s.call w.events ≡ Waiting → has_failed (state_by (verdict s.call w.events (Answered frame))) ≡ true
+    → Standing s p Waits Over (at_client s (Answered frame) w)
+fails_by s p Waits Over frame w never waits h = failed never (rw waits h)
+
+pub once_done : (s : Setup) (p : Type 0) (Waits : Option Answers → World → Type 0) (Over : World → Type 0) (w : World) → Standing s p Waits Over w
+    → outcome s.call w.events ≡ Done → Over w
+once_done s p Waits Over w (waiting b h) done = absurd (waiting≢done (sym b ∙ done))
+once_done s p Waits Over w (over h) done = h
+once_done s p Waits Over w (failed n h) done = absurd (false≢true (ap has_failed (sym done) ∙ h))
+
+-- 1 ms elapses at the client: undisturbed its time isn't over while it waits
+pub client_ticks : (s : Setup) (p : Type 0) (Waits : Option Answers → World → Type 0) (Over : World → Type 0) (w : World) (ends : Bool)
+    → is_client_over s.call.time (TickedAtClient ∷ w.events) ≡ ends → (p → IsCalm s ClientTicked w) → outcome s.call w.events ≡ Waiting
+    → (ends ≡ false → Waits (since_first (answers_of w.events)) (at_client s TickedAtClient w)) → Standing s p Waits Over (at_client s TickedAtClient w)
+client_ticks s p Waits Over w true e calm waits h = failed (λ x. false≢true (sym (calm x waits) ∙ e)) (rw (waits, e) refl)
+client_ticks s p Waits Over w false e calm waits h = waiting (calm_waits s w.events e waits) (h refl)
+
+-- it is done, and gives these bytes
+pub record IsDone (s : Setup) (given : List ℕ) (events : List ClientEvent) : Type 0 where
+  pub done : outcome s.call events ≡ Done
+  pub gives : result s.call events ≡ given
+
+pub over_event : (s : Setup) (event : ClientEvent) {given : List ℕ} (w : World) → IsDone s given w.events
+    → IsDone s given (event ∷ w.events)
+over_event s event w b = let f = stays s.call w.events event b.done in record { done = f.state; gives = f.value ∙ b.gives }
+
+pub same_events : (w : World) (ends : Bool) → (if ends then timed_out (ticked w) else ticked w).events ≡ w.events
+same_events w true = refl
+same_events w false = refl
+
 pub same_requests : (xs ys : List (List ℕ)) → ys ≡ [] → xs ++ ys ≡ xs
 same_requests xs ys e = rw e (append-nil xs)
 
@@ -211,10 +259,6 @@ same_requests xs ys e = rw e (append-nil xs)
 
 on_way : (kept : List (List ℕ) → List (List ℕ)) (sent given : List (List ℕ)) (r q : ℕ) (w : World) → Moment (Unit {0}) kept sent given r q w → on_their_way w ≡ length sent + length given
 on_way kept sent given r q w m = rw (m.requests, m.exact tt) refl
-
--- where a frame is on its way not none is
-pub some_on_way : (kept : List (List ℕ) → List (List ℕ)) (sent given : List (List ℕ)) (r q : ℕ) (w : World) → Moment (Unit {0}) kept sent given r q w → 1 ≤ length sent + length given → on_their_way w ≡ 0 → ⊥
-some_on_way kept sent given r q w m some none = let n : on_their_way w ≡ length sent + length given = on_way kept sent given r q w m in absurd (omega arith)
 
 pub waits_at : (s : Setup) (needed frames : ℕ) (kept : List (List ℕ) → List (List ℕ)) (sent given : List (List ℕ)) (r q : ℕ) (w : World) → Moment (Unit {0}) kept sent given r q w → outcome s.call w.events ≡ Waiting
     → r + q < needed → needed ≤ frames → 1 ≤ length sent + length given → GoesInBlocks s.call needed frames w

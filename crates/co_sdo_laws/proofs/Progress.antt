@@ -23,6 +23,9 @@ no_front s Answers w e = rw e refl
 as_many : (w : World) → arrived w ≤ arrived w
 as_many w = omega arith
 
+at_most : {a b c : ℕ} → a ≤ b → b ≤ c → a ≤ c
+at_most p q = omega arith
+
 keeps : (s : Setup) (queue : Queue) (w : World) (xs : List (List ℕ)) → on_way queue w ≡ xs
     → arrived w ≤ arrived (after_event s (Delivered queue) w)
 keeps s queue w [] e = subst (λ (x : World). arrived w ≤ arrived x) (no_front s queue w e) (as_many w)
@@ -36,17 +39,11 @@ round_keeps s w =
     let first : arrived w ≤ arrived (after_event s (Delivered Requests) w) = keeps s Requests w w.requests refl in
     let second : arrived (after_event s (Delivered Requests) w) ≤ arrived (a_round s w) = keeps s Answers (after_event s (Delivered Requests) w) _ refl in
     at_most first second
-  where
-    at_most : {a b c : ℕ} → a ≤ b → b ≤ c → a ≤ c
-    at_most p q = omega arith
 
 -- where a frame is on its way, a round brings one
 round_brings : (s : Setup) (w : World) (xs ys : List (List ℕ)) → w.requests ≡ xs → w.answers ≡ ys → 1 ≤ length xs + length ys → arrived w + 1 ≤ arrived (a_round s w)
 round_brings s w (frame ∷ later) ys e f some =
     at_most (more s Requests w frame later e) (keeps s Answers (after_event s (Delivered Requests) w) _ refl)
-  where
-    at_most : {a b c : ℕ} → a ≤ b → b ≤ c → a ≤ c
-    at_most p q = omega arith
 round_brings s w [] (frame ∷ later) e f some = subst (λ (x : World). arrived w + 1 ≤ arrived (after_event s (Delivered Answers) x)) (no_front s Requests w e) (more s Answers w frame later f)
 round_brings s w [] [] e f some = absurd (omega arith)
 
