@@ -1,8 +1,8 @@
 -- A download in blocks from which frames may be lost, whatever the dictionary permits: what holds of a world. Frames are lost from the
 -- front of a queue alone. An acknowledgement is answered to the last frame on its way, and the client goes on only with it. Where it is
 -- permitted and undisturbed (`p`), each sub-block is taken whole, and the frames are counted.
-use Rattle.std.proofs.Common.{◌≡◌, ℕ, ◌+◌, ◌<◌, ◌≤◌, Bool, true, false, List, [], ◌∷◌, ◌++◌, length, Option, Some, None, refl, ap, eqb, append-nil, suc, ◌-◌, ◌*◌, ◌/◌, take, ◌⊎◌, zero, cond, drop, map, sym, ◌∙◌, arith, subst, length-take, inl, inr}
-use Rattle.std.specs.Prelude.{◌||◌, nat_lt}
+use Rattle.std.proofs.Common.{◌≡◌, ℕ, ◌+◌, ◌<◌, ◌≤◌, Bool, true, false, List, [], ◌∷◌, ◌++◌, length, Option, Some, None, refl, ap, eqb, suc, ◌-◌, ◌*◌, ◌/◌, take, ◌⊎◌, zero, cond, drop, map, sym, ◌∙◌, arith, subst, inl, inr}
+use Rattle.std.specs.Prelude.{nat_lt}
 use Rattle.co_value.specs.declared.key.Key.{Key}
 use Rattle.co_frame.specs.declared.sdo_request.SdoRequest.TheVariants.{BlockDownloadInitiate, BlockDownloadEnd}
 use Rattle.co_frame.specs.declared.sdo_response.SdoResponse.TheVariants.{BlockDownloadInitiated, BlockDownloadDone, BlockDownloadAcknowledge}
@@ -22,16 +22,12 @@ use Rattle.co_sdo_laws.proofs.Frames.{size_read, block_begin_read, block_end_rea
 use Rattle.co_sdo_laws.proofs.Permits.{bytes, sends_in_blocks, indicated, IsDownload, lawful_of, none≢some, entry_is}
 use Rattle.co_sdo_laws.proofs.Channel.{Steps, IsServing, Serves, moved, is_served}
 use Rattle.co_sdo_laws.proofs.BlockSegments.{unused, frame_with, all_held, total, size_after, blocks, segments, InTurn, IsWhole, all_is, segment_at, frame_is, frame_long, Reads, Goes, Completes, next_inside, next_ends, has_room}
-use Rattle.co_sdo_client.specs.declared.state.ClientState.TheVariants.{Waiting}
-use Rattle.co_sdo_client.specs.Calls.{Event as ClientEvent, answers as answers_of, Answers, since_first}
+use Rattle.co_sdo_client.specs.Calls.{Answers}
 use Rattle.co_sdo_client.specs.Stages.{acknowledged, block_size_by, newest}
 use Rattle.co_sdo_client.specs.SubBlocks.{is_last_taken}
 use Rattle.co_sdo_client.specs.Verdicts.{segment_next, taken_with, held_with}
-use Rattle.co_sdo_client.specs.Outcomes.{outcome}
-use Rattle.co_sdo_laws.proofs.Failures.{has_failed}
 use Rattle.co_sdo_laws.proofs.Blocks.{Lawful, Standing, live, Count, Moment, IsDone, is_live, kept_after, disturbed, replied, no_request, dropped, front_came, nothing_came}
 use Rattle.co_sdo_laws.proofs.GoneChannels.{awaited, IsGone, is_awaited_frame, aborted_other, gone_answers, gone_goes_on}
-use Rattle.std.proofs.lemmas.Bool.{eqb-true}
 use Rattle.std.proofs.lemmas.Bool.Decides.{nat_tests}
 
 -- ---- frames

@@ -1,5 +1,5 @@
 -- An upload in blocks: the answers, and every event.
-use Rattle.std.proofs.Common.{◌≡◌, ℕ, zero, suc, ◌+◌, ◌-◌, Bool, true, false, List, [], ◌∷◌, length, drop, map, Option, Some, None, refl, sym, ap, ◌∙◌, arith, subst, append-nil, inl, inr, ◌*◌, ◌/◌, ◌<◌, ◌≤◌, ◌++◌, take}
+use Rattle.std.proofs.Common.{◌≡◌, ℕ, zero, suc, ◌+◌, ◌-◌, Bool, true, false, List, [], ◌∷◌, length, drop, map, Option, Some, None, refl, sym, ap, ◌∙◌, arith, subst, append-nil, inl, inr, ◌*◌, ◌/◌, ◌<◌, ◌≤◌, take}
 use Rattle.std.specs.Prelude.{nat_lt, if◌then◌else◌}
 use Rattle.std.specs.List.{list_any}
 use Rattle.std.proofs.lemmas.Bool.{false≢true, or_parts}
@@ -9,12 +9,12 @@ use Rattle.co_frame.specs.declared.sdo_request.SdoRequest.TheVariants.{BlockUplo
 use Rattle.co_frame.specs.declared.sdo_response.SdoResponse.TheVariants.{BlockUploadInitiated}
 use Rattle.co_frame.specs.SdoResponses.{response_in}
 use Rattle.co_sdo_client.specs.declared.state.ClientState.TheVariants.{Waiting, Done}
-use Rattle.co_sdo_client.specs.Calls.{Request, message_bytes, Event as ClientEvent, Answered, Ticked as TickedAtClient, answers as answers_of, Answers, since_first, with_answer, is_time_over as is_client_over}
+use Rattle.co_sdo_client.specs.Calls.{Request, message_bytes, Answered, Ticked as TickedAtClient, answers as answers_of, Answers, since_first, with_answer}
 use Rattle.co_sdo_client.specs.Segments.{cap_of}
 use Rattle.co_sdo_client.specs.SubBlocks.{sub_block, taken_segments, is_last_taken}
 use Rattle.co_sdo_client.specs.Stages.{size_by, stage_since, held_since}
 use Rattle.co_sdo_client.specs.Verdicts.{Verdict, GoesOn, Ends, GivesUp, segment_next, taken_with, held_with, verdict, answer_verdict}
-use Rattle.co_sdo_client.specs.Outcomes.{outcome, asked, result}
+use Rattle.co_sdo_client.specs.Outcomes.{outcome, asked}
 use Rattle.co_dict.specs.Rows.{Contents}
 use Rattle.co_sdo.specs.Log.{answer_bytes, Ticked, TimedOut, Log}
 use Rattle.co_sdo.specs.Opened.{OpenTransfer, is_time_over}
@@ -24,7 +24,7 @@ use Rattle.co_sdo_laws.specs.Undisturbed.{IsCalm, AreCalm, on_their_way, GoesInB
 use Rattle.co_sdo_laws.proofs.Frames.{block_upload_initiated_read, upload_end_read}
 use Rattle.co_sdo_laws.proofs.Channel.{serves_first, Serves, IsServing, serving_ticks, serving_ends}
 use Rattle.co_sdo_laws.proofs.Client.{follows, stays, verdict_since}
-use Rattle.co_sdo_laws.proofs.Failures.{has_failed, failed_event}
+use Rattle.co_sdo_laws.proofs.Failures.{failed_event}
 use Rattle.co_sdo_laws.proofs.Permits.{value, reads_in_blocks, IsUpload, small_value, not_above, below_itself}
 use Rattle.co_sdo_laws.proofs.Blocks.{Lawful, waiting, over, failed, still_waits, same_client, same_events, fails_by, client_ticks, is_live, live, kept_both, cut_fails, cut_is_more, Count, Moment, disturbed, heard, no_request, no_answer, cons≢nil, head_is, tail_is, dropped, front_came, nothing_came, IsDone, over_event, calm_asks, same_requests, waits_at, done_at}
 use Rattle.co_sdo_laws.proofs.BlockSegments.{all_is, total, size_after, blocks, unused, segment_at, segments, InTurn, Reads, Goes, Completes, next_inside, next_ends, has_room, in_block}

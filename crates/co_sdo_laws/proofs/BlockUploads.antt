@@ -8,12 +8,10 @@ use Rattle.co_frame.specs.declared.sdo_request.SdoRequest.TheVariants.{BlockUplo
 use Rattle.co_frame.specs.declared.sdo_response.SdoResponse.TheVariants.{BlockUploadInitiated, BlockUploadEnd as EndSent}
 use Rattle.co_frame.specs.SdoRequests.{request_in, request_bytes}
 use Rattle.co_frame.specs.SdoResponses.{response_in, response_bytes}
-use Rattle.co_sdo_client.specs.declared.state.ClientState.TheVariants.{Waiting}
-use Rattle.co_sdo_client.specs.Calls.{Event as ClientEvent, answers as answers_of, Answers, since_first}
+use Rattle.co_sdo_client.specs.Calls.{Answers}
 use Rattle.co_sdo_client.specs.Segments.{segment_count, sub_block_length, block_segment}
 use Rattle.co_sdo_client.specs.SubBlocks.{sub_block, taken_segments, block_bytes, has_last}
 use Rattle.co_sdo_client.specs.Stages.{size_by}
-use Rattle.co_sdo_client.specs.Outcomes.{outcome}
 use Rattle.co_dict.specs.Rows.{Contents}
 use Rattle.co_dict.specs.Stores.{Description}
 use Rattle.co_sdo.specs.declared.stage.Stage.TheVariants.{BlockUploadInitiated as BegunStage, BlockUpload as SendingStage, BlockUploadEnded}
@@ -24,7 +22,6 @@ use Rattle.co_sdo.specs.Opened.{OpenTransfer}
 use Rattle.co_sdo.specs.Replies.{aborted}
 use Rattle.co_sdo_laws.specs.World.{Setup, World, at_channel}
 use Rattle.co_sdo_laws.proofs.Frames.{start_read, acknowledge_read, client_end_read, block_upload_read}
-use Rattle.co_sdo_laws.proofs.Failures.{has_failed}
 use Rattle.co_sdo_laws.proofs.Channel.{IsServing, Steps, IsServed, is_served}
 use Rattle.co_sdo_laws.proofs.Permits.{value, reads_in_blocks, IsUpload, lawful_of, none≢some}
 use Rattle.co_sdo_laws.proofs.Blocks.{Lawful, live, Count, Moment, IsDone, Standing, is_live, kept_after, replied}

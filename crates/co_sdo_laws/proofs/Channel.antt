@@ -1,5 +1,5 @@
 -- A channel: what one more event makes of it, what it answers and sets, and channels that have a past.
-use Rattle.std.proofs.Common.{◌≡◌, ℕ, List, ◌∷◌, length, Option, Some, None, refl, ap, ◌∙◌, subst, ◌+◌, Bool, true, false, [], sym, arith, ◌==◌, not, map}
+use Rattle.std.proofs.Common.{◌≡◌, ℕ, List, ◌∷◌, length, Option, Some, None, refl, ap, ◌∙◌, subst, Bool, true, false, [], sym, arith, ◌==◌, not, map}
 use Rattle.co_dict.specs.Rows.{Rows, Contents, fits, takes, written}
 use Rattle.co_dict.specs.Stores.{Description, IsDictionary, IsFilled}
 use Rattle.co_sdo.specs.Log.{Exchanged, Ticked, Log, Answer, answer_bytes, TimedOut}

@@ -1,7 +1,7 @@
 -- Uploads at once and in segments, whatever the dictionary permits and the client has room for: what the client and the channel
 -- make of each frame that may come.
-use Rattle.std.proofs.Common.{◌≡◌, ℕ, zero, suc, ◌+◌, ◌*◌, ◌<◌, Bool, true, false, not, List, [], ◌∷◌, length, take, Option, Some, None, refl, sym, ap, ◌∙◌, arith, length-take, ◌⊎◌, inl, inr, ◌≤◌}
-use Rattle.std.specs.Prelude.{nat_le, nat_lt, ◌&&◌, if◌then◌else◌}
+use Rattle.std.proofs.Common.{◌≡◌, ℕ, zero, suc, ◌+◌, ◌*◌, ◌<◌, Bool, true, false, not, List, [], ◌∷◌, length, take, Option, Some, None, refl, sym, ap, ◌∙◌, arith, length-take, ◌⊎◌, inl, inr}
+use Rattle.std.specs.Prelude.{nat_le, nat_lt, if◌then◌else◌}
 use Rattle.std.proofs.lemmas.Bool.Decides.{nat_tests}
 use Rattle.co_value.specs.Keys.{same_key-refl}
 use Rattle.co_frame.specs.declared.sdo_request.SdoRequest.TheVariants.{Upload as UploadRequest, UploadSegment as NextSegment}
@@ -10,7 +10,7 @@ use Rattle.co_frame.specs.SdoRequests.{request_bytes}
 use Rattle.co_frame.specs.SdoResponses.{response_in}
 use Rattle.co_sdo_client.specs.declared.stage.Stage.TheVariants.{Begun, Upload as Receiving}
 use Rattle.co_sdo_client.specs.Calls.{Request, Event as ClientEvent, Answered, answers as answers_of, Answers, since_first, with_answer}
-use Rattle.co_sdo_client.specs.Segments.{is_odd, cap_of, transfer_of, part_after, segments_for}
+use Rattle.co_sdo_client.specs.Segments.{is_odd, cap_of, part_after, segments_for}
 use Rattle.co_sdo_client.specs.Stages.{stage_since, held_since, size_by, segments_joined}
 use Rattle.co_sdo_client.specs.Verdicts.{Verdict, GoesOn, Ends, GivesUp, upload_complete, verdict, answer_verdict}
 use Rattle.co_sdo_client.specs.Outcomes.{state_by}
