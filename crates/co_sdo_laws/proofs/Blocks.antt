@@ -1,5 +1,5 @@
--- What the block transfers of both directions share: aborts among answers, what is on its way, and how many frames have come. `p`
--- says that a transfer is permitted and that nothing disturbs it; what holds of every transfer needs no `p`.
+-- What the block transfers of both directions share: aborts among answers, what is on its way, how the client stands, and how many
+-- frames have come. `p` says that a transfer is permitted and that nothing disturbs it; what holds of every transfer needs no `p`.
 use Rattle.std.proofs.Common.{◌≡◌, ℕ, suc, ◌+◌, ◌<◌, ◌≤◌, Bool, true, false, List, [], ◌∷◌, ◌++◌, length, drop, map, not, Option, refl, sym, ap, ◌∙◌, arith, eqb, subst, append-nil, ◌⊎◌, inl, inr}
 use Rattle.std.specs.Prelude.{if◌then◌else◌, nat_le, slice_index}
 use Rattle.std.proofs.lemmas.Bool.{eqb-true, false≢true, and_parts}
@@ -226,6 +226,7 @@ pub fails_by : (s : Setup) (p : Type 0) (Waits : Option Answers → World → Ty
     → Standing s p Waits Over (at_client s (Answered frame) w)
 fails_by s p Waits Over frame w never waits h = failed never (rw waits h)
 
+-- what holds of a client that is done
 pub once_done : (s : Setup) (p : Type 0) (Waits : Option Answers → World → Type 0) (Over : World → Type 0) (w : World) → Standing s p Waits Over w
     → outcome s.call w.events ≡ Done → Over w
 once_done s p Waits Over w (waiting b h) done = absurd (waiting≢done (sym b ∙ done))
