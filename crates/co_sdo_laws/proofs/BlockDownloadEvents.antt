@@ -19,7 +19,7 @@ use Rattle.co_sdo_client.specs.Verdicts.{Verdict, GoesOn, Ends, GivesUp, verdict
 use Rattle.co_sdo_client.specs.Outcomes.{state_by, outcome}
 use Rattle.co_sdo.specs.Log.{answer_bytes, Ticked}
 use Rattle.co_sdo.specs.Opened.{OpenTransfer, opened_after, is_time_over}
-use Rattle.co_sdo.specs.Replies.{open_key, time_out_reply}
+use Rattle.co_sdo.specs.Replies.{aborted, open_key, time_out_reply}
 use Rattle.co_sdo_laws.specs.World.{Setup, World, Requests, Answers as Back, WorldEvent, Delivered, Lost, Repeated, ClientTicked, ChannelTicked, is_repeat, at_client, timed_out, ticked, without_front, front_arrives, after_event, world_after}
 use Rattle.co_sdo_laws.specs.Undisturbed.{IsCalm, AreCalm, GoesInBlocks, HaveSent, block_frames, block_download_requests, block_download_answers}
 use Rattle.co_sdo_laws.proofs.Frames.{block_initiated_read, block_done_read, acknowledged_read}
@@ -27,7 +27,7 @@ use Rattle.co_sdo_laws.proofs.Channel.{serves_first, serves_ticked, IsServing, s
 use Rattle.co_sdo_laws.proofs.Permits.{bytes, sends_in_blocks, IsDownload}
 use Rattle.co_sdo_laws.proofs.Client.{follows, stays, verdict_since}
 use Rattle.co_sdo_laws.proofs.Failures.{is_aborted, has_failed, failed_event}
-use Rattle.co_sdo_laws.proofs.Blocks.{Lawful, waiting, over, failed, still_waits, same_client, same_events, fails_by, client_ticks, no_request, nothing_came, is_live, live, kept_both, kept_first, kept_one, kept_drop, kept_drop_one, IsDone, over_event, cut_fails, cut_read, Count, Moment, disturbed, heard, no_answer, cons≢nil, tail_is, calm_asks, same_requests, waits_at, done_at}
+use Rattle.co_sdo_laws.proofs.Blocks.{Lawful, waiting, over, failed, still_waits, fails_by, client_ticks, Tick, at_the_client, at_the_channel, time_over, after_tick, IsQuiet, DropsAborts, live_drops, moment_ticks, idle_ticks, channel_ticks, no_request, nothing_came, is_live, live, kept_both, kept_first, kept_one, kept_drop, kept_drop_one, IsDone, over_event, cut_fails, cut_read, Count, Moment, disturbed, heard, no_answer, cons≢nil, tail_is, calm_asks, same_requests, waits_at, done_at}
 use Rattle.co_sdo_laws.proofs.GoneChannels.{is_awaited, is_awaited_frame, awaited, aborted_other, IsGone, gone_ticks, gone_ends}
 use Rattle.co_sdo_laws.proofs.BlockSegments.{total, size_after, blocks, segments, IsWhole, full, full_count, last_count}
 use Rattle.co_sdo_laws.proofs.BlockDownloads.{confirmation, acknowledgement, client_end, all_done, Took, taking, complete, May, IsSet, Last, Waits, asking, confirmed, unconfirmed, sending, unheard, acknowledging, finishing, ending, ended, quiet, IsOver, Stands, loses_request, request_comes}
@@ -270,79 +270,48 @@ over_answer s p w h (x ∷ later) e =
 
 -- ---- ticks
 
-record Carries (s : Setup) (p : Type 0) (w w' : World) : Type 0 where
-  requests : w'.requests ≡ w.requests
-  early : live w'.answers ≡ live w.answers
-  answers : awaited w'.answers ≡ awaited w.answers
-  exact : p → w'.answers ≡ w.answers
-  count : (r q : ℕ) → p → Count r q w → Count r q w'
-  idle : IsServing s (Lawful s) None w.log w.contents → IsServing s (Lawful s) None w'.log w'.contents
-  opened : (o : OpenTransfer) → IsServing s (Lawful s) (Some o) w.log w.contents → May s p o w'.log w'.contents
-  gone : IsGone w.log → IsGone w'.log
-  set : IsSet s p w.log w.contents → IsSet s p w'.log w'.contents
+awaited_drops : DropsAborts awaited
+awaited_drops xs key = kept_both is_awaited_frame xs (map answer_bytes (aborted key 0x05040000))
+    ∙ ap (λ (ys : List (List ℕ)). awaited xs ++ ys) (aborted_other key 0x05040000) ∙ append-nil (awaited xs)
 
-early_moved : (s : Setup) (p : Type 0) (w w' : World) (sent given : List (List ℕ)) (r q : ℕ) → Carries s p w w' → Moment p live sent given r q w → Moment p live sent given r q w'
-early_moved s p w w' sent given r q c m = record { requests = c.requests ∙ m.requests; answers = c.early ∙ m.answers; exact = λ x. c.exact x ∙ m.exact x; count = λ x. c.count r q x (m.count x) }
+gone_tick : (s : Setup) (tick : Tick) (w : World) → IsGone w.log → IsGone (after_tick s tick w).log
+gone_tick s at_the_client w h = h
+gone_tick s at_the_channel w h = gone_ticks w.log h
+gone_tick s time_over w h = gone_ends (Ticked ∷ w.log) (time_out_reply (Ticked ∷ w.log))
 
-moved : (s : Setup) (p : Type 0) (w w' : World) (sent given : List (List ℕ)) (r q : ℕ) → Carries s p w w' → Moment p awaited sent given r q w → Moment p awaited sent given r q w'
-moved s p w w' sent given r q c m = record { requests = c.requests ∙ m.requests; answers = c.answers ∙ m.answers; exact = λ x. c.exact x ∙ m.exact x; count = λ x. c.count r q x (m.count x) }
+may_ticks : (s : Setup) (p : Type 0) (tick : Tick) (o : OpenTransfer) (w : World) → IsQuiet s p tick w → May s p o w.log w.contents
+    → May s p o (after_tick s tick w).log (after_tick s tick w).contents
+may_ticks s p tick o w q (inr h) = inr (h.0, gone_tick s tick w h.1)
+may_ticks s p at_the_client o w q (inl h) = inl h
+may_ticks s p at_the_channel o w q (inl h) = inl (serving_ticks s (Lawful s) (Some o) w.log w.contents h)
+may_ticks s p time_over o w never (inl h) = inr (never, gone_ends (Ticked ∷ w.log) (time_out_reply (Ticked ∷ w.log)))
 
-either_moved : (s : Setup) (p : Type 0) (w w' : World) (o : OpenTransfer) → Carries s p w w' → May s p o w.log w.contents → May s p o w'.log w'.contents
-either_moved s p w w' o c (inl h) = c.opened o h
-either_moved s p w w' o c (inr h) = inr (h.0, c.gone h.1)
+set_ticks : (s : Setup) (p : Type 0) (tick : Tick) (w : World) → IsQuiet s p tick w → IsSet s p w.log w.contents → IsSet s p (after_tick s tick w).log (after_tick s tick w).contents
+set_ticks s p at_the_client w q h = h
+set_ticks s p at_the_channel w q h =
+    record { entry = h.entry; closed = λ x. let k = h.closed x in record { serves = serves_ticked _ _ _ k.serves; sets = k.sets } }
+set_ticks s p time_over w never h = record { entry = h.entry; closed = λ x. absurd (never x) }
 
-carry : (s : Setup) (p : Type 0) (known : Option Answers) (w w' : World) → Carries s p w w' → Waits s p known w → Waits s p known w'
-carry s p known w w' c (asking b m h) = asking b (early_moved s p w w' _ _ _ _ c m) (c.idle h)
-carry s p known w w' c (confirmed b m h) = confirmed b (early_moved s p w w' _ _ _ _ c m) (either_moved s p w w' _ c h)
-carry s p known w w' c (unconfirmed n b e f) = unconfirmed n b (c.requests ∙ e) (c.early ∙ f)
-carry s p known w w' c (sending a t n more b under some size turn m h) = elim (c.opened (taking s (a + t) t) h) [
-  | inl i ↦ sending a t n more b under some size turn (moved s p w w' _ _ _ _ c m) i
-  | inr gone ↦ unheard a n more gone.0 b (omega arith) some size (c.requests ∙ m.requests) (c.answers ∙ m.answers) gone.1
-]
-carry s p known w w' c (unheard a n more never b under some size e f h) = unheard a n more never b under some size (c.requests ∙ e) (c.answers ∙ f) (c.gone h)
-carry s p known w w' c (acknowledging a t b under whole m h) = acknowledging a t b under whole (moved s p w w' _ _ _ _ c m) (either_moved s p w w' _ c h)
-carry s p known w w' c (finishing a t b under all whole m h) = finishing a t b under all whole (moved s p w w' _ _ _ _ c m) (either_moved s p w w' _ c h)
-carry s p known w w' c (ending b m h) = ending b (moved s p w w' _ _ _ _ c m) (either_moved s p w w' _ c h)
-carry s p known w w' c (ended b m h) = ended b (moved s p w w' _ _ _ _ c m) (c.set h)
-carry s p known w w' c (quiet a n b e f) = quiet a n b (c.requests ∙ e) (c.answers ∙ f)
-
-calm_tick : (s : Setup) (p : Type 0) (w : World) → is_client_over s.call.time (TickedAtClient ∷ w.events) ≡ false → Carries s p w (at_client s TickedAtClient w)
-calm_tick s p w e = record {
-  requests = same_requests w.requests _ (ap (map message_bytes) (calm_asks s w.events e));
-  early = refl;
-  answers = refl;
-  exact = λ x. refl;
-  count = λ r q x n. record { received = n.received; answered = n.answered };
-  idle = λ h. h;
-  opened = λ o h. inl h;
-  gone = λ h. h;
-  set = λ h. h;
-}
-
-channel_tick : (s : Setup) (p : Type 0) (w : World) (ends : Bool) → (p → ends ≡ false) → Carries s p w (if ends then timed_out (ticked w) else ticked w)
-channel_tick s p w false calm = record {
-  requests = refl;
-  early = refl;
-  answers = refl;
-  exact = λ x. refl;
-  count = λ r q x n. record { received = n.received; answered = n.answered };
-  idle = serving_ticks s (Lawful s) None w.log w.contents;
-  opened = λ o h. inl (serving_ticks s (Lawful s) (Some o) w.log w.contents h);
-  gone = gone_ticks w.log;
-  set = λ h. record { entry = h.entry; closed = λ x. let k = h.closed x in record { serves = serves_ticked _ _ _ k.serves; sets = k.sets } };
-}
-channel_tick s p w true calm = record {
-  requests = refl;
-  early = kept_both is_live w.answers (map answer_bytes (time_out_reply (Ticked ∷ w.log))) ∙ append-nil (live w.answers);
-  answers = kept_both is_awaited_frame w.answers (map answer_bytes (time_out_reply (Ticked ∷ w.log)))
-      ∙ ap (λ (xs : List (List ℕ)). awaited w.answers ++ xs) (aborted_other (open_key (opened_after (Ticked ∷ w.log))) 0x05040000) ∙ append-nil (awaited w.answers);
-  exact = λ x. absurd (false≢true (sym (calm x)));
-  count = λ r q x. absurd (false≢true (sym (calm x)));
-  idle = λ h. serving_ends s (Lawful s) None (Ticked ∷ w.log) w.contents (serving_ticks s (Lawful s) None w.log w.contents h);
-  opened = λ o h. inr ((λ x. false≢true (sym (calm x))), gone_ends (Ticked ∷ w.log) (time_out_reply (Ticked ∷ w.log)));
-  gone = λ h. gone_ends (Ticked ∷ w.log) (time_out_reply (Ticked ∷ w.log));
-  set = λ h. record { entry = h.entry; closed = λ x. absurd (false≢true (sym (calm x))) };
-}
+carry : (s : Setup) (p : Type 0) (tick : Tick) (known : Option Answers) (w : World) → IsQuiet s p tick w → Waits s p known w → Waits s p known (after_tick s tick w)
+carry s p tick known w q (asking b m h) = asking b (moment_ticks s p live live_drops tick _ _ _ _ w q m) (idle_ticks s tick w h)
+carry s p tick known w q (confirmed b m h) = confirmed b (moment_ticks s p live live_drops tick _ _ _ _ w q m) (may_ticks s p tick _ w q h)
+carry s p tick known w q (unconfirmed n b e f) =
+    let m = moment_ticks s p live live_drops tick [] [] 0 0 w q (disturbed p live [] [] 0 0 w n e f) in unconfirmed n b m.requests m.answers
+carry s p tick known w q (sending a t n more b under some size turn m h) =
+    let at = moment_ticks s p awaited awaited_drops tick _ _ _ _ w q m in
+    elim (may_ticks s p tick (taking s (a + t) t) w q (inl h)) [
+      | inl i ↦ sending a t n more b under some size turn at i
+      | inr gone ↦ unheard a n more gone.0 b (omega arith) some size at.requests at.answers gone.1
+    ]
+carry s p tick known w q (unheard a n more never b under some size e f h) =
+    let m = moment_ticks s p awaited awaited_drops tick _ [] 0 0 w q (disturbed p awaited _ [] 0 0 w never e f) in
+    unheard a n more never b under some size m.requests m.answers (gone_tick s tick w h)
+carry s p tick known w q (acknowledging a t b under whole m h) = acknowledging a t b under whole (moment_ticks s p awaited awaited_drops tick _ _ _ _ w q m) (may_ticks s p tick _ w q h)
+carry s p tick known w q (finishing a t b under all whole m h) = finishing a t b under all whole (moment_ticks s p awaited awaited_drops tick _ _ _ _ w q m) (may_ticks s p tick _ w q h)
+carry s p tick known w q (ending b m h) = ending b (moment_ticks s p awaited awaited_drops tick _ _ _ _ w q m) (may_ticks s p tick _ w q h)
+carry s p tick known w q (ended b m h) = ended b (moment_ticks s p awaited awaited_drops tick _ _ _ _ w q m) (set_ticks s p tick w q h)
+carry s p tick known w q (quiet a n b e f) =
+    let m = moment_ticks s p awaited awaited_drops tick [] [] 0 0 w q (disturbed p awaited [] [] 0 0 w n e f) in quiet a n b m.requests m.answers
 
 -- ---- every event
 
@@ -354,19 +323,19 @@ waits_event s p m (Lost Requests) w once calm b h = waiting b (loses_request s p
 waits_event s p m (Lost Back) w once calm b h = waiting b (loses_answer s p _ w calm h)
 waits_event s p m (Repeated queue) w once calm b h = absurd (false≢true (sym once))
 waits_event s p m ClientTicked w once calm b h =
-    client_ticks s p _ _ w _ refl calm b (λ e. carry s p _ w (at_client s TickedAtClient w) (calm_tick s p w e) h)
-waits_event s p m ChannelTicked w once calm b h =
-    same_client s p _ _ w _ (same_events w (is_time_over s.time (Ticked ∷ w.log))) b (carry s p _ w _ (channel_tick s p w (is_time_over s.time (Ticked ∷ w.log)) calm) h)
+    client_ticks s p _ _ w _ refl calm b (λ e. carry s p at_the_client _ w (calm_asks s w.events e) h)
+waits_event s p m ChannelTicked w once calm b h = channel_ticks s p _ _ w _ calm b (λ tick q. carry s p tick _ w q h)
 
 channel_over : (s : Setup) (p : Type 0) (w : World) (ends : Bool) → (p → ends ≡ false) → IsOver s p w → IsOver s p (if ends then timed_out (ticked w) else ticked w)
-channel_over s p w ends calm h =
-    let c = channel_tick s p w ends calm in
-    record {
-      done = subst (IsDone s []) (sym (same_events w ends)) h.done;
-      none = c.requests ∙ h.none;
-      set = c.set h.set;
-      last = λ x. record { answers = c.exact x ∙ (h.last x).answers; count = c.count _ _ x (h.last x).count };
-    }
+channel_over s p w true calm h =
+    let never : p → ⊥ = λ x. false≢true (sym (calm x)) in
+    record { done = h.done; none = h.none; set = set_ticks s p time_over w never h.set; last = λ x. absurd (never x) }
+channel_over s p w false calm h = record {
+  done = h.done;
+  none = h.none;
+  set = set_ticks s p at_the_channel w tt h.set;
+  last = λ x. record { answers = (h.last x).answers; count = let n = (h.last x).count in record { received = n.received; answered = n.answered } };
+}
 
 over_world_event : (s : Setup) (p : Type 0) (event : WorldEvent) (w : World) → is_repeat event ≡ false → (p → IsCalm s event w) → IsOver s p w → IsOver s p (after_event s event w)
 over_world_event s p (Delivered Requests) w once calm h = nothing_came s (IsOver s p) w h.none h
@@ -376,7 +345,7 @@ over_world_event s p (Lost Back) w once calm h = over_loses s p w calm h
 over_world_event s p (Repeated queue) w once calm h = absurd (false≢true (sym once))
 over_world_event s p ClientTicked w once calm h =
     over_hears s p TickedAtClient w h (λ x. record { answers = (h.last x).answers; count = let n = (h.last x).count in record { received = n.received; answered = n.answered } })
-over_world_event s p ChannelTicked w once calm h = channel_over s p w (is_time_over s.time (Ticked ∷ w.log)) calm h
+over_world_event s p ChannelTicked w once calm h = channel_over s p w _ calm h
 
 step : (s : Setup) (p : Type 0) → IsDownload s p sends_in_blocks → (event : WorldEvent) (w : World) → is_repeat event ≡ false → (p → IsCalm s event w) → Stands s p w → Stands s p (after_event s event w)
 step s p m event w once calm (waiting b h) = waits_event s p m event w once calm b h

@@ -26,7 +26,7 @@ use Rattle.co_sdo_laws.proofs.Channel.{serves_first, Serves, IsServing, serving_
 use Rattle.co_sdo_laws.proofs.Client.{follows, stays, verdict_since}
 use Rattle.co_sdo_laws.proofs.Failures.{failed_event}
 use Rattle.co_sdo_laws.proofs.Permits.{value, reads_in_blocks, IsUpload, small_value, not_above, below_itself}
-use Rattle.co_sdo_laws.proofs.Blocks.{Lawful, waiting, over, failed, still_waits, same_client, same_events, fails_by, client_ticks, is_live, live, kept_both, cut_fails, cut_is_more, Count, Moment, disturbed, heard, no_request, no_answer, cons≢nil, head_is, tail_is, dropped, front_came, nothing_came, IsDone, over_event, calm_asks, same_requests, waits_at, done_at}
+use Rattle.co_sdo_laws.proofs.Blocks.{Lawful, waiting, over, failed, still_waits, fails_by, client_ticks, Tick, at_the_client, at_the_channel, time_over, after_tick, IsQuiet, live_drops, moment_ticks, idle_ticks, channel_ticks, is_live, live, kept_both, cut_fails, cut_is_more, Count, Moment, disturbed, heard, no_request, no_answer, cons≢nil, head_is, tail_is, dropped, front_came, nothing_came, IsDone, over_event, calm_asks, same_requests, waits_at, done_at}
 use Rattle.co_sdo_laws.proofs.BlockSegments.{all_is, total, size_after, blocks, unused, segment_at, segments, InTurn, Reads, Goes, Completes, next_inside, next_ends, has_room, in_block}
 use Rattle.co_sdo_laws.proofs.BlockUploads.{confirmation, acknowledgement, server_end, client_end, Took, TookAll, Idle, begun, sending, at_end, May, Last, sent_end, end_came, Waits, asking, confirmed, starting, taking, acknowledging, finishing, ending, quiet, IsOver, Stands, all_live, initiate_comes, start_comes, acknowledgement_comes, last_acknowledgement_comes, end_comes}
 use Rattle.co_sdo_laws.proofs.Progress.{AllThere, have_sent}
@@ -166,37 +166,6 @@ server_end_comes s p m w b c at h false room =
       last = λ x. sent_end next.requests (next.exact x) (next.count x) (elim h [ inl gone ↦ absurd (gone.0 x) | inr opened ↦ opened ]);
     })
 
--- ---- an event that changes nothing of what is on its way
-
-record Carries (s : Setup) (p : Type 0) (w w' : World) : Type 0 where
-  requests : w'.requests ≡ w.requests
-  answers : live w'.answers ≡ live w.answers
-  exact : p → w'.answers ≡ w.answers
-  count : (r q : ℕ) → p → Count r q w → Count r q w'
-  idle : Idle s w.log w.contents → Idle s w'.log w'.contents
-  may : (o : OpenTransfer) → May s p o w.log w.contents → May s p o w'.log w'.contents
-
-moved : (s : Setup) (p : Type 0) (w w' : World) (sent given : List (List ℕ)) (r q : ℕ) → Carries s p w w' → Moment p live sent given r q w → Moment p live sent given r q w'
-moved s p w w' sent given r q c m = record { requests = c.requests ∙ m.requests; answers = c.answers ∙ m.answers; exact = λ x. c.exact x ∙ m.exact x; count = λ x. c.count r q x (m.count x) }
-
-still_open : (s : Setup) (p : Type 0) (o : OpenTransfer) (log : Log) (contents : Contents) → p → May s p o log contents → IsServing s (Lawful s) (Some o) log contents
-still_open s p o log contents x (inl gone) = absurd (gone.0 x)
-still_open s p o log contents x (inr opened) = opened
-
-last_moved : (s : Setup) (p : Type 0) (w w' : World) → Carries s p w w' → p → Last s w → Last s w'
-last_moved s p w w' c x (sent_end a b n h) = sent_end (c.requests ∙ a) (c.exact x ∙ b) (c.count _ _ x n) (still_open s p (at_end s) w'.log w'.contents x (c.may (at_end s) (inr h)))
-last_moved s p w w' c x (end_came a b n h) = end_came (c.requests ∙ a) (c.exact x ∙ b) (c.count _ _ x n) (c.idle h)
-
-carry : (s : Setup) (p : Type 0) (known : Option Answers) (w w' : World) → Carries s p w w' → Waits s p known w → Waits s p known w'
-carry s p known w w' c (asking b m h) = asking b (moved s p w w' _ _ _ _ c m) (c.idle h)
-carry s p known w w' c (confirmed b m h) = confirmed b (moved s p w w' _ _ _ _ c m) (c.may (begun s) h)
-carry s p known w w' c (starting b m h) = starting b (moved s p w w' _ _ _ _ c m) (c.may (begun s) h)
-carry s p known w w' c (taking a t n more b under some size turn m h) = taking a t n more b under some size turn (moved s p w w' _ _ _ _ c m) (c.may (sending s a) h)
-carry s p known w w' c (acknowledging a u b under whole m h) = acknowledging a u b under whole (moved s p w w' _ _ _ _ c m) (c.may (sending s a) h)
-carry s p known w w' c (finishing a u b e whole m h) = finishing a u b e whole (moved s p w w' _ _ _ _ c m) (c.may (sending s a) h)
-carry s p known w w' c (ending b m h) = ending b (moved s p w w' _ _ _ _ c m) (c.may (at_end s) h)
-carry s p known w w' c (quiet never e f) = quiet never (c.requests ∙ e) (c.answers ∙ f)
-
 -- ---- requests
 
 -- a request is lost
@@ -248,22 +217,22 @@ loses_live s p known w x never e (ending b m h) = quiet never m.requests (tail_i
 loses_live s p known w x never e (quiet n f g) = absurd (cons≢nil x _ (sym e ∙ g))
 
 -- an abort is lost
-loses_cut : (s : Setup) (p : Type 0) (w : World) → (p → ⊥) → live (drop 1 w.answers) ≡ live w.answers → Carries s p w (without_front Back w)
-loses_cut s p w never e = record {
-  requests = refl;
-  answers = e;
-  exact = λ x. absurd (never x);
-  count = λ r q x. absurd (never x);
-  idle = λ c. c;
-  may = λ o c. c;
-}
+loses_cut : (s : Setup) (p : Type 0) (known : Option Answers) (w : World) → (p → ⊥) → live (drop 1 w.answers) ≡ live w.answers → Waits s p known w → Waits s p known (without_front Back w)
+loses_cut s p known w never e (asking b m h) = asking b (disturbed p live _ _ _ _ (without_front Back w) never m.requests (e ∙ m.answers)) h
+loses_cut s p known w never e (confirmed b m h) = confirmed b (disturbed p live _ _ _ _ (without_front Back w) never m.requests (e ∙ m.answers)) h
+loses_cut s p known w never e (starting b m h) = starting b (disturbed p live _ _ _ _ (without_front Back w) never m.requests (e ∙ m.answers)) h
+loses_cut s p known w never e (taking a t n more b under some size turn m h) = taking a t n more b under some size turn (disturbed p live _ _ _ _ (without_front Back w) never m.requests (e ∙ m.answers)) h
+loses_cut s p known w never e (acknowledging a u b under whole m h) = acknowledging a u b under whole (disturbed p live _ _ _ _ (without_front Back w) never m.requests (e ∙ m.answers)) h
+loses_cut s p known w never e (finishing a u b g whole m h) = finishing a u b g whole (disturbed p live _ _ _ _ (without_front Back w) never m.requests (e ∙ m.answers)) h
+loses_cut s p known w never e (ending b m h) = ending b (disturbed p live _ _ _ _ (without_front Back w) never m.requests (e ∙ m.answers)) h
+loses_cut s p known w never e (quiet n f g) = quiet never f (e ∙ g)
 
 answer_lost : (s : Setup) (p : Type 0) (known : Option Answers) (w : World) → (p → ⊥) → Waits s p known w → (xs : List (List ℕ)) → w.answers ≡ xs → Waits s p known (without_front Back w)
 answer_lost s p known w never h [] e = subst (Waits s p known) (no_answer w e) h
 answer_lost s p known w never h (x ∷ later) e = by _ refl
   where
     by : (cut : Bool) → is_abort_in_sub_block x ≡ cut → Waits s p known (without_front Back w)
-    by true c = carry s p known w (without_front Back w) (loses_cut s p w never (rw (e, c) refl)) h
+    by true c = loses_cut s p known w never (rw (e, c) refl) h
     by false c = loses_live s p known w x never (rw (e, c) refl) h
 
 rest : (p : Type 0) (x y : List ℕ) (later given : List (List ℕ)) (r q : ℕ) (w : World) → w.answers ≡ x ∷ later → live w.answers ≡ x ∷ live later → Moment p live [] (y ∷ given) r q w → Moment p live [] given r q (without_front Back w)
@@ -313,41 +282,39 @@ over_answer s p w b (x ∷ later) e = record { done = over_event s (Answered x) 
 
 -- ---- ticks
 
-calm_tick : (s : Setup) (p : Type 0) (w : World) → asked s.call (TickedAtClient ∷ w.events) ≡ [] → Carries s p w (at_client s TickedAtClient w)
-calm_tick s p w none = record {
-  requests = same_requests w.requests _ (ap (map message_bytes) none);
-  answers = refl;
-  exact = λ x. refl;
-  count = λ r q x n. record { received = n.received; answered = n.answered };
-  idle = λ c. c;
-  may = λ o c. c;
-}
+may_ticks : (s : Setup) (p : Type 0) (tick : Tick) (o : OpenTransfer) (w : World) → IsQuiet s p tick w → May s p o w.log w.contents
+    → May s p o (after_tick s tick w).log (after_tick s tick w).contents
+may_ticks s p tick o w q (inl h) = inl (h.0, idle_ticks s tick w h.1)
+may_ticks s p at_the_client o w q (inr h) = inr h
+may_ticks s p at_the_channel o w q (inr h) = inr (serving_ticks s (Lawful s) (Some o) w.log w.contents h)
+may_ticks s p time_over o w never (inr h) = inl (never, serving_ends s (Lawful s) (Some o) (Ticked ∷ w.log) w.contents (serving_ticks s (Lawful s) (Some o) w.log w.contents h))
 
-may_tick : (s : Setup) (p : Type 0) (o : OpenTransfer) (log : Log) (contents : Contents) → May s p o log contents → May s p o (Ticked ∷ log) contents
-may_tick s p o log contents (inl h) = inl (h.0, serving_ticks s (Lawful s) None log contents h.1)
-may_tick s p o log contents (inr h) = inr (serving_ticks s (Lawful s) (Some o) log contents h)
+carry : (s : Setup) (p : Type 0) (tick : Tick) (known : Option Answers) (w : World) → IsQuiet s p tick w → Waits s p known w → Waits s p known (after_tick s tick w)
+carry s p tick known w q (asking b m h) = asking b (moment_ticks s p live live_drops tick _ _ _ _ w q m) (idle_ticks s tick w h)
+carry s p tick known w q (confirmed b m h) = confirmed b (moment_ticks s p live live_drops tick _ _ _ _ w q m) (may_ticks s p tick (begun s) w q h)
+carry s p tick known w q (starting b m h) = starting b (moment_ticks s p live live_drops tick _ _ _ _ w q m) (may_ticks s p tick (begun s) w q h)
+carry s p tick known w q (taking a t n more b under some size turn m h) = taking a t n more b under some size turn (moment_ticks s p live live_drops tick _ _ _ _ w q m) (may_ticks s p tick (sending s a) w q h)
+carry s p tick known w q (acknowledging a u b under whole m h) = acknowledging a u b under whole (moment_ticks s p live live_drops tick _ _ _ _ w q m) (may_ticks s p tick (sending s a) w q h)
+carry s p tick known w q (finishing a u b e whole m h) = finishing a u b e whole (moment_ticks s p live live_drops tick _ _ _ _ w q m) (may_ticks s p tick (sending s a) w q h)
+carry s p tick known w q (ending b m h) = ending b (moment_ticks s p live live_drops tick _ _ _ _ w q m) (may_ticks s p tick (at_end s) w q h)
+carry s p tick known w q (quiet never e f) =
+    let m = moment_ticks s p live live_drops tick [] [] 0 0 w q (disturbed p live [] [] 0 0 w never e f) in quiet never m.requests m.answers
 
-may_end : (s : Setup) (p : Type 0) (o : OpenTransfer) (log : Log) (contents : Contents) → (p → ⊥) → May s p o log contents → May s p o (TimedOut (time_out_reply log) ∷ log) contents
-may_end s p o log contents never (inl h) = inl (never, serving_ends s (Lawful s) None log contents h.1)
-may_end s p o log contents never (inr h) = inl (never, serving_ends s (Lawful s) (Some o) log contents h)
+still_open : (s : Setup) (p : Type 0) (o : OpenTransfer) (log : Log) (contents : Contents) → p → May s p o log contents → IsServing s (Lawful s) (Some o) log contents
+still_open s p o log contents x (inl gone) = absurd (gone.0 x)
+still_open s p o log contents x (inr opened) = opened
 
-channel_tick : (s : Setup) (p : Type 0) (w : World) (ends : Bool) → (p → ends ≡ false) → Carries s p w (if ends then timed_out (ticked w) else ticked w)
-channel_tick s p w false calm = record {
-  requests = refl;
-  answers = refl;
-  exact = λ x. refl;
-  count = λ r q x n. record { received = n.received; answered = n.answered };
-  idle = serving_ticks s (Lawful s) None w.log w.contents;
-  may = λ o. may_tick s p o w.log w.contents;
-}
-channel_tick s p w true calm = record {
-  requests = refl;
-  answers = kept_both is_live w.answers (map answer_bytes (time_out_reply (Ticked ∷ w.log))) ∙ append-nil (live w.answers);
-  exact = λ x. absurd (false≢true (sym (calm x)));
-  count = λ r q x. absurd (false≢true (sym (calm x)));
-  idle = λ c. serving_ends s (Lawful s) None (Ticked ∷ w.log) w.contents (serving_ticks s (Lawful s) None w.log w.contents c);
-  may = λ o c. may_end s p o (Ticked ∷ w.log) w.contents (λ x. false≢true (sym (calm x))) (may_tick s p o w.log w.contents c);
-}
+last_ticks : (s : Setup) (p : Type 0) (tick : Tick) (w : World) → IsQuiet s p tick w → p → Last s w → Last s (after_tick s tick w)
+last_ticks s p tick w q x (sent_end a b n h) =
+    let m = moment_ticks s p live live_drops tick (client_end ∷ []) [] _ _ w q (record { requests = a; answers = ap live b; exact = λ y. b; count = λ y. n }) in
+    sent_end m.requests (m.exact x) (m.count x) (still_open s p (at_end s) _ _ x (may_ticks s p tick (at_end s) w q (inr h)))
+last_ticks s p tick w q x (end_came a b n h) =
+    let m = moment_ticks s p live live_drops tick [] [] _ _ w q (record { requests = a; answers = ap live b; exact = λ y. b; count = λ y. n }) in
+    end_came m.requests (m.exact x) (m.count x) (idle_ticks s tick w h)
+
+channel_over : (s : Setup) (p : Type 0) (w : World) (ends : Bool) → (p → ends ≡ false) → IsOver s p w → IsOver s p (if ends then timed_out (ticked w) else ticked w)
+channel_over s p w true calm b = record { done = b.done; last = λ x. absurd (false≢true (sym (calm x))) }
+channel_over s p w false calm b = record { done = b.done; last = λ x. last_ticks s p at_the_channel w tt x (b.last x) }
 
 -- ---- every event
 
@@ -359,9 +326,8 @@ waits_event s p m (Lost Requests) w once calm b h = waiting b (loses_request s p
 waits_event s p m (Lost Back) w once calm b h = waiting b (answer_lost s p _ w calm h w.answers refl)
 waits_event s p m (Repeated queue) w once calm b h = absurd (false≢true (sym once))
 waits_event s p m ClientTicked w once calm b h =
-    client_ticks s p _ _ w _ refl calm b (λ e. carry s p _ w (at_client s TickedAtClient w) (calm_tick s p w (calm_asks s w.events e)) h)
-waits_event s p m ChannelTicked w once calm b h =
-    same_client s p _ _ w _ (same_events w (is_time_over s.time (Ticked ∷ w.log))) b (carry s p _ w _ (channel_tick s p w (is_time_over s.time (Ticked ∷ w.log)) calm) h)
+    client_ticks s p _ _ w _ refl calm b (λ e. carry s p at_the_client _ w (calm_asks s w.events e) h)
+waits_event s p m ChannelTicked w once calm b h = channel_ticks s p _ _ w _ calm b (λ tick q. carry s p tick _ w q h)
 
 over_world_event : (s : Setup) (p : Type 0) → IsUpload s p reads_in_blocks → (event : WorldEvent) (w : World) → is_repeat event ≡ false → (p → IsCalm s event w)
     → IsOver s p w → IsOver s p (after_event s event w)
@@ -372,12 +338,9 @@ over_world_event s p m (Lost Back) w once calm b = record { done = b.done; last 
 over_world_event s p m (Repeated queue) w once calm b = absurd (false≢true (sym once))
 over_world_event s p m ClientTicked w once calm b = record {
   done = over_event s TickedAtClient w b.done;
-  last = λ x. last_moved s p w _ (calm_tick s p w (stays s.call w.events TickedAtClient b.done.done).messages) x (b.last x);
+  last = λ x. last_ticks s p at_the_client w (stays s.call w.events TickedAtClient b.done.done).messages x (b.last x);
 }
-over_world_event s p m ChannelTicked w once calm b = record {
-  done = subst (IsDone s (value s)) (sym (same_events w (is_time_over s.time (Ticked ∷ w.log)))) b.done;
-  last = λ x. last_moved s p w _ (channel_tick s p w (is_time_over s.time (Ticked ∷ w.log)) calm) x (b.last x);
-}
+over_world_event s p m ChannelTicked w once calm b = channel_over s p w _ calm b
 
 step : (s : Setup) (p : Type 0) → IsUpload s p reads_in_blocks → (event : WorldEvent) (w : World) → is_repeat event ≡ false → (p → IsCalm s event w) → Stands s p w → Stands s p (after_event s event w)
 step s p m event w once calm (waiting b h) = waits_event s p m event w once calm b h

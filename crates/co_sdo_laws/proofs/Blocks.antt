@@ -1,6 +1,6 @@
 -- What the block transfers of both directions share: aborts among answers, what is on its way, how the client stands, and how many
 -- frames have come. `p` says that a transfer is permitted and that nothing disturbs it; what holds of every transfer needs no `p`.
-use Rattle.std.proofs.Common.{◌≡◌, ℕ, suc, ◌+◌, ◌<◌, ◌≤◌, Bool, true, false, List, [], ◌∷◌, ◌++◌, length, drop, map, not, Option, refl, sym, ap, ◌∙◌, arith, eqb, subst, append-nil, ◌⊎◌, inl, inr}
+use Rattle.std.proofs.Common.{◌≡◌, ℕ, suc, ◌+◌, ◌<◌, ◌≤◌, Bool, true, false, List, [], ◌∷◌, ◌++◌, length, drop, map, not, Option, None, refl, sym, ap, ◌∙◌, arith, eqb, subst, append-nil, ◌⊎◌, inl, inr}
 use Rattle.std.specs.Prelude.{if◌then◌else◌, nat_le, slice_index}
 use Rattle.std.proofs.lemmas.Bool.{eqb-true, false≢true, and_parts}
 use Rattle.std.proofs.lemmas.Bool.Decides.{nat_tests}
@@ -14,11 +14,14 @@ use Rattle.co_sdo_client.specs.Calls.{Call, Message, Answers, message_bytes, Eve
 use Rattle.co_sdo_client.specs.Verdicts.{GoesOn, verdict, answer_verdict}
 use Rattle.co_sdo_client.specs.Outcomes.{state_by, while_waiting, outcome, result, asked}
 use Rattle.co_dict.specs.Rows.{Contents}
-use Rattle.co_sdo.specs.Log.{Answer, answer_bytes}
-use Rattle.co_sdo.specs.Replies.{reply_to}
+use Rattle.co_value.specs.declared.key.Key.{Key}
+use Rattle.co_sdo.specs.Log.{Answer, answer_bytes, Ticked}
+use Rattle.co_sdo.specs.Opened.{opened_after}
+use Rattle.co_sdo.specs.Replies.{aborted, open_key, reply_to}
 use Rattle.co_sdo_laws.specs.World.{Setup, World, Requests, Answers as Back, ClientTicked, at_client, at_channel, timed_out, ticked, without_front, front_arrives}
 use Rattle.co_sdo_laws.specs.Undisturbed.{IsCalm, arrived, on_their_way, GoesInBlocks}
 use Rattle.co_sdo_laws.proofs.Client.{follows, stays, tick_verdict}
+use Rattle.co_sdo_laws.proofs.Channel.{IsServing, serving_ticks, serving_ends}
 use Rattle.co_sdo_laws.proofs.Turns.{waiting≢done}
 use Rattle.co_sdo_laws.proofs.Failures.{aborted_fails, is_aborted, has_failed}
 
@@ -214,12 +217,6 @@ pub still_waits : (s : Setup) (p : Type 0) (Waits : Option Answers → World →
 still_waits s p Waits Over [] w b h = waiting b h
 still_waits s p Waits Over (x ∷ xs) w b h = waiting b h
 
--- nor does another world with the same client
-pub same_client : (s : Setup) (p : Type 0) (Waits : Option Answers → World → Type 0) (Over : World → Type 0) (w w' : World) → w'.events ≡ w.events
-    → outcome s.call w.events ≡ Waiting → Waits (since_first (answers_of w.events)) w' → Standing s p Waits Over w'
-same_client s p Waits Over w w' e b h =
-    waiting (ap (outcome s.call) e ∙ b) (subst (λ (events : List ClientEvent). Waits (since_first (answers_of events)) w') (sym e) h)
-
 -- a client that gives up
 pub fails_by : (s : Setup) (p : Type 0) (Waits : Option Answers → World → Type 0) (Over : World → Type 0) (frame : List ℕ) (w : World) → (p → ⊥)
     → outcome s.call w.events ≡ Waiting → has_failed (state_by (verdict s.call w.events (Answered frame))) ≡ true
@@ -249,12 +246,64 @@ pub over_event : (s : Setup) (event : ClientEvent) {given : List ℕ} (w : World
     → IsDone s given (event ∷ w.events)
 over_event s event w b = let f = stays s.call w.events event b.done in record { done = f.state; gives = f.value ∙ b.gives }
 
-pub same_events : (w : World) (ends : Bool) → (if ends then timed_out (ticked w) else ticked w).events ≡ w.events
-same_events w true = refl
-same_events w false = refl
-
 pub same_requests : (xs ys : List (List ℕ)) → ys ≡ [] → xs ++ ys ≡ xs
 same_requests xs ys e = rw e (append-nil xs)
+
+-- ---- 1 ms elapses
+
+-- at a client, or at the channel, whose time may be over
+pub data Tick : Type 0 where
+  at_the_client : Tick
+  at_the_channel : Tick
+  time_over : Tick
+
+abbrev pub after_tick : Setup → Tick → World → World
+after_tick s at_the_client w = at_client s TickedAtClient w
+after_tick s at_the_channel w = ticked w
+after_tick s time_over w = timed_out (ticked w)
+
+-- nothing is sent but an abort, of a disturbed transfer
+abbrev pub IsQuiet : Setup → Type 0 → Tick → World → Type 0
+IsQuiet s p at_the_client w = asked s.call (TickedAtClient ∷ w.events) ≡ []
+IsQuiet s p at_the_channel w = Unit {0}
+IsQuiet s p time_over w = p → ⊥
+
+-- a filter of answers drops that abort
+abbrev pub DropsAborts : (List (List ℕ) → List (List ℕ)) → Type 0
+DropsAborts kept = (xs : List (List ℕ)) (key : Key) → kept (xs ++ map answer_bytes (aborted key 0x05040000)) ≡ kept xs
+
+pub live_drops : DropsAborts live
+live_drops xs key = kept_both is_live xs (map answer_bytes (aborted key 0x05040000)) ∙ append-nil (live xs)
+
+pub moment_ticks : (s : Setup) (p : Type 0) (kept : List (List ℕ) → List (List ℕ)) → DropsAborts kept → (tick : Tick) (sent given : List (List ℕ)) (r q : ℕ) (w : World)
+    → IsQuiet s p tick w → Moment p kept sent given r q w → Moment p kept sent given r q (after_tick s tick w)
+moment_ticks s p kept drops at_the_client sent given r q w none m = record {
+  requests = same_requests w.requests _ (ap (map message_bytes) none) ∙ m.requests;
+  answers = m.answers;
+  exact = m.exact;
+  count = λ x. record { received = (m.count x).received; answered = (m.count x).answered };
+}
+moment_ticks s p kept drops at_the_channel sent given r q w quiet m = record {
+  requests = m.requests;
+  answers = m.answers;
+  exact = m.exact;
+  count = λ x. record { received = (m.count x).received; answered = (m.count x).answered };
+}
+moment_ticks s p kept drops time_over sent given r q w never m =
+    disturbed p kept sent given r q (timed_out (ticked w)) never m.requests (drops w.answers (open_key (opened_after (Ticked ∷ w.log))) ∙ m.answers)
+
+pub idle_ticks : (s : Setup) (tick : Tick) (w : World) → IsServing s (Lawful s) None w.log w.contents
+    → IsServing s (Lawful s) None (after_tick s tick w).log (after_tick s tick w).contents
+idle_ticks s at_the_client w h = h
+idle_ticks s at_the_channel w h = serving_ticks s (Lawful s) None w.log w.contents h
+idle_ticks s time_over w h = serving_ends s (Lawful s) None (Ticked ∷ w.log) w.contents (serving_ticks s (Lawful s) None w.log w.contents h)
+
+-- a client that waits goes on waiting
+pub channel_ticks : (s : Setup) (p : Type 0) (Waits : Option Answers → World → Type 0) (Over : World → Type 0) (w : World) (ends : Bool) → (p → ends ≡ false)
+    → outcome s.call w.events ≡ Waiting → ((tick : Tick) → IsQuiet s p tick w → Waits (since_first (answers_of w.events)) (after_tick s tick w))
+    → Standing s p Waits Over (if ends then timed_out (ticked w) else ticked w)
+channel_ticks s p Waits Over w true calm b h = waiting b (h time_over (λ x. false≢true (sym (calm x))))
+channel_ticks s p Waits Over w false calm b h = waiting b (h at_the_channel tt)
 
 -- ---- how far an undisturbed transfer is, by the frames that have come and those on their way
 
