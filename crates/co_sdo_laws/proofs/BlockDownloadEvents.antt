@@ -12,22 +12,22 @@ use Rattle.co_frame.specs.declared.sdo_response.SdoResponse.TheVariants.{Abort a
 use Rattle.co_frame.specs.SdoResponses.{response_in}
 use Rattle.co_sdo_client.specs.declared.stage.Stage.TheVariants.{BlockDownload as Sending, BlockDownloadEnded}
 use Rattle.co_sdo_client.specs.declared.state.ClientState.TheVariants.{Waiting}
-use Rattle.co_sdo_client.specs.Calls.{Call, Segment, message_bytes, Event as ClientEvent, Answered, Ticked as TickedAtClient, answers as answers_of, Answers, since_first, with_answer, is_time_over as is_client_over}
+use Rattle.co_sdo_client.specs.Calls.{Call, Segment, message_bytes, Event as ClientEvent, Answered, Ticked as TickedAtClient, answers as answers_of, Answers, since_first, with_answer}
 use Rattle.co_sdo_client.specs.Segments.{block_segment, sub_block_length, sub_block_sent, block_download_end}
 use Rattle.co_sdo_client.specs.Stages.{stage_since, held_since, held_after, block_size_by}
 use Rattle.co_sdo_client.specs.Verdicts.{Verdict, GoesOn, Ends, GivesUp, verdict, answer_verdict, response_verdict}
 use Rattle.co_sdo_client.specs.Outcomes.{state_by, outcome}
 use Rattle.co_sdo.specs.Log.{answer_bytes, Ticked}
-use Rattle.co_sdo.specs.Opened.{OpenTransfer, opened_after, is_time_over}
-use Rattle.co_sdo.specs.Replies.{aborted, open_key, time_out_reply}
+use Rattle.co_sdo.specs.Opened.{OpenTransfer}
+use Rattle.co_sdo.specs.Replies.{aborted, time_out_reply}
 use Rattle.co_sdo_laws.specs.World.{Setup, World, Requests, Answers as Back, WorldEvent, Delivered, Lost, Repeated, ClientTicked, ChannelTicked, is_repeat, at_client, timed_out, ticked, without_front, front_arrives, after_event, world_after}
 use Rattle.co_sdo_laws.specs.Undisturbed.{IsCalm, AreCalm, GoesInBlocks, HaveSent, block_frames, block_download_requests, block_download_answers}
 use Rattle.co_sdo_laws.proofs.Frames.{block_initiated_read, block_done_read, acknowledged_read}
-use Rattle.co_sdo_laws.proofs.Channel.{serves_first, serves_ticked, IsServing, serving_ticks, serving_ends}
+use Rattle.co_sdo_laws.proofs.Channel.{serves_first, serves_ticked, IsServing, serving_ticks}
 use Rattle.co_sdo_laws.proofs.Permits.{bytes, sends_in_blocks, IsDownload}
 use Rattle.co_sdo_laws.proofs.Client.{follows, stays, verdict_since}
 use Rattle.co_sdo_laws.proofs.Failures.{is_aborted, has_failed, failed_event}
-use Rattle.co_sdo_laws.proofs.Blocks.{Lawful, waiting, over, failed, still_waits, fails_by, client_ticks, Tick, at_the_client, at_the_channel, time_over, after_tick, IsQuiet, DropsAborts, live_drops, moment_ticks, idle_ticks, channel_ticks, no_request, nothing_came, is_live, live, kept_both, kept_first, kept_one, kept_drop, kept_drop_one, IsDone, over_event, cut_fails, cut_read, Count, Moment, disturbed, heard, no_answer, cons≢nil, tail_is, calm_asks, same_requests, waits_at, done_at}
+use Rattle.co_sdo_laws.proofs.Blocks.{Lawful, waiting, over, failed, still_waits, fails_by, client_ticks, Tick, at_the_client, at_the_channel, time_over, after_tick, IsQuiet, DropsAborts, live_drops, moment_ticks, idle_ticks, channel_ticks, no_request, nothing_came, is_live, live, kept_both, kept_first, kept_one, kept_drop, kept_drop_one, over_event, cut_fails, cut_read, Moment, disturbed, heard, no_answer, cons≢nil, tail_is, calm_asks, same_requests, waits_at, done_at}
 use Rattle.co_sdo_laws.proofs.GoneChannels.{is_awaited, is_awaited_frame, awaited, aborted_other, IsGone, gone_ticks, gone_ends}
 use Rattle.co_sdo_laws.proofs.BlockSegments.{total, size_after, blocks, segments, IsWhole, full, full_count, last_count}
 use Rattle.co_sdo_laws.proofs.BlockDownloads.{confirmation, acknowledgement, client_end, all_done, Took, taking, complete, May, IsSet, Last, Waits, asking, confirmed, unconfirmed, sending, unheard, acknowledging, finishing, ending, ended, quiet, IsOver, Stands, loses_request, request_comes}

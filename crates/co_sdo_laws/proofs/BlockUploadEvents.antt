@@ -1,5 +1,5 @@
 -- An upload in blocks: the answers, and every event.
-use Rattle.std.proofs.Common.{◌≡◌, ℕ, zero, suc, ◌+◌, ◌-◌, Bool, true, false, List, [], ◌∷◌, length, drop, map, Option, Some, None, refl, sym, ap, ◌∙◌, arith, subst, append-nil, inl, inr, ◌*◌, ◌/◌, ◌<◌, ◌≤◌, take}
+use Rattle.std.proofs.Common.{◌≡◌, ℕ, zero, suc, ◌+◌, ◌-◌, Bool, true, false, List, [], ◌∷◌, length, drop, Option, Some, None, refl, sym, ap, ◌∙◌, arith, subst, inl, inr, ◌*◌, ◌/◌, ◌<◌, ◌≤◌, take}
 use Rattle.std.specs.Prelude.{nat_lt, if◌then◌else◌}
 use Rattle.std.specs.List.{list_any}
 use Rattle.std.proofs.lemmas.Bool.{false≢true, or_parts}
@@ -9,16 +9,15 @@ use Rattle.co_frame.specs.declared.sdo_request.SdoRequest.TheVariants.{BlockUplo
 use Rattle.co_frame.specs.declared.sdo_response.SdoResponse.TheVariants.{BlockUploadInitiated}
 use Rattle.co_frame.specs.SdoResponses.{response_in}
 use Rattle.co_sdo_client.specs.declared.state.ClientState.TheVariants.{Waiting, Done}
-use Rattle.co_sdo_client.specs.Calls.{Request, message_bytes, Answered, Ticked as TickedAtClient, answers as answers_of, Answers, since_first, with_answer}
+use Rattle.co_sdo_client.specs.Calls.{Request, Answered, Ticked as TickedAtClient, answers as answers_of, Answers, since_first, with_answer}
 use Rattle.co_sdo_client.specs.Segments.{cap_of}
 use Rattle.co_sdo_client.specs.SubBlocks.{sub_block, taken_segments, is_last_taken}
 use Rattle.co_sdo_client.specs.Stages.{size_by, stage_since, held_since}
 use Rattle.co_sdo_client.specs.Verdicts.{Verdict, GoesOn, Ends, GivesUp, segment_next, taken_with, held_with, verdict, answer_verdict}
-use Rattle.co_sdo_client.specs.Outcomes.{outcome, asked}
+use Rattle.co_sdo_client.specs.Outcomes.{outcome}
 use Rattle.co_dict.specs.Rows.{Contents}
-use Rattle.co_sdo.specs.Log.{answer_bytes, Ticked, TimedOut, Log}
-use Rattle.co_sdo.specs.Opened.{OpenTransfer, is_time_over}
-use Rattle.co_sdo.specs.Replies.{time_out_reply}
+use Rattle.co_sdo.specs.Log.{Ticked, Log}
+use Rattle.co_sdo.specs.Opened.{OpenTransfer}
 use Rattle.co_sdo_laws.specs.World.{Setup, World, Requests, Answers as Back, WorldEvent, Delivered, Lost, Repeated, ClientTicked, ChannelTicked, is_repeat, at_client, timed_out, ticked, without_front, front_arrives, after_event, world_after}
 use Rattle.co_sdo_laws.specs.Undisturbed.{IsCalm, AreCalm, on_their_way, GoesInBlocks, HaveSent, block_frames, block_upload_frames, block_upload_requests, block_upload_answers}
 use Rattle.co_sdo_laws.proofs.Frames.{block_upload_initiated_read, upload_end_read}
@@ -26,9 +25,9 @@ use Rattle.co_sdo_laws.proofs.Channel.{serves_first, Serves, IsServing, serving_
 use Rattle.co_sdo_laws.proofs.Client.{follows, stays, verdict_since}
 use Rattle.co_sdo_laws.proofs.Failures.{failed_event}
 use Rattle.co_sdo_laws.proofs.Permits.{value, reads_in_blocks, IsUpload, small_value, not_above, below_itself}
-use Rattle.co_sdo_laws.proofs.Blocks.{Lawful, waiting, over, failed, still_waits, fails_by, client_ticks, Tick, at_the_client, at_the_channel, time_over, after_tick, IsQuiet, live_drops, moment_ticks, idle_ticks, channel_ticks, is_live, live, kept_both, cut_fails, cut_is_more, Count, Moment, disturbed, heard, no_request, no_answer, cons≢nil, head_is, tail_is, dropped, front_came, nothing_came, IsDone, over_event, calm_asks, same_requests, waits_at, done_at}
+use Rattle.co_sdo_laws.proofs.Blocks.{Lawful, waiting, over, failed, still_waits, fails_by, client_ticks, Tick, at_the_client, at_the_channel, time_over, after_tick, IsQuiet, live_drops, moment_ticks, idle_ticks, channel_ticks, live, cut_fails, cut_is_more, Moment, disturbed, heard, no_request, no_answer, cons≢nil, head_is, tail_is, dropped, front_came, nothing_came, over_event, calm_asks, waits_at, done_at}
 use Rattle.co_sdo_laws.proofs.BlockSegments.{all_is, total, size_after, blocks, unused, segment_at, segments, InTurn, Reads, Goes, Completes, next_inside, next_ends, has_room, in_block}
-use Rattle.co_sdo_laws.proofs.BlockUploads.{confirmation, acknowledgement, server_end, client_end, Took, TookAll, Idle, begun, sending, at_end, May, Last, sent_end, end_came, Waits, asking, confirmed, starting, taking, acknowledging, finishing, ending, quiet, IsOver, Stands, all_live, initiate_comes, start_comes, acknowledgement_comes, last_acknowledgement_comes, end_comes}
+use Rattle.co_sdo_laws.proofs.BlockUploads.{confirmation, acknowledgement, server_end, client_end, Took, TookAll, begun, sending, at_end, May, Last, sent_end, end_came, Waits, asking, confirmed, starting, taking, acknowledging, finishing, ending, quiet, IsOver, Stands, all_live, initiate_comes, start_comes, acknowledgement_comes, last_acknowledgement_comes, end_comes}
 use Rattle.co_sdo_laws.proofs.Progress.{AllThere, have_sent}
 
 -- ---- a segment comes to the client
