@@ -22,7 +22,7 @@ use Rattle.co_sdo_laws.proofs.Permits.{value, Protocol, reads_in_segments, is_do
 use Rattle.co_sdo_laws.proofs.Permits as protocols
 use Rattle.co_sdo_laws.proofs.Channel.{unopened, stays_lawful}
 use Rattle.co_sdo_laws.proofs.Progress.{rounds_calm, all_arrive, AllThere, all_there, have_sent}
-use Rattle.co_sdo_laws.proofs.Turns.{InTurns as Turned, IsAt, always, goes_in_turns, when_done, channel_at, either}
+use Rattle.co_sdo_laws.proofs.Turns.{InTurns as Turned, asking, answering, over as all_taken, always, goes_in_turns, when_done, either}
 use Rattle.co_sdo_laws.proofs.StopAndWait.{Parts, StopAndWait}
 use Rattle.co_sdo_laws.proofs.InTurns.{turns_of}
 use Rattle.co_sdo_laws.proofs.SegmentedDownloads as downloads
@@ -165,8 +165,7 @@ in_turns s t m = record {
         unopened s.description.rows (world_after s events).log
         ((when_done s (turns_of s t m tt) (world_after s events) (at events calm) done).channel.closed refl);
   };
-  same = λ unchanged events calm.
-      unchanged_at unchanged (channel_at s (turns_of s t m tt) (world_after s events) (at events calm));
+  same = λ unchanged events calm. unchanged_at unchanged (at events calm);
 }
   where
     at : (events : List WorldEvent) → AreCalm s events → Turned s (turns_of s t m tt) (world_after s events)
@@ -175,11 +174,13 @@ in_turns s t m = record {
     goes : (events : List WorldEvent) → AreCalm s events → GoesInTurns s.call (1 + t.last) (world_after s events)
     goes events calm = goes_in_turns s (turns_of s t m tt) (world_after s events) (at events calm)
 
-    unchanged_at : {w : World} → t.left s.contents ≡ s.contents → IsAt s (turns_of s t m tt) w → w.contents ≡ s.contents
-    unchanged_at e h = elim (either h.count (1 + t.last) h.within) [
-      | inl less ↦ h.channel.same less
+    unchanged_at : {w : World} → t.left s.contents ≡ s.contents → Turned s (turns_of s t m tt) w → w.contents ≡ s.contents
+    unchanged_at e (asking k less h) = h.channel.same less
+    unchanged_at e (answering k less h) = elim (either (k + 1) (1 + t.last) (omega arith)) [
+      | inl more ↦ h.channel.same more
       | inr all ↦ h.channel.sets all ∙ e
     ]
+    unchanged_at e (all_taken h) = h.channel.sets refl ∙ e
 
 abbrev pub setup : Key → Mode → ℕ → Job → ℕ → Description → Contents → Log → Setup
 setup key mode client_time job time d contents past = record { call = record { key = key; mode = mode; time = client_time; job = job }; time = time; description = d; contents = contents; past = past }

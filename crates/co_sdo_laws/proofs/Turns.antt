@@ -235,14 +235,3 @@ pub when_done : (s : Setup) (t : Turns s) (w : World) → InTurns s t w → outc
 when_done s t w (asking k less h) done = absurd (waiting≢done (sym h.state ∙ done))
 when_done s t w (answering k less h) done = absurd (waiting≢done (sym h.state ∙ done))
 when_done s t w (over h) done = h
-
--- the channel, after as many requests as it took
-pub record IsAt (s : Setup) (t : Turns s) (w : World) : Type 0 where
-  pub count : ℕ
-  pub within : count ≤ t.needed
-  pub channel : t.Channel count w.log w.contents
-
-pub channel_at : (s : Setup) (t : Turns s) (w : World) → InTurns s t w → IsAt s t w
-channel_at s t w (asking k less h) = record { count = k; within = omega arith; channel = h.channel }
-channel_at s t w (answering k less h) = record { count = k + 1; within = omega arith; channel = h.channel }
-channel_at s t w (over h) = record { count = t.needed; within = omega arith; channel = h.channel }
