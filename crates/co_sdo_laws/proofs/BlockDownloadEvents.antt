@@ -27,7 +27,7 @@ use Rattle.co_sdo_laws.proofs.Channel.{serves_first, serves_ticked, IsServing, s
 use Rattle.co_sdo_laws.proofs.Permits.{bytes, sends_in_blocks, IsDownload}
 use Rattle.co_sdo_laws.proofs.Client.{follows, stays, verdict_since}
 use Rattle.co_sdo_laws.proofs.Failures.{is_aborted, has_failed, failed_event}
-use Rattle.co_sdo_laws.proofs.Blocks.{Lawful, waiting, over, failed, still_waits, fails_by, client_ticks, Tick, at_the_client, at_the_channel, time_over, after_tick, IsQuiet, DropsAborts, live_drops, moment_ticks, idle_ticks, channel_ticks, no_request, nothing_came, is_live, live, kept_both, kept_first, kept_one, kept_drop, kept_drop_one, over_event, cut_fails, cut_read, Moment, disturbed, heard, no_answer, cons≢nil, tail_is, calm_asks, same_requests, waits_at, done_at}
+use Rattle.co_sdo_laws.proofs.Blocks.{Lawful, waiting, over, failed, all_events, fails_by, Tick, at_the_client, at_the_channel, time_over, after_tick, IsQuiet, DropsAborts, live_drops, moment_ticks, idle_ticks, channel_ticks, no_request, nothing_came, is_live, live, kept_both, kept_first, kept_one, kept_drop, kept_drop_one, over_event, cut_fails, cut_read, Moment, disturbed, heard, no_answer, cons≢nil, tail_is, calm_asks, same_requests, waits_at, done_at}
 use Rattle.co_sdo_laws.proofs.GoneChannels.{is_awaited, is_awaited_frame, awaited, aborted_other, IsGone, gone_ticks, gone_ends}
 use Rattle.co_sdo_laws.proofs.BlockSegments.{total, size_after, blocks, segments, IsWhole, full, full_count, last_count}
 use Rattle.co_sdo_laws.proofs.BlockDownloads.{confirmation, acknowledgement, client_end, all_done, Took, taking, complete, May, IsSet, Last, Waits, asking, confirmed, unconfirmed, sending, unheard, acknowledging, finishing, ending, ended, quiet, IsOver, Stands, loses_request, request_comes}
@@ -315,17 +315,6 @@ carry s p tick known w q (quiet a n b e f) =
 
 -- ---- every event
 
-waits_event : (s : Setup) (p : Type 0) → IsDownload s p sends_in_blocks → (event : WorldEvent) (w : World) → is_repeat event ≡ false → (p → IsCalm s event w)
-    → outcome s.call w.events ≡ Waiting → Waits s p (since_first (answers_of w.events)) w → Stands s p (after_event s event w)
-waits_event s p m (Delivered Requests) w once calm b h = still_waits s p _ _ w.requests (without_front Requests w) b (request_comes s p m _ w h)
-waits_event s p m (Delivered Back) w once calm b h = answer_comes s p m w b h w.answers refl
-waits_event s p m (Lost Requests) w once calm b h = waiting b (loses_request s p _ w calm h)
-waits_event s p m (Lost Back) w once calm b h = waiting b (loses_answer s p _ w calm h)
-waits_event s p m (Repeated queue) w once calm b h = absurd (false≢true (sym once))
-waits_event s p m ClientTicked w once calm b h =
-    client_ticks s p _ _ w _ refl calm b (λ e. carry s p at_the_client _ w (calm_asks s w.events e) h)
-waits_event s p m ChannelTicked w once calm b h = channel_ticks s p _ _ w _ calm b (λ tick q. carry s p tick _ w q h)
-
 channel_over : (s : Setup) (p : Type 0) (w : World) (ends : Bool) → (p → ends ≡ false) → IsOver s p w → IsOver s p (if ends then timed_out (ticked w) else ticked w)
 channel_over s p w true calm h =
     let never : p → ⊥ = λ x. false≢true (sym (calm x)) in
@@ -347,17 +336,17 @@ over_world_event s p ClientTicked w once calm h =
     over_hears s p TickedAtClient w h (λ x. record { answers = (h.last x).answers; count = let n = (h.last x).count in record { received = n.received; answered = n.answered } })
 over_world_event s p ChannelTicked w once calm h = channel_over s p w _ calm h
 
-step : (s : Setup) (p : Type 0) → IsDownload s p sends_in_blocks → (event : WorldEvent) (w : World) → is_repeat event ≡ false → (p → IsCalm s event w) → Stands s p w → Stands s p (after_event s event w)
-step s p m event w once calm (waiting b h) = waits_event s p m event w once calm b h
-step s p m event w once calm (over h) = over (over_world_event s p event w once calm h)
-step s p m event w once calm (failed n h) = failed n (failed_event s event w h)
-
 pub always : (s : Setup) (p : Type 0) → IsDownload s p sends_in_blocks → (events : List WorldEvent) → list_any is_repeat events ≡ false → (p → AreCalm s events) → Stands s p (world_after s events)
-always s p m [] once calm = waiting refl (asking refl (record { requests = rw m.transfer refl; answers = refl; exact = λ x. refl; count = λ x. record { received = refl; answered = refl } })
-    (record { serves = serves_first s.description.rows s.past m.idle; lawful = refl }))
-always s p m (event ∷ older) once calm =
-    let both = or_parts (is_repeat event) (list_any is_repeat older) once in
-    step s p m event (world_after s older) both.0 (λ x. (calm x).0) (always s p m older both.1 (λ x. (calm x).1))
+always s p m = all_events s p (Waits s p) (IsOver s p) (record {
+  first = asking refl (record { requests = rw m.transfer refl; answers = refl; exact = λ x. refl; count = λ x. record { received = refl; answered = refl } })
+      (record { serves = serves_first s.description.rows s.past m.idle; lawful = refl });
+  request = request_comes s p m;
+  request_lost = loses_request s p;
+  answer = λ w b h. answer_comes s p m w b h w.answers refl;
+  answer_lost = loses_answer s p;
+  ticks = carry s p;
+  done = over_world_event s p;
+})
 
 -- ---- undisturbed
 

@@ -25,7 +25,7 @@ use Rattle.co_sdo_laws.proofs.Channel.{serves_first, Serves, IsServing, serving_
 use Rattle.co_sdo_laws.proofs.Client.{follows, stays, verdict_since}
 use Rattle.co_sdo_laws.proofs.Failures.{failed_event}
 use Rattle.co_sdo_laws.proofs.Permits.{value, reads_in_blocks, IsUpload, small_value, not_above, below_itself}
-use Rattle.co_sdo_laws.proofs.Blocks.{Lawful, waiting, over, failed, still_waits, fails_by, client_ticks, Tick, at_the_client, at_the_channel, time_over, after_tick, IsQuiet, live_drops, moment_ticks, idle_ticks, channel_ticks, live, cut_fails, cut_is_more, Moment, disturbed, heard, no_request, no_answer, cons≢nil, head_is, tail_is, dropped, front_came, nothing_came, over_event, calm_asks, waits_at, done_at}
+use Rattle.co_sdo_laws.proofs.Blocks.{Lawful, waiting, over, failed, all_events, fails_by, Tick, at_the_client, at_the_channel, time_over, after_tick, IsQuiet, live_drops, moment_ticks, idle_ticks, channel_ticks, live, cut_fails, cut_is_more, Moment, disturbed, heard, no_request, no_answer, cons≢nil, head_is, tail_is, dropped, front_came, nothing_came, over_event, calm_asks, waits_at, done_at}
 use Rattle.co_sdo_laws.proofs.BlockSegments.{all_is, total, size_after, blocks, unused, segment_at, segments, InTurn, Reads, Goes, Completes, next_inside, next_ends, has_room, in_block}
 use Rattle.co_sdo_laws.proofs.BlockUploads.{confirmation, acknowledgement, server_end, client_end, Took, TookAll, begun, sending, at_end, May, Last, sent_end, end_came, Waits, asking, confirmed, starting, taking, acknowledging, finishing, ending, quiet, IsOver, Stands, all_live, initiate_comes, start_comes, acknowledgement_comes, last_acknowledgement_comes, end_comes}
 use Rattle.co_sdo_laws.proofs.Progress.{AllThere, have_sent}
@@ -317,17 +317,6 @@ channel_over s p w false calm b = record { done = b.done; last = λ x. last_tick
 
 -- ---- every event
 
-waits_event : (s : Setup) (p : Type 0) → IsUpload s p reads_in_blocks → (event : WorldEvent) (w : World) → is_repeat event ≡ false → (p → IsCalm s event w)
-    → outcome s.call w.events ≡ Waiting → Waits s p (since_first (answers_of w.events)) w → Stands s p (after_event s event w)
-waits_event s p m (Delivered Requests) w once calm b h = still_waits s p _ _ w.requests (without_front Requests w) b (request_comes s p m _ w h)
-waits_event s p m (Delivered Back) w once calm b h = answer_comes s p m w b h w.answers refl
-waits_event s p m (Lost Requests) w once calm b h = waiting b (loses_request s p _ w calm h)
-waits_event s p m (Lost Back) w once calm b h = waiting b (answer_lost s p _ w calm h w.answers refl)
-waits_event s p m (Repeated queue) w once calm b h = absurd (false≢true (sym once))
-waits_event s p m ClientTicked w once calm b h =
-    client_ticks s p _ _ w _ refl calm b (λ e. carry s p at_the_client _ w (calm_asks s w.events e) h)
-waits_event s p m ChannelTicked w once calm b h = channel_ticks s p _ _ w _ calm b (λ tick q. carry s p tick _ w q h)
-
 over_world_event : (s : Setup) (p : Type 0) → IsUpload s p reads_in_blocks → (event : WorldEvent) (w : World) → is_repeat event ≡ false → (p → IsCalm s event w)
     → IsOver s p w → IsOver s p (after_event s event w)
 over_world_event s p m (Delivered Requests) w once calm b = over_front s p m w b w.requests refl
@@ -341,17 +330,17 @@ over_world_event s p m ClientTicked w once calm b = record {
 }
 over_world_event s p m ChannelTicked w once calm b = channel_over s p w _ calm b
 
-step : (s : Setup) (p : Type 0) → IsUpload s p reads_in_blocks → (event : WorldEvent) (w : World) → is_repeat event ≡ false → (p → IsCalm s event w) → Stands s p w → Stands s p (after_event s event w)
-step s p m event w once calm (waiting b h) = waits_event s p m event w once calm b h
-step s p m event w once calm (over h) = over (over_world_event s p m event w once calm h)
-step s p m event w once calm (failed n h) = failed n (failed_event s event w h)
-
 pub always : (s : Setup) (p : Type 0) → IsUpload s p reads_in_blocks → (events : List WorldEvent) → list_any is_repeat events ≡ false → (p → AreCalm s events) → Stands s p (world_after s events)
-always s p m [] once calm = waiting refl (asking refl (record { requests = rw m.transfer refl; answers = refl; exact = λ x. refl; count = λ x. record { received = refl; answered = refl } })
-    (record { serves = serves_first s.description.rows s.past m.idle; lawful = refl }))
-always s p m (event ∷ older) once calm =
-    let both = or_parts (is_repeat event) (list_any is_repeat older) once in
-    step s p m event (world_after s older) both.0 (λ x. (calm x).0) (always s p m older both.1 (λ x. (calm x).1))
+always s p m = all_events s p (Waits s p) (IsOver s p) (record {
+  first = asking refl (record { requests = rw m.transfer refl; answers = refl; exact = λ x. refl; count = λ x. record { received = refl; answered = refl } })
+      (record { serves = serves_first s.description.rows s.past m.idle; lawful = refl });
+  request = request_comes s p m;
+  request_lost = loses_request s p;
+  answer = λ w b h. answer_comes s p m w b h w.answers refl;
+  answer_lost = λ known w never h. answer_lost s p known w never h w.answers refl;
+  ticks = carry s p;
+  done = over_world_event s p m;
+})
 
 -- ---- undisturbed
 

@@ -2,7 +2,8 @@
 -- frames have come. `p` says that a transfer is permitted and that nothing disturbs it; what holds of every transfer needs no `p`.
 use Rattle.std.proofs.Common.{◌≡◌, ℕ, suc, ◌+◌, ◌<◌, ◌≤◌, Bool, true, false, List, [], ◌∷◌, ◌++◌, length, drop, map, not, Option, None, refl, sym, ap, ◌∙◌, arith, eqb, subst, append-nil, ◌⊎◌, inl, inr}
 use Rattle.std.specs.Prelude.{if◌then◌else◌, nat_le, slice_index}
-use Rattle.std.proofs.lemmas.Bool.{eqb-true, false≢true, and_parts}
+use Rattle.std.proofs.lemmas.Bool.{eqb-true, false≢true, and_parts, or_parts}
+use Rattle.std.specs.List.{list_any}
 use Rattle.std.proofs.lemmas.Bool.Decides.{nat_tests}
 use Rattle.co_frame.specs.BlockSegments.{is_abort_in_sub_block}
 use Rattle.co_frame.specs.SdoResponses.{response_row_in, response_in}
@@ -18,12 +19,12 @@ use Rattle.co_value.specs.declared.key.Key.{Key}
 use Rattle.co_sdo.specs.Log.{Answer, answer_bytes, Ticked}
 use Rattle.co_sdo.specs.Opened.{opened_after}
 use Rattle.co_sdo.specs.Replies.{aborted, open_key, reply_to}
-use Rattle.co_sdo_laws.specs.World.{Setup, World, Requests, Answers as Back, ClientTicked, at_client, at_channel, timed_out, ticked, without_front, front_arrives}
-use Rattle.co_sdo_laws.specs.Undisturbed.{IsCalm, arrived, on_their_way, GoesInBlocks}
+use Rattle.co_sdo_laws.specs.World.{Setup, World, Requests, Answers as Back, WorldEvent, Delivered, Lost, Repeated, ClientTicked, ChannelTicked, is_repeat, first_world, after_event, world_after, at_client, at_channel, timed_out, ticked, without_front, front_arrives}
+use Rattle.co_sdo_laws.specs.Undisturbed.{IsCalm, AreCalm, arrived, on_their_way, GoesInBlocks}
 use Rattle.co_sdo_laws.proofs.Client.{follows, stays, tick_verdict}
 use Rattle.co_sdo_laws.proofs.Channel.{IsServing, serving_ticks, serving_ends}
 use Rattle.co_sdo_laws.proofs.Turns.{waiting≢done}
-use Rattle.co_sdo_laws.proofs.Failures.{aborted_fails, is_aborted, has_failed}
+use Rattle.co_sdo_laws.proofs.Failures.{aborted_fails, is_aborted, has_failed, failed_event}
 
 -- ---- the frames among others that pass a test
 
@@ -304,6 +305,37 @@ pub channel_ticks : (s : Setup) (p : Type 0) (Waits : Option Answers → World �
     → Standing s p Waits Over (if ends then timed_out (ticked w) else ticked w)
 channel_ticks s p Waits Over w true calm b h = waiting b (h time_over (λ x. false≢true (sym (calm x))))
 channel_ticks s p Waits Over w false calm b h = waiting b (h at_the_channel tt)
+
+-- ---- every event
+
+-- what each event but a repeat makes of a client that waits, and of one that is done
+pub record Events (s : Setup) (p : Type 0) (Waits : Option Answers → World → Type 0) (Over : World → Type 0) : Type 0 where
+  pub first : Waits None (first_world s)
+  pub request : (known : Option Answers) (w : World) → Waits known w → Waits known (front_arrives s Requests w.requests (without_front Requests w))
+  pub request_lost : (known : Option Answers) (w : World) → (p → ⊥) → Waits known w → Waits known (without_front Requests w)
+  pub answer : (w : World) → outcome s.call w.events ≡ Waiting → Waits (since_first (answers_of w.events)) w → Standing s p Waits Over (front_arrives s Back w.answers (without_front Back w))
+  pub answer_lost : (known : Option Answers) (w : World) → (p → ⊥) → Waits known w → Waits known (without_front Back w)
+  pub ticks : (tick : Tick) (known : Option Answers) (w : World) → IsQuiet s p tick w → Waits known w → Waits known (after_tick s tick w)
+  pub done : (event : WorldEvent) (w : World) → is_repeat event ≡ false → (p → IsCalm s event w) → Over w → Over (after_event s event w)
+
+step : (s : Setup) (p : Type 0) (Waits : Option Answers → World → Type 0) (Over : World → Type 0) → Events s p Waits Over → (event : WorldEvent) (w : World) → is_repeat event ≡ false → (p → IsCalm s event w)
+    → Standing s p Waits Over w → Standing s p Waits Over (after_event s event w)
+step s p Waits Over t (Delivered Requests) w once calm (waiting b h) = still_waits s p Waits Over w.requests (without_front Requests w) b (t.request _ w h)
+step s p Waits Over t (Delivered Back) w once calm (waiting b h) = t.answer w b h
+step s p Waits Over t (Lost Requests) w once calm (waiting b h) = waiting b (t.request_lost _ w calm h)
+step s p Waits Over t (Lost Back) w once calm (waiting b h) = waiting b (t.answer_lost _ w calm h)
+step s p Waits Over t (Repeated queue) w once calm (waiting b h) = absurd (false≢true (sym once))
+step s p Waits Over t ClientTicked w once calm (waiting b h) = client_ticks s p Waits Over w _ refl calm b (λ e. t.ticks at_the_client _ w (calm_asks s w.events e) h)
+step s p Waits Over t ChannelTicked w once calm (waiting b h) = channel_ticks s p Waits Over w _ calm b (λ tick q. t.ticks tick _ w q h)
+step s p Waits Over t event w once calm (over h) = over (t.done event w once calm h)
+step s p Waits Over t event w once calm (failed n h) = failed n (failed_event s event w h)
+
+pub all_events : (s : Setup) (p : Type 0) (Waits : Option Answers → World → Type 0) (Over : World → Type 0) → Events s p Waits Over → (events : List WorldEvent) → list_any is_repeat events ≡ false
+    → (p → AreCalm s events) → Standing s p Waits Over (world_after s events)
+all_events s p Waits Over t [] once calm = waiting refl t.first
+all_events s p Waits Over t (event ∷ older) once calm =
+    let both = or_parts (is_repeat event) (list_any is_repeat older) once in
+    step s p Waits Over t event (world_after s older) both.0 (λ x. (calm x).0) (all_events s p Waits Over t older both.1 (λ x. (calm x).1))
 
 -- ---- how far an undisturbed transfer is, by the frames that have come and those on their way
 
