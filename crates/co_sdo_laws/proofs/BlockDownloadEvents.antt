@@ -2,7 +2,7 @@
 use Rattle.std.proofs.Common.{◌≡◌, ℕ, suc, ◌+◌, ◌-◌, ◌/◌, ◌<◌, Bool, true, false, List, [], ◌∷◌, ◌++◌, length, drop, map, Option, Some, None, refl, sym, ap, ◌∙◌, arith, eqb, subst, append-nil, inl, inr}
 use Rattle.std.specs.Prelude.{nat_lt, if◌then◌else◌}
 use Rattle.std.specs.List.{range_with_len, list_any}
-use Rattle.std.proofs.lemmas.Bool.{false≢true, not-false, or_parts}
+use Rattle.std.proofs.lemmas.Bool.{false≢true, not-false}
 use Rattle.std.proofs.lemmas.Bool.Decides.{nat_tests}
 use Rattle.std.proofs.lemmas.Simd.{map-map}
 use Rattle.co_value.specs.Keys.{same_key-refl}
@@ -26,8 +26,8 @@ use Rattle.co_sdo_laws.proofs.Frames.{block_initiated_read, block_done_read, ack
 use Rattle.co_sdo_laws.proofs.Channel.{serves_first, serves_ticked, IsServing, serving_ticks}
 use Rattle.co_sdo_laws.proofs.Permits.{bytes, sends_in_blocks, IsDownload}
 use Rattle.co_sdo_laws.proofs.Client.{follows, stays, verdict_since}
-use Rattle.co_sdo_laws.proofs.Failures.{is_aborted, has_failed, failed_event}
-use Rattle.co_sdo_laws.proofs.Blocks.{Lawful, waiting, over, failed, all_events, fails_by, Tick, at_the_client, at_the_channel, time_over, after_tick, IsQuiet, DropsAborts, live_drops, moment_ticks, idle_ticks, channel_ticks, no_request, nothing_came, is_live, live, kept_both, kept_first, kept_one, kept_drop, kept_drop_one, over_event, cut_fails, cut_read, Moment, disturbed, heard, no_answer, cons≢nil, tail_is, calm_asks, same_requests, waits_at, done_at}
+use Rattle.co_sdo_laws.proofs.Failures.{is_aborted, has_failed}
+use Rattle.co_sdo_laws.proofs.Blocks.{Lawful, waiting, over, failed, all_events, fails_by, Tick, at_the_client, at_the_channel, time_over, after_tick, IsQuiet, DropsAborts, live_drops, moment_ticks, idle_ticks, no_request, nothing_came, is_live, live, kept_both, kept_first, kept_one, kept_drop, kept_drop_one, over_event, cut_fails, cut_read, Moment, disturbed, heard, no_answer, cons≢nil, tail_is, same_requests, waits_at, done_at}
 use Rattle.co_sdo_laws.proofs.GoneChannels.{is_awaited, is_awaited_frame, awaited, aborted_other, IsGone, gone_ticks, gone_ends}
 use Rattle.co_sdo_laws.proofs.BlockSegments.{total, size_after, blocks, segments, IsWhole, full, full_count, last_count}
 use Rattle.co_sdo_laws.proofs.BlockDownloads.{confirmation, acknowledgement, client_end, all_done, Took, taking, complete, May, IsSet, Last, Waits, asking, confirmed, unconfirmed, sending, unheard, acknowledging, finishing, ending, ended, quiet, IsOver, Stands, loses_request, request_comes}

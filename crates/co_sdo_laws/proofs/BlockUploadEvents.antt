@@ -2,7 +2,7 @@
 use Rattle.std.proofs.Common.{◌≡◌, ℕ, zero, suc, ◌+◌, ◌-◌, Bool, true, false, List, [], ◌∷◌, length, drop, Option, Some, None, refl, sym, ap, ◌∙◌, arith, subst, inl, inr, ◌*◌, ◌/◌, ◌<◌, ◌≤◌, take}
 use Rattle.std.specs.Prelude.{nat_lt, if◌then◌else◌}
 use Rattle.std.specs.List.{list_any}
-use Rattle.std.proofs.lemmas.Bool.{false≢true, or_parts}
+use Rattle.std.proofs.lemmas.Bool.{false≢true}
 use Rattle.co_value.specs.Keys.{same_key-refl}
 use Rattle.co_frame.specs.BlockSegments.{is_abort_in_sub_block}
 use Rattle.co_frame.specs.declared.sdo_request.SdoRequest.TheVariants.{BlockUploadStart, BlockUploadAcknowledge, BlockUploadEnd}
@@ -23,9 +23,8 @@ use Rattle.co_sdo_laws.specs.Undisturbed.{IsCalm, AreCalm, on_their_way, GoesInB
 use Rattle.co_sdo_laws.proofs.Frames.{block_upload_initiated_read, upload_end_read}
 use Rattle.co_sdo_laws.proofs.Channel.{serves_first, Serves, IsServing, serving_ticks, serving_ends}
 use Rattle.co_sdo_laws.proofs.Client.{follows, stays, verdict_since}
-use Rattle.co_sdo_laws.proofs.Failures.{failed_event}
 use Rattle.co_sdo_laws.proofs.Permits.{value, reads_in_blocks, IsUpload, small_value, not_above, below_itself}
-use Rattle.co_sdo_laws.proofs.Blocks.{Lawful, waiting, over, failed, all_events, fails_by, Tick, at_the_client, at_the_channel, time_over, after_tick, IsQuiet, live_drops, moment_ticks, idle_ticks, channel_ticks, live, cut_fails, cut_is_more, Moment, disturbed, heard, no_request, no_answer, cons≢nil, head_is, tail_is, dropped, front_came, nothing_came, over_event, calm_asks, waits_at, done_at}
+use Rattle.co_sdo_laws.proofs.Blocks.{Lawful, waiting, over, failed, all_events, fails_by, Tick, at_the_client, at_the_channel, time_over, after_tick, IsQuiet, live_drops, moment_ticks, idle_ticks, live, cut_fails, cut_is_more, Moment, disturbed, heard, no_request, no_answer, cons≢nil, head_is, tail_is, dropped, front_came, nothing_came, over_event, waits_at, done_at}
 use Rattle.co_sdo_laws.proofs.BlockSegments.{all_is, total, size_after, blocks, unused, segment_at, segments, InTurn, Reads, Goes, Completes, next_inside, next_ends, has_room, in_block}
 use Rattle.co_sdo_laws.proofs.BlockUploads.{confirmation, acknowledgement, server_end, client_end, Took, TookAll, begun, sending, at_end, May, Last, sent_end, end_came, Waits, asking, confirmed, starting, taking, acknowledging, finishing, ending, quiet, IsOver, Stands, all_live, initiate_comes, start_comes, acknowledgement_comes, last_acknowledgement_comes, end_comes}
 use Rattle.co_sdo_laws.proofs.Progress.{AllThere, have_sent}
