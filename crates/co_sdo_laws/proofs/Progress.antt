@@ -86,9 +86,10 @@ pub record AllThere (s : Setup) (w : World) : Type 0 where
   pub client : sent s.call w.events ≡ w.received + length w.requests
   pub channel : answers_sent w.log ≡ answers_sent s.past + (length (answers_of w.events) + length w.answers)
 
-request_comes : (s : Setup) (w : World) (frame : List ℕ) (later : List (List ℕ)) → w.requests ≡ frame ∷ later
-    → AllThere s w → AllThere s (after_event s (Delivered Requests) w)
-request_comes s w frame later e h =
+requests_come : (s : Setup) (w : World) (xs : List (List ℕ)) → w.requests ≡ xs → AllThere s w
+    → AllThere s (after_event s (Delivered Requests) w)
+requests_come s w [] e h = subst (AllThere s) (no_front s Requests w e) h
+requests_come s w (frame ∷ later) e h =
     let size : length w.requests ≡ suc (length later) = ap length e in
     let m = h.client in
     let more = length-append w.answers (map answer_bytes (reply_to s.description w.contents w.log frame)) in
@@ -104,22 +105,13 @@ client_has s event w n =
     let longer = length-append (all_asked s.call w.events) (asked s.call (event ∷ w.events)) in
     omega arith
 
-answer_comes : (s : Setup) (w : World) (frame : List ℕ) (later : List (List ℕ)) → w.answers ≡ frame ∷ later
-    → AllThere s w → AllThere s (after_event s (Delivered Answers) w)
-answer_comes s w frame later e h =
-    let size : length w.answers ≡ suc (length later) = ap length e in
-    let n = h.channel in
-    rw e (record { client = client_has s (Answered frame) w h.client; channel = omega arith })
-
-requests_come : (s : Setup) (w : World) (xs : List (List ℕ)) → w.requests ≡ xs → AllThere s w
-    → AllThere s (after_event s (Delivered Requests) w)
-requests_come s w [] e h = subst (AllThere s) (no_front s Requests w e) h
-requests_come s w (frame ∷ later) e h = request_comes s w frame later e h
-
 answers_come : (s : Setup) (w : World) (xs : List (List ℕ)) → w.answers ≡ xs → AllThere s w
     → AllThere s (after_event s (Delivered Answers) w)
 answers_come s w [] e h = subst (AllThere s) (no_front s Answers w e) h
-answers_come s w (frame ∷ later) e h = answer_comes s w frame later e h
+answers_come s w (frame ∷ later) e h =
+    let size : length w.answers ≡ suc (length later) = ap length e in
+    let n = h.channel in
+    rw e (record { client = client_has s (Answered frame) w h.client; channel = omega arith })
 
 one_more : (s : Setup) (event : WorldEvent) (w : World) → IsCalm s event w → AllThere s w
     → AllThere s (after_event s event w)
