@@ -1,17 +1,21 @@
 -- The segments of a transfer in blocks, whichever end sends them: their bytes, their frames, and what a receiver then holds.
-use Rattle.std.proofs.Common.{◌≡◌, ℕ, zero, suc, ◌+◌, ◌-◌, ◌*◌, ◌/◌, ◌%◌, ◌<◌, ◌≤◌, Bool, true, false, cond, List, [], ◌∷◌, ◌++◌, length, take, drop, map, Some, None, refl, sym, ap, ◌∙◌, arith, eqb, append_assoc, append-nil, length-take, length-drop, length-append}
-use Rattle.std.specs.Prelude.{◌||◌, min, replicate}
+use Rattle.std.proofs.Common.{◌≡◌, ℕ, zero, suc, ◌+◌, ◌-◌, ◌*◌, ◌/◌, ◌%◌, ◌<◌, ◌≤◌, Bool, true, false, cond, List, ◌∷◌, ◌++◌, length, take, drop, map, Option, Some, None, refl, sym, ap, ◌∙◌, arith, eqb, subst, append_assoc, append-nil, length-take, length-drop, length-append, ◌⊎◌, inl, inr}
+use Rattle.std.specs.Prelude.{◌||◌, if◌then◌else◌, min, nat_lt, replicate, slice_index}
+use Rattle.std.specs.Option.{option_map_or}
 use Rattle.std.specs.List.{range_with_len}
 use Rattle.std.proofs.lemmas.List.{length-replicate, take-append-le, take_all}
+use Rattle.std.proofs.lemmas.Bool.{eqb-true, false≢true}
 use Rattle.std.proofs.lemmas.Bool.Decides.{nat_tests}
 use Rattle.co_frame.specs.SdoFields.{padded}
 use Rattle.co_frame.specs.BlockSegments.{block_segment_in, block_segment_bytes, is_abort_in_sub_block}
 use Rattle.co_frame.specs.declared.block_segment.BlockSegment.{BlockSegment}
 use Rattle.co_sdo_client.specs.Segments.{part_after, segment_count, block_segment, sub_block_length}
-use Rattle.co_sdo_client.specs.SubBlocks.{segment_taken, sub_block, taken_segments, block_bytes, has_last}
+use Rattle.co_sdo_client.specs.SubBlocks.{and_segment, ends_sub_block, is_last_taken, sub_block, taken_segments}
+use Rattle.co_sdo_client.specs.Verdicts.{segment_next, taken_with, held_with}
 use Rattle.co_sdo.specs.Downloads.{without}
 use Rattle.co_sdo_laws.proofs.Frames.{padded_length, block_segment_read}
 use Rattle.co_sdo_laws.proofs.Segments.{joined, part_small}
+use Rattle.co_sdo_laws.proofs.Permits.{not_above}
 use Rattle.co_sdo_laws.proofs.Blocks.{live}
 
 -- ---- data
@@ -146,52 +150,121 @@ full_count b a u n h e under = let f : u ≡ 127 = omega arith in omega arith
 pub last_count : (b a u n : ℕ) → a % 127 ≡ 0 → u ≡ min 127 (n - a) → a < n → a + u ≡ n → suc (b + a / 127) ≡ b + (n + 126) / 127
 last_count b a u n h e under all = omega arith
 
--- ---- what a receiver has taken
+-- ---- a receiver, whichever end it is: it has t segments of the sub-block after a, and segment n comes
 
--- what a receiver has with one more frame: whether the last segment was taken, the bytes, and how many segments of the sub-block
-pub record Receives (later : List (List ℕ)) (frame : List ℕ) (segment : BlockSegment) (end : Bool) (held : List ℕ) (taken : ℕ) : Type 0 where
-  pub last : has_last (frame ∷ later) ≡ end
-  pub bytes : block_bytes (frame ∷ later) ≡ held
-  pub inside : segment.last || eqb segment.sequence 127 ≡ false → length (taken_segments (sub_block (frame ∷ later))) ≡ taken
-  pub ended : segment.last || eqb segment.sequence 127 ≡ true → length (taken_segments (sub_block (frame ∷ later))) ≡ 0
+-- a frame that ends its sub-block, or doesn't
+pub record Reads (frame : List ℕ) (end : Bool) : Type 0 where
+  pub long : length frame ≡ 8
+  pub other : eqb (slice_index frame 0) 128 ≡ false
+  pub ends : ends_sub_block frame ≡ end
 
-pub one_more : (frame : List ℕ) (older : List (List ℕ)) (segment : BlockSegment) → segment_taken (length (taken_segments older)) (block_segment_in frame) ≡ Some segment
-    → length (taken_segments (frame ∷ older)) ≡ length (taken_segments older) + 1
-one_more frame older segment t = rw t (omega arith)
+reads : (v : List ℕ) (a n : ℕ) (last end : Bool) → 1 ≤ n → n < 128 → last || eqb n 127 ≡ end → Reads (frame_with v a n last) end
+reads v a n last end some few e =
+    record { long = frame_long v a n last; other = other_byte last n some few; ends = rw (frame_read v a n last some few) e }
 
-pub no_more : (frame : List ℕ) (older : List (List ℕ)) → segment_taken (length (taken_segments older)) (block_segment_in frame) ≡ None → length (taken_segments (frame ∷ older)) ≡ length (taken_segments older)
-no_more frame older t = rw t refl
+-- others are left, and it has u of the sub-block then: undisturbed n
+pub record Goes (p : Type 0) (v : List ℕ) (a t n : ℕ) (end : Bool) (frame : List ℕ) : Type 0 where
+  pub reads : Reads frame end
+  pub u : ℕ
+  pub taken : taken_with t frame ≡ u
+  pub more : is_last_taken (segment_next t frame) ≡ false
+  pub held : held_with (take (7 * (a + t)) v) t frame ≡ take (7 * (a + u)) v
+  pub under : a + u < total v
+  pub next : p → u ≡ n
 
--- it is the next segment
-pub grows : (later : List (List ℕ)) (frame : List ℕ) (segment : BlockSegment) (taken : ℕ) → block_segment_in frame ≡ Some segment → eqb segment.sequence (taken + 1) ≡ true
-    → has_last later ≡ false → length (taken_segments (sub_block later)) ≡ taken
-    → Receives later frame segment segment.last (block_bytes later ++ segment.bytes) (taken + 1)
-grows later frame segment taken read number inside n =
-    let t : segment_taken (length (taken_segments (sub_block later))) (block_segment_in frame) ≡ Some segment = rw (read, n, number) refl in
+-- all were taken
+pub record Completes (v : List ℕ) (a t n : ℕ) (frame : List ℕ) : Type 0 where
+  pub reads : Reads frame true
+  pub taken : taken_with t frame ≡ n
+  pub last : is_last_taken (segment_next t frame) ≡ true
+  pub held : held_with (take (7 * (a + t)) v) t frame ≡ all_held v (total v - 1)
+  pub next : n ≡ t + 1
+  pub whole : a + n ≡ total v
+
+goes : (p : Type 0) (v : List ℕ) (a t n : ℕ) (last end next : Bool) → 1 ≤ n → n < 128 → last || eqb n 127 ≡ end → a + t < total v
+    → (p → InTurn a t n) → eqb n (t + 1) ≡ next → (next ≡ true → (last ≡ false) × (a + n < total v))
+    → Goes p v a t n end (frame_with v a n last)
+goes p v a t n last end true some few ends under turn e left =
+    let next : n ≡ t + 1 = eqb-true _ _ e in
+    let below : a + n < total v = (left refl).1 in
     record {
-      last = rw (inside, t) refl;
-      bytes = rw t refl;
-      inside = λ e.
-          let longer : sub_block (frame ∷ later) ≡ frame ∷ sub_block later = rw (read, e) refl in
-          ap (λ (xs : List (List ℕ)). length (taken_segments xs)) longer ∙ one_more frame (sub_block later) segment t ∙ ap (λ (j : ℕ). j + 1) n;
-      ended = λ e.
-          let none : sub_block (frame ∷ later) ≡ [] = rw (read, e) refl in
-          ap (λ (xs : List (List ℕ)). length (taken_segments xs)) none;
+      reads = reads v a n last end some few ends;
+      u = t + 1;
+      taken = rw (frame_read v a n last some few, e) refl;
+      more = rw (frame_read v a n last some few, e) (left refl).0;
+      held = rw (frame_read v a n last some few, e) (next_joined v a t n next below);
+      under = omega arith;
+      next = λ x. sym next;
+    }
+goes p v a t n last end false some few ends under turn e left = record {
+  reads = reads v a n last end some few ends;
+  u = t;
+  taken = rw (frame_read v a n last some few, e) refl;
+  more = rw (frame_read v a n last some few, e) refl;
+  held = rw (frame_read v a n last some few, e) (append-nil (take (7 * (a + t)) v));
+  under = under;
+  next = λ x. absurd (not_turn n t e (turn x).next);
+}
+
+completes : (v : List ℕ) (a t n : ℕ) → 1 ≤ n → n < 128 → a + n ≡ total v → eqb n (t + 1) ≡ true
+    → Completes v a t n (frame_with v a n true)
+completes v a t n some few whole e =
+    let next : n ≡ t + 1 = eqb-true _ _ e in
+    record {
+      reads = reads v a n true true some few refl;
+      taken = rw (frame_read v a n true some few, e) (sym next);
+      last = rw (frame_read v a n true some few, e) refl;
+      held = rw (frame_read v a n true some few, e) (last_joined v a t n next whole);
+      next = next;
+      whole = whole;
     }
 
--- and with one that isn't the next
-pub passes : (later : List (List ℕ)) (frame : List ℕ) (segment : BlockSegment) (taken : ℕ) → block_segment_in frame ≡ Some segment → eqb segment.sequence (taken + 1) ≡ false
-    → has_last later ≡ false → length (taken_segments (sub_block later)) ≡ taken
-    → Receives later frame segment false (block_bytes later) taken
-passes later frame segment taken read number inside n =
-    let t : segment_taken (length (taken_segments (sub_block later))) (block_segment_in frame) ≡ None = rw (read, n, number) refl in
-    record {
-      last = rw (inside, t) refl;
-      bytes = rw t (append-nil (block_bytes later));
-      inside = λ e.
-          let longer : sub_block (frame ∷ later) ≡ frame ∷ sub_block later = rw (read, e) refl in
-          ap (λ (xs : List (List ℕ)). length (taken_segments xs)) longer ∙ no_more frame (sub_block later) t ∙ n;
-      ended = λ e.
-          let none : sub_block (frame ∷ later) ≡ [] = rw (read, e) refl in
-          ap (λ (xs : List (List ℕ)). length (taken_segments xs)) none;
-    }
+-- it isn't the last segment of its sub-block
+pub next_inside : (p : Type 0) (v : List ℕ) (a t n more : ℕ) → a + t < total v → 1 ≤ n → n + suc more ≡ size_after v a
+    → (p → InTurn a t n) → Goes p v a t n false (segment_at v a n)
+next_inside p v a t n more under some size turn =
+    let inside : eqb n 127 ≡ false = grind (arith, nat_tests) in
+    let left : eqb (a + n) (total v) ≡ false = grind (arith, nat_tests) in
+    let below : a + n < total v = omega arith in
+    subst (Goes p v a t n false) (sym (frame_is v a n false left))
+    (goes p v a t n false false _ some (omega arith) inside under turn refl (λ e. (refl, below)))
+
+-- it is
+pub next_ends : (p : Type 0) (v : List ℕ) (a t n : ℕ) → a + t < total v → 1 ≤ n → n ≡ size_after v a
+    → (p → InTurn a t n) → (last next : Bool) → eqb (a + n) (total v) ≡ last → eqb n (t + 1) ≡ next
+    → Goes p v a t n true (segment_at v a n) ⊎ Completes v a t n (segment_at v a n)
+next_ends p v a t n under some size turn true true l e =
+    inr (subst (Completes v a t n) (sym (frame_is v a n true l)) (completes v a t n some (omega arith) (eqb-true _ _ l) e))
+next_ends p v a t n under some size turn true false l e =
+    inl (subst (Goes p v a t n true) (sym (frame_is v a n true l))
+    (goes p v a t n true true false some (omega arith) refl under turn e (λ x. absurd (false≢true x))))
+next_ends p v a t n under some size turn false next l e =
+    let full : eqb n 127 ≡ true = grind (arith, nat_tests) in
+    let below : a + n < total v = grind (arith, nat_tests) in
+    inl (subst (Goes p v a t n true) (sym (frame_is v a n false l))
+    (goes p v a t n false true next some (omega arith) full under turn e (λ x. (refl, below))))
+
+-- where there is room for all bytes there is for what is held
+pub has_room : (p : Type 0) (v : List ℕ) (a t n cap : ℕ) (end : Bool) (frame : List ℕ) → Goes p v a t n end frame → length v ≤ cap
+    → nat_lt cap (length (held_with (take (7 * (a + t)) v) t frame)) ≡ true → ⊥
+has_room p v a t n cap end frame g fits above =
+    let same = ap length g.held in
+    let few = length-take (7 * (a + g.u)) v in
+    let within : length (held_with (take (7 * (a + t)) v) t frame) ≤ cap = omega arith in
+    not_above cap _ within above
+
+-- ---- the segments of a sub-block among frames
+
+counted : (x : Option BlockSegment) (older : List BlockSegment)
+    → length (and_segment x older) ≡ option_map_or (λ segment. length older + 1) x (length older)
+counted None older = refl
+counted (Some segment) older = omega arith
+
+pub in_block : (later : List (List ℕ)) (frame : List ℕ) (t : ℕ) (end : Bool) → ends_sub_block frame ≡ end
+    → length (taken_segments (sub_block later)) ≡ t
+    → length (taken_segments (sub_block (frame ∷ later))) ≡ (if end then 0 else taken_with t frame)
+in_block later frame t true e n = rw e refl
+in_block later frame t false e n =
+    let longer : sub_block (frame ∷ later) ≡ frame ∷ sub_block later = rw e refl in
+    ap (λ (xs : List (List ℕ)). length (taken_segments xs)) longer ∙ counted _ (taken_segments (sub_block later))
+    ∙ ap (λ (j : ℕ). taken_with j frame) n

@@ -1,8 +1,9 @@
--- What the block transfers of both directions share: aborts among answers, what is on its way, and how many frames have come. `p`
--- says that a transfer is permitted and that nothing disturbs it; what holds of every transfer needs no `p`.
-use Rattle.std.proofs.Common.{◌≡◌, ℕ, suc, ◌+◌, ◌<◌, ◌≤◌, Bool, true, false, List, [], ◌∷◌, ◌++◌, length, drop, map, not, refl, sym, ap, ◌∙◌, arith, eqb, subst, append-nil, ◌⊎◌, inl, inr}
+-- What the block transfers of both directions share: aborts among answers, what is on its way, how the client stands, and how many
+-- frames have come. `p` says that a transfer is permitted and that nothing disturbs it; what holds of every transfer needs no `p`.
+use Rattle.std.proofs.Common.{◌≡◌, ℕ, suc, ◌+◌, ◌<◌, ◌≤◌, Bool, true, false, List, [], ◌∷◌, ◌++◌, length, drop, map, not, Option, None, refl, sym, ap, ◌∙◌, arith, eqb, subst, append-nil, ◌⊎◌, inl, inr}
 use Rattle.std.specs.Prelude.{if◌then◌else◌, nat_le, slice_index}
-use Rattle.std.proofs.lemmas.Bool.{eqb-true, and_parts}
+use Rattle.std.proofs.lemmas.Bool.{eqb-true, false≢true, and_parts, or_parts}
+use Rattle.std.specs.List.{list_any}
 use Rattle.std.proofs.lemmas.Bool.Decides.{nat_tests}
 use Rattle.co_frame.specs.BlockSegments.{is_abort_in_sub_block}
 use Rattle.co_frame.specs.SdoResponses.{response_row_in, response_in}
@@ -10,15 +11,20 @@ use Rattle.co_sdo_client.specs.declared.stage.Stage.{Stage}
 use Rattle.co_sdo_client.specs.declared.stage.Stage.TheVariants.{SubBlock}
 use Rattle.co_sdo_client.specs.declared.state.ClientState.{ClientState}
 use Rattle.co_sdo_client.specs.declared.state.ClientState.TheVariants.{Waiting, Done, Failed}
-use Rattle.co_sdo_client.specs.Calls.{Call, Message, message_bytes, Event as ClientEvent, Answered, Ticked as TickedAtClient, answers as answers_of, is_time_over as is_client_over}
-use Rattle.co_sdo_client.specs.Verdicts.{GoesOn, answer_verdict}
+use Rattle.co_sdo_client.specs.Calls.{Call, Message, Answers, message_bytes, Event as ClientEvent, Answered, Ticked as TickedAtClient, answers as answers_of, since_first, is_time_over as is_client_over}
+use Rattle.co_sdo_client.specs.Verdicts.{GoesOn, verdict, answer_verdict}
 use Rattle.co_sdo_client.specs.Outcomes.{state_by, while_waiting, outcome, result, asked}
-use Rattle.co_sdo.specs.Log.{Answer, answer_bytes}
-use Rattle.co_sdo.specs.Replies.{reply_to}
-use Rattle.co_sdo_laws.specs.World.{Setup, World, Requests, Answers as Back, at_client, at_channel, without_front, front_arrives}
-use Rattle.co_sdo_laws.specs.Undisturbed.{arrived, on_their_way, GoesInBlocks}
+use Rattle.co_dict.specs.Rows.{Contents}
+use Rattle.co_value.specs.declared.key.Key.{Key}
+use Rattle.co_sdo.specs.Log.{Answer, answer_bytes, Ticked}
+use Rattle.co_sdo.specs.Opened.{opened_after}
+use Rattle.co_sdo.specs.Replies.{aborted, open_key, reply_to}
+use Rattle.co_sdo_laws.specs.World.{Setup, World, Requests, Answers as Back, WorldEvent, Delivered, Lost, Repeated, ClientTicked, ChannelTicked, is_repeat, first_world, after_event, world_after, at_client, at_channel, timed_out, ticked, without_front, front_arrives}
+use Rattle.co_sdo_laws.specs.Undisturbed.{IsCalm, AreCalm, arrived, on_their_way, GoesInBlocks}
 use Rattle.co_sdo_laws.proofs.Client.{follows, stays, tick_verdict}
-use Rattle.co_sdo_laws.proofs.Failures.{aborted_fails, is_aborted, has_failed}
+use Rattle.co_sdo_laws.proofs.Channel.{IsServing, serving_ticks, serving_ends}
+use Rattle.co_sdo_laws.proofs.Turns.{waiting≢done}
+use Rattle.co_sdo_laws.proofs.Failures.{aborted_fails, is_aborted, has_failed, failed_event}
 
 -- ---- the frames among others that pass a test
 
@@ -108,6 +114,10 @@ cut_is_more x later given cut e f =
     let long : suc (length later) ≡ length (live later) = ap length (f ∙ sym e ∙ same) in
     absurd (omega arith)
 
+-- no entry is changed
+abbrev pub Lawful : Setup → Contents → Type 0
+Lawful s contents = contents ≡ s.contents
+
 -- ---- what is on its way
 
 -- how many requests and answers have come
@@ -184,15 +194,6 @@ nothing_came s Holds w e h = front_came s Holds w [] e (subst Holds (no_request 
 
 -- ---- the client
 
--- it is done, and gives these bytes
-pub record IsDone (s : Setup) (given : List ℕ) (events : List ClientEvent) : Type 0 where
-  pub done : outcome s.call events ≡ Done
-  pub gives : result s.call events ≡ given
-
-pub over_event : (s : Setup) (event : ClientEvent) {given : List ℕ} (w : World) → IsDone s given w.events
-    → IsDone s given (event ∷ w.events)
-over_event s event w b = let f = stays s.call w.events event b.done in record { done = f.state; gives = f.value ∙ b.gives }
-
 sends_none : (state : ClientState) → while_waiting {A = List Message} state [] [] ≡ []
 sends_none Waiting = refl
 sends_none Done = refl
@@ -204,17 +205,142 @@ calm_asks s events e = rw e (sends_none (outcome s.call events))
 pub calm_waits : (s : Setup) (events : List ClientEvent) → is_client_over s.call.time (TickedAtClient ∷ events) ≡ false → outcome s.call events ≡ Waiting → outcome s.call (TickedAtClient ∷ events) ≡ Waiting
 calm_waits s events e waits = (follows s.call events TickedAtClient (GoesOn []) waits (tick_verdict s.call events e)).state
 
+-- it waits, and these are the answers that it has taken; it is done; or it has failed, and no more is said
+pub data Standing (s : Setup) (p : Type 0) (Waits : Option Answers → World → Type 0) (Over : World → Type 0) (w : World) : Type 0 where
+  waiting : outcome s.call w.events ≡ Waiting → Waits (since_first (answers_of w.events)) w → Standing s p Waits Over w
+  over : Over w → Standing s p Waits Over w
+  failed : (p → ⊥) → has_failed (outcome s.call w.events) ≡ true → Standing s p Waits Over w
+
+-- a request that comes to the channel changes nothing of a client that waits
+pub still_waits : (s : Setup) (p : Type 0) (Waits : Option Answers → World → Type 0) (Over : World → Type 0) (xs : List (List ℕ)) (w : World)
+    → outcome s.call w.events ≡ Waiting → Waits (since_first (answers_of w.events)) (front_arrives s Requests xs w)
+    → Standing s p Waits Over (front_arrives s Requests xs w)
+still_waits s p Waits Over [] w b h = waiting b h
+still_waits s p Waits Over (x ∷ xs) w b h = waiting b h
+
+-- a client that gives up
+pub fails_by : (s : Setup) (p : Type 0) (Waits : Option Answers → World → Type 0) (Over : World → Type 0) (frame : List ℕ) (w : World) → (p → ⊥)
+    → outcome s.call w.events ≡ Waiting → has_failed (state_by (verdict s.call w.events (Answered frame))) ≡ true
+    → Standing s p Waits Over (at_client s (Answered frame) w)
+fails_by s p Waits Over frame w never waits h = failed never (rw waits h)
+
+-- what holds of a client that is done
+pub once_done : (s : Setup) (p : Type 0) (Waits : Option Answers → World → Type 0) (Over : World → Type 0) (w : World) → Standing s p Waits Over w
+    → outcome s.call w.events ≡ Done → Over w
+once_done s p Waits Over w (waiting b h) done = absurd (waiting≢done (sym b ∙ done))
+once_done s p Waits Over w (over h) done = h
+once_done s p Waits Over w (failed n h) done = absurd (false≢true (ap has_failed (sym done) ∙ h))
+
+-- 1 ms elapses at the client: undisturbed its time isn't over while it waits
+pub client_ticks : (s : Setup) (p : Type 0) (Waits : Option Answers → World → Type 0) (Over : World → Type 0) (w : World) (ends : Bool)
+    → is_client_over s.call.time (TickedAtClient ∷ w.events) ≡ ends → (p → IsCalm s ClientTicked w) → outcome s.call w.events ≡ Waiting
+    → (ends ≡ false → Waits (since_first (answers_of w.events)) (at_client s TickedAtClient w)) → Standing s p Waits Over (at_client s TickedAtClient w)
+client_ticks s p Waits Over w true e calm waits h = failed (λ x. false≢true (sym (calm x waits) ∙ e)) (rw (waits, e) refl)
+client_ticks s p Waits Over w false e calm waits h = waiting (calm_waits s w.events e waits) (h refl)
+
+-- it is done, and gives these bytes
+pub record IsDone (s : Setup) (given : List ℕ) (events : List ClientEvent) : Type 0 where
+  pub done : outcome s.call events ≡ Done
+  pub gives : result s.call events ≡ given
+
+pub over_event : (s : Setup) (event : ClientEvent) {given : List ℕ} (w : World) → IsDone s given w.events
+    → IsDone s given (event ∷ w.events)
+over_event s event w b = let f = stays s.call w.events event b.done in record { done = f.state; gives = f.value ∙ b.gives }
+
 pub same_requests : (xs ys : List (List ℕ)) → ys ≡ [] → xs ++ ys ≡ xs
 same_requests xs ys e = rw e (append-nil xs)
+
+-- ---- 1 ms elapses
+
+-- at a client, or at the channel, whose time may be over
+pub data Tick : Type 0 where
+  at_the_client : Tick
+  at_the_channel : Tick
+  time_over : Tick
+
+abbrev pub after_tick : Setup → Tick → World → World
+after_tick s at_the_client w = at_client s TickedAtClient w
+after_tick s at_the_channel w = ticked w
+after_tick s time_over w = timed_out (ticked w)
+
+-- nothing is sent but an abort, of a disturbed transfer
+abbrev pub IsQuiet : Setup → Type 0 → Tick → World → Type 0
+IsQuiet s p at_the_client w = asked s.call (TickedAtClient ∷ w.events) ≡ []
+IsQuiet s p at_the_channel w = Unit {0}
+IsQuiet s p time_over w = p → ⊥
+
+-- a filter of answers drops that abort
+abbrev pub DropsAborts : (List (List ℕ) → List (List ℕ)) → Type 0
+DropsAborts kept = (xs : List (List ℕ)) (key : Key) → kept (xs ++ map answer_bytes (aborted key 0x05040000)) ≡ kept xs
+
+pub live_drops : DropsAborts live
+live_drops xs key = kept_both is_live xs (map answer_bytes (aborted key 0x05040000)) ∙ append-nil (live xs)
+
+pub moment_ticks : (s : Setup) (p : Type 0) (kept : List (List ℕ) → List (List ℕ)) → DropsAborts kept → (tick : Tick) (sent given : List (List ℕ)) (r q : ℕ) (w : World)
+    → IsQuiet s p tick w → Moment p kept sent given r q w → Moment p kept sent given r q (after_tick s tick w)
+moment_ticks s p kept drops at_the_client sent given r q w none m = record {
+  requests = same_requests w.requests _ (ap (map message_bytes) none) ∙ m.requests;
+  answers = m.answers;
+  exact = m.exact;
+  count = λ x. record { received = (m.count x).received; answered = (m.count x).answered };
+}
+moment_ticks s p kept drops at_the_channel sent given r q w quiet m = record {
+  requests = m.requests;
+  answers = m.answers;
+  exact = m.exact;
+  count = λ x. record { received = (m.count x).received; answered = (m.count x).answered };
+}
+moment_ticks s p kept drops time_over sent given r q w never m =
+    disturbed p kept sent given r q (timed_out (ticked w)) never m.requests (drops w.answers (open_key (opened_after (Ticked ∷ w.log))) ∙ m.answers)
+
+pub idle_ticks : (s : Setup) (tick : Tick) (w : World) → IsServing s (Lawful s) None w.log w.contents
+    → IsServing s (Lawful s) None (after_tick s tick w).log (after_tick s tick w).contents
+idle_ticks s at_the_client w h = h
+idle_ticks s at_the_channel w h = serving_ticks s (Lawful s) None w.log w.contents h
+idle_ticks s time_over w h = serving_ends s (Lawful s) None (Ticked ∷ w.log) w.contents (serving_ticks s (Lawful s) None w.log w.contents h)
+
+-- a client that waits goes on waiting
+pub channel_ticks : (s : Setup) (p : Type 0) (Waits : Option Answers → World → Type 0) (Over : World → Type 0) (w : World) (ends : Bool) → (p → ends ≡ false)
+    → outcome s.call w.events ≡ Waiting → ((tick : Tick) → IsQuiet s p tick w → Waits (since_first (answers_of w.events)) (after_tick s tick w))
+    → Standing s p Waits Over (if ends then timed_out (ticked w) else ticked w)
+channel_ticks s p Waits Over w true calm b h = waiting b (h time_over (λ x. false≢true (sym (calm x))))
+channel_ticks s p Waits Over w false calm b h = waiting b (h at_the_channel tt)
+
+-- ---- every event
+
+-- what each event but a repeat makes of a client that waits, and of one that is done
+pub record Events (s : Setup) (p : Type 0) (Waits : Option Answers → World → Type 0) (Over : World → Type 0) : Type 0 where
+  pub first : Waits None (first_world s)
+  pub request : (known : Option Answers) (w : World) → Waits known w → Waits known (front_arrives s Requests w.requests (without_front Requests w))
+  pub request_lost : (known : Option Answers) (w : World) → (p → ⊥) → Waits known w → Waits known (without_front Requests w)
+  pub answer : (w : World) → outcome s.call w.events ≡ Waiting → Waits (since_first (answers_of w.events)) w → Standing s p Waits Over (front_arrives s Back w.answers (without_front Back w))
+  pub answer_lost : (known : Option Answers) (w : World) → (p → ⊥) → Waits known w → Waits known (without_front Back w)
+  pub ticks : (tick : Tick) (known : Option Answers) (w : World) → IsQuiet s p tick w → Waits known w → Waits known (after_tick s tick w)
+  pub done : (event : WorldEvent) (w : World) → is_repeat event ≡ false → (p → IsCalm s event w) → Over w → Over (after_event s event w)
+
+step : (s : Setup) (p : Type 0) (Waits : Option Answers → World → Type 0) (Over : World → Type 0) → Events s p Waits Over → (event : WorldEvent) (w : World) → is_repeat event ≡ false → (p → IsCalm s event w)
+    → Standing s p Waits Over w → Standing s p Waits Over (after_event s event w)
+step s p Waits Over t (Delivered Requests) w once calm (waiting b h) = still_waits s p Waits Over w.requests (without_front Requests w) b (t.request _ w h)
+step s p Waits Over t (Delivered Back) w once calm (waiting b h) = t.answer w b h
+step s p Waits Over t (Lost Requests) w once calm (waiting b h) = waiting b (t.request_lost _ w calm h)
+step s p Waits Over t (Lost Back) w once calm (waiting b h) = waiting b (t.answer_lost _ w calm h)
+step s p Waits Over t (Repeated queue) w once calm (waiting b h) = absurd (false≢true (sym once))
+step s p Waits Over t ClientTicked w once calm (waiting b h) = client_ticks s p Waits Over w _ refl calm b (λ e. t.ticks at_the_client _ w (calm_asks s w.events e) h)
+step s p Waits Over t ChannelTicked w once calm (waiting b h) = channel_ticks s p Waits Over w _ calm b (λ tick q. t.ticks tick _ w q h)
+step s p Waits Over t event w once calm (over h) = over (t.done event w once calm h)
+step s p Waits Over t event w once calm (failed n h) = failed n (failed_event s event w h)
+
+pub all_events : (s : Setup) (p : Type 0) (Waits : Option Answers → World → Type 0) (Over : World → Type 0) → Events s p Waits Over → (events : List WorldEvent) → list_any is_repeat events ≡ false
+    → (p → AreCalm s events) → Standing s p Waits Over (world_after s events)
+all_events s p Waits Over t [] once calm = waiting refl t.first
+all_events s p Waits Over t (event ∷ older) once calm =
+    let both = or_parts (is_repeat event) (list_any is_repeat older) once in
+    step s p Waits Over t event (world_after s older) both.0 (λ x. (calm x).0) (all_events s p Waits Over t older both.1 (λ x. (calm x).1))
 
 -- ---- how far an undisturbed transfer is, by the frames that have come and those on their way
 
 on_way : (kept : List (List ℕ) → List (List ℕ)) (sent given : List (List ℕ)) (r q : ℕ) (w : World) → Moment (Unit {0}) kept sent given r q w → on_their_way w ≡ length sent + length given
 on_way kept sent given r q w m = rw (m.requests, m.exact tt) refl
-
--- where a frame is on its way not none is
-pub some_on_way : (kept : List (List ℕ) → List (List ℕ)) (sent given : List (List ℕ)) (r q : ℕ) (w : World) → Moment (Unit {0}) kept sent given r q w → 1 ≤ length sent + length given → on_their_way w ≡ 0 → ⊥
-some_on_way kept sent given r q w m some none = let n : on_their_way w ≡ length sent + length given = on_way kept sent given r q w m in absurd (omega arith)
 
 pub waits_at : (s : Setup) (needed frames : ℕ) (kept : List (List ℕ) → List (List ℕ)) (sent given : List (List ℕ)) (r q : ℕ) (w : World) → Moment (Unit {0}) kept sent given r q w → outcome s.call w.events ≡ Waiting
     → r + q < needed → needed ≤ frames → 1 ≤ length sent + length given → GoesInBlocks s.call needed frames w

@@ -50,12 +50,8 @@ plain_passes : (key : Key) (client_time : ℕ) (bytes : List ℕ) (tells : Bool)
     → IsUndisturbed (setup key Plain client_time (Download bytes tells) time d contents past) [] → AreBytes bytes
     → Passes (setup key Plain client_time (Download bytes tells) time d contents past)
     (if short then 2 else 2 * requests_needed (length bytes))
-plain_passes key client_time bytes tells time d contents past true e u small =
-    let s = setup key Plain client_time (Download bytes tells) time d contents past in
-    passes s (expedited s [] u e).kind (lawful s [] u refl small)
-plain_passes key client_time bytes tells time d contents past false e u small =
-    let s = setup key Plain client_time (Download bytes tells) time d contents past in
-    passes s (segmented s [] u (ap not e)).kind (lawful s [] u refl small)
+plain_passes key client_time bytes tells time d contents past true e u small = passes _ (expedited _ [] u e).kind (lawful _ [] u refl small)
+plain_passes key client_time bytes tells time d contents past false e u small = passes _ (segmented _ [] u (ap not e)).kind (lawful _ [] u refl small)
 
 passes_by : (key : Key) (mode : Mode) (client_time : ℕ) (job : Job) (time : ℕ) (d : Description) (contents : Contents)
     (past : Log)
@@ -63,21 +59,11 @@ passes_by : (key : Key) (mode : Mode) (client_time : ℕ) (job : Job) (time : �
     → Passes (setup key mode client_time job time d contents past) (frames_needed mode contents key job)
 passes_by key Plain client_time (Download bytes tells) time d contents past u fits =
     plain_passes key client_time bytes tells time d contents past _ refl u fits
-passes_by key Segmented client_time (Download bytes tells) time d contents past u fits =
-    let s = setup key Segmented client_time (Download bytes tells) time d contents past in
-    passes s (segmented s [] u refl).kind (lawful s [] u refl fits)
-passes_by key Block client_time (Download bytes tells) time d contents past u fits =
-    let s = setup key Block client_time (Download bytes tells) time d contents past in
-    passes s (sent_in_blocks s [] u refl) (lawful s [] u refl fits)
-passes_by key Plain client_time (Upload cap) time d contents past u fits =
-    let s = setup key Plain client_time (Upload cap) time d contents past in
-    passes s (uploaded s [] u refl fits).kind u.dictionary
-passes_by key Segmented client_time (Upload cap) time d contents past u fits =
-    let s = setup key Segmented client_time (Upload cap) time d contents past in
-    passes s (uploaded s [] u refl fits).kind u.dictionary
-passes_by key Block client_time (Upload cap) time d contents past u fits =
-    let s = setup key Block client_time (Upload cap) time d contents past in
-    passes s (fetched_in_blocks s [] u refl fits) u.dictionary
+passes_by key Segmented client_time (Download bytes tells) time d contents past u fits = passes _ (segmented _ [] u refl).kind (lawful _ [] u refl fits)
+passes_by key Block client_time (Download bytes tells) time d contents past u fits = passes _ (sent_in_blocks _ [] u refl) (lawful _ [] u refl fits)
+passes_by key Plain client_time (Upload cap) time d contents past u fits = passes _ (uploaded _ [] u refl fits).kind u.dictionary
+passes_by key Segmented client_time (Upload cap) time d contents past u fits = passes _ (uploaded _ [] u refl fits).kind u.dictionary
+passes_by key Block client_time (Upload cap) time d contents past u fits = passes _ (fetched_in_blocks _ [] u refl fits) u.dictionary
 
 call_passes : (server : Server) (call : Call) → IsReady server → MayCall server.description server.contents call
     → Passes (initiate_at server call) (frames_needed call.mode server.contents call.key call.job)

@@ -1,11 +1,10 @@
 -- A channel: what one more event makes of it, what it answers and sets, and channels that have a past.
-use Rattle.std.proofs.Common.{◌≡◌, ℕ, List, ◌∷◌, length, Option, Some, None, refl, ap, ◌∙◌, subst, ◌+◌, Bool, true, false, [], sym, arith, ◌==◌, not, map}
+use Rattle.std.proofs.Common.{◌≡◌, ℕ, List, ◌∷◌, length, Option, Some, None, refl, ap, ◌∙◌, subst, Bool, true, false, [], sym, arith, ◌==◌, not, map}
 use Rattle.co_dict.specs.Rows.{Rows, Contents, fits, takes, written}
 use Rattle.co_dict.specs.Stores.{Description, IsDictionary, IsFilled}
-use Rattle.co_sdo.specs.declared.stage.Stage.TheVariants.{Upload as Uploading}
-use Rattle.co_sdo.specs.Log.{Exchanged, Ticked, Log, exchanges, Answer, answer_bytes, TimedOut}
+use Rattle.co_sdo.specs.Log.{Exchanged, Ticked, Log, Answer, answer_bytes, TimedOut}
 use Rattle.co_sdo.specs.OpenTransfers.{Since, open_since, and_event, since_initiate, open_transfer, Transfer}
-use Rattle.co_sdo.specs.Opened.{OpenTransfer, opened, opened_after, opened_by, is_time_over}
+use Rattle.co_sdo.specs.Opened.{OpenTransfer, opened, opened_after, opened_by}
 use Rattle.co_sdo.specs.Replies.{reply_to, answers_to, aborted, time_out_reply}
 use Rattle.co_sdo.specs.Completed.{set_by, contents_with}
 use Rattle.co_sdo.specs.Steps.{opened_next, set_next}
@@ -21,7 +20,7 @@ use Rattle.co_dict.specs.declared.row.Row.{Row}
 use Rattle.co_frame.specs.SdoRequests.{request_in}
 use Rattle.co_frame.specs.declared.sdo_request.SdoRequest.{SdoRequest}
 use Rattle.co_frame.specs.declared.sdo_request.SdoRequest.TheVariants.{DownloadInitiate, Upload, BlockUploadInitiate, BlockDownloadInitiate}
-use Rattle.co_sdo_laws.specs.World.{Setup, World, Queue, Requests, Answers, WorldEvent, Delivered, Lost, Repeated, ClientTicked, ChannelTicked, timed_out, ticked, on_way, without_front, front_arrives, after_event, world_after}
+use Rattle.co_sdo_laws.specs.World.{Setup}
 use Rattle.std.proofs.lemmas.Bool.Decides.{nat_tests}
 use Rattle.co_value.specs.Types.{width_of}
 use Rattle.co_dict.specs.Refusals.{refused_if, first_of, first_refusal}
@@ -75,38 +74,6 @@ serves_ticked rows log current s = record {
 pub moved : (rows : Rows) (log : Log) (a b : Option OpenTransfer) → a ≡ b → Serves rows log a → Serves rows log b
 moved rows log a b e h = subst (Serves rows log) e h
 
--- ---- a channel that has a past
-
--- ---- requests
-
--- the exchanges of a channel are those of its past, and one for each request that it received since
-abbrev Counted : Setup → World → Type 0
-Counted s w = length (exchanges w.log) ≡ w.received + length (exchanges s.past)
-
-shorter : (s : Setup) (queue : Queue) (w : World) → Counted s w → Counted s (without_front queue w)
-shorter s Requests w h = h
-shorter s Answers w h = h
-
-front_counted : (s : Setup) (queue : Queue) (frames : List (List ℕ)) (w : World) → Counted s w → Counted s (front_arrives s queue frames w)
-front_counted s queue [] w h = h
-front_counted s Requests (frame ∷ later) w h = let n = h in omega arith
-front_counted s Answers (frame ∷ later) w h = h
-
-tick_counted : (s : Setup) (w : World) (over : Bool) → Counted s w → Counted s (if over then timed_out (ticked w) else ticked w)
-tick_counted s w true h = h
-tick_counted s w false h = h
-
-event_counted : (s : Setup) (event : WorldEvent) (w : World) → Counted s w → Counted s (after_event s event w)
-event_counted s (Delivered queue) w h = front_counted s queue (on_way queue w) (without_front queue w) (shorter s queue w h)
-event_counted s (Lost queue) w h = shorter s queue w h
-event_counted s (Repeated queue) w h = front_counted s queue (on_way queue w) w h
-event_counted s ClientTicked w h = h
-event_counted s ChannelTicked w h = tick_counted s w (is_time_over s.time (Ticked ∷ w.log)) h
-
-pub received : (s : Setup) (events : List WorldEvent) → Counted s (world_after s events)
-received s [] = omega arith
-received s (event ∷ older) = event_counted s event (world_after s older) (received s older)
-
 -- ---- idle channels
 
 opens_one : (rows : Rows) (begin : Option SdoRequest) (t : Transfer) → is_transfer_after rows begin t → opened_by begin t ≡ None → ⊥
@@ -156,8 +123,6 @@ is_filled rows contents key bytes h room small = record {
     all_small : (other : Key) (held : List ℕ) (same : Bool) → (if same then Some bytes else contents other) ≡ Some held → AreBytes held
     all_small other held true c = let is : bytes ≡ held = cc in subst AreBytes is small
     all_small other held false c = h.bytes other held c
-
--- ---- with what holds of the dictionary
 
 -- ---- nothing is open, or this
 
@@ -266,7 +231,3 @@ stays_lawful d contents key indicated bytes lawful small h = record {
   initially = lawful.initially;
   filled = is_filled d.rows contents key bytes lawful.filled (taken_by d contents key indicated bytes lawful h) small;
 }
-
--- what is open in a transfer that is over with its first request
-abbrev pub nothing_open : OpenTransfer
-nothing_open = record { key = record { index = 0; sub = 0 }; stage = Uploading 0; bytes = [] }

@@ -28,29 +28,18 @@ four_bytes x h = omega arith
 abbrev pub segment_command : Bool → ℕ → Bool → ℕ
 segment_command toggle m last = cond toggle 16 0 + 2 * m + cond last 1 0
 
-pub top_of : (toggle last : Bool) (m : ℕ) → m ≤ 7 → segment_command toggle m last / 32 ≡ 0
-top_of true true m h = omega arith
-top_of true false m h = omega arith
-top_of false true m h = omega arith
-top_of false false m h = omega arith
+-- its parts
+pub record IsCommand (toggle last : Bool) (m : ℕ) : Type 0 where
+  pub top : segment_command toggle m last / 32 ≡ 0
+  pub toggles : (segment_command toggle m last / 16 % 2 == 1) ≡ toggle
+  pub ends : (segment_command toggle m last / 1 % 2 == 1) ≡ last
+  pub unused : segment_command toggle m last / 2 % 8 ≡ m
 
-toggle_of : (toggle last : Bool) (m : ℕ) → m ≤ 7 → (segment_command toggle m last / 16 % 2 == 1) ≡ toggle
-toggle_of true true m h = grind (arith, nat_tests)
-toggle_of true false m h = grind (arith, nat_tests)
-toggle_of false true m h = grind (arith, nat_tests)
-toggle_of false false m h = grind (arith, nat_tests)
-
-last_of : (toggle last : Bool) (m : ℕ) → m ≤ 7 → (segment_command toggle m last / 1 % 2 == 1) ≡ last
-last_of true true m h = grind (arith, nat_tests)
-last_of true false m h = grind (arith, nat_tests)
-last_of false true m h = grind (arith, nat_tests)
-last_of false false m h = grind (arith, nat_tests)
-
-unused_of : (toggle last : Bool) (m : ℕ) → m ≤ 7 → segment_command toggle m last / 2 % 8 ≡ m
-unused_of true true m h = omega arith
-unused_of true false m h = omega arith
-unused_of false true m h = omega arith
-unused_of false false m h = omega arith
+pub command_of : (toggle last : Bool) (m : ℕ) → m ≤ 7 → IsCommand toggle last m
+command_of true true m h = record { top = omega arith; toggles = grind (arith, nat_tests); ends = grind (arith, nat_tests); unused = omega arith }
+command_of true false m h = record { top = omega arith; toggles = grind (arith, nat_tests); ends = grind (arith, nat_tests); unused = omega arith }
+command_of false true m h = record { top = omega arith; toggles = grind (arith, nat_tests); ends = grind (arith, nat_tests); unused = omega arith }
+command_of false false m h = record { top = omega arith; toggles = grind (arith, nat_tests); ends = grind (arith, nat_tests); unused = omega arith }
 
 pub padded_length : (xs : List ℕ) (n : ℕ) → length xs ≤ n → length (padded n xs) ≡ n
 padded_length xs n h = simp (length-append, length-replicate) (omega arith)
@@ -70,10 +59,10 @@ request_segment bytes toggle items last n top t i l = rw (n, top, t, l) (ap (λ 
 pub segment_read : (toggle : Bool) (items : List ℕ) (last : Bool) → length items ≤ 7
     → request_in (request_bytes (DownloadSegment toggle (record { items = items }) last)) ≡ Some (DownloadSegment toggle (record { items = items }) last)
 segment_read toggle items last h =
-    let m : 7 - length items ≤ 7 = omega arith in
+    let c = command_of toggle last (7 - length items) (omega arith) in
     request_segment (request_bytes (DownloadSegment toggle (record { items = items }) last)) toggle items last
-    (let n = padded_length items 7 h in omega (arith, n)) (top_of toggle last _ m) (toggle_of toggle last _ m)
-    (rw (unused_of toggle last (7 - length items) m) (padded_taken items 7 h)) (last_of toggle last _ m)
+    (let n = padded_length items 7 h in omega (arith, n)) c.top c.toggles
+    (rw c.unused (padded_taken items 7 h)) c.ends
 
 -- ---- downloads
 
@@ -181,10 +170,10 @@ response_segment bytes toggle items last n top t i l = rw (n, top, t, l) (ap (λ
 pub segment_sent_read : (toggle : Bool) (items : List ℕ) (last : Bool) → length items ≤ 7
     → response_in (response_bytes (SegmentSent toggle (record { items = items }) last)) ≡ Some (SegmentSent toggle (record { items = items }) last)
 segment_sent_read toggle items last h =
-    let m : 7 - length items ≤ 7 = omega arith in
+    let c = command_of toggle last (7 - length items) (omega arith) in
     response_segment (response_bytes (SegmentSent toggle (record { items = items }) last)) toggle items last
-    (let n = padded_length items 7 h in omega (arith, n)) (top_of toggle last _ m) (toggle_of toggle last _ m)
-    (rw (unused_of toggle last (7 - length items) m) (padded_taken items 7 h)) (last_of toggle last _ m)
+    (let n = padded_length items 7 h in omega (arith, n)) c.top c.toggles
+    (rw c.unused (padded_taken items 7 h)) c.ends
 
 -- ---- block transfers
 

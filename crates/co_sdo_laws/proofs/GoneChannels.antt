@@ -28,10 +28,10 @@ use Rattle.co_sdo.specs.Downloads.{is_odd, expedited_part, is_whole_after}
 use Rattle.co_sdo.specs.Uploads.{value_at, part_after}
 use Rattle.co_sdo.specs.OpenTransfers.{Transfer, is_initiate, is_finished, is_uploaded, is_cut, is_inside, is_inside_after, is_abort_request, begins, open_transfer}
 use Rattle.co_sdo.specs.Opened.{OpenTransfer, opened, opened_by, opened_after}
-use Rattle.co_sdo.specs.Replies.{aborted, unless_refused, toggle_refusal, block_size_refusal, segment_refusal, request_answers, answers_to, reply_to}
+use Rattle.co_sdo.specs.Replies.{aborted, unless_refused, toggle_refusal, block_size_refusal, segment_refusal, is_in_sub_block, request_answers, answers_to, reply_to}
 use Rattle.co_sdo.proofs.Initiations.{exchange}
 use Rattle.co_sdo.proofs.Logs.{after_initiates, after_open, after_nothing}
-use Rattle.co_sdo_laws.proofs.Frames.{top_of}
+use Rattle.co_sdo_laws.proofs.Frames.{command_of}
 use Rattle.co_sdo_laws.proofs.Channel.{tick_opens, ended}
 use Rattle.co_sdo_laws.proofs.Blocks.{kept}
 
@@ -58,7 +58,7 @@ by_row frame h = by (eqb (length frame) 8)
 
 segment_row : (toggle last : Bool) (part : ArrayVec ℕ) → is_awaited (response_row_in (response_bytes (SegmentSent toggle part last))) ≡ false
 unfolding response_row_in
-segment_row toggle last part = rw (top_of toggle last (7 - length part.items) (omega arith)) refl
+segment_row toggle last part = rw (command_of toggle last (7 - length part.items) (omega arith)).top refl
 
 -- the answers of an upload or a download that isn't in blocks, or of a begin
 abbrev pub AreOthers : List Answer → Type 0
@@ -78,26 +78,10 @@ expedited_row key part =
 expedited_other : (key : Key) (part : ArrayVec ℕ) → AreOthers (Response (UploadExpedited key (Indicated part)) ∷ [])
 expedited_other key part = rw (by_row (response_bytes (UploadExpedited key (Indicated part))) (expedited_row key part)) refl
 
-done_other : (key : Key) → AreOthers (Response (DownloadDone key) ∷ [])
-unfolding response_row_in
-done_other key = refl
-
 segment_done_other : (toggle : Bool) → AreOthers (Response (DownloadSegmentDone toggle) ∷ [])
 unfolding response_row_in
 segment_done_other true = refl
 segment_done_other false = refl
-
-initiated_other : (key : Key) (size : ℕ) → AreOthers (Response (UploadInitiated key (Some size)) ∷ [])
-unfolding response_row_in
-initiated_other key size = refl
-
-block_initiated_other : (key : Key) (size : ℕ) → AreOthers (Response (BlockUploadInitiated key (Some size)) ∷ [])
-unfolding response_row_in
-block_initiated_other key size = refl
-
-download_initiated_other : (key : Key) → AreOthers (Response (BlockDownloadInitiated key 127) ∷ [])
-unfolding response_row_in
-download_initiated_other key = refl
 
 pub aborted_other : (key : Key) (code : ℕ) → AreOthers (aborted key code)
 unfolding response_row_in
@@ -108,8 +92,9 @@ unless_other None key answers h = h
 unless_other (Some code) key answers h = aborted_other key code
 
 value_other : (key : Key) (v : List ℕ) (short : Bool) → AreOthers (if short then Response (UploadExpedited key (Indicated (record { items = v }))) ∷ [] else Response (UploadInitiated key (Some (length v))) ∷ [])
+unfolding response_row_in
 value_other key v true = expedited_other key (record { items = v })
-value_other key v false = initiated_other key (length v)
+value_other key v false = refl
 
 -- ---- the channel
 
@@ -119,43 +104,28 @@ pub data IsPlain (current : Option OpenTransfer) : Type 0 where
   download : (key : Key) (size : Option ℕ) (expected : Bool) (held : List ℕ) → current ≡ Some (record { key = key; stage = Download size expected; bytes = held }) → IsPlain current
   upload : (key : Key) (sent : ℕ) (held : List ℕ) → current ≡ Some (record { key = key; stage = Uploading sent; bytes = held }) → IsPlain current
 
-nothing_other : (d : Description) (contents : Contents) (r : Option SdoRequest) → AreOthers (request_answers d contents None r)
-nothing_other d contents (Some (DownloadExpedited key expedited)) = unless_other (completion_refusal d contents key None (expedited_part d.rows key expedited)) key _ (done_other key)
-nothing_other d contents (Some (DownloadInitiate key size)) = unless_other (initiate_refusal d key size) key _ (done_other key)
-nothing_other d contents (Some (Upload key)) = unless_other (reading_refusal d contents key) key _ (value_other key (value_at contents key) (nat_le 1 (length (value_at contents key)) && nat_le (length (value_at contents key)) 4))
-nothing_other d contents (Some (BlockUploadInitiate key size threshold)) = unless_other (first_of (reading_refusal d contents key) (block_size_refusal size)) key _ (block_initiated_other key (length (value_at contents key)))
-nothing_other d contents (Some (BlockDownloadInitiate key size)) = unless_other (initiate_refusal d key size) key _ (download_initiated_other key)
-nothing_other d contents (Some (Abort key code)) = refl
-nothing_other d contents _ = aborted_other (record { index = 0; sub = 0 }) 0x05040001
+outside_sub_block : (current : Option OpenTransfer) → IsPlain current → is_in_sub_block current ≡ false
+outside_sub_block current (nothing e) = rw e refl
+outside_sub_block current (download key size expected held e) = rw e refl
+outside_sub_block current (upload key sent held e) = rw e refl
 
-download_other : (d : Description) (contents : Contents) (key : Key) (size : Option ℕ) (expected : Bool) (held : List ℕ) (r : Option SdoRequest)
-    → AreOthers (request_answers d contents (Some (record { key = key; stage = Download size expected; bytes = held })) r)
-download_other d contents k size expected held (Some (DownloadExpedited key expedited)) = nothing_other d contents (Some (DownloadExpedited key expedited))
-download_other d contents k size expected held (Some (DownloadInitiate key n)) = nothing_other d contents (Some (DownloadInitiate key n))
-download_other d contents k size expected held (Some (Upload key)) = nothing_other d contents (Some (Upload key))
-download_other d contents k size expected held (Some (BlockUploadInitiate key n threshold)) = nothing_other d contents (Some (BlockUploadInitiate key n threshold))
-download_other d contents k size expected held (Some (BlockDownloadInitiate key n)) = nothing_other d contents (Some (BlockDownloadInitiate key n))
-download_other d contents k size expected held (Some (DownloadSegment toggle part last)) =
-    unless_other (segment_refusal d contents (record { key = k; stage = Download size expected; bytes = held }) size expected toggle part.items last) k _ (segment_done_other toggle)
-download_other d contents k size expected held (Some (Abort key code)) = refl
-download_other d contents k size expected held _ = aborted_other k 0x05040001
-
-upload_other : (d : Description) (contents : Contents) (key : Key) (sent : ℕ) (held : List ℕ) (r : Option SdoRequest)
-    → AreOthers (request_answers d contents (Some (record { key = key; stage = Uploading sent; bytes = held })) r)
-upload_other d contents k sent held (Some (DownloadExpedited key expedited)) = nothing_other d contents (Some (DownloadExpedited key expedited))
-upload_other d contents k sent held (Some (DownloadInitiate key n)) = nothing_other d contents (Some (DownloadInitiate key n))
-upload_other d contents k sent held (Some (Upload key)) = nothing_other d contents (Some (Upload key))
-upload_other d contents k sent held (Some (BlockUploadInitiate key n threshold)) = nothing_other d contents (Some (BlockUploadInitiate key n threshold))
-upload_other d contents k sent held (Some (BlockDownloadInitiate key n)) = nothing_other d contents (Some (BlockDownloadInitiate key n))
-upload_other d contents k sent held (Some (UploadSegment toggle)) = unless_other (toggle_refusal toggle (is_odd sent)) k _ (segment_other toggle (nat_le (length held) (7 * sent + 7)) (record { items = part_after sent held }))
-upload_other d contents k sent held (Some (Abort key code)) = refl
-upload_other d contents k sent held _ = aborted_other k 0x05040001
-
--- whatever comes, nothing awaited is answered
-others : (d : Description) (contents : Contents) (current : Option OpenTransfer) (frame : List ℕ) → IsPlain current → AreOthers (answers_to d contents current frame)
-others d contents current frame (nothing e) = rw e (nothing_other d contents (request_in frame))
-others d contents current frame (download key size expected held e) = rw e (download_other d contents key size expected held (request_in frame))
-others d contents current frame (upload key sent held e) = rw e (upload_other d contents key sent held (request_in frame))
+-- whatever comes, nothing awaited is answered; a begin is answered whatever is open
+request_other : (d : Description) (contents : Contents) (current : Option OpenTransfer) (r : Option SdoRequest) → IsPlain current → AreOthers (request_answers d contents current r)
+unfolding response_row_in
+request_other d contents current (Some (DownloadExpedited key expedited)) h = unless_other (completion_refusal d contents key None (expedited_part d.rows key expedited)) key (Response (DownloadDone key) ∷ []) refl
+request_other d contents current (Some (DownloadInitiate key size)) h = unless_other (initiate_refusal d key size) key (Response (DownloadDone key) ∷ []) refl
+request_other d contents current (Some (Upload key)) h = unless_other (reading_refusal d contents key) key _ (value_other key (value_at contents key) (nat_le 1 (length (value_at contents key)) && nat_le (length (value_at contents key)) 4))
+request_other d contents current (Some (BlockUploadInitiate key size threshold)) h =
+    unless_other (first_of (reading_refusal d contents key) (block_size_refusal size)) key (Response (BlockUploadInitiated key (Some (length (value_at contents key)))) ∷ []) refl
+request_other d contents current (Some (BlockDownloadInitiate key size)) h = unless_other (initiate_refusal d key size) key (Response (BlockDownloadInitiated key 127) ∷ []) refl
+request_other d contents current (Some (Abort key code)) h = refl
+request_other d contents current (Some (DownloadSegment toggle part last)) (download k size expected held e) =
+    subst (λ (c : Option OpenTransfer). AreOthers (request_answers d contents c (Some (DownloadSegment toggle part last)))) (sym e) (unless_other (segment_refusal d contents (record { key = k; stage = Download size expected; bytes = held }) size expected toggle part.items last) k _ (segment_done_other toggle))
+request_other d contents current (Some (UploadSegment toggle)) (upload k sent held e) =
+    subst (λ (c : Option OpenTransfer). AreOthers (request_answers d contents c (Some (UploadSegment toggle)))) (sym e) (unless_other (toggle_refusal toggle (is_odd sent)) k _ (segment_other toggle (nat_le (length held) (7 * sent + 7)) (record { items = part_after sent held })))
+request_other d contents current r (nothing e) = subst (λ (c : Option OpenTransfer). AreOthers (request_answers d contents c r)) (sym e) (aborted_other (record { index = 0; sub = 0 }) 0x05040001)
+request_other d contents current r (download k size expected held e) = subst (λ (c : Option OpenTransfer). AreOthers (request_answers d contents c r)) (sym e) (aborted_other k 0x05040001)
+request_other d contents current r (upload k sent held e) = subst (λ (c : Option OpenTransfer). AreOthers (request_answers d contents c r)) (sym e) (aborted_other k 0x05040001)
 
 -- ---- over a log
 
@@ -179,7 +149,9 @@ plain log (idle e) = nothing (ap opened e)
 plain log (other t e b) = subst IsPlain (sym (ap opened e)) (plain_by (request_in t.begin.request) t b)
 
 pub gone_answers : (d : Description) (contents : Contents) (log : Log) (frame : List ℕ) → IsGone log → AreOthers (reply_to d contents log frame)
-gone_answers d contents log frame h = others d contents (opened_after log) frame (plain log h)
+gone_answers d contents log frame h =
+    let out = outside_sub_block (opened_after log) (plain log h) in
+    rw out (request_other d contents (opened_after log) (request_in frame) (plain log h))
 
 -- ---- a frame whose first byte is below 80h
 

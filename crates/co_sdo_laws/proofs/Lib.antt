@@ -10,12 +10,10 @@ pub mod Segments
 pub mod StopAndWait
 pub mod InTurns
 pub mod SegmentedDownloads
-pub mod ExpeditedDownloads
 pub mod Uploads
 pub mod Blocks
 pub mod BlockSegments
 pub mod BlockUploads
-pub mod BlockUploadSegments
 pub mod BlockUploadEvents
 pub mod GoneChannels
 pub mod BlockDownloads

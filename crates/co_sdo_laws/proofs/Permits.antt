@@ -95,7 +95,27 @@ may_send d contents key (Download bytes false) t few free =
     record { begin = may.begin; complete = free; at_once = free; room = may.room }
 may_send d contents key (Upload cap) t few free = absurd (false≢true t)
 
--- ---- a download by the protocol of this mode, at an idle channel; where `p` holds it is permitted
+-- ---- protocols, each by a mode and a job that go by it
+
+abbrev pub Protocol : Type 0
+Protocol = Mode × Job
+
+abbrev pub sends_at_once : Protocol
+sends_at_once = (Plain, Download (0 ∷ []) true)
+
+abbrev pub sends_in_segments : Protocol
+sends_in_segments = (Segmented, Download [] true)
+
+abbrev pub sends_in_blocks : Protocol
+sends_in_blocks = (Block, Download [] true)
+
+abbrev pub reads_in_segments : Protocol
+reads_in_segments = (Segmented, Upload 0)
+
+abbrev pub reads_in_blocks : Protocol
+reads_in_blocks = (Block, Upload 0)
+
+-- ---- a download by this protocol, at an idle channel; where `p` holds it is permitted
 
 abbrev pub bytes : Setup → List ℕ
 bytes s = bytes_of s.call.job
@@ -103,11 +123,11 @@ bytes s = bytes_of s.call.job
 abbrev pub indicated : Setup → Option ℕ
 indicated s = size_read (size_sent s.call.job)
 
-pub record IsDownload (s : Setup) (p : Type 0) (mode : Mode) : Type 0 where
+pub record IsDownload (s : Setup) (p : Type 0) (protocol : Protocol) : Type 0 where
   pub dictionary : IsDictionary s.description s.contents
   pub key : s.call.key.index < 65536
   pub idle : open_transfer s.past ≡ None
-  pub transfer : transfer_of s.call ≡ transfer_by mode (Download [] true)
+  pub transfer : transfer_of s.call ≡ transfer_by protocol.0 protocol.1
   pub may_begin : p → initiate_refusal s.description s.call.key (indicated s) ≡ None
   pub may_complete : p → completion_refusal s.description s.contents s.call.key (indicated s) (bytes s) ≡ None
   pub room : p → length (bytes s) ≤ capacity_at s.description.rows s.call.key
@@ -118,16 +138,16 @@ none≢some x y e f = cc
 pub entry_is : (contents : Contents) (key : Key) (v : List ℕ) → written contents key v key ≡ Some v
 entry_is contents key v = rw (same_key-refl key) refl
 
--- ---- an upload by the protocol of this mode: where `p` holds it is permitted, and the client has room for the value
+-- ---- an upload by this protocol: where `p` holds it is permitted, and the client has room for the value
 
 abbrev pub value : Setup → List ℕ
 value s = value_at s.contents s.call.key
 
-pub record IsUpload (s : Setup) (p : Type 0) (mode : Mode) : Type 0 where
+pub record IsUpload (s : Setup) (p : Type 0) (protocol : Protocol) : Type 0 where
   pub dictionary : IsDictionary s.description s.contents
   pub key : s.call.key.index < 65536
   pub idle : open_transfer s.past ≡ None
-  pub transfer : transfer_of s.call ≡ transfer_by mode (Upload 0)
+  pub transfer : transfer_of s.call ≡ transfer_by protocol.0 protocol.1
   pub may_read : p → reading_refusal s.description s.contents s.call.key ≡ None
   pub fits : p → length (value s) ≤ cap_of s.call.job
 
@@ -155,16 +175,12 @@ small_value s lawful =
 
 -- ---- by which protocol a call's transfer goes
 
--- by the one of this mode, to the entry or not
-abbrev pub job_like : Bool → Job
-job_like true = Download [] true
-job_like false = Upload 0
-
-pub record Goes (mode : Mode) (job : Job) (like : Mode) (to_entry : Bool) : Type 0 where
-  pub by : transfer_by mode job ≡ transfer_by like (job_like to_entry)
+-- by this one, to the entry or not
+pub record Goes (mode : Mode) (job : Job) (protocol : Protocol) (to_entry : Bool) : Type 0 where
+  pub by : transfer_by mode job ≡ transfer_by protocol.0 protocol.1
   pub sends : is_download job ≡ to_entry
 
-pub in_segments : (mode : Mode) (job : Job) → is_segmented_download mode job ≡ true → Goes mode job Segmented true
+pub in_segments : (mode : Mode) (job : Job) → is_segmented_download mode job ≡ true → Goes mode job sends_in_segments true
 in_segments Plain (Download bytes tells) h = record { by = rw (not-true (is_short (length bytes)) h) refl; sends = refl }
 in_segments Segmented (Download bytes tells) h = record { by = refl; sends = refl }
 in_segments _ _ h = cc
@@ -176,21 +192,19 @@ short_bytes n h =
     let high = both.1 in
     (grind (arith, nat_tests), grind (arith, nat_tests))
 
-pub record IsAtOnce (mode : Mode) (job : Job) : Type 0 where
-  pub by : transfer_by mode job ≡ transfer_by Plain (Download (0 ∷ []) true)
-  pub sends : is_download job ≡ true
-  pub bytes : (1 ≤ length (bytes_of job)) × (length (bytes_of job) ≤ 4)
-
-pub at_once : (mode : Mode) (job : Job) → is_expedited_download mode job ≡ true → IsAtOnce mode job
-at_once Plain (Download bytes tells) h =
-    record { by = rw h refl; sends = refl; bytes = short_bytes (length bytes) h }
+pub at_once : (mode : Mode) (job : Job) → is_expedited_download mode job ≡ true → Goes mode job sends_at_once true
+at_once Plain (Download bytes tells) h = record { by = rw h refl; sends = refl }
 at_once _ _ h = cc
 
-pub in_blocks : (mode : Mode) (job : Job) → is_block_download mode job ≡ true → Goes mode job Block true
+pub at_once_few : (mode : Mode) (job : Job) → is_expedited_download mode job ≡ true → is_short (length (bytes_of job)) ≡ true
+at_once_few Plain (Download bytes tells) h = h
+at_once_few _ _ h = cc
+
+pub in_blocks : (mode : Mode) (job : Job) → is_block_download mode job ≡ true → Goes mode job sends_in_blocks true
 in_blocks Block (Download bytes tells) h = record { by = refl; sends = refl }
 in_blocks _ _ h = cc
 
-pub upload : (mode : Mode) (job : Job) → is_plain_upload mode job ≡ true → Goes mode job Segmented false
+pub upload : (mode : Mode) (job : Job) → is_plain_upload mode job ≡ true → Goes mode job reads_in_segments false
 upload Plain (Upload cap) h = record { by = refl; sends = refl }
 upload Segmented (Upload cap) h = record { by = refl; sends = refl }
 upload Block (Upload cap) h = cc
@@ -198,7 +212,7 @@ upload Plain (Download bytes tells) h = cc
 upload Segmented (Download bytes tells) h = cc
 upload Block (Download bytes tells) h = cc
 
-pub block_upload : (mode : Mode) (job : Job) → is_block_upload mode job ≡ true → Goes mode job Block false
+pub block_upload : (mode : Mode) (job : Job) → is_block_upload mode job ≡ true → Goes mode job reads_in_blocks false
 block_upload Block (Upload cap) h = record { by = refl; sends = refl }
 block_upload _ _ h = cc
 

@@ -23,6 +23,9 @@ no_front s Answers w e = rw e refl
 as_many : (w : World) → arrived w ≤ arrived w
 as_many w = omega arith
 
+at_most : {a b c : ℕ} → a ≤ b → b ≤ c → a ≤ c
+at_most p q = omega arith
+
 keeps : (s : Setup) (queue : Queue) (w : World) (xs : List (List ℕ)) → on_way queue w ≡ xs
     → arrived w ≤ arrived (after_event s (Delivered queue) w)
 keeps s queue w [] e = subst (λ (x : World). arrived w ≤ arrived x) (no_front s queue w e) (as_many w)
@@ -36,17 +39,11 @@ round_keeps s w =
     let first : arrived w ≤ arrived (after_event s (Delivered Requests) w) = keeps s Requests w w.requests refl in
     let second : arrived (after_event s (Delivered Requests) w) ≤ arrived (a_round s w) = keeps s Answers (after_event s (Delivered Requests) w) _ refl in
     at_most first second
-  where
-    at_most : {a b c : ℕ} → a ≤ b → b ≤ c → a ≤ c
-    at_most p q = omega arith
 
 -- where a frame is on its way, a round brings one
 round_brings : (s : Setup) (w : World) (xs ys : List (List ℕ)) → w.requests ≡ xs → w.answers ≡ ys → 1 ≤ length xs + length ys → arrived w + 1 ≤ arrived (a_round s w)
 round_brings s w (frame ∷ later) ys e f some =
     at_most (more s Requests w frame later e) (keeps s Answers (after_event s (Delivered Requests) w) _ refl)
-  where
-    at_most : {a b c : ℕ} → a ≤ b → b ≤ c → a ≤ c
-    at_most p q = omega arith
 round_brings s w [] (frame ∷ later) e f some = subst (λ (x : World). arrived w + 1 ≤ arrived (after_event s (Delivered Answers) x)) (no_front s Requests w e) (more s Answers w frame later f)
 round_brings s w [] [] e f some = absurd (omega arith)
 
@@ -89,9 +86,10 @@ pub record AllThere (s : Setup) (w : World) : Type 0 where
   pub client : sent s.call w.events ≡ w.received + length w.requests
   pub channel : answers_sent w.log ≡ answers_sent s.past + (length (answers_of w.events) + length w.answers)
 
-request_comes : (s : Setup) (w : World) (frame : List ℕ) (later : List (List ℕ)) → w.requests ≡ frame ∷ later
-    → AllThere s w → AllThere s (after_event s (Delivered Requests) w)
-request_comes s w frame later e h =
+requests_come : (s : Setup) (w : World) (xs : List (List ℕ)) → w.requests ≡ xs → AllThere s w
+    → AllThere s (after_event s (Delivered Requests) w)
+requests_come s w [] e h = subst (AllThere s) (no_front s Requests w e) h
+requests_come s w (frame ∷ later) e h =
     let size : length w.requests ≡ suc (length later) = ap length e in
     let m = h.client in
     let more = length-append w.answers (map answer_bytes (reply_to s.description w.contents w.log frame)) in
@@ -107,22 +105,13 @@ client_has s event w n =
     let longer = length-append (all_asked s.call w.events) (asked s.call (event ∷ w.events)) in
     omega arith
 
-answer_comes : (s : Setup) (w : World) (frame : List ℕ) (later : List (List ℕ)) → w.answers ≡ frame ∷ later
-    → AllThere s w → AllThere s (after_event s (Delivered Answers) w)
-answer_comes s w frame later e h =
-    let size : length w.answers ≡ suc (length later) = ap length e in
-    let n = h.channel in
-    rw e (record { client = client_has s (Answered frame) w h.client; channel = omega arith })
-
-requests_come : (s : Setup) (w : World) (xs : List (List ℕ)) → w.requests ≡ xs → AllThere s w
-    → AllThere s (after_event s (Delivered Requests) w)
-requests_come s w [] e h = subst (AllThere s) (no_front s Requests w e) h
-requests_come s w (frame ∷ later) e h = request_comes s w frame later e h
-
 answers_come : (s : Setup) (w : World) (xs : List (List ℕ)) → w.answers ≡ xs → AllThere s w
     → AllThere s (after_event s (Delivered Answers) w)
 answers_come s w [] e h = subst (AllThere s) (no_front s Answers w e) h
-answers_come s w (frame ∷ later) e h = answer_comes s w frame later e h
+answers_come s w (frame ∷ later) e h =
+    let size : length w.answers ≡ suc (length later) = ap length e in
+    let n = h.channel in
+    rw e (record { client = client_has s (Answered frame) w h.client; channel = omega arith })
 
 one_more : (s : Setup) (event : WorldEvent) (w : World) → IsCalm s event w → AllThere s w
     → AllThere s (after_event s event w)

@@ -7,7 +7,6 @@ use Rattle.std.proofs.lemmas.Bool.Decides.{nat_tests}
 use Rattle.co_value.specs.declared.key.Key.{Key}
 use Rattle.co_value.specs.Numbers.{AreBytes}
 use Rattle.co_sdo_client.specs.declared.mode.Mode.{Mode}
-use Rattle.co_sdo_client.specs.declared.mode.Mode.TheVariants.{Segmented}
 use Rattle.co_sdo_client.specs.declared.state.ClientState.TheVariants.{Waiting, Done}
 use Rattle.co_sdo_client.specs.Calls.{Job}
 use Rattle.co_sdo_client.specs.Segments.{bytes_of, cap_of, requests_needed}
@@ -19,19 +18,20 @@ use Rattle.co_sdo.specs.OpenTransfers.{open_transfer}
 use Rattle.co_sdo.specs.Uploads.{value_at}
 use Rattle.co_sdo_laws.specs.World.{Setup, World, WorldEvent, Delivered, Lost, Repeated, ClientTicked, ChannelTicked, is_repeat, world_after}
 use Rattle.co_sdo_laws.specs.Undisturbed.{IsCalm, AreCalm, IsUndisturbed, arrived, on_their_way, rounds_after, IsOver, GoesInTurns, is_short, is_expedited_download, is_segmented_download, is_plain_upload, is_block_download, is_block_upload, GoesInBlocks, HaveSent, block_frames, block_upload_frames, upload_requests, block_download_requests, block_download_answers, block_upload_requests, block_upload_answers}
-use Rattle.co_sdo_laws.proofs.Permits.{value, is_download, may_send, IsDownload, IsUpload, Goes, in_segments, at_once, short_bytes}
+use Rattle.co_sdo_laws.proofs.Permits.{value, Protocol, reads_in_segments, is_download, may_send, IsDownload, IsUpload, Goes, in_segments, at_once, at_once_few, short_bytes}
 use Rattle.co_sdo_laws.proofs.Permits as protocols
 use Rattle.co_sdo_laws.proofs.Channel.{unopened, stays_lawful}
 use Rattle.co_sdo_laws.proofs.Progress.{rounds_calm, all_arrive, AllThere, all_there, have_sent}
-use Rattle.co_sdo_laws.proofs.Turns.{InTurns as Turned, IsAt, always, goes_in_turns, when_done, channel_at, either}
+use Rattle.co_sdo_laws.proofs.Turns.{InTurns as Turned, asking, answering, over as all_taken, always, goes_in_turns, when_done, either}
 use Rattle.co_sdo_laws.proofs.StopAndWait.{Parts, StopAndWait}
 use Rattle.co_sdo_laws.proofs.InTurns.{turns_of}
 use Rattle.co_sdo_laws.proofs.SegmentedDownloads as downloads
-use Rattle.co_sdo_laws.proofs.ExpeditedDownloads as short_downloads
 use Rattle.co_sdo_laws.proofs.Uploads as uploading
+use Rattle.co_sdo_laws.proofs.Blocks.{once_done}
 use Rattle.co_sdo_laws.proofs.BlockDownloads as sent
 use Rattle.co_sdo_laws.proofs.BlockDownloadEvents.{always as sent_blocks}
 use Rattle.co_sdo_laws.proofs.BlockDownloadEvents as blocks_outcome
+use Rattle.co_sdo_laws.proofs.BlockUploads as fetched
 use Rattle.co_sdo_laws.proofs.BlockUploadEvents.{always as fetched_blocks}
 use Rattle.co_sdo_laws.proofs.BlockUploadEvents as fetched_outcome
 
@@ -157,7 +157,7 @@ in_turns s t m = record {
     ends = λ events calm done.
         let end = when_done s (turns_of s t m tt) (world_after s events) (at events calm) done in
         record {
-          gives = end.value;
+          gives = end.client;
           leaves = end.channel.sets refl;
           sends = turns_sent s (1 + t.last) (world_after s events) (all_there s events calm) (goes events calm) done;
         };
@@ -165,8 +165,7 @@ in_turns s t m = record {
         unopened s.description.rows (world_after s events).log
         ((when_done s (turns_of s t m tt) (world_after s events) (at events calm) done).channel.closed refl);
   };
-  same = λ unchanged events calm.
-      unchanged_at unchanged (channel_at s (turns_of s t m tt) (world_after s events) (at events calm));
+  same = λ unchanged events calm. unchanged_at unchanged (at events calm);
 }
   where
     at : (events : List WorldEvent) → AreCalm s events → Turned s (turns_of s t m tt) (world_after s events)
@@ -175,11 +174,13 @@ in_turns s t m = record {
     goes : (events : List WorldEvent) → AreCalm s events → GoesInTurns s.call (1 + t.last) (world_after s events)
     goes events calm = goes_in_turns s (turns_of s t m tt) (world_after s events) (at events calm)
 
-    unchanged_at : {w : World} → t.left s.contents ≡ s.contents → IsAt s (turns_of s t m tt) w → w.contents ≡ s.contents
-    unchanged_at e h = elim (either h.count (1 + t.last) h.within) [
-      | inl less ↦ h.channel.same less
+    unchanged_at : {w : World} → t.left s.contents ≡ s.contents → Turned s (turns_of s t m tt) w → w.contents ≡ s.contents
+    unchanged_at e (asking k less h) = h.channel.same less
+    unchanged_at e (answering k less h) = elim (either (k + 1) (1 + t.last) (omega arith)) [
+      | inl more ↦ h.channel.same more
       | inr all ↦ h.channel.sets all ∙ e
     ]
+    unchanged_at e (all_taken h) = h.channel.sets refl ∙ e
 
 abbrev pub setup : Key → Mode → ℕ → Job → ℕ → Description → Contents → Log → Setup
 setup key mode client_time job time d contents past = record { call = record { key = key; mode = mode; time = client_time; job = job }; time = time; description = d; contents = contents; past = past }
@@ -187,9 +188,9 @@ setup key mode client_time job time d contents past = record { call = record { k
 -- ---- downloads
 
 -- it is permitted
-sends : (s : Setup) (events : List WorldEvent) (like : Mode) → IsUndisturbed s events
-    → Goes s.call.mode s.call.job like true → IsDownload s (Unit {0}) like
-sends s events like u g =
+sends : (s : Setup) (events : List WorldEvent) (protocol : Protocol) → IsUndisturbed s events
+    → Goes s.call.mode s.call.job protocol true → IsDownload s (Unit {0}) protocol
+sends s events protocol u g =
     let may = may_send s.description s.contents s.call.key s.call.job g.sends u.job u.permitted in
     record {
       dictionary = u.dictionary;
@@ -212,7 +213,7 @@ pub segmented : (s : Setup) (events : List WorldEvent) → IsUndisturbed s event
     → is_segmented_download s.call.mode s.call.job ≡ true
     → InTurns s (requests_needed (length (bytes_of s.call.job))) [] (written s.contents s.call.key (bytes_of s.call.job))
 segmented s events u t =
-    in_turns s (downloads.parts s) (downloads.stop_and_wait s (Unit {0}) (sends s events _ u (in_segments s.call.mode s.call.job t)))
+    in_turns s (downloads.parts s false) (downloads.stop_and_wait s (Unit {0}) false (sends s events _ u (in_segments s.call.mode s.call.job t)) tt)
 
 pub expedited : (s : Setup) (events : List WorldEvent) → IsUndisturbed s events
     → is_expedited_download s.call.mode s.call.job ≡ true
@@ -220,31 +221,21 @@ pub expedited : (s : Setup) (events : List WorldEvent) → IsUndisturbed s event
 expedited s events u t =
     let is = at_once s.call.mode s.call.job t in
     let may = may_send s.description s.contents s.call.key s.call.job is.sends u.job u.permitted in
-    in_turns s (short_downloads.parts s) (short_downloads.stop_and_wait s (Unit {0}) (record {
-      dictionary = u.dictionary;
-      key = u.key;
-      idle = u.idle;
-      transfer = is.by;
-      some = is.bytes.0;
-      few = is.bytes.1;
-      may_complete = λ x. may.at_once;
-    }))
+    in_turns s (downloads.parts s true) (downloads.stop_and_wait s (Unit {0}) true (sends s events _ u is)
+    (record { few = short_bytes _ (at_once_few s.call.mode s.call.job t); may_complete = λ x. may.at_once }))
 
 -- ---- uploads
 
-reads : (s : Setup) (events : List WorldEvent) (like : Mode) → IsUndisturbed s events
-    → Goes s.call.mode s.call.job like false → length (value s) ≤ cap_of s.call.job → IsUpload s (Unit {0}) like
-reads s events like u g room =
+reads : (s : Setup) (events : List WorldEvent) (protocol : Protocol) → IsUndisturbed s events
+    → Goes s.call.mode s.call.job protocol false → length (value s) ≤ cap_of s.call.job → IsUpload s (Unit {0}) protocol
+reads s events protocol u g room =
     let free = protocols.may_read s.description s.contents s.call.key s.call.job g.sends u.permitted in
     record { dictionary = u.dictionary; key = u.key; idle = u.idle; transfer = g.by; may_read = λ x. free; fits = λ x. room }
 
-uploads : (s : Setup) → IsUpload s (Unit {0}) Segmented → (short : Bool) → is_short (length (value s)) ≡ short
+uploads : (s : Setup) → IsUpload s (Unit {0}) reads_in_segments → (short : Bool) → is_short (length (value s)) ≡ short
     → InTurns s (upload_requests (length (value s))) (value s) s.contents
-uploads s m true e =
-    let n = short_bytes (length (value s)) e in
-    let short : uploading.IsShort s = record { short = e; some = n.0; few = n.1 } in
-    rw e (in_turns s (uploading.short_parts s) (uploading.short_stop_and_wait s (Unit {0}) m short))
-uploads s m false e = rw e (in_turns s (uploading.parts s) (uploading.stop_and_wait s (Unit {0}) m e))
+uploads s m true e = rw e (in_turns s (uploading.parts s true) (uploading.stop_and_wait s (Unit {0}) m true e))
+uploads s m false e = rw e (in_turns s (uploading.parts s false) (uploading.stop_and_wait s (Unit {0}) m false e))
 
 pub uploaded : (s : Setup) (events : List WorldEvent) → IsUndisturbed s events → is_plain_upload s.call.mode s.call.job ≡ true
     → length (value_at s.contents s.call.key) ≤ cap_of s.call.job
@@ -274,26 +265,25 @@ pub sent_in_blocks : (s : Setup) (events : List WorldEvent) → IsUndisturbed s 
 sent_in_blocks s events u t = record {
   few = omega arith;
   goes = λ later calm. blocks_outcome.goes_in_blocks s (world_after s later) (at later calm);
-  ends = λ later calm done.
-      let end = blocks_outcome.ends s (world_after s later) (at later calm) done in
-      record {
-        gives = end.gives;
-        leaves = end.set.sets;
-        sends = blocks_outcome.all_sent s (world_after s later) (all_there s later calm) (at later calm) done;
-      };
-  closes = λ later calm done none. unopened s.description.rows (world_after s later).log
-      (blocks_outcome.ends s (world_after s later) (at later calm) done).set.serves;
+  ends = λ later calm done. record {
+    gives = (over later calm done).done.gives;
+    leaves = ((over later calm done).set.closed tt).sets;
+    sends = blocks_outcome.all_sent s (world_after s later) (all_there s later calm) (over later calm done);
+  };
+  closes = λ later calm done none. unopened s.description.rows (world_after s later).log ((over later calm done).set.closed tt).serves;
 }
   where
     at : (later : List WorldEvent) → AreCalm s later → sent.Stands s (Unit {0}) (world_after s later)
     at later calm =
         sent_blocks s (Unit {0}) (sends s events _ u (protocols.in_blocks s.call.mode s.call.job t)) later (once s later calm) (λ x. calm)
 
+    over : (later : List WorldEvent) → AreCalm s later → outcome s.call (world_after s later).events ≡ Done → sent.IsOver s (Unit {0}) (world_after s later)
+    over later calm done = once_done s (Unit {0}) _ _ (world_after s later) (at later calm) done
+
 fetched_at : (s : Setup) (events later : List WorldEvent) → IsUndisturbed s events → is_block_upload s.call.mode s.call.job ≡ true
-    → length (value_at s.contents s.call.key) ≤ cap_of s.call.job → AreCalm s later → fetched_outcome.View s (world_after s later)
+    → length (value_at s.contents s.call.key) ≤ cap_of s.call.job → AreCalm s later → fetched.Stands s (Unit {0}) (world_after s later)
 fetched_at s events later u t room calm =
-    fetched_outcome.view s (world_after s later)
-    (fetched_blocks s (Unit {0}) (reads s events _ u (protocols.block_upload s.call.mode s.call.job t) room) later (once s later calm) (λ x. calm))
+    fetched_blocks s (Unit {0}) (reads s events _ u (protocols.block_upload s.call.mode s.call.job t) room) later (once s later calm) (λ x. calm)
 
 pub fetched_in_blocks : (s : Setup) (events : List WorldEvent) → IsUndisturbed s events → is_block_upload s.call.mode s.call.job ≡ true → length (value_at s.contents s.call.key) ≤ cap_of s.call.job
     → Kind s (block_frames (length (value_at s.contents s.call.key))) (block_upload_frames (length (value_at s.contents s.call.key)))
@@ -301,16 +291,19 @@ pub fetched_in_blocks : (s : Setup) (events : List WorldEvent) → IsUndisturbed
     (value_at s.contents s.call.key) s.contents
 fetched_in_blocks s events u t room = record {
   few = omega arith;
-  goes = λ later calm. fetched_outcome.goes_in_blocks s (world_after s later) (fetched_at s events later u t room calm);
+  goes = λ later calm. (fetched_outcome.view s (world_after s later) (fetched_at s events later u t room calm)).goes;
   ends = λ later calm done. record {
-    gives = fetched_outcome.gives s (world_after s later) (fetched_at s events later u t room calm) done;
-    leaves = fetched_outcome.contents_same s (world_after s later) (fetched_at s events later u t room calm);
-    sends = fetched_outcome.all_sent s (world_after s later) (all_there s later calm) (fetched_at s events later u t room calm) done;
+    gives = (over later calm done).done.gives;
+    leaves = (fetched_outcome.view s (world_after s later) (fetched_at s events later u t room calm)).same;
+    sends = fetched_outcome.all_sent s (world_after s later) (all_there s later calm) ((over later calm done).last tt);
   };
   closes = λ later calm done none. unopened s.description.rows (world_after s later).log
-      (fetched_outcome.closed s (world_after s later) (fetched_at s events later u t room calm) none);
+      (fetched_outcome.closed s (world_after s later) ((over later calm done).last tt) none);
 }
+  where
+    over : (later : List WorldEvent) → AreCalm s later → outcome s.call (world_after s later).events ≡ Done → fetched.IsOver s (Unit {0}) (world_after s later)
+    over later calm done = once_done s (Unit {0}) _ _ (world_after s later) (fetched_at s events later u t room calm) done
 
 pub block_upload_sets_nothing : (s : Setup) (events : List WorldEvent) → IsUndisturbed s events → is_block_upload s.call.mode s.call.job ≡ true → length (value_at s.contents s.call.key) ≤ cap_of s.call.job
     → (world_after s events).contents ≡ s.contents
-block_upload_sets_nothing s events u t room = fetched_outcome.contents_same s (world_after s events) (fetched_at s events events u t room u.calm)
+block_upload_sets_nothing s events u t room = (fetched_outcome.view s (world_after s events) (fetched_at s events events u t room u.calm)).same

@@ -1,7 +1,7 @@
 -- Uploads at once and in segments, whatever the dictionary permits and the client has room for: what the client and the channel
 -- make of each frame that may come.
-use Rattle.std.proofs.Common.{◌≡◌, ℕ, zero, suc, ◌+◌, ◌*◌, ◌<◌, Bool, true, false, not, List, [], ◌∷◌, length, take, Option, Some, None, refl, sym, ap, ◌∙◌, arith, length-take, ◌⊎◌, inl, inr, ◌≤◌}
-use Rattle.std.specs.Prelude.{nat_le, nat_lt, ◌&&◌, if◌then◌else◌}
+use Rattle.std.proofs.Common.{◌≡◌, ℕ, zero, suc, ◌+◌, ◌*◌, ◌<◌, Bool, true, false, not, List, [], ◌∷◌, length, take, Option, Some, None, refl, sym, ap, ◌∙◌, arith, length-take, ◌⊎◌, inl, inr}
+use Rattle.std.specs.Prelude.{nat_le, nat_lt, if◌then◌else◌}
 use Rattle.std.proofs.lemmas.Bool.Decides.{nat_tests}
 use Rattle.co_value.specs.Keys.{same_key-refl}
 use Rattle.co_frame.specs.declared.sdo_request.SdoRequest.TheVariants.{Upload as UploadRequest, UploadSegment as NextSegment}
@@ -9,9 +9,8 @@ use Rattle.co_frame.specs.declared.sdo_response.SdoResponse.TheVariants.{UploadI
 use Rattle.co_frame.specs.SdoRequests.{request_bytes}
 use Rattle.co_frame.specs.SdoResponses.{response_in}
 use Rattle.co_sdo_client.specs.declared.stage.Stage.TheVariants.{Begun, Upload as Receiving}
-use Rattle.co_sdo_client.specs.declared.mode.Mode.TheVariants.{Segmented}
-use Rattle.co_sdo_client.specs.Calls.{Request, Event as ClientEvent, Answered, answers as answers_of, Answers, since_first, with_answer, Upload as UploadJob}
-use Rattle.co_sdo_client.specs.Segments.{is_odd, cap_of, transfer_of, transfer_by, part_after, segments_for}
+use Rattle.co_sdo_client.specs.Calls.{Request, Event as ClientEvent, Answered, answers as answers_of, Answers, since_first, with_answer}
+use Rattle.co_sdo_client.specs.Segments.{is_odd, cap_of, part_after, segments_for}
 use Rattle.co_sdo_client.specs.Stages.{stage_since, held_since, size_by, segments_joined}
 use Rattle.co_sdo_client.specs.Verdicts.{Verdict, GoesOn, Ends, GivesUp, upload_complete, verdict, answer_verdict}
 use Rattle.co_sdo_client.specs.Outcomes.{state_by}
@@ -24,14 +23,14 @@ use Rattle.co_sdo.specs.Opened.{OpenTransfer}
 use Rattle.co_sdo.specs.Replies.{is_in_sub_block, toggle_refusal}
 use Rattle.co_sdo.proofs.Continuations.{not_odd}
 use Rattle.co_sdo_laws.specs.World.{Setup}
-use Rattle.co_sdo_laws.proofs.Channel.{nothing_open}
+use Rattle.co_sdo_laws.specs.Undisturbed.{is_short}
 use Rattle.co_sdo_laws.proofs.Frames.{upload_read, next_read, upload_initiated_read, segment_sent_read, expedited_sent_read}
 use Rattle.co_sdo_laws.proofs.Segments.{same, joined, taken_all, part_small, not_end, is_end}
-use Rattle.co_sdo_laws.proofs.Permits.{value, small_value, IsUpload, lawful_of, none≢some, not_above, below_itself}
+use Rattle.co_sdo_laws.proofs.Permits.{value, reads_in_segments, small_value, IsUpload, lawful_of, none≢some, not_above, below_itself, short_bytes}
 use Rattle.co_sdo_laws.proofs.Client.{verdict_since}
 use Rattle.co_sdo_laws.proofs.Turns.{GoesOnWith}
 use Rattle.co_sdo_laws.proofs.Failures.{Fails, IsAbort, has_failed, aborted_fails, toggles_differ}
-use Rattle.co_sdo_laws.proofs.StopAndWait.{Parts, IsRefused, Reacts, takes, takes_last, refuses, StopAndWait, answer as nth_answer}
+use Rattle.co_sdo_laws.proofs.StopAndWait.{Parts, IsRefused, Reacts, takes, takes_last, refuses, StopAndWait}
 use Rattle.co_frame.specs.declared.sdo_request.ExpeditedData.TheVariants.{Indicated}
 
 abbrev request : Setup → ℕ → List ℕ
@@ -41,16 +40,21 @@ request s (suc k) = request_bytes (NextSegment (is_odd k))
 abbrev is_last : Setup → ℕ → Bool
 is_last s k = nat_le (length (value s)) (7 * k + 7)
 
-abbrev reply : Setup → ℕ → Answer
-reply s zero = Response (UploadInitiated s.call.key (Some (length (value s))))
-reply s (suc k) = Response (UploadSegment (is_odd k) (record { items = part_after k (value s) }) (is_last s k))
+-- the answer to the begin: the value at once where it is short, or its size
+abbrev first_reply : Setup → Bool → Answer
+first_reply s true = Response (UploadExpedited s.call.key (Indicated (record { items = value s })))
+first_reply s false = Response (UploadInitiated s.call.key (Some (length (value s))))
 
-abbrev answer : Setup → ℕ → List ℕ
-answer s k = answer_bytes (reply s k)
+abbrev reply : Setup → Bool → ℕ → Answer
+reply s short zero = first_reply s short
+reply s short (suc k) = Response (UploadSegment (is_odd k) (record { items = part_after k (value s) }) (is_last s k))
 
--- how many segments the value has
-abbrev last : Setup → ℕ
-last s = segments_for (length (value s))
+abbrev answer : Setup → Bool → ℕ → List ℕ
+answer s short k = answer_bytes (reply s short k)
+
+-- how many segments follow
+abbrev last : Setup → Bool → ℕ
+last s short = if short then 0 else segments_for (length (value s))
 
 abbrev open_at : Setup → ℕ → OpenTransfer
 open_at s k = record { key = s.call.key; stage = Uploading k; bytes = value s }
@@ -58,11 +62,11 @@ open_at s k = record { key = s.call.key; stage = Uploading k; bytes = value s }
 -- the first k answers to segments, newest first
 abbrev later_answers : Setup → ℕ → List (List ℕ)
 later_answers s zero = []
-later_answers s (suc k) = answer s (suc k) ∷ later_answers s k
+later_answers s (suc k) = answer s false (suc k) ∷ later_answers s k
 
 -- the first answer, and the k segments after it
 abbrev since_initiate : Setup → ℕ → Answers
-since_initiate s k = record { first = answer s 0; later = later_answers s k }
+since_initiate s k = record { first = answer s false 0; later = later_answers s k }
 
 -- what a client has taken that waits for answer k
 abbrev taken_at : Setup → ℕ → Option Answers
@@ -72,12 +76,12 @@ taken_at s (suc k) = Some (since_initiate s k)
 abbrev AtClient : Setup → ℕ → List ClientEvent → Type 0
 AtClient s k events = since_first (answers_of events) ≡ taken_at s k
 
-abbrev pub parts : (s : Setup) → Parts s
-parts s = record {
-  last = last s;
+abbrev pub parts : (s : Setup) → Bool → Parts s
+parts s short = record {
+  last = last s short;
   value = value s;
   request = request s;
-  reply = reply s;
+  reply = reply s short;
   open_at = open_at s;
   Lawful = λ contents. contents ≡ s.contents;
   left = λ contents. contents;
@@ -88,10 +92,18 @@ parts s = record {
 
 -- ---- the channel
 
-begins : (s : Setup) (p : Type 0) → IsUpload s p Segmented → nat_le 1 (length (value s)) && nat_le (length (value s)) 4 ≡ false
+begins : (s : Setup) (p : Type 0) → IsUpload s p reads_in_segments → (short : Bool) → is_short (length (value s)) ≡ short
     → (current : Option OpenTransfer) (contents : Contents) → is_in_sub_block current ≡ false → contents ≡ s.contents
-    → (refusal : Option ℕ) → reading_refusal s.description contents s.call.key ≡ refusal → Reacts s p (parts s) 0 current contents
-begins s p m long current contents outside kept None e =
+    → (refusal : Option ℕ) → reading_refusal s.description contents s.call.key ≡ refusal → Reacts s p (parts s short) 0 current contents
+begins s p m true short current contents outside kept None e =
+    let read = upload_read s.call.key m.key in
+    let is : value_at contents s.call.key ≡ value s = ap (λ (c : Contents). value_at c s.call.key) kept in
+    takes_last refl (record {
+      replies = rw (outside, read, e, is, short) refl;
+      opens = rw (outside, read, e, is, short) refl;
+      sets = rw (outside, read) refl;
+    }) (λ sound. kept)
+begins s p m false long current contents outside kept None e =
     let read = upload_read s.call.key m.key in
     let is : value_at contents s.call.key ≡ value s = ap (λ (c : Contents). value_at c s.call.key) kept in
     takes (omega arith) (record {
@@ -99,7 +111,7 @@ begins s p m long current contents outside kept None e =
       opens = rw (outside, read, e, is, long) refl;
       sets = rw (outside, read) refl;
     })
-begins s p m long current contents outside kept (Some code) e =
+begins s p m short n current contents outside kept (Some code) e =
     let read = upload_read s.call.key m.key in
     refuses (λ x same. none≢some _ code (m.may_read x) (ap (λ (c : Contents). reading_refusal s.description c s.call.key) (sym kept) ∙ e)) (record {
       key = s.call.key;
@@ -113,14 +125,15 @@ is_long : (s : Setup) (k : ℕ) → length (request s k) ≡ 8
 is_long s zero = refl
 is_long s (suc k) = refl
 
-goes_on : (s : Setup) (p : Type 0) (k : ℕ) (contents : Contents) → k < last s → contents ≡ s.contents → (end : Bool)
-    → is_last s k ≡ end → Reacts s p (parts s) (suc k) (Some (open_at s k)) contents
-goes_on s p k contents more kept true l = takes_last (grind (arith, nat_tests)) (record {
+goes_on : (s : Setup) (p : Type 0) (short : Bool) (k : ℕ) (contents : Contents) → k < last s short → contents ≡ s.contents
+    → (end : Bool) → is_last s k ≡ end → Reacts s p (parts s short) (suc k) (Some (open_at s k)) contents
+goes_on s p true k contents more kept end l = absurd (omega arith)
+goes_on s p false k contents more kept true l = takes_last (grind (arith, nat_tests)) (record {
   replies = rw (next_read (is_odd k), same (is_odd k)) refl;
   opens = rw (next_read (is_odd k), same (is_odd k), l) refl;
   sets = rw (next_read (is_odd k)) refl;
 }) (λ sound. kept)
-goes_on s p k contents more kept false l =
+goes_on s p false k contents more kept false l =
     let one : k + 1 ≡ suc k = omega arith in
     takes (grind (arith, nat_tests)) (record {
       replies = rw (next_read (is_odd k), same (is_odd k)) refl;
@@ -128,8 +141,8 @@ goes_on s p k contents more kept false l =
       sets = rw (next_read (is_odd k)) refl;
     })
 
-refuses_idle : (s : Setup) (k : ℕ) (contents : Contents) → IsRefused s (parts s) (suc k) None contents
-refuses_idle s k contents = record {
+refuses_idle : (s : Setup) (short : Bool) (k : ℕ) (contents : Contents) → IsRefused s (parts s short) (suc k) None contents
+refuses_idle s short k contents = record {
   key = record { index = 0; sub = 0 };
   code = 0x05040001;
   replies = rw (next_read (is_odd k)) refl;
@@ -141,8 +154,8 @@ other_toggle : (b : Bool) → toggle_refusal b (not b) ≡ Some 0x05030000
 other_toggle true = refl
 other_toggle false = refl
 
-refuses_again : (s : Setup) (k : ℕ) (contents : Contents) → IsRefused s (parts s) (suc k) (Some (open_at s (suc k))) contents
-refuses_again s k contents =
+refuses_again : (s : Setup) (short : Bool) (k : ℕ) (contents : Contents) → IsRefused s (parts s short) (suc k) (Some (open_at s (suc k))) contents
+refuses_again s short k contents =
     let wrong : toggle_refusal (is_odd k) (is_odd (suc k)) ≡ Some 0x05030000 = rw (not_odd k) (other_toggle (is_odd k)) in
     record {
       key = s.call.key;
@@ -159,15 +172,15 @@ later_count s zero = refl
 later_count s (suc k) = ap suc (later_count s k)
 
 segment_is_read : (s : Setup) (k : ℕ)
-    → response_in (answer s (suc k)) ≡ Some (UploadSegment (is_odd k) (record { items = part_after k (value s) }) (is_last s k))
+    → response_in (answer s false (suc k)) ≡ Some (UploadSegment (is_odd k) (record { items = part_after k (value s) }) (is_last s k))
 segment_is_read s k = segment_sent_read (is_odd k) (part_after k (value s)) (is_last s k) (part_small k (value s))
 
 later_joined : (s : Setup) (k : ℕ) → segments_joined (later_answers s k) ≡ take (7 * k) (value s)
 later_joined s zero = refl
 later_joined s (suc k) = rw (later_joined s k, segment_is_read s k) (joined (value s) k)
 
-initiate_read : (s : Setup) (p : Type 0) → IsUpload s p Segmented
-    → response_in (answer s 0) ≡ Some (UploadInitiated s.call.key (Some (length (value s))))
+initiate_read : (s : Setup) (p : Type 0) → IsUpload s p reads_in_segments
+    → response_in (answer s false 0) ≡ Some (UploadInitiated s.call.key (Some (length (value s))))
 initiate_read s p m =
     let small = small_value s m.dictionary in upload_initiated_read s.call.key (length (value s)) m.key (omega arith)
 
@@ -179,9 +192,9 @@ abbrev held_with : Setup → ℕ → ℕ
 held_with s zero = length (value s)
 held_with s (suc k) = length (take (7 * suc k) (value s))
 
-segment_taken : (s : Setup) (p : Type 0) → IsUpload s p Segmented → (k : ℕ) (above : Bool)
+segment_taken : (s : Setup) (p : Type 0) → IsUpload s p reads_in_segments → (k : ℕ) (above : Bool)
     → nat_lt (cap_of s.call.job) (held_with s (suc k)) ≡ above
-    → given s (taken_at s (suc k)) (answer s (suc k)) ≡ (if above then GivesUp 0x05040005
+    → given s (taken_at s (suc k)) (answer s false (suc k)) ≡ (if above then GivesUp 0x05040005
     else (if is_last s k then upload_complete (Some (length (value s))) (take (7 * suc k) (value s))
     else GoesOn (Request (NextSegment (not (is_odd k))) ∷ [])))
 segment_taken s p m k above e =
@@ -191,26 +204,26 @@ segment_taken s p m k above e =
     let count = later_count s k in
     rw (m.transfer, read, part, held, count, same (is_odd k), joined (value s) k, e) refl
 
-no_room : (s : Setup) (p : Type 0) → IsUpload s p Segmented → (k : ℕ) → nat_lt (cap_of s.call.job) (held_with s k) ≡ true
-    → has_failed (state_by (given s (taken_at s k) (answer s k))) ≡ true
+no_room : (s : Setup) (p : Type 0) → IsUpload s p reads_in_segments → (k : ℕ) → nat_lt (cap_of s.call.job) (held_with s k) ≡ true
+    → has_failed (state_by (given s (taken_at s k) (answer s false k))) ≡ true
 no_room s p m zero above = rw (initiate_read s p m, m.transfer, same_key-refl s.call.key, above) refl
 no_room s p m (suc k) above = rw (segment_taken s p m k true above) refl
 
-more : (s : Setup) (p : Type 0) → IsUpload s p Segmented → (k : ℕ) → k < last s → nat_lt (cap_of s.call.job) (held_with s k) ≡ false
-    → given s (taken_at s k) (answer s k) ≡ GoesOn (Request (NextSegment (is_odd k)) ∷ [])
+more : (s : Setup) (p : Type 0) → IsUpload s p reads_in_segments → (k : ℕ) → k < last s false → nat_lt (cap_of s.call.job) (held_with s k) ≡ false
+    → given s (taken_at s k) (answer s false k) ≡ GoesOn (Request (NextSegment (is_odd k)) ∷ [])
 more s p m zero l room = rw (initiate_read s p m, m.transfer, same_key-refl s.call.key, room) refl
 more s p m (suc k) l room = rw (segment_taken s p m k false room, not_end k (length (value s)) l, not_odd k) refl
 
-all : (s : Setup) (p : Type 0) → IsUpload s p Segmented → (k : ℕ) → k ≡ last s → nat_lt (cap_of s.call.job) (held_with s k) ≡ false
-    → given s (taken_at s k) (answer s k) ≡ Ends [] (value s)
+all : (s : Setup) (p : Type 0) → IsUpload s p reads_in_segments → (k : ℕ) → k ≡ last s false → nat_lt (cap_of s.call.job) (held_with s k) ≡ false
+    → given s (taken_at s k) (answer s false k) ≡ Ends [] (value s)
 all s p m zero l room = absurd (omega arith)
 all s p m (suc k) l room =
     let e = is_end k (length (value s)) l in
     rw (segment_taken s p m k false room, e, taken_all (value s) k e, below_itself (length (value s))) refl
 
 -- the answer before it
-stale : (s : Setup) (p : Type 0) → IsUpload s p Segmented → (k : ℕ)
-    → has_failed (state_by (given s (taken_at s (suc k)) (answer s k))) ≡ true
+stale : (s : Setup) (p : Type 0) → IsUpload s p reads_in_segments → (k : ℕ)
+    → has_failed (state_by (given s (taken_at s (suc k)) (answer s false k))) ≡ true
 stale s p m zero = rw (m.transfer, initiate_read s p m) refl
 stale s p m (suc k) = rw (m.transfer, initiate_read s p m, later_count s k, segment_is_read s k, toggles_differ k) refl
 
@@ -218,49 +231,69 @@ fails_since : (s : Setup) (events : List ClientEvent) (frame : List ℕ) (a : Op
     → has_failed (state_by (given s a frame)) ≡ true → Fails s events frame
 fails_since s events frame a h g = ap (λ (v : Verdict). has_failed (state_by v)) (verdict_since s.call events frame a h) ∙ g
 
-client_next : (s : Setup) (k : ℕ) (events : List ClientEvent) → AtClient s k events → AtClient s (suc k) (Answered (answer s k) ∷ events)
-client_next s zero events h = ap (λ (a : Option Answers). Some (with_answer (answer s 0) a)) h
-client_next s (suc k) events h = ap (λ (a : Option Answers). Some (with_answer (answer s (suc k)) a)) h
+client_next : (s : Setup) (k : ℕ) (events : List ClientEvent) → AtClient s k events → AtClient s (suc k) (Answered (answer s false k) ∷ events)
+client_next s zero events h = ap (λ (a : Option Answers). Some (with_answer (answer s false 0) a)) h
+client_next s (suc k) events h = ap (λ (a : Option Answers). Some (with_answer (answer s false (suc k)) a)) h
 
 -- where it is permitted there is room
-has_room : (s : Setup) (p : Type 0) → IsUpload s p Segmented → (k : ℕ) → nat_lt (cap_of s.call.job) (held_with s k) ≡ true → p → ⊥
+has_room : (s : Setup) (p : Type 0) → IsUpload s p reads_in_segments → (k : ℕ) → nat_lt (cap_of s.call.job) (held_with s k) ≡ true → p → ⊥
 has_room s p m zero above x = not_above (cap_of s.call.job) _ (m.fits x) above
 has_room s p m (suc k) above x =
     not_above (cap_of s.call.job) (held_with s (suc k)) (let f = m.fits x in let n = length-take (7 * suc k) (value s) in omega arith) above
 
-client_goes_on : (s : Setup) (p : Type 0) → IsUpload s p Segmented → (k : ℕ) (events : List ClientEvent) → k < last s
-    → AtClient s k events → (above : Bool) → nat_lt (cap_of s.call.job) (held_with s k) ≡ above
-    → GoesOnWith s events (answer s k) (request s (suc k)) (AtClient s (suc k)) ⊎ ((p → ⊥) × Fails s events (answer s k))
-client_goes_on s p m k events l h true e =
-    inr (has_room s p m k e, fails_since s events (answer s k) (taken_at s k) h (no_room s p m k e))
-client_goes_on s p m k events l h false e = inl (record {
+client_goes_on : (s : Setup) (p : Type 0) → IsUpload s p reads_in_segments → (short : Bool) (k : ℕ) (events : List ClientEvent)
+    → k < last s short → AtClient s k events → (above : Bool) → nat_lt (cap_of s.call.job) (held_with s k) ≡ above
+    → GoesOnWith s events (answer s short k) (request s (suc k)) (AtClient s (suc k)) ⊎ ((p → ⊥) × Fails s events (answer s short k))
+client_goes_on s p m true k events l h above e = absurd (omega arith)
+client_goes_on s p m false k events l h true e =
+    inr (has_room s p m k e, fails_since s events (answer s false k) (taken_at s k) h (no_room s p m k e))
+client_goes_on s p m false k events l h false e = inl (record {
   message = Request (NextSegment (is_odd k));
-  goes_on = verdict_since s.call events (answer s k) (taken_at s k) h ∙ more s p m k l e;
+  goes_on = verdict_since s.call events (answer s false k) (taken_at s k) h ∙ more s p m k l e;
   asks = refl;
   next = client_next s k events h;
 })
 
-client_ends : (s : Setup) (p : Type 0) → IsUpload s p Segmented → (k : ℕ) (events : List ClientEvent) → k ≡ last s
-    → AtClient s k events → (above : Bool) → nat_lt (cap_of s.call.job) (held_with s k) ≡ above
-    → (verdict s.call events (Answered (answer s k)) ≡ Ends [] (value s)) ⊎ ((p → ⊥) × Fails s events (answer s k))
-client_ends s p m k events l h true e =
-    inr (has_room s p m k e, fails_since s events (answer s k) (taken_at s k) h (no_room s p m k e))
-client_ends s p m k events l h false e = inl (verdict_since s.call events (answer s k) (taken_at s k) h ∙ all s p m k l e)
+client_ends : (s : Setup) (p : Type 0) → IsUpload s p reads_in_segments → (short : Bool) → is_short (length (value s)) ≡ short
+    → (k : ℕ) (events : List ClientEvent) → k ≡ last s short → AtClient s k events
+    → (above : Bool) → nat_lt (cap_of s.call.job) (held_with s k) ≡ above
+    → (verdict s.call events (Answered (answer s short k)) ≡ Ends [] (value s)) ⊎ ((p → ⊥) × Fails s events (answer s short k))
+client_ends s p m true n (suc k) events l h above e = absurd (omega arith)
+client_ends s p m true n zero events l h true e =
+    let few = short_bytes (length (value s)) n in
+    inr (
+      has_room s p m 0 e,
+      fails_since s events (answer s true 0) None h
+          (rw (expedited_sent_read s.call.key (value s) m.key few.0 few.1, m.transfer, same_key-refl s.call.key, e) refl),
+    )
+client_ends s p m true n zero events l h false e =
+    let few = short_bytes (length (value s)) n in
+    inl (verdict_since s.call events (answer s true 0) None h
+    ∙ rw (expedited_sent_read s.call.key (value s) m.key few.0 few.1, m.transfer, same_key-refl s.call.key, e) refl)
+client_ends s p m false n k events l h true e =
+    inr (has_room s p m k e, fails_since s events (answer s false k) (taken_at s k) h (no_room s p m k e))
+client_ends s p m false n k events l h false e =
+    inl (verdict_since s.call events (answer s false k) (taken_at s k) h ∙ all s p m k l e)
 
-pub abort_comes : (s : Setup) → transfer_of s.call ≡ transfer_by Segmented (UploadJob 0) → (events : List ClientEvent) (frame : List ℕ)
+client_stale : (s : Setup) (p : Type 0) → IsUpload s p reads_in_segments → (short : Bool) (k : ℕ) (events : List ClientEvent)
+    → k < last s short → AtClient s (suc k) events → Fails s events (answer s short k)
+client_stale s p m true k events l h = absurd (omega arith)
+client_stale s p m false k events l h = fails_since s events (answer s false k) (taken_at s (suc k)) h (stale s p m k)
+
+abort_comes : (s : Setup) (p : Type 0) → IsUpload s p reads_in_segments → (events : List ClientEvent) (frame : List ℕ)
     → IsAbort frame → Fails s events frame
-abort_comes s t events frame h = by (since_first (answers_of events)) refl
+abort_comes s p m events frame h = by (since_first (answers_of events)) refl
   where
     by : (a : Option Answers) → since_first (answers_of events) ≡ a → Fails s events frame
     by None e = fails_since s events frame None e (aborted_fails s.call Begun [] (response_in frame) h)
     by (Some a) e = fails_since s events frame (Some a) e
-        (rw t (aborted_fails s.call (Receiving (size_by (response_in a.first)) (is_odd (length a.later))) (segments_joined a.later) (response_in frame) h))
+        (rw m.transfer (aborted_fails s.call (Receiving (size_by (response_in a.first)) (is_odd (length a.later))) (segments_joined a.later) (response_in frame) h))
 
 -- ---- the transfer
 
-pub stop_and_wait : (s : Setup) (p : Type 0) → IsUpload s p Segmented
-    → nat_le 1 (length (value s)) && nat_le (length (value s)) 4 ≡ false → StopAndWait s p (parts s)
-stop_and_wait s p m long = record {
+pub stop_and_wait : (s : Setup) (p : Type 0) → IsUpload s p reads_in_segments → (short : Bool) → is_short (length (value s)) ≡ short
+    → StopAndWait s p (parts s short)
+stop_and_wait s p m short n = record {
   first_request = rw m.transfer refl;
   first_client = refl;
   first_lawful = refl;
@@ -269,88 +302,13 @@ stop_and_wait s p m long = record {
   outside = refl;
   dictionary = lawful_of s m.dictionary;
   sets = λ contents h. tt;
-  begins = λ current contents outside h. begins s p m long current contents outside h _ refl;
-  goes_on = λ k contents l h. goes_on s p k contents l h _ refl;
-  refuses_idle = λ k contents l. refuses_idle s k contents;
-  refuses_again = λ k contents l. refuses_again s k contents;
-  client_goes_on = λ k events l h. client_goes_on s p m k events l h _ refl;
-  client_ends = λ k events l h. client_ends s p m k events l h _ refl;
-  client_stale = λ k events l h. fails_since s events (answer s k) (taken_at s (suc k)) h (stale s p m k);
-  client_aborted = λ k events frame h abort. abort_comes s m.transfer events frame abort;
-  client_ticks = λ k events h. h;
-}
-
--- ---- at once: one request, which may come again, and its answer
-
--- it has 1 to 4 bytes
-pub record IsShort (s : Setup) : Type 0 where
-  pub short : nat_le 1 (length (value s)) && nat_le (length (value s)) 4 ≡ true
-  pub some : 1 ≤ length (value s)
-  pub few : length (value s) ≤ 4
-
-abbrev pub short_parts : (s : Setup) → Parts s
-short_parts s = record {
-  last = 0;
-  value = value s;
-  request = λ k. request_bytes (UploadRequest s.call.key);
-  reply = λ k. Response (UploadExpedited s.call.key (Indicated (record { items = value s })));
-  open_at = λ k. nothing_open;
-  Lawful = λ contents. contents ≡ s.contents;
-  left = λ contents. contents;
-  Sound = Unit {0};
-  IsSet = λ contents. Unit {0};
-  Client = λ k events. length (answers_of events) ≡ k;
-}
-
-short_begins : (s : Setup) (p : Type 0) → IsUpload s p Segmented → IsShort s → (current : Option OpenTransfer) (contents : Contents)
-    → is_in_sub_block current ≡ false → contents ≡ s.contents → (refusal : Option ℕ)
-    → reading_refusal s.description contents s.call.key ≡ refusal → Reacts s p (short_parts s) 0 current contents
-short_begins s p m n current contents outside kept None e =
-    let read = upload_read s.call.key m.key in
-    let is : value_at contents s.call.key ≡ value s = ap (λ (c : Contents). value_at c s.call.key) kept in
-    takes_last refl (record {
-      replies = rw (outside, read, e, is, n.short) refl;
-      opens = rw (outside, read, e, is, n.short) refl;
-      sets = rw (outside, read) refl;
-    }) (λ sound. kept)
-short_begins s p m n current contents outside kept (Some code) e =
-    let read = upload_read s.call.key m.key in
-    refuses (λ x same. none≢some _ code (m.may_read x) (ap (λ (c : Contents). reading_refusal s.description c s.call.key) (sym kept) ∙ e)) (record {
-      key = s.call.key;
-      code = code;
-      replies = rw (outside, read, e) refl;
-      opens = rw (outside, read, e) refl;
-      sets = rw (outside, read) refl;
-    })
-
--- the answer, where there is room for the value or not
-short_sent : (s : Setup) (p : Type 0) → IsUpload s p Segmented → IsShort s → (xs : List (List ℕ)) → length xs ≡ 0 → (above : Bool)
-    → nat_lt (cap_of s.call.job) (length (value s)) ≡ above
-    → (answer_verdict s.call (stage_since s.call (since_first xs)) (held_since s.call (since_first xs)) (nth_answer s (short_parts s) 0) ≡ Ends [] (value s))
-    ⊎ ((p → ⊥) × (has_failed (state_by (answer_verdict s.call (stage_since s.call (since_first xs)) (held_since s.call (since_first xs)) (nth_answer s (short_parts s) 0))) ≡ true))
-short_sent s p m n [] h false e =
-    inl (rw (expedited_sent_read s.call.key (value s) m.key n.some n.few, m.transfer, same_key-refl s.call.key, e) refl)
-short_sent s p m n [] h true e =
-    inr ((λ x. not_above (cap_of s.call.job) _ (m.fits x) e), rw (expedited_sent_read s.call.key (value s) m.key n.some n.few, m.transfer, same_key-refl s.call.key, e) refl)
-short_sent s p m n (x ∷ xs) h above e = absurd (omega arith)
-
-pub short_stop_and_wait : (s : Setup) (p : Type 0) → IsUpload s p Segmented → IsShort s → StopAndWait s p (short_parts s)
-short_stop_and_wait s p m n = record {
-  first_request = rw m.transfer refl;
-  first_client = refl;
-  first_lawful = refl;
-  idle = m.idle;
-  long = λ k. refl;
-  outside = refl;
-  dictionary = lawful_of s m.dictionary;
-  sets = λ contents h. tt;
-  begins = λ current contents outside h. short_begins s p m n current contents outside h _ refl;
-  client_ends = λ k events e h. short_sent s p m n (answers_of events) (h ∙ e) _ refl;
-  goes_on = λ k contents less h. absurd (omega arith);
-  refuses_idle = λ k contents less. absurd (omega arith);
-  refuses_again = λ k contents less. absurd (omega arith);
-  client_goes_on = λ k events less h. absurd (omega arith);
-  client_stale = λ k events less h. absurd (omega arith);
-  client_aborted = λ k events frame h abort. abort_comes s m.transfer events frame abort;
+  begins = λ current contents outside h. begins s p m short n current contents outside h _ refl;
+  goes_on = λ k contents l h. goes_on s p short k contents l h _ refl;
+  refuses_idle = λ k contents l. refuses_idle s short k contents;
+  refuses_again = λ k contents l. refuses_again s short k contents;
+  client_goes_on = λ k events l h. client_goes_on s p m short k events l h _ refl;
+  client_ends = λ k events l h. client_ends s p m short n k events l h _ refl;
+  client_stale = λ k events l h. client_stale s p m short k events l h;
+  client_aborted = λ k events frame h abort. abort_comes s p m events frame abort;
   client_ticks = λ k events h. h;
 }

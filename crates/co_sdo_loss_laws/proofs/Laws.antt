@@ -11,21 +11,19 @@ use Rattle.co_sdo.specs.Uploads.{value_at}
 use Rattle.co_sdo_laws.specs.World.{Setup, WorldEvent, world_after}
 use Rattle.co_sdo_laws.specs.Undisturbed.{is_short, is_expedited_download, is_segmented_download, is_plain_upload, is_block_upload, is_block_download}
 use Rattle.co_sdo_loss_laws.specs.Disturbed.{IsAlone, is_plain_download, is_repeat}
-use Rattle.co_sdo_laws.proofs.Permits.{IsDownload, IsUpload, Goes, short_bytes}
+use Rattle.co_sdo_laws.proofs.Permits.{Protocol, IsDownload, IsUpload, Goes, in_segments, at_once, at_once_few, short_bytes}
 use Rattle.co_sdo_laws.proofs.Permits as protocols
 use Rattle.co_sdo_laws.proofs.StopAndWait.{Parts, IsOver, StopAndWait, always, when_done}
-use Rattle.co_sdo_laws.proofs.SegmentedDownloads as in_segments
-use Rattle.co_sdo_laws.proofs.ExpeditedDownloads as at_once
+use Rattle.co_sdo_laws.proofs.SegmentedDownloads as sending
 use Rattle.co_sdo_laws.proofs.Uploads as reading
 use Rattle.co_sdo_laws.proofs.BlockUploadEvents as read_in_blocks
-use Rattle.co_sdo_laws.proofs.BlockUploadEvents.{value_is}
+use Rattle.co_sdo_laws.proofs.Blocks.{once_done}
 use Rattle.co_sdo_laws.proofs.BlockDownloadEvents as written_in_blocks
-use Rattle.co_sdo_laws.proofs.BlockDownloadEvents.{set_is}
 
 -- ---- nothing is said of rights
 
-downloads : (s : Setup) (like : Mode) → IsAlone s → Goes s.call.mode s.call.job like true → IsDownload s ⊥ like
-downloads s like alone g = record {
+downloads : (s : Setup) (protocol : Protocol) → IsAlone s → Goes s.call.mode s.call.job protocol true → IsDownload s ⊥ protocol
+downloads s protocol alone g = record {
   dictionary = alone.dictionary;
   key = alone.key;
   idle = alone.idle;
@@ -35,8 +33,8 @@ downloads s like alone g = record {
   room = λ x. absurd x;
 }
 
-uploads : (s : Setup) (like : Mode) → IsAlone s → Goes s.call.mode s.call.job like false → IsUpload s ⊥ like
-uploads s like alone g = record {
+uploads : (s : Setup) (protocol : Protocol) → IsAlone s → Goes s.call.mode s.call.job protocol false → IsUpload s ⊥ protocol
+uploads s protocol alone g = record {
   dictionary = alone.dictionary;
   key = alone.key;
   idle = alone.idle;
@@ -67,35 +65,19 @@ protocol Block (Upload cap) h = cc
 pub download_sets : (s : Setup) (events : List WorldEvent) → IsAlone s → is_plain_download s.call.mode s.call.job ≡ true
     → outcome s.call (world_after s events).events ≡ Done → (world_after s events).contents s.call.key ≡ Some (bytes_of s.call.job)
 download_sets s events alone t done = elim (protocol s.call.mode s.call.job t) [
-  | inl short ↦ (let is = protocols.at_once s.call.mode s.call.job short in
-      (ends s events (at_once.parts s) (at_once.stop_and_wait s ⊥ (record {
-        dictionary = alone.dictionary;
-        key = alone.key;
-        idle = alone.idle;
-        transfer = is.by;
-        some = is.bytes.0;
-        few = is.bytes.1;
-        may_complete = λ x. absurd x;
-      })) alone.bytes done).set)
-  | inr long ↦ (ends s events (in_segments.parts s)
-      (in_segments.stop_and_wait s ⊥ (downloads s _ alone (protocols.in_segments s.call.mode s.call.job long))) alone.bytes done).set
+  | inl short ↦ (let few = short_bytes _ (at_once_few s.call.mode s.call.job short) in
+      (ends s events (sending.parts s true) (sending.stop_and_wait s ⊥ true (downloads s _ alone (at_once s.call.mode s.call.job short))
+      (record { few = few; may_complete = λ x. absurd x })) alone.bytes done).set)
+  | inr long ↦ (ends s events (sending.parts s false)
+      (sending.stop_and_wait s ⊥ false (downloads s _ alone (in_segments s.call.mode s.call.job long)) tt) alone.bytes done).set
 ]
-
-upload_by : (s : Setup) (events : List WorldEvent) → IsUpload s ⊥ Segmented
-    → outcome s.call (world_after s events).events ≡ Done
-    → (short : Bool) → is_short (length (value_at s.contents s.call.key)) ≡ short
-    → result s.call (world_after s events).events ≡ value_at s.contents s.call.key
-upload_by s events m done true e =
-    let n = short_bytes (length (value_at s.contents s.call.key)) e in
-    let short : reading.IsShort s = record { short = e; some = n.0; few = n.1 } in
-    (ends s events (reading.short_parts s) (reading.short_stop_and_wait s ⊥ m short) tt done).value
-upload_by s events m done false e =
-    (ends s events (reading.parts s) (reading.stop_and_wait s ⊥ m e) tt done).value
 
 pub upload_gives : (s : Setup) (events : List WorldEvent) → IsAlone s → is_plain_upload s.call.mode s.call.job ≡ true
     → outcome s.call (world_after s events).events ≡ Done → result s.call (world_after s events).events ≡ value_at s.contents s.call.key
 upload_gives s events alone t done =
-    upload_by s events (uploads s _ alone (protocols.upload s.call.mode s.call.job t)) done _ refl
+    let short = is_short (length (value_at s.contents s.call.key)) in
+    (ends s events (reading.parts s short)
+    (reading.stop_and_wait s ⊥ (uploads s _ alone (protocols.upload s.call.mode s.call.job t)) short refl) tt done).value
 
 -- ---- in blocks
 
@@ -103,12 +85,12 @@ pub block_upload_gives : (s : Setup) (events : List WorldEvent) → IsAlone s �
     → list_any is_repeat events ≡ false → outcome s.call (world_after s events).events ≡ Done
     → result s.call (world_after s events).events ≡ value_at s.contents s.call.key
 block_upload_gives s events alone t once done =
-    value_is s ⊥ (world_after s events)
-    (read_in_blocks.always s ⊥ (uploads s _ alone (protocols.block_upload s.call.mode s.call.job t)) events once (λ x. absurd x)) done
+    (once_done s ⊥ _ _ (world_after s events)
+    (read_in_blocks.always s ⊥ (uploads s _ alone (protocols.block_upload s.call.mode s.call.job t)) events once (λ x. absurd x)) done).done.gives
 
 pub block_download_sets : (s : Setup) (events : List WorldEvent) → IsAlone s → is_block_download s.call.mode s.call.job ≡ true
     → list_any is_repeat events ≡ false → outcome s.call (world_after s events).events ≡ Done
     → (world_after s events).contents s.call.key ≡ Some (bytes_of s.call.job)
 block_download_sets s events alone t once done =
-    set_is s ⊥ (world_after s events)
-    (written_in_blocks.always s ⊥ (downloads s _ alone (protocols.in_blocks s.call.mode s.call.job t)) events once (λ x. absurd x)) done
+    (once_done s ⊥ _ _ (world_after s events)
+    (written_in_blocks.always s ⊥ (downloads s _ alone (protocols.in_blocks s.call.mode s.call.job t)) events once (λ x. absurd x)) done).set.entry
