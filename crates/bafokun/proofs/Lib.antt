@@ -1,6 +1,7 @@
 pub mod AsBox
 pub mod AsLoss
 pub mod GivenBus
+pub mod Happened
 pub mod KnownSoFar
 pub mod Nothing
 pub mod Refused
