@@ -10,7 +10,9 @@ use Rattle.co_node_model.specs.Moments.{Constants}
 use Rattle.co_node_model.specs.Ticks.{after_ticks}
 use Rattle.co_node_device.specs.declared.seen.Seen.TheVariants as seen
 use Rattle.bafokun.specs.declared.happened.Events.{Events}
-use Rattle.bafokun.specs.Happened.{and_input, and_ticks, is_any, left_of, node_at, told_of, with_loss, with_losses, with_seen, with_state}
+use Rattle.bafokun.specs.declared.held.Held.{Held}
+use Rattle.bafokun.specs.declared.handle.Handle.{Handle}
+use Rattle.bafokun.specs.Happened.{and_input, and_ticks, events_in, events_of, left_of, node_at, told_of, with_loss, with_losses, with_seen, with_state}
 
 pub one_more_loss : (contents : Contents) (subs : List ℕ) (i : ℕ) (old now after : Events) → i < length subs
     → now ≡ with_losses contents (take i subs) old → after ≡ with_loss (node_at contents (get_or subs i 0)) now
@@ -27,6 +29,12 @@ pub one_more_tick : (k : Constants) (before : Inputs) (n : ℕ) (e : Events)
     → and_ticks k before (n + 1) e ≡ and_input k (after_ticks n before) Ticked (and_ticks k before n e)
 one_more_tick k before n e =
     subst (λ m. and_ticks k before m e ≡ and_input k (after_ticks n before) Ticked (and_ticks k before n e)) (plus_one n) refl
+
+-- what happened to a held device that is put back
+pub events_given : (o : Option Held) (there after : Held) (place : Handle) (f : Events → Events)
+    → Some there ≡ o → place.seal.value ≡ Some after → after.events ≡ f there.events → events_of place ≡ f (events_in o)
+events_given o there after place f is back did =
+    ap events_in back ∙ did ∙ ap (λ (o : Option Held). f (events_in o)) is
 
 -- ---- of four nodes, 0 to 3
 

@@ -51,7 +51,7 @@ module _ (g : given.Over) (c : After-self-4-1 g) (k : Constants) (inputs : Input
     producer = ns.producer;
     schedule = subst (λ (d : Description). IsScheduleAfter d c.args.self.now.parts.schedule (schedule_log k h)) same ns.schedule;
     app = c.receive-received.ensures.app k h before addressed;
-    seen = c.of.ensures ∙ ap seen_of (c.receive-received.ensures.mark k h before addressed);
+    seen = c.of-self.ensures ∙ ap seen_of (c.receive-received.ensures.mark k h before addressed);
   })
 
   stands : Stands k c.send.new.self (given_view c.args.given c.args.frame.now ∷ inputs)
