@@ -1,7 +1,7 @@
+pub mod Added
 pub mod AsBox
 pub mod AsLoss
 pub mod GivenBus
-pub mod Happened
 pub mod KnownSoFar
 pub mod Nothing
 pub mod Refused

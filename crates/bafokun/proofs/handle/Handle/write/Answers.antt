@@ -6,7 +6,7 @@ use Rattle.bafokun.specs.Changes.{KnowsWritten}
 use Rattle.bafokun.specs.Devices.{HasStood, entries_in, known_in, known_of}
 use Rattle.bafokun.specs.Happened.{and_input}
 use Rattle.bafokun.proofs.GivenBus.{given_bus}
-use Rattle.bafokun.proofs.Happened.{events_given}
+use Rattle.bafokun.proofs.Added.{events_given}
 use Rattle.bafokun.proofs.handle.Handle.write.Goals as goal
 
 pub returns-in-Some-clause-gives : goal.returns-in-Some-clause-gives

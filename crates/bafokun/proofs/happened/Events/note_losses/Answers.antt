@@ -1,7 +1,7 @@
 use Rattle.std.proofs.Common.{ap, ◌∙◌, arith}
 use Rattle.co_node_model.specs.Device.{contents_of}
 use Rattle.bafokun.specs.Happened.{with_loss}
-use Rattle.bafokun.proofs.Happened.{one_more_loss}
+use Rattle.bafokun.proofs.Added.{one_more_loss}
 use Rattle.bafokun.proofs.happened.Events.note_losses.Goals as goal
 
 pub loop-i-preserved : goal.loop-i-preserved

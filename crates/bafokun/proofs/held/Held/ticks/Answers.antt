@@ -3,7 +3,7 @@ use Rattle.co_node_model.specs.Inputs.{Ticked}
 use Rattle.co_node_model.specs.Ticks.{after_ticks}
 use Rattle.bafokun.specs.Happened.{and_input}
 use Rattle.bafokun.specs.Ticks.{given_last}
-use Rattle.bafokun.proofs.Happened.{one_more_tick}
+use Rattle.bafokun.proofs.Added.{one_more_tick}
 use Rattle.bafokun.proofs.Ticks.{one_more_given, one_more_stands, up_to_next}
 use Rattle.bafokun.proofs.held.Held.ticks.Goals as goal
 

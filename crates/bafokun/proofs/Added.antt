@@ -1,14 +1,19 @@
 -- One more lost heartbeat, and one more tick; and the definitions, evaluated.
-use Rattle.std.proofs.Common.{◌≡◌, ◌<◌, ◌+◌, ℕ, suc, ◌==◌, cond, List, [], ◌∷◌, Option, Some, None, length, take, get_or, refl, sym, ap, ◌∙◌, subst, arith}
+use Rattle.std.proofs.Common.{◌≡◌, ◌<◌, ◌+◌, ℕ, suc, ◌==◌, cond, true, List, [], ◌∷◌, Option, Some, None, length, take, get_or, refl, sym, ap, ◌∙◌, subst, arith}
 use Rattle.std.specs.Prelude.{if◌then◌else◌}
+use Rattle.std.proofs.lemmas.Bool.Decides.{nat_tests}
 use Rattle.std.proofs.lemmas.List.{take_more}
 use Rattle.std.proofs.lemmas.Grind.{fold-append}
 use Rattle.co_dict.specs.Rows.{Contents}
+use Rattle.co_node_parts.specs.declared.nmt_state.NodeState.{NodeState}
 use Rattle.co_node_parts.specs.declared.nmt_state.NodeState.TheVariants.{Operational, PreOperational}
-use Rattle.co_node_model.specs.Inputs.{Inputs, Ticked}
+use Rattle.co_node_model.specs.Inputs.{InputView, Inputs, Ticked}
 use Rattle.co_node_model.specs.Moments.{Constants}
+use Rattle.co_node_model.specs.Device.{state_of}
 use Rattle.co_node_model.specs.Ticks.{after_ticks}
+use Rattle.co_node_device.specs.declared.seen.Seen.{Seen}
 use Rattle.co_node_device.specs.declared.seen.Seen.TheVariants as seen
+use Rattle.co_node_device.specs.Lasts.{last_seen}
 use Rattle.bafokun.specs.declared.happened.Events.{Events}
 use Rattle.bafokun.specs.declared.held.Held.{Held}
 use Rattle.bafokun.specs.declared.handle.Handle.{Handle}
@@ -30,6 +35,21 @@ pub one_more_tick : (k : Constants) (before : Inputs) (n : ℕ) (e : Events)
 one_more_tick k before n e =
     subst (λ m. and_ticks k before m e ≡ and_input k (after_ticks n before) Ticked (and_ticks k before n e)) (plus_one n) refl
 
+-- a list that is tested to have no element
+pub none_by_test : (xs : List ℕ) → true ≡ (length xs == 0) → xs ≡ []
+none_by_test [] e = refl
+none_by_test (x ∷ xs) e = let none : length (x ∷ xs) ≡ 0 = grind (arith, nat_tests, e) in absurd (omega (arith, none))
+
+-- what is seen of an input, and the state after it
+pub stated : (k : Constants) (past : Inputs) (input : InputView) (old noted after : Events) (s : Seen) (from to : NodeState)
+    → s ≡ last_seen k (input ∷ past) → from ≡ state_of k past → to ≡ state_of k (input ∷ past)
+    → noted ≡ with_seen s old → after ≡ with_state from to noted
+    → after ≡ with_state (state_of k past) (state_of k (input ∷ past)) (with_seen (last_seen k (input ∷ past)) old)
+stated k past input old noted after s from to es ef et en ea =
+    ea ∙ ap (λ (f : NodeState). with_state f to noted) ef
+    ∙ ap (λ (t : NodeState). with_state (state_of k past) t noted) et
+    ∙ ap (with_state (state_of k past) (state_of k (input ∷ past))) (en ∙ ap (λ (u : Seen). with_seen u old) es)
+
 -- what happened to a held device that is put back
 pub events_given : (o : Option Held) (there after : Held) (place : Handle) (f : Events → Events)
     → Some there ≡ o → place.seal.value ≡ Some after → after.events ≡ f there.events → events_of place ≡ f (events_in o)
@@ -38,7 +58,7 @@ events_given o there after place f is back did =
 
 -- ---- of four nodes, 0 to 3
 
-none : Events
+abbrev none : Events
 none = record {
   reset_node = 0;
   reset_communication = 0;
@@ -52,11 +72,11 @@ none = record {
 }
 
 -- 1016:01 is of node 2, 1016:02 of node 3
-contents : Contents
+abbrev contents : Contents
 contents key =
     if key.index == 0x1016 then (if key.sub == 1 then Some (100 ∷ 0 ∷ 2 ∷ 0 ∷ []) else Some (50 ∷ 0 ∷ 3 ∷ 0 ∷ [])) else None
 
-both_lost : Events
+abbrev both_lost : Events
 both_lost = record none { heartbeat = 1; lost = 0 ∷ 0 ∷ 1 ∷ 1 ∷ []; silent = 0 ∷ 0 ∷ 1 ∷ 1 ∷ [] }
 
 lost : with_losses contents (1 ∷ 2 ∷ []) none ≡ both_lost
