@@ -16,8 +16,8 @@
  *
  * Rules for every call:
  * - No pointer is NULL, even if its count is 0. An array has as many elements as its count states.
- * - What a call writes (node, frames, bytes, length, fault, abort_code, elapsed, entry, number, text)
- *   overlaps no other argument.
+ * - What a call writes (node, frames, bytes, length, fault, abort_code, elapsed, entry, events,
+ *   number, text) overlaps no other argument.
  * - A node is in one call at a time, and no call comes from a signal handler.
  * - A node begins as BAFOKUN_EMPTY, and only the calls below write it. It may be moved, not copied.
  *   While it is empty, calls do nothing and return 0 or false; bafokun_idle returns BAFOKUN_FOREVER,
@@ -105,6 +105,24 @@ typedef struct bafokun_entry_info {
 #define BAFOKUN_RWR 4
 #define BAFOKUN_RWW 5
 #define BAFOKUN_CONST 6
+
+/*
+ * What happened to a device since the program asked: 1 is yes, 0 is no. 390 bytes, no padding. The
+ * arrays are by node-ID, of the other nodes whose heartbeat 1016h monitors.
+ */
+typedef struct bafokun_events {
+    uint8_t reset_node;          /* the NMT service reset node: each entry has its default again */
+    uint8_t reset_communication; /* the NMT service reset communication: those of 1000h to 1FFFh have */
+    uint8_t state;               /* the last NMT state that was entered: BAFOKUN_STOPPED, _OPERATIONAL or
+                                    _PRE_OPERATIONAL, which a reset enters too; 0 if none was */
+    uint8_t sync;                /* a SYNC was received, and the device wasn't stopped */
+    uint8_t rpdo;                /* a frame of an active RPDO was received, and the device was operational. If the
+                                    RPDO is synchronous, its data take effect at the next SYNC */
+    uint8_t heartbeat;           /* a heartbeat was lost or is back */
+    uint8_t lost[128];           /* the heartbeat of this node was lost */
+    uint8_t back[128];           /* a heartbeat of this node was received, the first after a loss */
+    uint8_t silent[128];         /* now: the heartbeat of this node is lost. This isn't forgotten */
+} bafokun_events;
 
 /* What bafokun_idle gives where nothing is ever due. */
 #define BAFOKUN_FOREVER UINT32_MAX
@@ -265,14 +283,24 @@ uint8_t bafokun_state(bafokun_node *node);
 
 /*
  * During this many ms the device sends nothing, and its entries and its NMT state stay the same, if
- * it gets no other input: a lower bound, which any input may change. BAFOKUN_FOREVER for an empty
- * node. A program may wait for a frame until one ms more has elapsed, and then pass these ms at
- * once, by bafokun_ticks.
+ * it gets no other input: a lower bound, which any input may change. BAFOKUN_FOREVER: no timer runs,
+ * so nothing becomes due however long nothing is received; also for an empty node. A program may wait
+ * for a frame until one ms more has elapsed, and then pass these ms at once, by bafokun_ticks.
  *
  *     idle = bafokun_idle(&node);
  *     poll(&bus, 1, idle < INT_MAX ? (int)idle + 1 : -1);
  */
 uint32_t bafokun_idle(bafokun_node *node);
+
+/*
+ * Gets what happened to the device since the last result of this call, or since the build: what the
+ * inputs did. Returns whether anything happened. If so, it is put into events, and is then forgotten,
+ * but for silent; if not, nothing is written.
+ *
+ *     if (bafokun_happened(&node, &events) && (events.reset_node || events.reset_communication))
+ *         write the measurements anew
+ */
+bool bafokun_happened(bafokun_node *node, bafokun_events *events);
 
 /*
  * The answer to the last input: BAFOKUN_DONE, or BAFOKUN_REFUSED with the SDO abort code in

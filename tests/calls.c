@@ -645,6 +645,86 @@ static void test_changes(void)
     check(!bafokun_next_changed(&node, 0, &next) && next == 45, "changes", "none of an empty place");
 }
 
+/* What happened since the last time: these words, and no other; "-" for nothing. */
+static bool did_happen(bafokun_node *node, const char *words)
+{
+    bafokun_events events;
+    char have[256];
+    int i, length;
+    memset(&events, 0xEE, sizeof events);
+    if (!bafokun_happened(node, &events)) return strcmp(words, "-") == 0 && events.sync == 0xEE && events.silent[127] == 0xEE;
+    length = sprintf(have, "%s%s%s%s%s", events.reset_node ? " node" : "", events.reset_communication ? " communication" : "",
+                     events.sync ? " sync" : "", events.rpdo ? " rpdo" : "", events.heartbeat ? " heartbeat" : "");
+    if (events.state) length += sprintf(have + length, " state %d", events.state);
+    for (i = 0; i < 128; i++) {
+        if (events.lost[i]) length += sprintf(have + length, " lost %d", i);
+        if (events.back[i]) length += sprintf(have + length, " back %d", i);
+        if (events.silent[i]) length += sprintf(have + length, " silent %d", i);
+    }
+    return strcmp(words, have) == 0;
+}
+
+/* Lines of a sequence, each after what happened since the one before. */
+static void test_happened(void)
+{
+    static const char *const lines[][2] = {
+        { "boot = 705#00", "-" },
+        { "080#", " sync" },
+        { "605#4000100000000000 = 585#4300100091010000", "-" },
+        /* it isn't operational */
+        { "205#01020304", "-" },
+        { "000#0105", " state 5" },
+        { "000#0105", "-" },
+        { "205#01020304", " rpdo" },
+        { "write 2003:00 1E8", "-" },
+        { "000#0205", " state 4" },
+        { "080#", "-" },
+        /* not for this node */
+        { "000#8106", "-" },
+        { "000#8105 = 705#00", " node state 127" },
+        { "000#8200 = 705#00", " communication state 127" },
+        /* the heartbeat of node 7, which is lost after 100 ms, and that of node 8, after 50 ms */
+        { "605#2316100164000700 = 585#6016100100000000", "-" },
+        { "605#2316100232000800 = 585#6016100200000000", "-" },
+        { "000#0105", " state 5" },
+        { "707#05", "-" },
+        { "708#05", "-" },
+        { "ticks 49", "-" },
+        { "ticks 1 = 085#3081110000000000", " heartbeat state 127 lost 8 silent 8" },
+        { "ticks 50 = 085#3081110000000000", " heartbeat lost 7 silent 7 silent 8" },
+        { "708#05", " heartbeat silent 7 back 8" },
+        { "708#05", "-" },
+        /* it stays lost past a reset */
+        { "000#8200 = 705#00", " communication state 127 silent 7" },
+        { "707#05", " heartbeat back 7" },
+        /* bus-off leaves operational */
+        { "000#0105", " state 5" },
+        { "bus 2", " state 127" },
+        { NULL, NULL }
+    };
+    size_t i;
+    bafokun_node node = BAFOKUN_EMPTY;
+    bafokun_fault fault;
+    bafokun_events events;
+    bafokun_frame frame;
+    uint32_t elapsed;
+    check(bafokun_build(&node, sheet, strlen(sheet), 5, &config, &fault), "happened", "build");
+    check(did_happen(&node, "-"), "happened", "nothing at first");
+    for (i = 0; lines[i][0]; i++) check(run_line(&node, lines[i][0]) && did_happen(&node, lines[i][1]), "happened", lines[i][0]);
+    /* several inputs */
+    check(run_line(&node, "000#0105") && run_line(&node, "080#") && run_line(&node, "205#01020304"), "happened", "several inputs");
+    check(run_line(&node, "000#8105 = 705#00"), "happened", "and a reset");
+    check(did_happen(&node, " node sync rpdo state 127") && did_happen(&node, "-"), "happened", "all of them, once");
+    /* several ticks */
+    check(run_line(&node, "605#2316100164000900 = 585#6016100100000000") && run_line(&node, "709#7F"), "happened", "node 9");
+    check(bafokun_ticks(&node, 200, &elapsed, &frame, 1) == 1 && elapsed == 100, "happened", "its heartbeat is lost");
+    check(run_line(&node, "709#7F") && did_happen(&node, " heartbeat lost 9 back 9"), "happened", "and is back");
+    bafokun_free(&node);
+    check(did_happen(&node, "-"), "happened", "nothing of an empty place");
+    events.state = 77;
+    check(!bafokun_happened(&node, &events) && events.state == 77, "happened", "which writes nothing");
+}
+
 /* The words of the faults and abort codes: none is too long for the array, and an array with less room has a 0 at its end. */
 static void test_texts(void)
 {
@@ -735,6 +815,7 @@ int main(int argc, char **argv)
     check(sizeof(bafokun_config) == 6, "layout", "config");
     check(sizeof(bafokun_fault) == 16, "layout", "fault");
     check(sizeof(bafokun_entry_info) == 8 + 2 * sizeof(size_t), "layout", "entry");
+    check(sizeof(bafokun_events) == 390, "layout", "events");
     run("boot-up", "", boot_up);
     run("expedited upload", "", expedited_upload);
     run("segmented download", "", segmented_download);
@@ -756,6 +837,7 @@ int main(int argc, char **argv)
     test_ticks();
     test_entries();
     test_changes();
+    test_happened();
     test_texts();
     test_empty_place();
     test_refused_memory();

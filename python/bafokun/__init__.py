@@ -15,7 +15,7 @@ from .bus import run, running
 from .entry import Entry
 from .faults import BuildFault, Fault, Refused, SheetFault
 from .frame import AnyFrame, Frame
-from .node import BusChange, Node, State
+from .node import BusChange, Events, Node, State
 from .values import DataType, Value
 from .version import __version__
 
@@ -25,6 +25,7 @@ __all__ = [
     "BusChange",
     "DataType",
     "Entry",
+    "Events",
     "Fault",
     "Frame",
     "Node",

@@ -57,6 +57,22 @@ class CEntry(ctypes.Structure):
     ]
 
 
+class CEvents(ctypes.Structure):
+    """What happened to a device."""
+
+    _fields_ = [
+        ("reset_node", c_uint8),
+        ("reset_communication", c_uint8),
+        ("state", c_uint8),
+        ("sync", c_uint8),
+        ("rpdo", c_uint8),
+        ("heartbeat", c_uint8),
+        ("lost", c_uint8 * 128),
+        ("back", c_uint8 * 128),
+        ("silent", c_uint8 * 128),
+    ]
+
+
 ACCESS = {1: "ro", 2: "wo", 3: "rw", 4: "rwr", 5: "rww", 6: "const"}
 """By the library's number the word of AccessType."""
 
@@ -88,6 +104,7 @@ _CALLS = {
     "entry": (c_bool, _NODE, c_size_t, POINTER(CEntry)),
     "entry_name": (c_size_t, _NODE, c_size_t, c_char_p, c_size_t),
     "next_changed": (c_bool, _NODE, c_size_t, POINTER(c_size_t)),
+    "happened": (c_bool, _NODE, POINTER(CEvents)),
     "node_id": (c_uint8, _NODE),
     "state": (c_uint8, _NODE),
     "answer": (c_uint8, _NODE, POINTER(c_uint32)),

@@ -8,7 +8,7 @@ import threading
 import weakref
 from enum import IntEnum
 from pathlib import Path
-from typing import Any, Dict, Iterator, List, Optional, Tuple, Union
+from typing import Any, Dict, FrozenSet, Iterator, List, NamedTuple, Optional, Tuple, Union
 
 from . import library as c
 from .entry import Entry
@@ -45,6 +45,31 @@ class BusChange(IntEnum):
     OFF = 2
     RECOVERED = 3
     """Recovered from bus-off; ACTIVE comes next."""
+
+
+class Events(NamedTuple):
+    """What happened to a node. The sets are of node-IDs of other nodes, which 1016h monitors."""
+
+    reset_node: bool = False
+    """The NMT service reset node: each entry has its default again."""
+    reset_communication: bool = False
+    """The NMT service reset communication: the entries 1000h to 1FFFh have."""
+    state: Optional[State] = None
+    """The last NMT state that was entered, if any. A reset enters pre-operational."""
+    sync: bool = False
+    """A SYNC was received, and the node wasn't stopped."""
+    rpdo: bool = False
+    """A frame of an active RPDO was received, and the node was operational."""
+    lost: FrozenSet[int] = frozenset()
+    """Their heartbeat was lost."""
+    back: FrozenSet[int] = frozenset()
+    """A heartbeat was received, the first after a loss."""
+    silent: FrozenSet[int] = frozenset()
+    """Their heartbeat is lost now, also since an earlier call."""
+
+
+def _nodes(marks: Any) -> FrozenSet[int]:
+    return frozenset(node for node, mark in enumerate(marks) if mark)
 
 
 def _checked(name: str, value: int, most: int) -> int:
@@ -261,6 +286,22 @@ class Node:
         """For at least so many ms it sends nothing, and neither an entry nor its state changes, if nothing is received. None: ever."""
         ms = int(self._call("idle"))
         return None if ms == c.FOREVER else ms
+
+    def happened(self) -> Optional[Events]:
+        """What happened since the last call, or since the node was made: what the inputs did. None: nothing did."""
+        events = c.CEvents()
+        if not self._call("happened", events):
+            return None
+        return Events(
+            bool(events.reset_node),
+            bool(events.reset_communication),
+            State(events.state) if events.state else None,
+            bool(events.sync),
+            bool(events.rpdo),
+            _nodes(events.lost),
+            _nodes(events.back),
+            _nodes(events.silent),
+        )
 
     def held(self, channel: int) -> int:
         """How many bytes are held for the transfer of an SDO channel."""

@@ -312,6 +312,26 @@ class Inputs(unittest.TestCase):
         node.write(0x1017, 0, bytes(2))
         self.assertIsNone(node.idle())
 
+    def test_happened(self):
+        """What NMT, SYNC, RPDOs and the heartbeats of others did, once (CiA 301, 7.2.5, 7.2.8)."""
+        node = bafokun.Node.from_sheet(MODULE, 8)
+        node.boot()
+        self.assertIsNone(node.happened())
+        node.take((0, b"\x01\x08"))
+        node.take((0x80, b""))
+        self.assertEqual(node.happened(), bafokun.Events(state=bafokun.State.OPERATIONAL, sync=True))
+        self.assertIsNone(node.happened())
+        node.take((0, b"\x81\x08"))
+        self.assertEqual(
+            node.happened(), bafokun.Events(reset_node=True, state=bafokun.State.PRE_OPERATIONAL)
+        )
+        node.write(0x1016, 1, bytes.fromhex("64000700"))
+        node.take((0x707, b"\x05"))
+        node.tick(100)
+        self.assertEqual(node.happened(), bafokun.Events(lost=frozenset({7}), silent=frozenset({7})))
+        node.take((0x707, b"\x05"))
+        self.assertEqual(node.happened(), bafokun.Events(back=frozenset({7})))
+
     def test_words_out_of_range(self):
         node = bafokun.Node.from_sheet(SENSOR, 5)
         for call in (

@@ -1,3 +1,4 @@
+pub mod Added
 pub mod AsBox
 pub mod AsLoss
 pub mod GivenBus

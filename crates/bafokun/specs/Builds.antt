@@ -14,6 +14,7 @@ use Rattle.co_node.specs.Nodes.{Stands, node_constants}
 use Rattle.bafokun.specs.declared.build.Settings.{Settings}
 use Rattle.bafokun.specs.declared.build.Fault.{Fault}
 use Rattle.bafokun.specs.Faults.{device_fault, sheet_fault}
+use Rattle.bafokun.specs.Happened.{no_events}
 use Rattle.bafokun.specs.declared.held.Held.{Held}
 use Rattle.bafokun.specs.declared.handle.Handle.{Handle}
 use Rattle.co_sheet_changes.specs.Originals.{original_at}
@@ -37,18 +38,20 @@ pub record IsNodeOf (node : ℕ) (settings : Settings) (sheet : SheetContent) (m
       → IsGreatestCapacity (built_description (plan_for node settings sheet)).rows greatest
       → Stands (node_constants (plan_for node settings sheet) greatest settings.time) made []
 
--- a node is held with this entry table and these known bytes
+-- a node is held with this entry table and these known bytes, and nothing happened to it
 pub record IsHeld (made : Node) (table : List EntryContent) (bytes : List Known) (held : Held) : Type 0 where
   pub node : held.node ≡ made
   pub entries : held.entries ≡ table
   pub known : held.known ≡ bytes
+  pub events : held.events ≡ no_events
 
 -- this device was built from this sheet; it has the entry table of the sheet, with these original
--- types by section lines, and the application knows no bytes of the entries
+-- types by section lines, the application knows no bytes of the entries, and nothing happened
 pub record IsHeldOf (originals : ℕ → Option (List ℕ)) (node : ℕ) (settings : Settings) (sheet : SheetContent) (held : Held) : Type 0 where
   pub is_built : IsNodeOf node settings sheet held.node
   pub entries : held.entries ≡ contents_of_rows originals (limits_for settings) sheet.rows
   pub known : held.known ≡ map blank_of held.entries
+  pub events : held.events ≡ no_events
 
 -- this device was built from a text
 pub record IsBuilt (text : List ℕ) (node : ℕ) (settings : Settings) (held : Held) : Type 0 where

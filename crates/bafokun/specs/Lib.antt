@@ -6,6 +6,7 @@ pub mod Devices
 pub mod Entries
 pub mod Faults
 pub mod Frames
+pub mod Happened
 pub mod Seals
 pub mod Texts
 pub mod Ticks

@@ -21,6 +21,7 @@ ghost use Rattle.bafokun.specs.Faults.{device_fault, no_fault, sheet_fault};
 ghost use Rattle.bafokun.specs.Devices.{IsEmpty};
 
 use crate::handle::Handle;
+use crate::happened::Events;
 use crate::held::Held;
 use co_dict_build::{BuildFault, Limits};
 use co_dict_table::{EntryTable, KnownBytes};
@@ -158,7 +159,8 @@ fn entries_of(
     }
 }
 
-// Moves a node, its entries and their known bytes into memory of their own; no frame has been sent.
+// Moves a node, its entries and their known bytes into memory of their own; no frame has been sent,
+// and nothing happened.
 fn boxed(
     alloc: Global,
     node: Node,
@@ -173,6 +175,7 @@ fn boxed(
         sent: Outbox::new(),
         entries,
         known,
+        events: Events::none(),
     };
     match Box::new(alloc, held) {
         Ok(held) => Ok(held),

@@ -30,6 +30,7 @@ impl Handle {
     ghost use Rattle.bafokun.specs.Changes.{KnowsWritten};
     ghost use Rattle.bafokun.specs.Devices.{Gives, IsDevice, IsEmpty, IsQuiet, entries_of, known_of};
     ghost use Rattle.bafokun.specs.Frames.{ArePut};
+    ghost use Rattle.bafokun.specs.Happened.{and_input, events_of};
 
     fn empty(alloc: Global) -> Handle
         ensures { IsEmpty result }
@@ -99,6 +100,8 @@ impl Handle {
         ensures empty { IsEmpty self.old → IsQuiet self.new frames.old frames.new result }
         ensures entries { entries_of self.new ≡ entries_of self.old }
         ensures known { known_of self.new ≡ known_of self.old }
+        ensures events { (k : Constants) (before : Inputs) → IsDevice k self.old before →
+            events_of self.new ≡ and_input k before (Framed frame.now) (events_of self.old) }
     {
         match self.take(alloc) {
             Some(mut held) => {
@@ -117,6 +120,8 @@ impl Handle {
         ensures empty { IsEmpty self.old → IsQuiet self.new frames.old frames.new result }
         ensures entries { entries_of self.new ≡ entries_of self.old }
         ensures known { known_of self.new ≡ known_of self.old }
+        ensures events { (k : Constants) (before : Inputs) → IsDevice k self.old before →
+            events_of self.new ≡ and_input k before Ticked (events_of self.old) }
     {
         match self.take(alloc) {
             Some(mut held) => {
@@ -139,6 +144,8 @@ impl Handle {
         ensures empty { IsEmpty self.old → IsQuiet self.new frames.old frames.new result }
         ensures entries { entries_of self.new ≡ entries_of self.old }
         ensures known { known_of self.new ≡ known_of self.old }
+        ensures events { (k : Constants) (before : Inputs) → IsDevice k self.old before →
+            events_of self.new ≡ and_input k before (Applied (app_view event.entry)) (events_of self.old) }
     {
         match self.take(alloc) {
             Some(mut held) => {
@@ -164,6 +171,8 @@ impl Handle {
         ensures entries { entries_of self.new ≡ entries_of self.old }
         ensures known { (k : Constants) (before : Inputs) → IsDevice k self.old before → KnowsWritten
             k before key bytes.now (entries_of self.old) (known_of self.old) (known_of self.new) }
+        ensures events { (k : Constants) (before : Inputs) → IsDevice k self.old before →
+            events_of self.new ≡ and_input k before (Applied (Written key bytes.now)) (events_of self.old) }
     {
         match self.take(alloc) {
             Some(mut held) => {

@@ -9,23 +9,26 @@ ghost use Rattle.co_node_model.specs.Device.{contents_of};
 ghost use Rattle.bafokun.specs.Changes.{IsNext, KnowsWritten, known_after};
 ghost use Rattle.bafokun.specs.Bus.{GaveBus, bus_input};
 ghost use Rattle.bafokun.specs.Devices.{Gave};
+ghost use Rattle.bafokun.specs.Happened.{and_bus, and_input, and_ticks, left_of, told_of};
 ghost use Rattle.bafokun.specs.Ticks.{GaveTicks};
 
 use crate::bus::bus_input;
 use crate::changes::{next_changed, note, note_written};
+use crate::happened::Events;
 use co_dict_table::{EntryTable, KnownBytes};
 use co_frame::{Frame, Outbox};
 use co_node::{AppEvent, Node};
 use co_value::Key;
 
-/// A device, the frames of its last input, the entry table of its data sheet, and the bytes of the
-/// entries that the application knows.
+/// A device, the frames of its last input, the entry table of its data sheet, the bytes of the
+/// entries that the application knows, and what happened since it asked.
 #[derive(Drop)]
 pub struct Held {
     pub(crate) node: Node,
     pub(crate) sent: Outbox,
     pub(crate) entries: EntryTable,
     pub(crate) known: KnownBytes,
+    pub(crate) events: Events,
 }
 
 impl Held {
@@ -36,8 +39,12 @@ impl Held {
             Gave k before (Framed frame.now) self.new }
         ensures entries { self.new.entries ≡ self.old.entries }
         ensures known { self.new.known ≡ self.old.known }
+        ensures events { (k : Constants) (before : Inputs) → Stands k self.old.node before →
+            self.new.events ≡ and_input k before (Framed frame.now) self.old.events }
     {
+        let state = self.node.state();
         self.node.take_frame(frame, &mut self.sent);
+        self.events.note(&self.node, state);
     }
 
     /// 1 ms elapsed.
@@ -47,8 +54,12 @@ impl Held {
             Gave k before Ticked self.new }
         ensures entries { self.new.entries ≡ self.old.entries }
         ensures known { self.new.known ≡ self.old.known }
+        ensures events { (k : Constants) (before : Inputs) → Stands k self.old.node before →
+            self.new.events ≡ and_input k before Ticked self.old.events }
     {
+        let state = self.node.state();
         self.node.tick(&mut self.sent);
+        self.events.note(&self.node, state);
     }
 
     /// At most `most` ms elapse: the ticks end with the first that sends frames. Returns how many
@@ -58,6 +69,8 @@ impl Held {
             GaveTicks k before most result self.new }
         ensures entries { self.new.entries ≡ self.old.entries }
         ensures known { self.new.known ≡ self.old.known }
+        ensures events { (k : Constants) (before : Inputs) → Stands k self.old.node before →
+            self.new.events ≡ and_ticks k before result self.old.events }
     {
         self.sent.clear();
         for i in 0..most {
@@ -84,8 +97,12 @@ impl Held {
             Gave k before (Applied (app_view event.entry)) self.new }
         ensures entries { self.new.entries ≡ self.old.entries }
         ensures known { self.new.known ≡ self.old.known }
+        ensures events { (k : Constants) (before : Inputs) → Stands k self.old.node before →
+            self.new.events ≡ and_input k before (Applied (app_view event.entry)) self.old.events }
     {
+        let state = self.node.state();
         self.node.take_event(event, &mut self.sent);
+        self.events.note(&self.node, state);
     }
 
     /// The application writes an entry, and knows its bytes if that is done.
@@ -95,6 +112,9 @@ impl Held {
         ensures entries { self.new.entries ≡ self.old.entries }
         ensures known { (k : Constants) (before : Inputs) → Stands k self.old.node before →
             KnowsWritten k before key bytes.now self.old.entries self.old.known self.new.known }
+        ensures events { (k : Constants) (before : Inputs) → Stands k self.old.node before →
+            self.new.events ≡
+            and_input k before (Applied (Written key bytes.now)) self.old.events }
     {
         self.take_event(AppEvent::Write(key, bytes));
         note_written(&self.node, &self.entries, &mut self.known, key);
@@ -111,6 +131,7 @@ impl Held {
         ensures node { self.new.node ≡ self.old.node }
         ensures sent { self.new.sent ≡ self.old.sent }
         ensures entries { self.new.entries ≡ self.old.entries }
+        ensures events { self.new.events ≡ self.old.events }
     {
         match next_changed(&self.node, &self.entries, &self.known, from) {
             Some(number) => {
@@ -121,15 +142,39 @@ impl Held {
         }
     }
 
+    /// What happened since the application asked; `None` if nothing did. It is forgotten then, but
+    /// for the nodes whose heartbeat is lost.
+    pub(crate) fn happened(&mut self) -> Option<Events>
+        ensures told { result ≡ told_of self.old.events }
+        ensures events { self.new.events ≡ left_of self.old.events }
+        ensures node { self.new.node ≡ self.old.node }
+        ensures sent { self.new.sent ≡ self.old.sent }
+        ensures entries { self.new.entries ≡ self.old.entries }
+        ensures known { self.new.known ≡ self.old.known }
+    {
+        if !self.events.is_any() {
+            return None;
+        }
+        let told = self.events;
+        self.events.forget();
+        Some(told)
+    }
+
     /// Takes a change of the CAN controller.
     pub(crate) fn bus(&mut self, change: u8)
         ensures gave { (k : Constants) (before : Inputs) → Stands k self.old.node before →
             GaveBus k before (bus_input k before change) self.new }
         ensures entries { self.new.entries ≡ self.old.entries }
         ensures known { self.new.known ≡ self.old.known }
+        ensures events { (k : Constants) (before : Inputs) → Stands k self.old.node before →
+            self.new.events ≡ and_bus k before (bus_input k before change) self.old.events }
     {
         match bus_input(&self.node, change) {
-            Some(input) => self.node.step(input, &mut self.sent),
+            Some(input) => {
+                let state = self.node.state();
+                self.node.step(input, &mut self.sent);
+                self.events.note(&self.node, state);
+            }
             None => self.sent.clear(),
         }
     }
@@ -141,6 +186,7 @@ impl Held {
             self.new.sent.items ≡ boot_up k ∷ [] }
         ensures entries { self.new.entries ≡ self.old.entries }
         ensures known { self.new.known ≡ self.old.known }
+        ensures events { self.new.events ≡ self.old.events }
     {
         self.node.boot(&mut self.sent);
     }

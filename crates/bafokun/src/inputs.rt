@@ -17,6 +17,7 @@ ghost use Rattle.bafokun.specs.Bus.{GivesBus, bus_input};
 ghost use Rattle.bafokun.specs.Devices.{Gives, GivesBootUp, IsDevice, IsEmpty, IsQuiet, entries_of, known_of};
 ghost use Rattle.bafokun.specs.Changes.{KnowsWritten};
 ghost use Rattle.bafokun.specs.Frames.{IsCan, content_of};
+ghost use Rattle.bafokun.specs.Happened.{and_bus, and_input, and_ticks, events_of};
 ghost use Rattle.bafokun.specs.Ticks.{GivesTicks};
 
 use crate::frames::CanFrame;
@@ -34,6 +35,7 @@ pub extern "C" fn bafokun_boot(alloc: Global, node: &mut Handle, frames: &mut [C
     ensures empty { IsEmpty node.old → IsQuiet node.new frames.old frames.new result }
     ensures entries { entries_of node.new ≡ entries_of node.old }
     ensures known { known_of node.new ≡ known_of node.old }
+    ensures events { events_of node.new ≡ events_of node.old }
 {
     match node.take(alloc) {
         Some(mut held) => {
@@ -58,6 +60,8 @@ pub extern "C" fn bafokun_take(
     ensures empty { IsEmpty node.old → IsQuiet node.new frames.old frames.new result }
     ensures entries { entries_of node.new ≡ entries_of node.old }
     ensures known { known_of node.new ≡ known_of node.old }
+    ensures events { (k : Constants) (before : Inputs) → IsDevice k node.old before → IsCan frame.now →
+        events_of node.new ≡ and_input k before (Framed (content_of frame.now)) (events_of node.old) }
     ensures no_frame { (IsCan frame.now → ⊥) → node.new ≡ node.old }
     ensures nothing { (IsCan frame.now → ⊥) → result ≡ 0 }
     ensures untouched { (IsCan frame.now → ⊥) → frames.new ≡ frames.old }
@@ -79,6 +83,8 @@ pub extern "C" fn bafokun_tick(alloc: Global, node: &mut Handle, frames: &mut [C
     ensures empty { IsEmpty node.old → IsQuiet node.new frames.old frames.new result }
     ensures entries { entries_of node.new ≡ entries_of node.old }
     ensures known { known_of node.new ≡ known_of node.old }
+    ensures events { (k : Constants) (before : Inputs) → IsDevice k node.old before →
+        events_of node.new ≡ and_input k before Ticked (events_of node.old) }
 {
     node.tick(alloc, frames)
 }
@@ -101,6 +107,8 @@ pub extern "C" fn bafokun_ticks(
     ensures empty { IsEmpty node.old → IsQuiet node.new frames.old frames.new result }
     ensures entries { entries_of node.new ≡ entries_of node.old }
     ensures known { known_of node.new ≡ known_of node.old }
+    ensures events { (k : Constants) (before : Inputs) → IsDevice k node.old before →
+        events_of node.new ≡ and_ticks k before elapsed.new (events_of node.old) }
     ensures all { IsEmpty node.old → elapsed.new ≡ most }
 {
     match node.take(alloc) {
@@ -135,6 +143,10 @@ pub extern "C" fn bafokun_write(
     ensures known { (k : Constants) (before : Inputs) → IsDevice k node.old before →
         KnowsWritten k before (record { index = index; sub = sub_index }) bytes.now
         (entries_of node.old) (known_of node.old) (known_of node.new) }
+    ensures events { (k : Constants) (before : Inputs) → IsDevice k node.old before →
+        events_of node.new ≡ and_input k before
+        (Applied (Written (record { index = index; sub = sub_index }) bytes.now))
+        (events_of node.old) }
 {
     let key = Key {
         index,
@@ -157,6 +169,8 @@ pub extern "C" fn bafokun_event(
     ensures empty { IsEmpty node.old → IsQuiet node.new frames.old frames.new result }
     ensures entries { entries_of node.new ≡ entries_of node.old }
     ensures known { known_of node.new ≡ known_of node.old }
+    ensures events { (k : Constants) (before : Inputs) → IsDevice k node.old before →
+        events_of node.new ≡ and_input k before (Applied (EventOn tpdo)) (events_of node.old) }
 {
     node.take_event(alloc, AppEvent::Event(tpdo), frames)
 }
@@ -177,6 +191,9 @@ pub extern "C" fn bafokun_changed(
     ensures empty { IsEmpty node.old → IsQuiet node.new frames.old frames.new result }
     ensures entries { entries_of node.new ≡ entries_of node.old }
     ensures known { known_of node.new ≡ known_of node.old }
+    ensures events { (k : Constants) (before : Inputs) → IsDevice k node.old before →
+        events_of node.new ≡ and_input k before
+        (Applied (ChangedAt (record { index = index; sub = sub_index }))) (events_of node.old) }
 {
     let key = Key {
         index,
@@ -203,6 +220,9 @@ pub extern "C" fn bafokun_raise(
     ensures empty { IsEmpty node.old → IsQuiet node.new frames.old frames.new result }
     ensures entries { entries_of node.new ≡ entries_of node.old }
     ensures known { known_of node.new ≡ known_of node.old }
+    ensures events { (k : Constants) (before : Inputs) → IsDevice k node.old before →
+        events_of node.new ≡ and_input k before (Applied (Raised code bits manufacturer.now))
+        (events_of node.old) }
 {
     node.take_event(alloc, AppEvent::Raise(code, bits, *manufacturer), frames)
 }
@@ -221,6 +241,8 @@ pub extern "C" fn bafokun_clear(
     ensures empty { IsEmpty node.old → IsQuiet node.new frames.old frames.new result }
     ensures entries { entries_of node.new ≡ entries_of node.old }
     ensures known { known_of node.new ≡ known_of node.old }
+    ensures events { (k : Constants) (before : Inputs) → IsDevice k node.old before →
+        events_of node.new ≡ and_input k before (Applied (Cleared bits)) (events_of node.old) }
 {
     node.take_event(alloc, AppEvent::Clear(bits), frames)
 }
@@ -243,6 +265,8 @@ pub extern "C" fn bafokun_bus(
     ensures empty { IsEmpty node.old → IsQuiet node.new frames.old frames.new result }
     ensures entries { entries_of node.new ≡ entries_of node.old }
     ensures known { known_of node.new ≡ known_of node.old }
+    ensures events { (k : Constants) (before : Inputs) → IsDevice k node.old before →
+        events_of node.new ≡ and_bus k before (bus_input k before change) (events_of node.old) }
 {
     match node.take(alloc) {
         Some(mut held) => {

@@ -8,6 +8,7 @@ mod dictionary;
 mod entries;
 mod frames;
 mod handle;
+mod happened;
 mod held;
 mod inputs;
 mod parts;
@@ -21,12 +22,13 @@ pub use dictionary::{bafokun_entry, bafokun_entry_name, bafokun_find, bafokun_ne
 pub use entries::Entry;
 pub use frames::CanFrame;
 pub use handle::Handle;
+pub use happened::Events;
 pub use inputs::{
     bafokun_boot, bafokun_bus, bafokun_changed, bafokun_clear, bafokun_event, bafokun_raise,
     bafokun_take, bafokun_tick, bafokun_ticks, bafokun_write,
 };
 pub use questions::{
-    bafokun_answer, bafokun_free, bafokun_held, bafokun_idle, bafokun_node_id, bafokun_sent,
-    bafokun_state, bafokun_value, idle_ticks_elapse,
+    bafokun_answer, bafokun_free, bafokun_happened, bafokun_held, bafokun_idle, bafokun_node_id,
+    bafokun_sent, bafokun_state, bafokun_value, idle_ticks_elapse,
 };
 pub use texts::{bafokun_abort_text, bafokun_fault_fix, bafokun_fault_text};

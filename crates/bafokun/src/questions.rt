@@ -6,13 +6,15 @@ ghost use Rattle.co_node_model.specs.Moments.{Constants};
 ghost use Rattle.co_node_model.specs.Ticks.{IsQuietFor};
 ghost use Rattle.co_node_model.specs.Device.{app_after, contents_of, held_of, room_of, state_of};
 ghost use Rattle.bafokun.specs.Answers.{IsCopied, IsRead, answer_code, refusal_code, state_code};
-ghost use Rattle.bafokun.specs.Devices.{IsDevice, IsEmpty, sent_of};
+ghost use Rattle.bafokun.specs.Devices.{IsDevice, IsEmpty, entries_of, known_of, sent_of};
 ghost use Rattle.bafokun.specs.Frames.{ArePut};
+ghost use Rattle.bafokun.specs.Happened.{IsTold, events_of, left_of, told_of};
 ghost use Rattle.bafokun.specs.Ticks.{AreTicks};
 
 use crate::frames::{CanFrame, put};
 use crate::handle::Handle;
-use co_node::{AppAnswer, NodeState};
+use crate::happened::{Events, state_code};
+use co_node::AppAnswer;
 use co_value::Key;
 use std::alloc::Global;
 
@@ -152,15 +154,43 @@ pub extern "C" fn bafokun_state(alloc: Global, node: &mut Handle) -> u8
 {
     match node.take(alloc) {
         Some(held) => {
-            let state = held.node.state();
+            let state = state_code(held.node.state());
             *node = Handle::of(held);
-            match state {
-                NodeState::Stopped => 4,
-                NodeState::Operational => 5,
-                NodeState::PreOperational => 127,
-            }
+            state
         }
         None => 0,
+    }
+}
+
+/// Gets what happened to the device since the last result of this call, or since the build: what
+/// the inputs did. Returns whether anything happened; if not, nothing is written. It is forgotten
+/// then, but for the nodes whose heartbeat is lost. C must pass what `bafokun_tick` requires, and
+/// events.
+#[unsafe(no_mangle)]
+pub extern "C" fn bafokun_happened(alloc: Global, node: &mut Handle, events: &mut Events) -> bool
+    ensures told { IsTold (told_of (events_of node.old)) events.old events.new result }
+    ensures events { events_of node.new ≡ left_of (events_of node.old) }
+    ensures device { (k : Constants) (before : Inputs) → IsDevice k node.old before →
+        IsDevice k node.new before }
+    ensures sent { sent_of node.new ≡ sent_of node.old }
+    ensures entries { entries_of node.new ≡ entries_of node.old }
+    ensures known { known_of node.new ≡ known_of node.old }
+    ensures empty { IsEmpty node.old → IsEmpty node.new }
+    ensures untouched { IsEmpty node.old → events.new ≡ events.old }
+{
+    match node.take(alloc) {
+        Some(mut held) => {
+            let told = held.happened();
+            *node = Handle::of(held);
+            match told {
+                Some(told) => {
+                    *events = told;
+                    true
+                }
+                None => false,
+            }
+        }
+        None => false,
     }
 }
 

@@ -27,6 +27,7 @@ use Rattle.co_node_model.specs.Device.{contents_of, frames, moment, moments, pre
 use Rattle.co_node_laws.proofs.EventAnswers.{none_to_frame, to_event}
 use Rattle.co_node_laws.proofs.Kept.{event_refused}
 use Rattle.co_node_device.specs.declared.parts.Parts.{Parts}
+use Rattle.co_node_device.specs.Lasts.{seen_of}
 use Rattle.co_node_device.specs.NodeStanding.{NodeStands}
 use Rattle.co_node.specs.declared.node.Node.{Node}
 use Rattle.co_node.specs.Nodes.{Stands, description_of, entries_of}
@@ -67,6 +68,8 @@ stands_as k d entries parts before event code frame same stands =
       producer = subst (λ (m : Moment). ProducerStands parts.producer (producer_log k (m ∷ history))) same stands.producer;
       schedule = subst (λ (m : Moment). IsScheduleAfter d parts.schedule (schedule_log k (m ∷ history))) same stands.schedule;
       app = sym (none_to_frame k before frame);
+      seen = subst (λ (m : Moment). parts.last_seen ≡ seen_of m.mark) same stands.seen;
+      lost = subst (λ (m : Moment). parts.lost.items ≡ m.lost) same stands.lost;
     }
 
 pub as_for_nobody : (k : Constants) (node : Node) (sent : List FrameContent) (before : Inputs) (event : AppView) (code : ℕ)

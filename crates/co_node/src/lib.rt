@@ -10,6 +10,7 @@ mod record;
 pub use built_laws::{
     begins_apart, built_download_ends, permitted_download_completes, stands_on_dictionary,
 };
+pub use co_node_device::Seen;
 pub use co_node_model::{AppAnswer, AppEvent, Input};
 pub use co_node_parts::NodeState;
 pub use config::Config;

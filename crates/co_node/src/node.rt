@@ -45,6 +45,7 @@ ghost use Rattle.co_node_model.specs.Device.{
   room_of,
   state_of,
 };
+ghost use Rattle.co_node_device.specs.Lasts.{last_losses, last_seen};
 ghost use Rattle.co_node.specs.Built.{IsBuilt};
 ghost use Rattle.co_node.specs.Held.{HoldsWithin};
 ghost use Rattle.co_node.specs.Memory.{memory_of};
@@ -58,7 +59,7 @@ use crate::record::Record;
 use co_dict_build::BuildFault;
 use co_dict_image::ImageStore;
 use co_frame::{Frame, Outbox};
-use co_node_device::Device;
+use co_node_device::{Device, Seen};
 use co_node_model::{AppAnswer, AppEvent, Input};
 use co_node_parts::NodeState;
 use co_pdo::Side;
@@ -284,6 +285,25 @@ impl Node {
             result ≡ app_after k before }
     {
         self.device.last_app()
+    }
+
+    /// What an application may want to know of the last input; `Seen::Nothing` before the first.
+    #[inline(always)]
+    pub fn last_seen(&self) -> Seen
+        ensures { (k : Constants) (before : Inputs) → Stands k self.now before →
+            result ≡ last_seen k before }
+    {
+        self.device.last_seen()
+    }
+
+    /// The sub-indices of 1016h whose heartbeat was lost at the last input, increasing (CiA 301,
+    /// 7.5.2.19).
+    #[inline(always)]
+    pub fn lost(&self) -> &[u8]
+        ensures { (k : Constants) (before : Inputs) → Stands k self.now before →
+            result.now ≡ last_losses k before }
+    {
+        self.device.lost()
     }
 
     /// Takes inputs in order, and appends the frames of each and their end to the record. It stops

@@ -9,4 +9,5 @@ mod Words
 mod Numbers
 mod Sent
 mod Steps
+mod LastExamples
 pub mod Idles

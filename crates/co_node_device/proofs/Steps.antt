@@ -42,6 +42,7 @@ pub record IsMoment (k : Constants) (h : History) (m : Moment) : Type 0 where
   pub raised_by_loss : m.raised_by_loss ≡ emergencies_of k.description.rows (loss_errors (lost_now m.mark m.received (consumers_log k h))) m.received
   pub watched : m.watched ≡ all_raised k.description.rows (loss_errors (lost_now m.mark m.received (consumers_log k h))) m.received
   pub loss : m.loss ≡ loss_event (lost_now m.mark m.received (consumers_log k h)) m.received
+  pub lost : m.lost ≡ lost_now m.mark m.received (consumers_log k h)
   pub raised_by_pdo : m.raised_by_pdo ≡ effect_emergencies k.description m.watched m.mark (transition_of m h) (slot_log k h)
   pub contents : m.contents ≡ after_effects k.description m.watched m.mark (transition_of m h) (slot_log k h)
   pub emergency : m.emergency ≡ emergency_due (may_send m.mark (state_at (m ∷ h)) m.contents) (unsent_log m (emergency_log h))
@@ -53,6 +54,7 @@ moment_is k h input = record {
   raised_by_loss = refl;
   watched = refl;
   loss = refl;
+  lost = refl;
   raised_by_pdo = refl;
   contents = refl;
   emergency = refl;
@@ -68,6 +70,9 @@ module _ (k : Constants) (h : History) (m : Moment) (is : IsMoment k h m) where
 
     pub loss : (loss : StateEvent) → loss ≡ loss_event (lost_now mark received (consumers_log k h)) received → loss ≡ m.loss
     loss l e = e ∙ rw (em, er) (sym is.loss)
+
+    pub lost : (lost : List ℕ) → lost ≡ lost_now mark received (consumers_log k h) → lost ≡ m.lost
+    lost l e = e ∙ rw (em, er) (sym is.lost)
 
     pub consumers : (entries : List HeartbeatConsumer) → ConsumersStand entries (consumers_call mark received ∷ consumers_log k h) → ConsumersStand entries (consumers_log k (m ∷ h))
     consumers entries s = rw (sym em, sym er) s

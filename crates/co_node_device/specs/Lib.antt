@@ -4,6 +4,7 @@ pub mod Given
 pub mod Befores
 pub mod Receiving
 pub mod Losses
+pub mod Lasts
 pub mod Effects
 pub mod Built
 pub mod NodeStanding

@@ -11,6 +11,7 @@ use Rattle.co_node_parts.specs.Producers.{ProducerStands}
 use Rattle.co_pdo.specs.Schedules.{IsScheduleAfter}
 use Rattle.co_node_model.specs.Inputs.{Inputs}
 use Rattle.co_node_device.specs.AddressTables.{IsTableOf}
+use Rattle.co_node_device.specs.Lasts.{last_losses, last_seen}
 use Rattle.co_node_device.specs.MappingTables.{AreMappings}
 use Rattle.co_node_model.specs.Moments.{Constants, channels}
 use Rattle.co_node_model.specs.Sdo.{channel_logs}
@@ -35,3 +36,5 @@ pub record NodeStands (k : Constants) (d : Description) (entries : Contents) (pa
   pub producer : ProducerStands parts.producer (producer_log k (moments k inputs))
   pub schedule : IsScheduleAfter d parts.schedule (schedule_log k (moments k inputs))
   pub app : parts.last_app ≡ app_after k inputs
+  pub seen : parts.last_seen ≡ last_seen k inputs
+  pub lost : parts.lost.items ≡ last_losses k inputs

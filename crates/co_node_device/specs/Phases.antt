@@ -22,6 +22,7 @@ use Rattle.co_node_model.specs.declared.mark.Mark.{Mark}
 use Rattle.co_node_device.specs.AddressTables.{IsTableOf}
 use Rattle.co_node_device.specs.MappingTables.{AreMappings}
 use Rattle.co_node_device.specs.Befores.{logs_received}
+use Rattle.co_node_device.specs.Lasts.{seen_of}
 use Rattle.co_node_device.specs.declared.parts.Parts.{Parts}
 
 -- the input was received: it has changed entries, SDO channels and emergencies; all else is as
@@ -40,6 +41,7 @@ pub record IsReceived (k : Constants) (h : History) (m : Moment) (d : Descriptio
   pub producer : ProducerStands parts.producer (producer_log k h)
   pub schedule : IsScheduleAfter d parts.schedule (schedule_log k h)
   pub app : parts.last_app ≡ m.app
+  pub seen : parts.last_seen ≡ seen_of m.mark
 
 -- the input took effect: entries and parts are those at its end, but for the sending of
 -- emergencies, heartbeats and TPDOs
@@ -59,6 +61,8 @@ pub record TookEffect (k : Constants) (h : History) (m : Moment) (d : Descriptio
   pub producer : ProducerStands parts.producer (producer_log k h)
   pub schedule : IsScheduleAfter d parts.schedule (schedule_log k h)
   pub app : parts.last_app ≡ m.app
+  pub seen : parts.last_seen ≡ seen_of m.mark
+  pub lost : parts.lost.items ≡ m.lost
 
 -- these frames, then those besides SDO: EMCY, boot-up or heartbeat, TPDOs by number
 abbrev pub with_sent : Constants → Moment → List FrameContent → List FrameContent

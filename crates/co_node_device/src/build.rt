@@ -16,12 +16,14 @@ ghost use Rattle.co_node_device.specs.MappingTables.{HaveParts};
 ghost use Rattle.co_node_device.specs.NodeStanding.{NodeStands};
 ghost use Rattle.co_node_device.specs.Standing.{Stands};
 ghost use Rattle.co_node_device.specs.Built.{constants_of};
+ghost use Rattle.co_node_device.specs.Lasts.{last_losses, last_seen};
 
 use crate::addresses::AddressTable;
 use crate::device::Device;
 use crate::heartbeats::{begun_consumers, begun_producer, send_life};
 use crate::mappings::CompiledMappings;
 use crate::parts::Parts;
+use crate::seen::Seen;
 use co_dict::{ObjectStore, Side};
 use co_frame::{Heartbeat, Outbox};
 use co_node_laws::greatest_bound;
@@ -71,6 +73,7 @@ fn parts_of<S: ObjectStore>(
         schedule,
         due: Due::new(),
         last_app: AppAnswer::None,
+        last_seen: Seen::Nothing,
     })
 }
 
@@ -143,6 +146,25 @@ impl<S: ObjectStore> Device<S> {
             result ≡ app_after k inputs }
     {
         self.parts.last_app
+    }
+
+    /// What an application may want to know of the last input; `Seen::Nothing` before the first.
+    #[inline(always)]
+    pub fn last_seen(&self) -> Seen
+        ensures { (k : Constants) (inputs : Inputs) → Stands k self.now inputs →
+            result ≡ last_seen k inputs }
+    {
+        self.parts.last_seen
+    }
+
+    /// The sub-indices of 1016h whose heartbeat was lost at the last input, increasing (CiA 301,
+    /// 7.5.2.19).
+    #[inline(always)]
+    pub fn lost(&self) -> &[u8]
+        ensures { (k : Constants) (inputs : Inputs) → Stands k self.now inputs →
+            result.now ≡ last_losses k inputs }
+    {
+        &self.parts.lost
     }
 
     /// The compiled mapping of PDO `number` of a side in the dictionary now; `None` if there is no

@@ -22,6 +22,7 @@ use crate::parts::Parts;
 use crate::receiving::receive;
 use crate::rpdos::take_pdos;
 use crate::sdo::{drop_if, drops};
+use crate::seen::Seen;
 use crate::tpdos::{send_tpdos, take_turn, turn_of};
 use co_dict::{ObjectStore, store_laws};
 use co_frame::{Frame, Outbox};
@@ -134,6 +135,7 @@ impl<S: ObjectStore> Device<S> {
             outbox,
         );
         self.parts.last_app = received.app;
+        self.parts.last_seen = Seen::of(&received.mark);
         let transition = self.take_effect(&received.mark);
         self.send(&received.mark, transition, outbox);
         // laws: calls of them change nothing

@@ -127,8 +127,8 @@ fn raise_losses<S: ObjectStore>(store: &mut S, emergencies: &mut Emergencies, lo
 
 /// Monitors the heartbeats of other nodes at an input. Each loss raises error 8130h and queues its
 /// emergency. At a reset all monitoring begins again. Returns the event of the NMT state, by the
-/// error behaviour in 1029h, sub-index 1, before the losses. `lost` is a buffer for the sub-indices
-/// of lost heartbeats.
+/// error behaviour in 1029h, sub-index 1, before the losses. `lost` then has the sub-indices of the
+/// lost heartbeats.
 #[inline(always)]
 pub(crate) fn watch<S: ObjectStore>(
     store: &mut S,
@@ -140,6 +140,8 @@ pub(crate) fn watch<S: ObjectStore>(
     ensures description { S.description store.new ≡ S.description store.old }
     ensures loss { (log : ConsumersLog) → ConsumersStand consumers.old log → result ≡
         loss_event (lost_now mark.now (S.contents store.old) log) (S.contents store.old) }
+    ensures lost { (log : ConsumersLog) → ConsumersStand consumers.old log → lost.new.items ≡
+        lost_now mark.now (S.contents store.old) log }
     ensures contents { (log : ConsumersLog) → ConsumersStand consumers.old log →
         S.contents store.new ≡ all_raised (S.description store.old).rows
         (loss_errors (lost_now mark.now (S.contents store.old) log)) (S.contents store.old) }
@@ -153,6 +155,7 @@ pub(crate) fn watch<S: ObjectStore>(
 {
     if mark.is_reset() {
         begin_anew(store, consumers);
+        lost.clear();
         return StateEvent::Quiet;
     }
     consumers.note(consumers_event(mark, store), lost);

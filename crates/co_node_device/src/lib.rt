@@ -17,8 +17,10 @@ mod parts;
 mod receiving;
 mod rpdos;
 mod sdo;
+mod seen;
 mod sync;
 mod tpdos;
 
 pub use device::Device;
 pub use parts::Parts;
+pub use seen::Seen;

@@ -2,6 +2,7 @@
 
 use crate::addresses::AddressTable;
 use crate::mappings::CompiledMappings;
+use crate::seen::Seen;
 use co_node_model::AppAnswer;
 use co_node_parts::{
     Emergencies, HeartbeatConsumers, HeartbeatProducer, LostHeartbeats, NmtState, RpdoSlots,
@@ -36,4 +37,6 @@ pub struct Parts {
     pub due: Due,
     /// The answer to the last input, if that was an application event.
     pub last_app: AppAnswer,
+    /// What is seen of the last input.
+    pub last_seen: Seen,
 }

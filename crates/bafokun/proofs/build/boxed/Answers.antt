@@ -1,4 +1,4 @@
-use Rattle.std.proofs.Common.{ap}
+use Rattle.std.proofs.Common.{ap, ◌∙◌}
 use Rattle.bafokun.specs.declared.held.Held.{Held}
 use Rattle.bafokun.specs.Builds.{ByMemory}
 use Rattle.bafokun.proofs.build.boxed.Goals as goal
@@ -8,6 +8,7 @@ returns-in-Ok-clause-ok c = record {
   node = ap (λ (h : Held). h.node) c.in-Ok.ensures.ok;
   entries = ap (λ (h : Held). h.entries) c.in-Ok.ensures.ok;
   known = ap (λ (h : Held). h.known) c.in-Ok.ensures.ok;
+  events = ap (λ (h : Held). h.events) c.in-Ok.ensures.ok ∙ c.none.ensures;
 }
 
 pub returns-clause-err : goal.returns-clause-err

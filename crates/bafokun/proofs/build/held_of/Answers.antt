@@ -12,6 +12,7 @@ returns-clause-ok c =
       is_built = subst (IsNodeOf c.args.node_id c.args.settings.now c.args.sheet.now) (sym is.node) c.in_ok-node.ensures.ok;
       entries = is.entries ∙ c.in_ok-entries.ensures.ok;
       known = is.known ∙ c.in_ok-known.ensures.ok ∙ ap (λ (es : List EntryContent). map blank_of es) (sym is.entries);
+      events = is.events;
     }) c.boxed.ensures.ok
 
 pub returns-clause-err : goal.returns-clause-err

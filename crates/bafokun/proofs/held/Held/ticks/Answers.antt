@@ -1,6 +1,9 @@
-use Rattle.std.proofs.Common.{◌≡◌, ◌+◌, true, false, [], sym, ◌∙◌, rules, arith}
+use Rattle.std.proofs.Common.{◌≡◌, ◌+◌, true, false, [], sym, ap, ◌∙◌, rules, arith}
+use Rattle.co_node_model.specs.Inputs.{Ticked}
 use Rattle.co_node_model.specs.Ticks.{after_ticks}
+use Rattle.bafokun.specs.Happened.{and_input}
 use Rattle.bafokun.specs.Ticks.{given_last}
+use Rattle.bafokun.proofs.Added.{one_more_tick}
 use Rattle.bafokun.proofs.Ticks.{one_more_given, one_more_stands, up_to_next}
 use Rattle.bafokun.proofs.held.Held.ticks.Goals as goal
 
@@ -21,6 +24,13 @@ returns-then-has_sent-clause-gave c = λ k before stands.
       sent = sent;
     }
 
+pub returns-then-has_sent-clause-events : goal.returns-then-has_sent-clause-events
+returns-then-has_sent-clause-events c = λ k before stands.
+    let inv = c.loop-i.invariant in
+    c.tick.ensures.events k (after_ticks c.loop-i.i before) (inv.stands k before stands)
+    ∙ ap (and_input k (after_ticks c.loop-i.i before) Ticked) (inv.events k before stands)
+    ∙ sym (one_more_tick k before c.loop-i.i c.args.self.now.events)
+
 pub loop-i-preserved : goal.loop-i-preserved
 loop-i-preserved c =
     let inv = c.loop-i.invariant in
@@ -35,4 +45,8 @@ loop-i-preserved c =
       quiet = λ k before stands. up_to_next (λ n. given_last k before n ≡ []) c.loop-i.i (inv.quiet k before stands)
           (one_more_given k before c.loop-i.i
           ∙ sym (c.tick.ensures.gave k (after_ticks c.loop-i.i before) (inv.stands k before stands)).sent ∙ empty);
+      events = λ k before stands.
+          c.tick.ensures.events k (after_ticks c.loop-i.i before) (inv.stands k before stands)
+          ∙ ap (and_input k (after_ticks c.loop-i.i before) Ticked) (inv.events k before stands)
+          ∙ sym (one_more_tick k before c.loop-i.i c.args.self.now.events);
     }

@@ -101,6 +101,8 @@ returns-clause-stands g c = λ k inputs input t. record {
   producer = producer g c k inputs input t;
   schedule = schedule g c k inputs input t;
   app = t.app;
+  seen = t.seen;
+  lost = t.lost;
 }
 
 pub send_tpdos-requires-clause-room : goal.send_tpdos-requires-clause-room

@@ -14,13 +14,14 @@ use Rattle.co_node_device.specs.AddressTables.{IsTableOf}
 use Rattle.co_node_device.specs.MappingTables.{AreMappings}
 use Rattle.co_node_device.specs.Given.{given_view}
 use Rattle.co_node_device.specs.Befores.{IsAddressed, IsBefore, logs_received}
+use Rattle.co_node_device.specs.Lasts.{seen_of}
 use Rattle.co_node_device.specs.Phases.{with_sent}
 use Rattle.co_node_device.specs.Standing.{HasTakenEffect, Stands}
 use Rattle.co_node_device.proofs.device.Device.take.Given as given
 use Rattle.co_node_device.proofs.device.Device.take.Goals as goal
-use Rattle.co_node_device.proofs.device.Device.take.Goals.{After-self-3-1}
+use Rattle.co_node_device.proofs.device.Device.take.Goals.{After-self-4-1}
 
-module _ (g : given.Over) (c : After-self-3-1 g) (k : Constants) (inputs : Inputs) (ns : Stands k c.args.self.now inputs)
+module _ (g : given.Over) (c : After-self-4-1 g) (k : Constants) (inputs : Inputs) (ns : Stands k c.args.self.now inputs)
     (addressed : IsAddressed k (moments k inputs) c.args.given c.args.address c.args.frame.now) where
   abbrev h : History
   h = moments k inputs
@@ -50,6 +51,7 @@ module _ (g : given.Over) (c : After-self-3-1 g) (k : Constants) (inputs : Input
     producer = ns.producer;
     schedule = subst (λ (d : Description). IsScheduleAfter d c.args.self.now.parts.schedule (schedule_log k h)) same ns.schedule;
     app = c.receive-received.ensures.app k h before addressed;
+    seen = c.of-self.ensures ∙ ap seen_of (c.receive-received.ensures.mark k h before addressed);
   })
 
   stands : Stands k c.send.new.self (given_view c.args.given c.args.frame.now ∷ inputs)

@@ -57,6 +57,9 @@ module _ (g : given.Over) (c : After-mappings_stay g) (k : Constants) (inputs : 
   loss : c.watch-loss.result ≡ m.loss
   loss = steps.loss k h m is _ _ _ r.description r.mark r.contents _ (c.watch-loss.ensures.loss (consumers_log k h) r.consumers)
 
+  lost : c.watch-loss.new.lost.items ≡ m.lost
+  lost = steps.lost k h m is _ _ _ r.description r.mark r.contents _ (c.watch-loss.ensures.lost (consumers_log k h) r.consumers)
+
   state_after_all : c.note-changed.new.self ≡ state_at (m ∷ h)
   state_after_all = steps.state k h m is _ r.mark _ state_before _ _ c.state_event.ensures loss _ (c.note-changed.ensures.stands (c.state_event.result ∷ state_log h) (c.note.ensures.stands (state_log h) r.state))
 
@@ -138,4 +141,6 @@ returns g c = λ k inputs input r. record {
   producer = r.producer;
   schedule = subst (λ d. IsScheduleAfter d c.args.self.now.parts.schedule (schedule_log k (h g c k inputs input r))) (same g c k inputs input r) r.schedule;
   app = r.app;
+  seen = r.seen;
+  lost = lost g c k inputs input r;
 }
