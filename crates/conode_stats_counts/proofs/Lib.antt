@@ -1,7 +1,11 @@
+pub mod Changes
 pub mod Counting
 mod Examples
 pub mod Grouped
 pub mod Loaded
+mod NodeExamples
+pub mod Noded
 pub mod Places
 pub mod Sent
+pub mod Shown
 pub mod Tallied

@@ -3,6 +3,8 @@ pub mod Buses
 pub mod Gaps
 pub mod Groups
 pub mod Loads
+pub mod Nodes
 pub mod Sizes
+pub mod States
 pub mod Tallies
 pub mod Wires

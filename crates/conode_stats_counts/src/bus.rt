@@ -14,7 +14,10 @@ ghost use Rattle.conode_stats_counts.specs.Buses.{
 ghost use Rattle.conode_stats_counts.specs.Groups.{group_with, no_room};
 
 use crate::load::Load;
+use crate::node::Node;
+use crate::nodes::{new_nodes, show_sign};
 use crate::row::{Row, can_id};
+use crate::sign::Sign;
 use crate::size::Size;
 use crate::tally::{Tally, counted};
 use arrayvec::ArrayVec;
@@ -28,13 +31,14 @@ const MOST_ROWS: usize = 4096;
 /// Stamps are in microseconds.
 const SECOND: u64 = 1_000_000;
 
-/// The counts of one bus: all frames, their bits, and the frames by identifier. At most 4,096
+/// The counts of one bus: all frames, their bits, its nodes, and the frames by identifier. At most 4,096
 /// identifiers have a row; the frames of further ones are only counted together.
 #[derive(Drop)]
 pub struct Bus {
     interface: ArrayVec<u8, 15>,
     all: Tally,
     load: Load,
+    nodes: Vec<Node>,
     rows: Vec<Row>,
     left_out: u64,
 }
@@ -48,6 +52,7 @@ impl Model for Bus {
       interface = bus.interface.items;
       all = bus.all;
       load = bus.load;
+      nodes = bus.nodes.items;
       rows = bus.rows.items;
       left_out = bus.left_out;
     } };
@@ -88,25 +93,27 @@ fn add_to_row(rows: &mut Vec<Row>, id: u32, micros: u64) -> Result<u64, AllocErr
 }
 
 impl Bus {
-    /// An interface without frames.
+    /// An interface without frames. `Err`: out of memory.
     #[tactic(auto, unfolding(crate::specs::Buses::bus_of, crate::specs::Groups::grouped, crate::specs::Groups::keys_of, crate::specs::Groups::left_out))]
-    pub(crate) fn new(alloc: Global, interface: &[u8]) -> Bus
+    pub(crate) fn new(alloc: Global, interface: &[u8]) -> Result<Bus, AllocError>
         requires { length interface.now ≤ 15 }
-        ensures { result ≡ new_bus interface.now }
+        ensures { IfOk result (λ bus. bus ≡ new_bus interface.now) }
     {
+        let nodes = new_nodes(alloc)?;
         let mut name = ArrayVec::new();
         name.try_extend_from_slice(interface).unwrap();
-        Bus {
+        Ok(Bus {
             interface: name,
             all: Tally::new(),
             load: Load::new(),
+            nodes,
             rows: Vec::new(alloc),
             left_out: 0,
-        }
+        })
     }
 
     /// Counts a frame. `Err`: out of memory.
-    #[tactic(auto, unfolding(crate::specs::Buses::bus_with))]
+    #[tactic(auto, unfolding(crate::specs::Buses::bus_with, crate::specs::Nodes::sign_of))]
     pub(crate) fn add(&mut self, frame: &Record<'_>) -> Result<(), AllocError>
         requires { IsIdentifier frame.now.id }
         ensures { OnOk result (self.new ≡ bus_with self.old frame.now) }
@@ -116,6 +123,8 @@ impl Bus {
         self.all.add(frame.micros);
         let size = Size::of(frame.id, &frame.content);
         self.load.add(frame.micros / SECOND, size);
+        let sign = Sign::of(frame.id, &frame.content);
+        show_sign(&mut self.nodes, sign, frame.micros);
         Ok(())
     }
 
@@ -138,6 +147,13 @@ impl Bus {
         ensures { result ≡ self.now.load }
     {
         self.load
+    }
+
+    /// What its nodes show, by node-ID from 0, which is none, to 127.
+    pub fn nodes(&self) -> &[Node]
+        ensures { result.now ≡ self.now.nodes }
+    {
+        self.nodes.as_slice()
     }
 
     /// The frames of each identifier, in the order in which they came first.

@@ -4,6 +4,8 @@
 mod cells;
 mod figures;
 mod lines;
+mod node_tokens;
+mod nodes;
 mod page;
 mod tokens;
 mod wrong;

@@ -4,6 +4,7 @@ ghost use Rattle.std.specs.Prelude.{◌≤◌, IfSome};
 
 use crate::cells::push_name;
 use crate::lines::{push_bus, push_load, push_row};
+use crate::nodes::{push_node_in, push_restarts};
 use crate::wrong::{push_count, push_wrong_in};
 use co_text::push_decimal;
 use conode_stats_counts::{Bus, Counts, Row};
@@ -23,6 +24,9 @@ pub struct Page<'a> {
 /// The columns of identifiers.
 const HEAD: &str =
     "interface              id       frames    frames/s    smallest ms     mean ms   greatest ms\n";
+
+/// The columns of nodes.
+const NODE_HEAD: &str = "interface            node     boot-ups    restarts    boot-up s  pre-operational s  operational s    stopped s    unknown s  at the end\n";
 
 /// The words about frames without a row, and about frames without a bus.
 const MORE_IDENTIFIERS: &str = "frames of more than 4,096 identifiers, not in the table";
@@ -57,6 +61,16 @@ pub(crate) fn sorted_rows(alloc: Global, bus: &Bus) -> Result<Vec<Row>, AllocErr
     Ok(rows)
 }
 
+// the restarts on a bus
+fn push_restarts_on(text: &mut String, bus: &Bus) -> Result<(), AllocError> {
+    for number in 1..128u32 {
+        if let Some(node) = bus.nodes().get(number as usize) {
+            push_restarts(text, bus.interface(), number, node)?;
+        }
+    }
+    Ok(())
+}
+
 // what looks wrong on a bus
 fn push_wrong_on(
     alloc: Global,
@@ -64,6 +78,7 @@ fn push_wrong_on(
     cell: &mut String,
     bus: &Bus,
 ) -> Result<(), AllocError> {
+    push_restarts_on(text, bus)?;
     let end = bus.all().last;
     let rows = sorted_rows(alloc, bus)?;
     for row in &rows {
@@ -120,6 +135,37 @@ fn push_front(text: &mut String, bus: &Bus, bit_rate: Option<u32>) -> Result<(),
     text.push_str("\n")
 }
 
+// whether a node sent a frame of error control
+fn has_nodes(bus: &Bus) -> bool {
+    bus.nodes().iter().any(|node| node.last.is_some())
+}
+
+// the nodes of a bus, by node-ID
+fn push_nodes(text: &mut String, cell: &mut String, bus: &Bus) -> Result<(), AllocError> {
+    for number in 1..128u32 {
+        if let Some(node) = bus.nodes().get(number as usize) {
+            push_node_in(text, cell, bus.interface(), number, node)?;
+        }
+    }
+    Ok(())
+}
+
+// the table of nodes, if there is any
+fn push_all_nodes(
+    text: &mut String,
+    cell: &mut String,
+    page: &Page<'_>,
+) -> Result<(), AllocError> {
+    if !page.counts.buses().iter().any(|bus| has_nodes(bus)) {
+        return Ok(());
+    }
+    text.push_str(NODE_HEAD)?;
+    for bus in page.counts.buses() {
+        push_nodes(text, cell, bus)?;
+    }
+    Ok(())
+}
+
 // the identifiers of a bus, the smallest first
 fn push_rows(
     alloc: Global,
@@ -134,7 +180,7 @@ fn push_rows(
     Ok(())
 }
 
-/// Sets the text to the page: what looks wrong, the buses, and their identifiers. `Err`: out of
+/// Sets the text to the page: what looks wrong, the buses, their nodes, and their identifiers. `Err`: out of
 /// memory; the text is then any part of the page.
 pub fn set_page(alloc: Global, text: &mut String, page: &Page<'_>) -> Result<(), AllocError>
     requires { IfSome page.now.bit_rate (λ rate. rate ≤ 1000000) }
@@ -146,6 +192,7 @@ pub fn set_page(alloc: Global, text: &mut String, page: &Page<'_>) -> Result<(),
     for bus in page.counts.buses() {
         push_front(text, bus, page.bit_rate)?;
     }
+    push_all_nodes(text, &mut cell, page)?;
     text.push_str(HEAD)?;
     for bus in page.counts.buses() {
         push_rows(alloc, text, &mut cell, bus)?;

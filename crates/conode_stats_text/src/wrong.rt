@@ -20,7 +20,8 @@ use co_text::push_decimal;
 use conode_stats_counts::{Row, Tally};
 use std::alloc::AllocError;
 
-fn push_node(text: &mut String, interface: &[u8], node: u32) -> Result<(), AllocError>
+/// Appends the front of a line about a node.
+pub(crate) fn push_node(text: &mut String, interface: &[u8], node: u32) -> Result<(), AllocError>
     ensures { OnOk result (string_bytes text.new
         ≡ string_bytes text.old ++ node_front interface.now node) }
 {
