@@ -1,5 +1,7 @@
 pub mod Changes
 pub mod Counting
+pub mod Failed
+mod FailureExamples
 mod Examples
 pub mod Grouped
 pub mod Loaded

@@ -1,5 +1,6 @@
 pub mod Bits
 pub mod Buses
+pub mod Failures
 pub mod Gaps
 pub mod Groups
 pub mod Loads

@@ -20,6 +20,7 @@ use crate::row::{Row, can_id};
 use crate::sign::Sign;
 use crate::size::Size;
 use crate::tally::{Tally, counted};
+use crate::transfers::Transfers;
 use arrayvec::ArrayVec;
 use conode_record::Record;
 use std::alloc::{AllocError, Global};
@@ -39,6 +40,7 @@ pub struct Bus {
     all: Tally,
     load: Load,
     nodes: Vec<Node>,
+    transfers: Transfers,
     rows: Vec<Row>,
     left_out: u64,
 }
@@ -53,6 +55,7 @@ impl Model for Bus {
       all = bus.all;
       load = bus.load;
       nodes = bus.nodes.items;
+      transfers = bus.transfers;
       rows = bus.rows.items;
       left_out = bus.left_out;
     } };
@@ -107,6 +110,7 @@ impl Bus {
             all: Tally::new(),
             load: Load::new(),
             nodes,
+            transfers: Transfers::new(alloc),
             rows: Vec::new(alloc),
             left_out: 0,
         })
@@ -120,6 +124,7 @@ impl Bus {
     {
         let more = add_to_row(&mut self.rows, can_id(frame.id), frame.micros)?;
         self.left_out = counted(self.left_out, more);
+        self.transfers.take(frame)?;
         self.all.add(frame.micros);
         let size = Size::of(frame.id, &frame.content);
         self.load.add(frame.micros / SECOND, size);
@@ -154,6 +159,13 @@ impl Bus {
         ensures { result.now ≡ self.now.nodes }
     {
         self.nodes.as_slice()
+    }
+
+    /// Its SDO transfers.
+    pub fn transfers(&self) -> &Transfers
+        ensures { result.now ≡ self.now.transfers }
+    {
+        &self.transfers
     }
 
     /// The frames of each identifier, in the order in which they came first.

@@ -1,10 +1,11 @@
 //! Statistics of buses: the frames of a recording, counted by interface and identifier, with the
 //! gaps between their stamps and the bits that they take on the bus; and what each node shows of
-//! its state.
+//! its state, and its SDO transfers that failed.
 #![tactic(auto)]
 
 mod bus;
 mod counts;
+mod failure;
 mod load;
 mod node;
 mod nodes;
@@ -13,13 +14,16 @@ mod sign;
 mod size;
 mod state;
 mod tally;
+mod transfers;
 mod wire;
 
 pub use bus::Bus;
 pub use counts::Counts;
+pub use failure::{Cause, FailureRow};
 pub use load::{Load, Second};
 pub use node::{Node, Shown};
 pub use row::Row;
 pub use size::Size;
 pub use state::{NmtState, StateTimes};
 pub use tally::Tally;
+pub use transfers::Transfers;

@@ -1,4 +1,6 @@
 pub mod Cells
+pub mod FailureLines
+pub mod FailureTokens
 pub mod Figures
 pub mod NodeLines
 pub mod NodeTokens

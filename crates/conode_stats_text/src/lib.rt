@@ -2,6 +2,8 @@
 #![tactic(auto)]
 
 mod cells;
+mod failure_tokens;
+mod failures;
 mod figures;
 mod lines;
 mod node_tokens;

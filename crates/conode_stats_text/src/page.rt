@@ -3,11 +3,12 @@
 ghost use Rattle.std.specs.Prelude.{◌≤◌, IfSome};
 
 use crate::cells::push_name;
+use crate::failures::{push_failure, push_open};
 use crate::lines::{push_bus, push_load, push_row};
 use crate::nodes::{push_node_in, push_restarts};
 use crate::wrong::{push_count, push_wrong_in};
 use co_text::push_decimal;
-use conode_stats_counts::{Bus, Counts, Row};
+use conode_stats_counts::{Bus, Counts, FailureRow, Row};
 use std::alloc::{AllocError, Global};
 
 /// The contents of the page.
@@ -27,6 +28,9 @@ const HEAD: &str =
 
 /// The columns of nodes.
 const NODE_HEAD: &str = "interface            node     boot-ups    restarts    boot-up s  pre-operational s  operational s    stopped s    unknown s  at the end\n";
+
+/// The words about SDO transfers without a line.
+const MORE_FAILURES: &str = "SDO transfers that failed with further nodes and codes";
 
 /// The words about frames without a row, and about frames without a bus.
 const MORE_IDENTIFIERS: &str = "frames of more than 4,096 identifiers, not in the table";
@@ -71,6 +75,32 @@ fn push_restarts_on(text: &mut String, bus: &Bus) -> Result<(), AllocError> {
     Ok(())
 }
 
+/// The rows of SDO transfers that failed, by node.
+pub(crate) fn sorted_failures(alloc: Global, bus: &Bus) -> Result<Vec<FailureRow>, AllocError> {
+    let mut rows = bus.transfers().rows().to_vec(alloc)?;
+    rows.sort_by_key(|row| row.cause.node)?;
+    Ok(rows)
+}
+
+// the SDO transfers that failed on a bus
+fn push_failures_on(alloc: Global, text: &mut String, bus: &Bus) -> Result<(), AllocError> {
+    let rows = sorted_failures(alloc, bus)?;
+    for row in &rows {
+        push_failure(text, bus.interface(), row)?;
+    }
+    Ok(())
+}
+
+// the SDO transfers that are open on a bus
+fn push_open_on(text: &mut String, bus: &Bus) -> Result<(), AllocError> {
+    let end = bus.all().last;
+    for track in bus.transfers().channels() {
+        let open = track.channel.unfinished(end);
+        push_open(text, bus.interface(), u32::from(track.node), end, &open)?;
+    }
+    Ok(())
+}
+
 // what looks wrong on a bus
 fn push_wrong_on(
     alloc: Global,
@@ -79,6 +109,8 @@ fn push_wrong_on(
     bus: &Bus,
 ) -> Result<(), AllocError> {
     push_restarts_on(text, bus)?;
+    push_failures_on(alloc, text, bus)?;
+    push_open_on(text, bus)?;
     let end = bus.all().last;
     let rows = sorted_rows(alloc, bus)?;
     for row in &rows {
@@ -88,6 +120,7 @@ fn push_wrong_on(
     push_name(cell, bus.interface())?;
     cell.push_str(": ")?;
     let front = cell.as_str();
+    push_count(text, front, MORE_FAILURES, bus.transfers().left_out())?;
     push_count(text, front, "error frames", error_frames(bus))?;
     push_count(text, front, "stamps that step back", bus.all().steps_back)?;
     push_count(text, front, MORE_IDENTIFIERS, bus.left_out())

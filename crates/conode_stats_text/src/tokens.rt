@@ -17,6 +17,7 @@ ghost use Rattle.conode_stats_text.specs.StatsTokens.{
 
 use crate::cells::push_name;
 use crate::lines::set_id;
+use crate::failure_tokens::put_failures;
 use crate::node_tokens::put_nodes;
 use crate::page::{Page, sorted_rows};
 use co_text::decimal_digits;
@@ -158,6 +159,7 @@ fn put_bus(
     put_tally(writer, &bus.all())?;
     put_load(writer, &bus.load())?;
     put_number(writer, "framesLeftOut", bus.left_out())?;
+    put_failures(alloc, writer, cell, bus)?;
     put_nodes(writer, bus)?;
     put_rows(alloc, writer, cell, bus)?;
     writer.end_object()

@@ -1,0 +1,28 @@
+-- The lines of the page about SDO transfers that failed, or are open.
+use Rattle.std.specs.Prelude.{ℕ, ◌+◌, ◌-◌, nat_lt, if◌then◌else◌, List, [], ◌++◌, codes, decimal, Option, Some, None}
+use Rattle.co_text.specs.Printed.{digits_text}
+use Rattle.co_value.specs.declared.key.Key.{Key}
+use Rattle.co_value.specs.KeyTexts.{key_text}
+use Rattle.conode_explain_transfers.specs.declared.ended.Ended.{Ended}
+use Rattle.conode_stats_counts.specs.declared.failure.FailureRow.{FailureRow}
+use Rattle.conode_stats_text.specs.Cells.{seconds}
+use Rattle.conode_stats_text.specs.StatsLines.{node_front}
+
+-- why they failed
+unfoldable pub cause_words : Option ℕ → List ℕ
+cause_words None = codes " SDO transfers without an answer: "
+cause_words (Some code) = codes " SDO transfers aborted with " ++ digits_text 16 8 code ++ codes "h: "
+
+unfoldable pub failure_line : List ℕ → FailureRow → List ℕ
+failure_line interface row =
+    node_front interface row.cause.node ++ cause_words row.cause.code ++ decimal row.count ++ codes ", the last at " ++ seconds row.last ++ codes "\n"
+
+-- a transfer of an entry that is open at the end, with the stamp of its newest frame
+unfoldable pub open_line : List ℕ → ℕ → Ended → List ℕ
+open_line interface node open =
+    node_front interface node ++ codes " SDO transfer of " ++ key_text open.key ++ codes " without a frame since " ++ seconds open.newest ++ codes "\n"
+
+-- nothing of one with a frame in the last second
+abbrev pub open_in : List ℕ → ℕ → ℕ → Option Ended → List ℕ
+open_in interface node end None = []
+open_in interface node end (Some open) = if nat_lt 1000000 (end - open.newest) then open_line interface node open else []

@@ -1,0 +1,90 @@
+//! The lines of the page about SDO transfers that failed, or are open. Each function appends a text.
+//! `Err`: out of memory; a part of the text may be there.
+
+ghost use Rattle.std.specs.Prelude.{◌≡◌, ◌++◌, ◌<◌, ◌-◌, OnOk, string_bytes};
+ghost use Rattle.conode_stats_text.specs.FailureLines.{
+  cause_words,
+  failure_line,
+  open_in,
+  open_line,
+};
+
+use crate::cells::{push_seconds, push_words};
+use crate::wrong::push_node;
+use co_text::{push_decimal, push_u32};
+use conode_explain_transfers::Ended;
+use conode_stats_counts::FailureRow;
+use std::alloc::AllocError;
+
+/// A transfer that is open at the end is named if it had no frame for so long, in microseconds.
+const ANSWER_TIME: u64 = 1_000_000;
+
+#[tactic(auto, unfolding(crate::specs::FailureLines::cause_words))]
+fn push_cause(text: &mut String, code: Option<u32>) -> Result<(), AllocError>
+    ensures { OnOk result (string_bytes text.new ≡ string_bytes text.old ++ cause_words code) }
+{
+    match code {
+        None => push_words(text, " SDO transfers without an answer: "),
+        Some(code) => {
+            push_words(text, " SDO transfers aborted with ")?;
+            push_u32(text, code)?;
+            push_words(text, "h: ")
+        }
+    }
+}
+
+/// Appends the line of the transfers of a node that failed in one way.
+#[tactic(auto, unfolding(crate::specs::FailureLines::failure_line))]
+pub(crate) fn push_failure(
+    text: &mut String,
+    interface: &[u8],
+    row: &FailureRow,
+) -> Result<(), AllocError>
+    ensures { OnOk result (string_bytes text.new
+        ≡ string_bytes text.old ++ failure_line interface.now row.now) }
+{
+    push_node(text, interface, u32::from(row.cause.node))?;
+    push_cause(text, row.cause.code)?;
+    push_decimal(text, row.count)?;
+    push_words(text, ", the last at ")?;
+    push_seconds(text, row.last)?;
+    push_words(text, "\n")
+}
+
+#[tactic(auto, unfolding(crate::specs::FailureLines::open_line))]
+fn push_open_line(
+    text: &mut String,
+    interface: &[u8],
+    node: u32,
+    open: &Ended,
+) -> Result<(), AllocError>
+    ensures { OnOk result (string_bytes text.new
+        ≡ string_bytes text.old ++ open_line interface.now node open.now) }
+{
+    push_node(text, interface, node)?;
+    push_words(text, " SDO transfer of ")?;
+    push_words(text, open.key.text().as_str())?;
+    push_words(text, " without a frame since ")?;
+    push_seconds(text, open.newest)?;
+    push_words(text, "\n")
+}
+
+/// Appends the line of a node's transfer that is open at the end, a stamp in microseconds, if there
+/// is one and it had no frame for more than a second.
+pub(crate) fn push_open(
+    text: &mut String,
+    interface: &[u8],
+    node: u32,
+    end: u64,
+    open: &Option<Ended>,
+) -> Result<(), AllocError>
+    ensures { OnOk result (string_bytes text.new
+        ≡ string_bytes text.old ++ open_in interface.now node end open.now) }
+{
+    match open {
+        Some(open) if ANSWER_TIME < end.saturating_sub(open.newest) => {
+            push_open_line(text, interface, node, open)
+        }
+        _ => Ok(()),
+    }
+}
