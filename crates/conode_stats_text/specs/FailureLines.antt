@@ -19,10 +19,11 @@ failure_line interface row =
 
 -- a transfer of an entry that is open at the end, with the stamp of its newest frame
 unfoldable pub open_line : List ℕ → ℕ → Ended → List ℕ
-open_line interface node open =
-    node_front interface node ++ codes " SDO transfer of " ++ key_text open.key ++ codes " without a frame since " ++ seconds open.newest ++ codes "\n"
+open_line interface node transfer =
+    node_front interface node ++ codes " SDO transfer of " ++ key_text transfer.key ++ codes " without a frame since " ++ seconds transfer.newest ++ codes "\n"
 
 -- nothing of one with a frame in the last second
 abbrev pub open_in : List ℕ → ℕ → ℕ → Option Ended → List ℕ
 open_in interface node end None = []
-open_in interface node end (Some open) = if nat_lt 1000000 (end - open.newest) then open_line interface node open else []
+open_in interface node end (Some transfer) =
+    if nat_lt 1000000 (end - transfer.newest) then open_line interface node transfer else []

@@ -56,16 +56,16 @@ fn push_open_line(
     text: &mut String,
     interface: &[u8],
     node: u32,
-    open: &Ended,
+    transfer: &Ended,
 ) -> Result<(), AllocError>
     ensures { OnOk result (string_bytes text.new
-        ≡ string_bytes text.old ++ open_line interface.now node open.now) }
+        ≡ string_bytes text.old ++ open_line interface.now node transfer.now) }
 {
     push_node(text, interface, node)?;
     push_words(text, " SDO transfer of ")?;
-    push_words(text, open.key.text().as_str())?;
+    push_words(text, transfer.key.text().as_str())?;
     push_words(text, " without a frame since ")?;
-    push_seconds(text, open.newest)?;
+    push_seconds(text, transfer.newest)?;
     push_words(text, "\n")
 }
 
@@ -76,14 +76,14 @@ pub(crate) fn push_open(
     interface: &[u8],
     node: u32,
     end: u64,
-    open: &Option<Ended>,
+    transfer: &Option<Ended>,
 ) -> Result<(), AllocError>
     ensures { OnOk result (string_bytes text.new
-        ≡ string_bytes text.old ++ open_in interface.now node end open.now) }
+        ≡ string_bytes text.old ++ open_in interface.now node end transfer.now) }
 {
-    match open {
-        Some(open) if ANSWER_TIME < end.saturating_sub(open.newest) => {
-            push_open_line(text, interface, node, open)
+    match transfer {
+        Some(transfer) if ANSWER_TIME < end.saturating_sub(transfer.newest) => {
+            push_open_line(text, interface, node, transfer)
         }
         _ => Ok(()),
     }

@@ -95,8 +95,8 @@ fn push_failures_on(alloc: Global, text: &mut String, bus: &Bus) -> Result<(), A
 fn push_open_on(text: &mut String, bus: &Bus) -> Result<(), AllocError> {
     let end = bus.all().last;
     for track in bus.transfers().channels() {
-        let open = track.channel.unfinished(end);
-        push_open(text, bus.interface(), u32::from(track.node), end, &open)?;
+        let transfer = track.channel.unfinished(end);
+        push_open(text, bus.interface(), u32::from(track.node), end, &transfer)?;
     }
     Ok(())
 }
