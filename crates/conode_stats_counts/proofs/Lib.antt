@@ -1,13 +1,13 @@
 pub mod Changes
 pub mod Counting
+mod Examples
 pub mod Failed
 mod FailureExamples
-mod Examples
 pub mod Grouped
 pub mod Loaded
+pub mod NodeEvents
 mod NodeExamples
 pub mod Noded
 pub mod Places
 pub mod Sent
-pub mod Shown
 pub mod Tallied

@@ -155,10 +155,10 @@ booted_twice = refl
 
 -- ---- tables
 
-three : table (λ n. 10) 5 3 ≡ 10 ∷ 10 ∷ 10 ∷ []
+three : table {A = ℕ} (λ n. 10) 5 3 ≡ 10 ∷ 10 ∷ 10 ∷ []
 unfolding table
 three = refl
 
-from_five : table (λ n. n) 5 3 ≡ 5 ∷ 6 ∷ 7 ∷ []
+from_five : table {A = ℕ} (λ n. n) 5 3 ≡ 5 ∷ 6 ∷ 7 ∷ []
 unfolding table
 from_five = refl

@@ -11,7 +11,7 @@ use Rattle.conode_stats_counts.specs.declared.sign.Sign.TheVariants.{Reset, Show
 use Rattle.conode_stats_counts.specs.declared.state.NmtState.{NmtState}
 use Rattle.conode_stats_counts.specs.Nodes.{changed_at, log_with, most_nodes, new_node, node_log, nodes_of, nodes_with, sign_of, table}
 use Rattle.conode_stats_counts.specs.States.{NodeEvent, Commanded, Sent, node_commanded, node_of, node_with}
-use Rattle.conode_stats_counts.proofs.Shown.{commanded_more, shows_more}
+use Rattle.conode_stats_counts.proofs.NodeEvents.{commanded_more, shows_more}
 
 -- ---- tables
 
@@ -86,8 +86,9 @@ module _ (logs : ℕ → List NodeEvent) (count : ℕ) where
   sign_more Other micros = refl
   sign_more (Reset place) micros = by_test (place == 0)
       (λ all. rw all (map_table node_commanded (λ n. node_of (logs n)) (λ n. node_of (Commanded ∷ logs n)) (λ n. commanded_more (logs n)) 0 count))
-      (λ single. rw single at (one (Reset place) micros place node_commanded (let self : (place == place) ≡ true = grind (arith, nat_tests) in rw (single, self) (commanded_more (logs place)))
-      (λ n other. rw (single, other) refl)))
+      (λ single. let e : nodes_with (Reset place) micros (nodes logs) ≡ changed_at place node_commanded (nodes logs) = rw single refl in
+      e ∙ one (Reset place) micros place node_commanded (let self : (place == place) ≡ true = grind (arith, nat_tests) in rw (single, self) (commanded_more (logs place)))
+      (λ n other. rw (single, other) refl))
   sign_more (Shows place state) micros =
       one (Shows place state) micros place (node_with state micros) (let self : (place == place) ≡ true = grind (arith, nat_tests) in rw self (shows_more (logs place) state micros))
       (λ n other. rw other refl)

@@ -23,7 +23,7 @@ use std::alloc::AllocError;
 const MOST_FAILURES: usize = 256;
 
 /// Whose transfers failed, and why.
-#[derive(Clone, Copy, Debug, PartialEq, Eq)]
+#[derive(Clone, Copy)]
 pub struct Cause {
     /// The node-ID of the server.
     pub node: u8,
@@ -41,7 +41,7 @@ pub(crate) struct Failure {
 }
 
 /// The transfers of one node that failed in one way. Counts saturate at 2^64 - 1.
-#[derive(Clone, Copy, Debug, PartialEq, Eq)]
+#[derive(Clone, Copy)]
 pub struct FailureRow {
     /// Whose they are, and why.
     pub cause: Cause,

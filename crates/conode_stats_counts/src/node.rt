@@ -14,7 +14,7 @@ use crate::tally::counted;
 
 /// A frame of error control: a boot-up message, a heartbeat or a guarding answer (CiA 301, 7.2.8.3.2,
 /// 7.2.8.3.3).
-#[derive(Clone, Copy, Debug, PartialEq, Eq)]
+#[derive(Clone, Copy)]
 pub struct Shown {
     /// The state that it shows.
     pub state: NmtState,
@@ -23,7 +23,7 @@ pub struct Shown {
 }
 
 /// What a node shows by its frames of error control. Counts and sums saturate at 2^64 - 1.
-#[derive(Clone, Copy, Debug, PartialEq, Eq)]
+#[derive(Clone, Copy)]
 pub struct Node {
     /// The newest of these frames; `None` if there is none.
     pub last: Option<Shown>,
@@ -79,7 +79,8 @@ impl Node {
     // adds the time since the frame before
     fn pass(&mut self, micros: u64)
         ensures { self.new ≡ record self.old {
-            times = times_since self.old.last micros self.old.times } }
+          times = times_since self.old.last micros self.old.times;
+        } }
     {
         if let Some(last) = self.last {
             self.times

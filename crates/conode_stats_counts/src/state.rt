@@ -6,7 +6,7 @@ ghost use Rattle.conode_stats_counts.specs.States.{numbered, state_of, times_of,
 use crate::tally::counted;
 
 /// What a frame of error control shows of its node's NMT state (CiA 301, 7.2.8.3.2).
-#[derive(Clone, Copy, Debug, PartialEq, Eq)]
+#[derive(Clone, Copy)]
 pub enum NmtState {
     /// The node has booted: the boot-up message, a byte of 0.
     BootUp,
@@ -21,7 +21,7 @@ pub enum NmtState {
 }
 
 /// How long a node showed each state, in microseconds. Sums saturate at 2^64 - 1.
-#[derive(Clone, Copy, Debug, PartialEq, Eq)]
+#[derive(Clone, Copy)]
 pub struct StateTimes {
     /// From the boot-up message to the next frame of error control.
     pub boot_up: u64,

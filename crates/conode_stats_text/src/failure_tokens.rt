@@ -25,11 +25,7 @@ fn put_code(writer: &mut Writer, cell: &mut String, code: Option<u32>) -> Result
 }
 
 #[tactic(auto, unfolding(crate::specs::FailureTokens::failure_tokens))]
-fn put_failure(
-    writer: &mut Writer,
-    cell: &mut String,
-    row: &FailureRow,
-) -> Result<(), AllocError>
+fn put_failure(writer: &mut Writer, cell: &mut String, row: &FailureRow) -> Result<(), AllocError>
     ensures { OnOk result (writer.new.tokens ≡ writer.old.tokens ++ failure_tokens row.now) }
 {
     writer.begin_object()?;

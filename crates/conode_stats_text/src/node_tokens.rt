@@ -40,12 +40,7 @@ fn put_restart(writer: &mut Writer, node: &Node) -> Result<(), AllocError>
 }
 
 #[tactic(auto, unfolding(crate::specs::NodeTokens::node_tokens))]
-fn put_shown(
-    writer: &mut Writer,
-    number: u32,
-    node: &Node,
-    last: Shown,
-) -> Result<(), AllocError>
+fn put_shown(writer: &mut Writer, number: u32, node: &Node, last: Shown) -> Result<(), AllocError>
     ensures { OnOk result
         (writer.new.tokens ≡ writer.old.tokens ++ node_tokens number node.now last) }
 {

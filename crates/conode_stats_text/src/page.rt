@@ -27,7 +27,8 @@ const HEAD: &str =
     "interface              id       frames    frames/s    smallest ms     mean ms   greatest ms\n";
 
 /// The columns of nodes.
-const NODE_HEAD: &str = "interface            node     boot-ups    restarts    boot-up s  pre-operational s  operational s    stopped s    unknown s  at the end\n";
+const NODE_HEAD: &str =
+    "interface            node     boot-ups    restarts    boot-up s  pre-operational s  operational s    stopped s    unknown s  at the end\n";
 
 /// The words about SDO transfers without a line.
 const MORE_FAILURES: &str = "SDO transfers that failed with further nodes and codes";
@@ -184,11 +185,7 @@ fn push_nodes(text: &mut String, cell: &mut String, bus: &Bus) -> Result<(), All
 }
 
 // the table of nodes, if there is any
-fn push_all_nodes(
-    text: &mut String,
-    cell: &mut String,
-    page: &Page<'_>,
-) -> Result<(), AllocError> {
+fn push_all_nodes(text: &mut String, cell: &mut String, page: &Page<'_>) -> Result<(), AllocError> {
     if !page.counts.buses().iter().any(|bus| has_nodes(bus)) {
         return Ok(());
     }

@@ -16,8 +16,8 @@ ghost use Rattle.conode_stats_text.specs.StatsTokens.{
 };
 
 use crate::cells::push_name;
-use crate::lines::set_id;
 use crate::failure_tokens::put_failures;
+use crate::lines::set_id;
 use crate::node_tokens::put_nodes;
 use crate::page::{Page, sorted_rows};
 use co_text::decimal_digits;
