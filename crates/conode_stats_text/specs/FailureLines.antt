@@ -9,9 +9,12 @@ use Rattle.conode_stats_text.specs.Cells.{seconds}
 use Rattle.conode_stats_text.specs.StatsLines.{node_front}
 
 -- why they failed
-unfoldable pub cause_words : Option ℕ → List ℕ
+unfoldable pub abort_words : ℕ → List ℕ
+abort_words code = codes " SDO transfers aborted with " ++ digits_text 16 8 code ++ codes "h: "
+
+abbrev pub cause_words : Option ℕ → List ℕ
 cause_words None = codes " SDO transfers without an answer: "
-cause_words (Some code) = codes " SDO transfers aborted with " ++ digits_text 16 8 code ++ codes "h: "
+cause_words (Some code) = abort_words code
 
 unfoldable pub failure_line : List ℕ → FailureRow → List ℕ
 failure_line interface row =

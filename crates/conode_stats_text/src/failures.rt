@@ -2,7 +2,9 @@
 //! `Err`: out of memory; a part of the text may be there.
 
 ghost use Rattle.std.specs.Prelude.{◌≡◌, ◌++◌, ◌<◌, ◌-◌, OnOk, string_bytes};
+ghost use Rattle.co_value.specs.KeyTexts.{key_text};
 ghost use Rattle.conode_stats_text.specs.FailureLines.{
+  abort_words,
   cause_words,
   failure_line,
   open_in,
@@ -12,6 +14,7 @@ ghost use Rattle.conode_stats_text.specs.FailureLines.{
 use crate::cells::{push_seconds, push_words};
 use crate::wrong::push_node;
 use co_text::{push_decimal, push_u32};
+use co_value::Key;
 use conode_explain_transfers::Ended;
 use conode_stats_counts::FailureRow;
 use std::alloc::AllocError;
@@ -19,17 +22,21 @@ use std::alloc::AllocError;
 /// A transfer that is open at the end is named if it had no frame for so long, in microseconds.
 const ANSWER_TIME: u64 = 1_000_000;
 
-#[tactic(auto, unfolding(crate::specs::FailureLines::cause_words))]
+#[tactic(auto, unfolding(crate::specs::FailureLines::abort_words))]
+fn push_abort(text: &mut String, code: u32) -> Result<(), AllocError>
+    ensures { OnOk result (string_bytes text.new ≡ string_bytes text.old ++ abort_words code) }
+{
+    push_words(text, " SDO transfers aborted with ")?;
+    push_u32(text, code)?;
+    push_words(text, "h: ")
+}
+
 fn push_cause(text: &mut String, code: Option<u32>) -> Result<(), AllocError>
     ensures { OnOk result (string_bytes text.new ≡ string_bytes text.old ++ cause_words code) }
 {
     match code {
         None => push_words(text, " SDO transfers without an answer: "),
-        Some(code) => {
-            push_words(text, " SDO transfers aborted with ")?;
-            push_u32(text, code)?;
-            push_words(text, "h: ")
-        }
+        Some(code) => push_abort(text, code),
     }
 }
 
@@ -51,6 +58,12 @@ pub(crate) fn push_failure(
     push_words(text, "\n")
 }
 
+fn push_key(text: &mut String, key: Key) -> Result<(), AllocError>
+    ensures { OnOk result (string_bytes text.new ≡ string_bytes text.old ++ key_text key) }
+{
+    push_words(text, key.text().as_str())
+}
+
 #[tactic(auto, unfolding(crate::specs::FailureLines::open_line))]
 fn push_open_line(
     text: &mut String,
@@ -63,7 +76,7 @@ fn push_open_line(
 {
     push_node(text, interface, node)?;
     push_words(text, " SDO transfer of ")?;
-    push_words(text, transfer.key.text().as_str())?;
+    push_key(text, transfer.key)?;
     push_words(text, " without a frame since ")?;
     push_seconds(text, transfer.newest)?;
     push_words(text, "\n")
