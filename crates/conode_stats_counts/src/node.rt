@@ -12,8 +12,8 @@ ghost use Rattle.conode_stats_counts.specs.States.{
 use crate::state::{NmtState, StateTimes};
 use crate::tally::counted;
 
-/// A frame of error control: a boot-up message, a heartbeat or a guarding answer (CiA 301, 7.2.8.3.2,
-/// 7.2.8.3.3).
+/// A frame of error control: a boot-up message, a heartbeat or a guarding answer (CiA 301,
+/// 7.2.8.3.2, 7.2.8.3.3).
 #[derive(Clone, Copy)]
 pub struct Shown {
     /// The state that it shows.

@@ -12,8 +12,8 @@ use conode_record::{Content, Identifier, Record};
 use std::alloc::{AllocError, Global};
 use std::marker::Model;
 
-/// The SDO transfers on the default channels of a bus: those that failed, by node and abort code, and
-/// those that are open. At most 256 nodes and codes have a row; further ones are only counted
+/// The SDO transfers on the default channels of a bus: those that failed, by node and abort code,
+/// and those that are open. At most 256 nodes and codes have a row; further ones are only counted
 /// together.
 #[derive(Drop)]
 pub struct Transfers {

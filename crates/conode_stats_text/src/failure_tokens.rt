@@ -1,5 +1,5 @@
-//! SDO transfers that failed, in JSON. Each function writes tokens. `Err`: out of memory; some tokens
-//! may be there.
+//! SDO transfers that failed, in JSON. Each function writes tokens. `Err`: out of memory; some
+//! tokens may be there.
 
 ghost use Rattle.std.specs.Prelude.{◌≡◌, ◌++◌, OnOk};
 ghost use Rattle.conode_stats_text.specs.FailureTokens.{code_members, failure_tokens};

@@ -1,5 +1,5 @@
-//! The nodes of a bus in JSON. Each function writes tokens. `Err`: out of memory; some tokens may be
-//! there.
+//! The nodes of a bus in JSON. Each function writes tokens. `Err`: out of memory; some tokens may
+//! be there.
 
 ghost use Rattle.std.specs.Prelude.{◌≡◌, ◌++◌, OnOk};
 ghost use Rattle.conode_stats_text.specs.NodeTokens.{

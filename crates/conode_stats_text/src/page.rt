@@ -210,8 +210,8 @@ fn push_rows(
     Ok(())
 }
 
-/// Sets the text to the page: what looks wrong, the buses, their nodes, and their identifiers. `Err`: out of
-/// memory; the text is then any part of the page.
+/// Sets the text to the page: what looks wrong, the buses, their nodes, and their identifiers.
+/// `Err`: out of memory; the text is then any part of the page.
 pub fn set_page(alloc: Global, text: &mut String, page: &Page<'_>) -> Result<(), AllocError>
     requires { IfSome page.now.bit_rate (λ rate. rate ≤ 1000000) }
 {
