@@ -44,18 +44,18 @@ row_adds : (cause : Cause) (failures : List Failure) (failure : Failure) → fai
 row_adds cause failures failure = same_row cause _ _ failure.micros (counted_next (length failures))
 
 module _ (failures : List Failure) where
-  abbrev rows : List Failure → List FailureRow
+  abbrev pub rows : List Failure → List FailureRow
   rows failures = grouped same_cause cause_of most_failures failure_row failures
 
-  abbrev others : List Failure → ℕ
+  abbrev pub others : List Failure → ℕ
   others failures = left_out same_cause cause_of most_failures failures
 
-  rows_more : (failure : Option Failure) → rows_with failure (rows failures) ≡ rows (failures_with failure failures)
+  pub rows_more : (failure : Option Failure) → rows_with failure (rows failures) ≡ rows (failures_with failure failures)
   rows_more None = refl
   rows_more (Some failure) =
       group.one_more same_cause cause_decides most_failures cause_of failure_row is_failure (λ x k fs. refl) (λ row f. failure_added f.micros row) row_adds failure failures
 
-  others_more : (failure : Option Failure)
+  pub others_more : (failure : Option Failure)
       → counted (counted (others failures) + more_left_out failure (rows failures)) ≡ counted (others (failures_with failure failures))
   unfolding left_out
   others_more None = counted_more (others failures) 0 ∙ ap counted (let e : 0 + others failures ≡ others failures = omega arith in e)

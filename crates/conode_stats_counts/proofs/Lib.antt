@@ -1,5 +1,7 @@
 pub mod Changes
 pub mod Counting
+mod EmergencyExamples
+pub mod EmergencyLaws
 mod Examples
 pub mod Failed
 mod FailureExamples

@@ -111,6 +111,11 @@ boot_up_time : time_in BootUp session ≡ 20
 unfolding time_in newest
 boot_up_time = refl
 
+-- after frames with a number that no state has, 30 and 10 µs
+unknown_time : time_in Unknown (Sent Operational 90 ∷ Sent Unknown 80 ∷ Sent Operational 70 ∷ Sent Unknown 40 ∷ []) ≡ 40
+unfolding time_in newest
+unknown_time = refl
+
 -- after the last frame no time is counted
 stopped_time : time_in Stopped session ≡ 0
 unfolding time_in newest
@@ -148,6 +153,11 @@ restarted = refl
 restarted_at : last_restart (Sent Operational 60 ∷ Sent BootUp 40 ∷ Sent Operational 20 ∷ []) ≡ 40
 unfolding last_restart newest is_commanded
 restarted_at = refl
+
+-- the newer of two
+restarted_again_at : last_restart (Sent BootUp 70 ∷ Sent Operational 60 ∷ Sent BootUp 40 ∷ Sent Operational 20 ∷ []) ≡ 70
+unfolding last_restart newest is_commanded
+restarted_again_at = refl
 
 booted_twice : boot_ups (Sent Operational 60 ∷ Sent BootUp 40 ∷ Commanded ∷ Sent BootUp 20 ∷ []) ≡ 2
 unfolding boot_ups

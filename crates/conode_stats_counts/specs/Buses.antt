@@ -8,6 +8,7 @@ use Rattle.conode_stats_counts.specs.declared.load.Load.{Load}
 use Rattle.conode_stats_counts.specs.declared.node.Node.{Node}
 use Rattle.conode_stats_counts.specs.declared.row.Row.{Row}
 use Rattle.conode_stats_counts.specs.declared.tally.Tally.{Tally}
+use Rattle.conode_stats_counts.specs.Emergencies.{Emergent, emergent_of, emergent_with}
 use Rattle.conode_stats_counts.specs.Failures.{Transferred, transfers_of, transfers_with}
 use Rattle.conode_stats_counts.specs.Gaps.{counted}
 use Rattle.conode_stats_counts.specs.Groups.{grouped, group_with, left_out, no_room}
@@ -52,11 +53,13 @@ pub record BusCounts : Type 0 where
   pub load : Load
   pub nodes : List Node
   pub transfers : Transferred
+  pub emergencies : Emergent
   pub rows : List Row
   pub left_out : ℕ
 
 -- the counts of an interface with these frames: all frames, their bits, its nodes, its SDO
--- transfers, the rows by identifier in the order in which they came first, and how many frames have no row
+-- transfers, its EMCY messages, the rows by identifier in the order in which they came first, and how
+-- many frames have no row
 unfoldable pub bus_of : List ℕ → List Record → BusCounts
 bus_of interface frames = record {
   interface = interface;
@@ -64,6 +67,7 @@ bus_of interface frames = record {
   load = load_of frames;
   nodes = nodes_of frames;
   transfers = transfers_of frames;
+  emergencies = emergent_of frames;
   rows = grouped same_id id_of most_rows row_of frames;
   left_out = counted (left_out same_id id_of most_rows frames);
 }
@@ -103,6 +107,7 @@ bus_with bus frame = record {
   load = load_with bus.load (second_of frame) (frame_size frame);
   nodes = nodes_with (sign_of frame) frame.micros bus.nodes;
   transfers = transfers_with bus.transfers frame;
+  emergencies = emergent_with bus.emergencies frame;
   rows = group_with (is_row (id_of frame)) (row_with frame.micros) (new_row (id_of frame)) most_rows bus.rows;
   left_out = counted (bus.left_out + no_room (is_row (id_of frame)) most_rows bus.rows);
 }

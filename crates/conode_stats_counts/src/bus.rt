@@ -13,6 +13,7 @@ ghost use Rattle.conode_stats_counts.specs.Buses.{
 };
 ghost use Rattle.conode_stats_counts.specs.Groups.{group_with, no_room};
 
+use crate::emergencies::Emergencies;
 use crate::load::Load;
 use crate::node::Node;
 use crate::nodes::{new_nodes, show_sign};
@@ -32,8 +33,8 @@ const MOST_ROWS: usize = 4096;
 /// Stamps are in microseconds.
 const SECOND: u64 = 1_000_000;
 
-/// The counts of one bus: all frames, their bits, its nodes, its SDO transfers, and the frames by
-/// identifier. At most 4,096 identifiers have a row; the frames of further ones are only counted
+/// The counts of one bus: all frames, their bits, its nodes, its SDO transfers, its EMCY
+/// messages, and the frames by identifier. At most 4,096 identifiers have a row; the frames of further ones are only counted
 /// together.
 #[derive(Drop)]
 pub struct Bus {
@@ -42,6 +43,7 @@ pub struct Bus {
     load: Load,
     nodes: Vec<Node>,
     transfers: Transfers,
+    emergencies: Emergencies,
     rows: Vec<Row>,
     left_out: u64,
 }
@@ -57,6 +59,7 @@ impl Model for Bus {
       load = bus.load;
       nodes = bus.nodes.items;
       transfers = bus.transfers;
+      emergencies = bus.emergencies;
       rows = bus.rows.items;
       left_out = bus.left_out;
     } };
@@ -112,6 +115,7 @@ impl Bus {
             load: Load::new(),
             nodes,
             transfers: Transfers::new(alloc),
+            emergencies: Emergencies::new(alloc),
             rows: Vec::new(alloc),
             left_out: 0,
         })
@@ -126,6 +130,7 @@ impl Bus {
         let more = add_to_row(&mut self.rows, can_id(frame.id), frame.micros)?;
         self.left_out = counted(self.left_out, more);
         self.transfers.take(frame)?;
+        self.emergencies.take(frame)?;
         self.all.add(frame.micros);
         let size = Size::of(frame.id, &frame.content);
         self.load.add(frame.micros / SECOND, size);
@@ -167,6 +172,13 @@ impl Bus {
         ensures { result.now ≡ self.now.transfers }
     {
         &self.transfers
+    }
+
+    /// Its EMCY messages.
+    pub fn emergencies(&self) -> &Emergencies
+        ensures { result.now ≡ self.now.emergencies }
+    {
+        &self.emergencies
     }
 
     /// The frames of each identifier, in the order in which they came first.

@@ -1,4 +1,4 @@
-//! SDO transfers that failed, by node and abort code.
+//! SDO transfers that failed, by node and abort code, and EMCY messages, by node and error code.
 
 ghost use Rattle.std.specs.Prelude.{◌≡◌, ◌<◌, ◌+◌, length, position, OnOk, IfOk, IfSome};
 ghost use Rattle.conode_stats_counts.specs.Failures.{
@@ -22,32 +22,33 @@ use std::alloc::AllocError;
 /// The most nodes and codes counted on a bus.
 const MOST_FAILURES: usize = 256;
 
-/// Whose transfers failed, and why.
+/// Whose transfers failed, and why; or who sent EMCY messages, and why.
 #[derive(Clone, Copy)]
 pub struct Cause {
-    /// The node-ID of the server.
+    /// The node-ID of the server, or of the sender.
     pub node: u8,
-    /// The code of the abort; `None`: the client awaited an answer, and began another transfer.
+    /// The code of the abort; `None`: the client awaited an answer, and began another transfer. Of
+    /// an EMCY message its error code; `None`: it is too short for one.
     pub code: Option<u32>,
 }
 
-/// A transfer that failed.
+/// A transfer that failed, or an EMCY message.
 #[derive(Clone, Copy)]
 pub(crate) struct Failure {
     /// Whose it is, and why.
     pub(crate) cause: Cause,
-    /// The stamp of its end, in microseconds.
+    /// The stamp of its end, or of the message, in microseconds.
     pub(crate) micros: u64,
 }
 
-/// The transfers of one node that failed in one way. Counts saturate at 2^64 - 1.
+/// The transfers of one node that failed in one way, or its EMCY messages with one code. Counts saturate at 2^64 - 1.
 #[derive(Clone, Copy)]
 pub struct FailureRow {
     /// Whose they are, and why.
     pub cause: Cause,
     /// How many there are.
     pub count: u64,
-    /// The stamp at which the last of them ended, in microseconds.
+    /// The stamp at which the last of them ended, or came, in microseconds.
     pub last: u64,
 }
 

@@ -1,10 +1,11 @@
 //! Statistics of buses: the frames of a recording, counted by interface and identifier, with the
 //! gaps between their stamps and the bits that they take on the bus; and what each node shows of
-//! its state, and its SDO transfers that failed.
+//! its state, its EMCY messages, and its SDO transfers that failed.
 #![tactic(auto)]
 
 mod bus;
 mod counts;
+mod emergencies;
 mod failure;
 mod load;
 mod node;
@@ -19,6 +20,7 @@ mod wire;
 
 pub use bus::Bus;
 pub use counts::Counts;
+pub use emergencies::Emergencies;
 pub use failure::{Cause, FailureRow};
 pub use load::{Load, Second};
 pub use node::{Node, Shown};
