@@ -1,5 +1,5 @@
 -- EMCY messages, evaluated.
-use Rattle.std.proofs.Common.{ℕ, List, [], ◌∷◌, ◌≡◌, Some, None, refl}
+use Rattle.std.proofs.Common.{[], ◌∷◌, ◌≡◌, Some, None, refl}
 use Rattle.conode_record.specs.declared.content.Content.TheVariants.{Data, Remote}
 use Rattle.conode_record.specs.declared.fields.Identifier.TheVariants.{Base, Extended}
 use Rattle.conode_stats_counts.specs.Emergencies.{emergency_as, error_code}

@@ -1,6 +1,6 @@
 -- One frame more, as SDO transfers are counted, is one frame more by definition.
-use Rattle.std.proofs.Common.{ℕ, suc, ◌+◌, Bool, true, false, List, [], ◌∷◌, ◌≡◌, ◌∙◌, Option, Some, None, length, refl, sym, ap, ap₂, arith}
-use Rattle.std.specs.Prelude.{◌==◌, ◌&&◌}
+use Rattle.std.proofs.Common.{ℕ, ◌+◌, List, [], ◌∷◌, ◌≡◌, ◌∙◌, Option, Some, None, length, refl, ap, arith}
+use Rattle.std.specs.Prelude.{◌==◌}
 use Rattle.std.specs.Bool.{Decides}
 use Rattle.std.proofs.lemmas.Bool.Decides.{Decides-and, Decides-eqb, Decides-like}
 use Rattle.conode_explain_channels.specs.declared.track.Track.{Track}

@@ -1,11 +1,11 @@
 -- SDO transfers that failed, evaluated.
-use Rattle.std.proofs.Common.{ℕ, List, [], ◌∷◌, ◌≡◌, Some, None, true, false, refl}
-use Rattle.conode_explain_transfers.specs.declared.ended.Ending.TheVariants.{Aborted, Unanswered, Repeated, Interrupted, Unfinished, Done, Irregular, SizeDiffers, CrcDiffers}
+use Rattle.std.proofs.Common.{List, [], ◌∷◌, ◌≡◌, Some, None, true, false, refl}
+use Rattle.conode_explain_transfers.specs.declared.ended.Ending.TheVariants.{Aborted, Unanswered, Repeated, Interrupted, Done, Irregular, SizeDiffers, CrcDiffers}
 use Rattle.conode_explain_transfers.specs.declared.kinds.Side.TheVariants.{Client, Server}
 use Rattle.conode_record.specs.declared.content.Content.TheVariants.{Data, Remote}
 use Rattle.conode_record.specs.declared.fields.Identifier.TheVariants.{Base, Extended}
 use Rattle.conode_stats_counts.specs.declared.failure.Failure.{Failure}
-use Rattle.conode_stats_counts.specs.Failures.{cause_of, failure_by, failure_row, most_failures, plain, same_cause}
+use Rattle.conode_stats_counts.specs.Failures.{cause_of, failure_by, failure_row, plain, same_cause}
 use Rattle.conode_stats_counts.specs.Groups.{grouped, keys_of, left_out}
 
 -- ---- what failed

@@ -1,5 +1,5 @@
 -- One event more of a node, as it is counted, is one event more by definition.
-use Rattle.std.proofs.Common.{ℕ, Bool, true, false, List, [], ◌∷◌, ◌≡◌, ◌∙◌, ◌+◌, ◌-◌, Option, Some, None, refl, sym, ap, arith}
+use Rattle.std.proofs.Common.{ℕ, Bool, false, List, ◌∷◌, ◌≡◌, ◌+◌, ◌-◌, Option, Some, None, refl, ap, arith}
 use Rattle.std.specs.Prelude.{is_some, not, ◌&&◌, if◌then◌else◌}
 use Rattle.co_text.proofs.Tests.{by_test}
 use Rattle.conode_stats_counts.specs.declared.node.Node.{Node}
@@ -8,7 +8,7 @@ use Rattle.conode_stats_counts.specs.declared.state.NmtState.{NmtState}
 use Rattle.conode_stats_counts.specs.declared.state.NmtState.TheVariants.{BootUp, PreOperational, Operational, Stopped, Unknown}
 use Rattle.conode_stats_counts.specs.declared.state.StateTimes.{StateTimes}
 use Rattle.conode_stats_counts.specs.Gaps.{counted}
-use Rattle.conode_stats_counts.specs.States.{NodeEvent, Commanded, Sent, boot_ups, booted_if, gap_if, is_commanded, is_restart, last_restart, newest, node_commanded, node_of, node_with, restarts, same_state, time_in, time_since, times_of, times_since, times_with}
+use Rattle.conode_stats_counts.specs.States.{NodeEvent, Commanded, Sent, boot_ups, booted_if, gap_if, is_commanded, last_restart, newest, node_commanded, node_of, node_with, restarts, same_state, time_in, time_since, times_of, times_since, times_with}
 use Rattle.conode_stats_counts.proofs.Tallied.{counted_more}
 
 -- ---- times

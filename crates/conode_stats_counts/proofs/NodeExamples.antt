@@ -1,12 +1,11 @@
 -- What nodes show, evaluated.
-use Rattle.std.proofs.Common.{ℕ, List, [], ◌∷◌, ◌≡◌, Some, None, true, false, refl}
+use Rattle.std.proofs.Common.{ℕ, List, [], ◌∷◌, ◌≡◌, Some, refl}
 use Rattle.conode_record.specs.declared.content.Content.TheVariants.{Data, Remote}
 use Rattle.conode_record.specs.declared.fields.Identifier.TheVariants.{Base, Extended}
 use Rattle.conode_stats_counts.specs.declared.sign.Sign.TheVariants.{Reset, Shows, Other}
 use Rattle.conode_stats_counts.specs.declared.state.NmtState.TheVariants.{BootUp, PreOperational, Operational, Stopped, Unknown}
-use Rattle.conode_stats_counts.specs.Gaps.{counted}
 use Rattle.conode_stats_counts.specs.Nodes.{log_with, sign_as, table}
-use Rattle.conode_stats_counts.specs.States.{NodeEvent, Commanded, Sent, boot_ups, is_commanded, last_restart, newest, node_of, restarts, state_of, time_in}
+use Rattle.conode_stats_counts.specs.States.{NodeEvent, Commanded, Sent, boot_ups, is_commanded, last_restart, newest, restarts, state_of, time_in}
 
 -- ---- what a byte of error control shows (CiA 301, 7.2.8.3.2)
 

@@ -1,6 +1,6 @@
 -- One frame more, as it is counted of nodes, is one frame more by definition.
-use Rattle.std.proofs.Common.{ℕ, zero, suc, ◌+◌, ◌<◌, ◌≤◌, Bool, true, false, List, [], ◌∷◌, ◌≡◌, ◌∙◌, length, map, replicate, refl, sym, ap, ap₂, arith}
-use Rattle.std.specs.Prelude.{◌==◌, nat_lt, ◌||◌, slice_set}
+use Rattle.std.proofs.Common.{ℕ, zero, suc, ◌+◌, ◌<◌, ◌≤◌, true, false, List, [], ◌∷◌, ◌≡◌, ◌∙◌, length, map, replicate, refl, sym, ap, ap₂, arith}
+use Rattle.std.specs.Prelude.{◌==◌, nat_lt, slice_set}
 use Rattle.std.specs.List.{slice_index_or}
 use Rattle.std.proofs.lemmas.Bool.Decides.{nat_tests}
 use Rattle.co_text.proofs.Tests.{by_test}
@@ -8,9 +8,8 @@ use Rattle.conode_record.specs.declared.line.Record.{Record}
 use Rattle.conode_stats_counts.specs.declared.node.Node.{Node}
 use Rattle.conode_stats_counts.specs.declared.sign.Sign.{Sign}
 use Rattle.conode_stats_counts.specs.declared.sign.Sign.TheVariants.{Reset, Shows, Other}
-use Rattle.conode_stats_counts.specs.declared.state.NmtState.{NmtState}
 use Rattle.conode_stats_counts.specs.Nodes.{changed_at, log_with, most_nodes, new_node, node_log, nodes_of, nodes_with, sign_of, table}
-use Rattle.conode_stats_counts.specs.States.{NodeEvent, Commanded, Sent, node_commanded, node_of, node_with}
+use Rattle.conode_stats_counts.specs.States.{NodeEvent, Commanded, node_commanded, node_of, node_with}
 use Rattle.conode_stats_counts.proofs.NodeEvents.{commanded_more, shows_more}
 
 -- ---- tables

@@ -28,27 +28,27 @@ restarts_in interface number node = if node.restarts == 0 then [] else restart_l
 
 -- ---- the table of nodes
 
--- a time in milliseconds, for seconds with three decimals; none in a log without stamps, where each
--- is 0
-abbrev pub millis_of : Shown → ℕ → Option ℕ
-millis_of last micros = if last.micros == 0 then None else Some (micros / 1000)
+-- a time in milliseconds, for seconds with three decimals; none in a log without stamps, where that
+-- of the bus's last frame is 0
+abbrev pub millis_of : ℕ → ℕ → Option ℕ
+millis_of end micros = if end == 0 then None else Some (micros / 1000)
 
 -- the cell of a time in a column of this width
-abbrev pub time_cell : Shown → ℕ → ℕ → List ℕ
-time_cell last width micros = right width (or_none thousandths (millis_of last micros))
+abbrev pub time_cell : ℕ → ℕ → ℕ → List ℕ
+time_cell end width micros = right width (or_none thousandths (millis_of end micros))
 
-unfoldable pub time_cells : Shown → StateTimes → List ℕ
-time_cells last times =
-    time_cell last 13 times.boot_up ++ time_cell last 19 times.pre_operational ++ time_cell last 15 times.operational
-    ++ time_cell last 13 times.stopped ++ time_cell last 13 times.unknown
+unfoldable pub time_cells : ℕ → StateTimes → List ℕ
+time_cells end times =
+    time_cell end 13 times.boot_up ++ time_cell end 19 times.pre_operational ++ time_cell end 15 times.operational
+    ++ time_cell end 13 times.stopped ++ time_cell end 13 times.unknown
 
--- the line of a node on an interface whose newest frame is this one
-unfoldable pub node_line : List ℕ → ℕ → Node → Shown → List ℕ
-node_line interface number node last =
+-- the line of a node whose newest frame is this one, on an interface whose last frame has a stamp
+unfoldable pub node_line : List ℕ → ℕ → ℕ → Node → Shown → List ℕ
+node_line interface end number node last =
     left 15 (name_text interface) ++ codes "  " ++ right 8 (decimal number) ++ right 13 (decimal node.boot_ups) ++ right 12 (decimal node.restarts)
-    ++ time_cells last node.times ++ codes "  " ++ state_word last.state ++ codes "\n"
+    ++ time_cells end node.times ++ codes "  " ++ state_word last.state ++ codes "\n"
 
 -- nothing of a node without a frame of error control
-abbrev pub node_in : List ℕ → ℕ → Node → Option Shown → List ℕ
-node_in interface number node None = []
-node_in interface number node (Some last) = node_line interface number node last
+abbrev pub node_in : List ℕ → ℕ → ℕ → Node → Option Shown → List ℕ
+node_in interface end number node None = []
+node_in interface end number node (Some last) = node_line interface end number node last

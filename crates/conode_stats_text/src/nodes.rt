@@ -68,27 +68,23 @@ pub(crate) fn push_restarts(
     }
 }
 
-fn millis_of(last: Shown, micros: u64) -> Option<u64>
-    ensures { result ≡ millis_of last micros }
+fn millis_of(end: u64, micros: u64) -> Option<u64>
+    ensures { result ≡ millis_of end micros }
 {
-    if last.micros == 0 {
-        None
-    } else {
-        Some(micros / 1000)
-    }
+    if end == 0 { None } else { Some(micros / 1000) }
 }
 
 fn push_time(
     text: &mut String,
     cell: &mut String,
-    last: Shown,
+    end: u64,
     width: usize,
     micros: u64,
 ) -> Result<(), AllocError>
     ensures { OnOk result (string_bytes text.new
-        ≡ string_bytes text.old ++ time_cell last width micros) }
+        ≡ string_bytes text.old ++ time_cell end width micros) }
 {
-    set_thousandths(cell, millis_of(last, micros))?;
+    set_thousandths(cell, millis_of(end, micros))?;
     push_right(text, width, cell.as_str())
 }
 
@@ -96,17 +92,17 @@ fn push_time(
 fn push_times(
     text: &mut String,
     cell: &mut String,
-    last: Shown,
+    end: u64,
     times: &StateTimes,
 ) -> Result<(), AllocError>
     ensures { OnOk result (string_bytes text.new
-        ≡ string_bytes text.old ++ time_cells last times.now) }
+        ≡ string_bytes text.old ++ time_cells end times.now) }
 {
-    push_time(text, cell, last, 13, times.boot_up)?;
-    push_time(text, cell, last, 19, times.pre_operational)?;
-    push_time(text, cell, last, 15, times.operational)?;
-    push_time(text, cell, last, 13, times.stopped)?;
-    push_time(text, cell, last, 13, times.unknown)
+    push_time(text, cell, end, 13, times.boot_up)?;
+    push_time(text, cell, end, 19, times.pre_operational)?;
+    push_time(text, cell, end, 15, times.operational)?;
+    push_time(text, cell, end, 13, times.stopped)?;
+    push_time(text, cell, end, 13, times.unknown)
 }
 
 #[tactic(auto, unfolding(crate::specs::NodeLines::node_line))]
@@ -114,12 +110,13 @@ fn push_node_line(
     text: &mut String,
     cell: &mut String,
     interface: &[u8],
+    end: u64,
     number: u32,
     node: &Node,
     last: Shown,
 ) -> Result<(), AllocError>
     ensures { OnOk result (string_bytes text.new
-        ≡ string_bytes text.old ++ node_line interface.now number node.now last) }
+        ≡ string_bytes text.old ++ node_line interface.now end number node.now last) }
 {
     set_name(cell, interface)?;
     push_left(text, 15, cell.as_str())?;
@@ -127,26 +124,27 @@ fn push_node_line(
     push_right(text, 8, decimal_digits(u64::from(number)).as_str())?;
     push_right(text, 13, decimal_digits(node.boot_ups).as_str())?;
     push_right(text, 12, decimal_digits(node.restarts).as_str())?;
-    push_times(text, cell, last, &node.times)?;
+    push_times(text, cell, end, &node.times)?;
     push_words(text, "  ")?;
     push_words(text, state_word(last.state))?;
     push_words(text, "\n")
 }
 
-/// Appends the line of a node on an interface, if it sent a frame of error control. `cell` is
-/// scratch space.
+/// Appends the line of a node on an interface, if it sent a frame of error control. `end` is the
+/// stamp of the bus's last frame, in microseconds; `cell` is scratch space.
 pub(crate) fn push_node_in(
     text: &mut String,
     cell: &mut String,
     interface: &[u8],
+    end: u64,
     number: u32,
     node: &Node,
 ) -> Result<(), AllocError>
     ensures { OnOk result (string_bytes text.new
-        ≡ string_bytes text.old ++ node_in interface.now number node.now node.now.last) }
+        ≡ string_bytes text.old ++ node_in interface.now end number node.now node.now.last) }
 {
     match node.last {
-        Some(last) => push_node_line(text, cell, interface, number, node, last),
+        Some(last) => push_node_line(text, cell, interface, end, number, node, last),
         None => Ok(()),
     }
 }

@@ -3,7 +3,7 @@
 ghost use Rattle.std.specs.Prelude.{◌≤◌, IfSome};
 
 use crate::cells::push_name;
-use crate::failures::{push_failure, push_open};
+use crate::failures::{push_emergency, push_failure, push_open};
 use crate::lines::{push_bus, push_load, push_row};
 use crate::nodes::{push_node_in, push_restarts};
 use crate::wrong::{push_count, push_wrong_in};
@@ -32,6 +32,9 @@ const NODE_HEAD: &str =
 
 /// The words about SDO transfers without a line.
 const MORE_FAILURES: &str = "SDO transfers that failed with further nodes and codes";
+
+/// The words about EMCY messages without a line.
+const MORE_EMERGENCIES: &str = "EMCY messages of further nodes and codes";
 
 /// The words about frames without a row, and about frames without a bus.
 const MORE_IDENTIFIERS: &str = "frames of more than 4,096 identifiers, not in the table";
@@ -102,6 +105,37 @@ fn push_open_on(text: &mut String, bus: &Bus) -> Result<(), AllocError> {
     Ok(())
 }
 
+/// The rows of EMCY messages, by node.
+pub(crate) fn sorted_emergencies(alloc: Global, bus: &Bus) -> Result<Vec<FailureRow>, AllocError> {
+    let mut rows = bus.emergencies().rows().to_vec(alloc)?;
+    rows.sort_by_key(|row| row.cause.node)?;
+    Ok(rows)
+}
+
+// the EMCY messages on a bus
+fn push_emergencies_on(alloc: Global, text: &mut String, bus: &Bus) -> Result<(), AllocError> {
+    let rows = sorted_emergencies(alloc, bus)?;
+    for row in &rows {
+        push_emergency(text, bus.interface(), row)?;
+    }
+    Ok(())
+}
+
+// the heartbeats that look wrong on a bus
+fn push_heartbeats_on(
+    alloc: Global,
+    text: &mut String,
+    cell: &mut String,
+    bus: &Bus,
+) -> Result<(), AllocError> {
+    let end = bus.all().last;
+    let rows = sorted_rows(alloc, bus)?;
+    for row in &rows {
+        push_wrong_in(text, cell, bus.interface(), end, row)?;
+    }
+    Ok(())
+}
+
 // what looks wrong on a bus
 fn push_wrong_on(
     alloc: Global,
@@ -112,16 +146,14 @@ fn push_wrong_on(
     push_restarts_on(text, bus)?;
     push_failures_on(alloc, text, bus)?;
     push_open_on(text, bus)?;
-    let end = bus.all().last;
-    let rows = sorted_rows(alloc, bus)?;
-    for row in &rows {
-        push_wrong_in(text, cell, bus.interface(), end, row)?;
-    }
+    push_emergencies_on(alloc, text, bus)?;
+    push_heartbeats_on(alloc, text, cell, bus)?;
     cell.clear();
     push_name(cell, bus.interface())?;
     cell.push_str(": ")?;
     let front = cell.as_str();
     push_count(text, front, MORE_FAILURES, bus.transfers().left_out())?;
+    push_count(text, front, MORE_EMERGENCIES, bus.emergencies().left_out())?;
     push_count(text, front, "error frames", error_frames(bus))?;
     push_count(text, front, "stamps that step back", bus.all().steps_back)?;
     push_count(text, front, MORE_IDENTIFIERS, bus.left_out())
@@ -176,9 +208,10 @@ fn has_nodes(bus: &Bus) -> bool {
 
 // the nodes of a bus, by node-ID
 fn push_nodes(text: &mut String, cell: &mut String, bus: &Bus) -> Result<(), AllocError> {
+    let end = bus.all().last;
     for number in 1..128u32 {
         if let Some(node) = bus.nodes().get(number as usize) {
-            push_node_in(text, cell, bus.interface(), number, node)?;
+            push_node_in(text, cell, bus.interface(), end, number, node)?;
         }
     }
     Ok(())

@@ -16,7 +16,7 @@ ghost use Rattle.conode_stats_text.specs.StatsTokens.{
 };
 
 use crate::cells::push_name;
-use crate::failure_tokens::put_failures;
+use crate::failure_tokens::{put_all_open, put_emergencies, put_failures};
 use crate::lines::set_id;
 use crate::node_tokens::put_nodes;
 use crate::page::{Page, sorted_rows};
@@ -160,6 +160,8 @@ fn put_bus(
     put_load(writer, &bus.load())?;
     put_number(writer, "framesLeftOut", bus.left_out())?;
     put_failures(alloc, writer, cell, bus)?;
+    put_all_open(writer, bus)?;
+    put_emergencies(alloc, writer, cell, bus)?;
     put_nodes(writer, bus)?;
     put_rows(alloc, writer, cell, bus)?;
     writer.end_object()
