@@ -58,8 +58,8 @@ pub record BusCounts : Type 0 where
   pub left_out : ℕ
 
 -- the counts of an interface with these frames: all frames, their bits, its nodes, its SDO
--- transfers, its EMCY messages, the rows by identifier in the order in which they came first, and how
--- many frames have no row
+-- transfers, its EMCY messages, the rows by identifier in the order in which they came first, and
+-- how many frames have no row
 unfoldable pub bus_of : List ℕ → List Record → BusCounts
 bus_of interface frames = record {
   interface = interface;

@@ -33,9 +33,9 @@ const MOST_ROWS: usize = 4096;
 /// Stamps are in microseconds.
 const SECOND: u64 = 1_000_000;
 
-/// The counts of one bus: all frames, their bits, its nodes, its SDO transfers, its EMCY
-/// messages, and the frames by identifier. At most 4,096 identifiers have a row; the frames of further ones are only counted
-/// together.
+/// The counts of one bus: all frames, their bits, its nodes, its SDO transfers, its EMCY messages,
+/// and the frames by identifier. At most 4,096 identifiers have a row; the frames of further ones
+/// are only counted together.
 #[derive(Drop)]
 pub struct Bus {
     interface: ArrayVec<u8, 15>,

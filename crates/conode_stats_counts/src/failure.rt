@@ -41,7 +41,8 @@ pub(crate) struct Failure {
     pub(crate) micros: u64,
 }
 
-/// The transfers of one node that failed in one way, or its EMCY messages with one code. Counts saturate at 2^64 - 1.
+/// The transfers of one node that failed in one way, or its EMCY messages with one code. Counts
+/// saturate at 2^64 - 1.
 #[derive(Clone, Copy)]
 pub struct FailureRow {
     /// Whose they are, and why.

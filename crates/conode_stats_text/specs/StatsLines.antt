@@ -81,7 +81,7 @@ count_line front what count = codes "  " ++ front ++ what ++ codes ": " ++ decim
 abbrev pub if_any : List ℕ → List ℕ → ℕ → List ℕ
 if_any front what count = if count == 0 then [] else count_line front what count
 
--- what looks wrong with the heartbeats of an identifier, if the last frame of the bus has this stamp
+-- what looks wrong with the heartbeats of an identifier, if the bus's last frame has this stamp
 unfoldable pub wrong_in : List ℕ → ℕ → Row → List ℕ
 wrong_in interface end row =
     if is_heartbeat row.can_id

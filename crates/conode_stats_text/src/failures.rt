@@ -1,5 +1,5 @@
-//! The lines of the page about SDO transfers that failed, or are open, and about EMCY messages. Each
-//! function appends a text. `Err`: out of memory; a part of the text may be there.
+//! The lines of the page about SDO transfers that failed, or are open, and about EMCY messages.
+//! Each function appends a text. `Err`: out of memory; a part of the text may be there.
 
 ghost use Rattle.std.specs.Prelude.{◌≡◌, ◌++◌, ◌<◌, ◌-◌, ◌%◌, OnOk, string_bytes};
 ghost use Rattle.co_value.specs.KeyTexts.{key_text};

@@ -98,8 +98,8 @@ fn push_wrong_heartbeats(
     Ok(())
 }
 
-/// Appends what looks wrong with the heartbeats of an identifier. `end` is the stamp of the bus's last frame, in
-/// microseconds; `cell` is scratch space.
+/// Appends what looks wrong with the heartbeats of an identifier. `end` is the stamp of the bus's
+/// last frame, in microseconds; `cell` is scratch space.
 #[tactic(auto, unfolding(crate::specs::StatsLines::wrong_in))]
 pub(crate) fn push_wrong_in(
     text: &mut String,
