@@ -1,7 +1,15 @@
+pub mod Changes
 pub mod Counting
+mod EmergencyExamples
+pub mod EmergencyLaws
 mod Examples
+pub mod Failed
+mod FailureExamples
 pub mod Grouped
 pub mod Loaded
+pub mod NodeEvents
+mod NodeExamples
+pub mod Noded
 pub mod Places
 pub mod Sent
 pub mod Tallied

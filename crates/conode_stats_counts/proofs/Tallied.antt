@@ -27,7 +27,7 @@ some_capped n top some = grind (arith, nat_tests)
 pub counted_more : (n k : ℕ) → counted (counted n + k) ≡ counted (k + n)
 counted_more n k = capped_more n k most
 
-counted_next : (n : ℕ) → counted (counted n + 1) ≡ counted (suc n)
+pub counted_next : (n : ℕ) → counted (counted n + 1) ≡ counted (suc n)
 counted_next n = capped_next n most
 
 some_counted : (n : ℕ) → (counted (suc n) == 0) ≡ false

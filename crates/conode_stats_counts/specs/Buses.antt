@@ -5,11 +5,15 @@ use Rattle.conode_record.specs.declared.fields.Identifier.{Identifier}
 use Rattle.conode_record.specs.declared.fields.Identifier.TheVariants.{Base, Extended, Error}
 use Rattle.conode_record.specs.declared.line.Record.{Record}
 use Rattle.conode_stats_counts.specs.declared.load.Load.{Load}
+use Rattle.conode_stats_counts.specs.declared.node.Node.{Node}
 use Rattle.conode_stats_counts.specs.declared.row.Row.{Row}
 use Rattle.conode_stats_counts.specs.declared.tally.Tally.{Tally}
+use Rattle.conode_stats_counts.specs.Emergencies.{Emergent, emergent_of, emergent_with}
+use Rattle.conode_stats_counts.specs.Failures.{Transferred, transfers_of, transfers_with}
 use Rattle.conode_stats_counts.specs.Gaps.{counted}
 use Rattle.conode_stats_counts.specs.Groups.{grouped, group_with, left_out, no_room}
 use Rattle.conode_stats_counts.specs.Loads.{frame_size, load_of, load_with, second_of}
+use Rattle.conode_stats_counts.specs.Nodes.{nodes_of, nodes_with, sign_of}
 use Rattle.conode_stats_counts.specs.Tallies.{tally_of, tally_with}
 
 -- the most identifiers counted on a bus, and the most buses
@@ -47,16 +51,23 @@ pub record BusCounts : Type 0 where
   pub interface : List ℕ
   pub all : Tally
   pub load : Load
+  pub nodes : List Node
+  pub transfers : Transferred
+  pub emergencies : Emergent
   pub rows : List Row
   pub left_out : ℕ
 
--- the counts of an interface with these frames: all frames, their bits, the rows by identifier in
--- the order in which they came first, and how many frames have no row
+-- the counts of an interface with these frames: all frames, their bits, its nodes, its SDO
+-- transfers, its EMCY messages, the rows by identifier in the order in which they came first, and
+-- how many frames have no row
 unfoldable pub bus_of : List ℕ → List Record → BusCounts
 bus_of interface frames = record {
   interface = interface;
   all = tally_of (stamps_of frames);
   load = load_of frames;
+  nodes = nodes_of frames;
+  transfers = transfers_of frames;
+  emergencies = emergent_of frames;
   rows = grouped same_id id_of most_rows row_of frames;
   left_out = counted (left_out same_id id_of most_rows frames);
 }
@@ -94,6 +105,9 @@ bus_with bus frame = record {
   interface = bus.interface;
   all = tally_with bus.all frame.micros;
   load = load_with bus.load (second_of frame) (frame_size frame);
+  nodes = nodes_with (sign_of frame) frame.micros bus.nodes;
+  transfers = transfers_with bus.transfers frame;
+  emergencies = emergent_with bus.emergencies frame;
   rows = group_with (is_row (id_of frame)) (row_with frame.micros) (new_row (id_of frame)) most_rows bus.rows;
   left_out = counted (bus.left_out + no_room (is_row (id_of frame)) most_rows bus.rows);
 }

@@ -1,8 +1,12 @@
 pub mod Bits
 pub mod Buses
+pub mod Emergencies
+pub mod Failures
 pub mod Gaps
 pub mod Groups
 pub mod Loads
+pub mod Nodes
 pub mod Sizes
+pub mod States
 pub mod Tallies
 pub mod Wires

@@ -13,10 +13,15 @@ ghost use Rattle.conode_stats_counts.specs.Buses.{
 };
 ghost use Rattle.conode_stats_counts.specs.Groups.{group_with, no_room};
 
+use crate::emergencies::Emergencies;
 use crate::load::Load;
+use crate::node::Node;
+use crate::nodes::{new_nodes, show_sign};
 use crate::row::{Row, can_id};
+use crate::sign::Sign;
 use crate::size::Size;
 use crate::tally::{Tally, counted};
+use crate::transfers::Transfers;
 use arrayvec::ArrayVec;
 use conode_record::Record;
 use std::alloc::{AllocError, Global};
@@ -28,13 +33,17 @@ const MOST_ROWS: usize = 4096;
 /// Stamps are in microseconds.
 const SECOND: u64 = 1_000_000;
 
-/// The counts of one bus: all frames, their bits, and the frames by identifier. At most 4,096
-/// identifiers have a row; the frames of further ones are only counted together.
+/// The counts of one bus: all frames, their bits, its nodes, its SDO transfers, its EMCY messages,
+/// and the frames by identifier. At most 4,096 identifiers have a row; the frames of further ones
+/// are only counted together.
 #[derive(Drop)]
 pub struct Bus {
     interface: ArrayVec<u8, 15>,
     all: Tally,
     load: Load,
+    nodes: Vec<Node>,
+    transfers: Transfers,
+    emergencies: Emergencies,
     rows: Vec<Row>,
     left_out: u64,
 }
@@ -48,6 +57,9 @@ impl Model for Bus {
       interface = bus.interface.items;
       all = bus.all;
       load = bus.load;
+      nodes = bus.nodes.items;
+      transfers = bus.transfers;
+      emergencies = bus.emergencies;
       rows = bus.rows.items;
       left_out = bus.left_out;
     } };
@@ -88,34 +100,42 @@ fn add_to_row(rows: &mut Vec<Row>, id: u32, micros: u64) -> Result<u64, AllocErr
 }
 
 impl Bus {
-    /// An interface without frames.
+    /// An interface without frames. `Err`: out of memory.
     #[tactic(auto, unfolding(crate::specs::Buses::bus_of, crate::specs::Groups::grouped, crate::specs::Groups::keys_of, crate::specs::Groups::left_out))]
-    pub(crate) fn new(alloc: Global, interface: &[u8]) -> Bus
+    pub(crate) fn new(alloc: Global, interface: &[u8]) -> Result<Bus, AllocError>
         requires { length interface.now ≤ 15 }
-        ensures { result ≡ new_bus interface.now }
+        ensures { IfOk result (λ bus. bus ≡ new_bus interface.now) }
     {
+        let nodes = new_nodes(alloc)?;
         let mut name = ArrayVec::new();
         name.try_extend_from_slice(interface).unwrap();
-        Bus {
+        Ok(Bus {
             interface: name,
             all: Tally::new(),
             load: Load::new(),
+            nodes,
+            transfers: Transfers::new(alloc),
+            emergencies: Emergencies::new(alloc),
             rows: Vec::new(alloc),
             left_out: 0,
-        }
+        })
     }
 
     /// Counts a frame. `Err`: out of memory.
-    #[tactic(auto, unfolding(crate::specs::Buses::bus_with))]
+    #[tactic(auto, unfolding(crate::specs::Buses::bus_with, crate::specs::Nodes::sign_of))]
     pub(crate) fn add(&mut self, frame: &Record<'_>) -> Result<(), AllocError>
         requires { IsIdentifier frame.now.id }
         ensures { OnOk result (self.new ≡ bus_with self.old frame.now) }
     {
         let more = add_to_row(&mut self.rows, can_id(frame.id), frame.micros)?;
         self.left_out = counted(self.left_out, more);
+        self.transfers.take(frame)?;
+        self.emergencies.take(frame)?;
         self.all.add(frame.micros);
         let size = Size::of(frame.id, &frame.content);
         self.load.add(frame.micros / SECOND, size);
+        let sign = Sign::of(frame.id, &frame.content);
+        show_sign(&mut self.nodes, sign, frame.micros);
         Ok(())
     }
 
@@ -138,6 +158,27 @@ impl Bus {
         ensures { result ≡ self.now.load }
     {
         self.load
+    }
+
+    /// What its nodes show, by node-ID from 0, which is none, to 127.
+    pub fn nodes(&self) -> &[Node]
+        ensures { result.now ≡ self.now.nodes }
+    {
+        self.nodes.as_slice()
+    }
+
+    /// Its SDO transfers.
+    pub fn transfers(&self) -> &Transfers
+        ensures { result.now ≡ self.now.transfers }
+    {
+        &self.transfers
+    }
+
+    /// Its EMCY messages.
+    pub fn emergencies(&self) -> &Emergencies
+        ensures { result.now ≡ self.now.emergencies }
+    {
+        &self.emergencies
     }
 
     /// The frames of each identifier, in the order in which they came first.

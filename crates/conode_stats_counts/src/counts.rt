@@ -67,7 +67,7 @@ fn add_to_bus(alloc: Global, buses: &mut Vec<Bus>, frame: &Record<'_>) -> Result
             if buses.len() >= MOST_BUSES {
                 return Ok(1);
             }
-            let mut bus = Bus::new(alloc, interface);
+            let mut bus = Bus::new(alloc, interface)?;
             bus.add(frame)?;
             buses.push(bus)?;
             Ok(0)

@@ -1,18 +1,31 @@
 //! Statistics of buses: the frames of a recording, counted by interface and identifier, with the
-//! gaps between their stamps and the bits that they take on the bus.
+//! gaps between their stamps and the bits that they take on the bus; and what each node shows of
+//! its state, its EMCY messages, and its SDO transfers that failed.
 #![tactic(auto)]
 
 mod bus;
 mod counts;
+mod emergencies;
+mod failure;
 mod load;
+mod node;
+mod nodes;
 mod row;
+mod sign;
 mod size;
+mod state;
 mod tally;
+mod transfers;
 mod wire;
 
 pub use bus::Bus;
 pub use counts::Counts;
+pub use emergencies::Emergencies;
+pub use failure::{Cause, FailureRow};
 pub use load::{Load, Second};
+pub use node::{Node, Shown};
 pub use row::Row;
 pub use size::Size;
+pub use state::{NmtState, StateTimes};
 pub use tally::Tally;
+pub use transfers::Transfers;

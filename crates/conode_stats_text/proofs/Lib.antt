@@ -1,2 +1,4 @@
 pub mod Appending
 mod Examples
+mod FailureExamples
+mod NodeExamples

@@ -27,13 +27,10 @@ room_in bit_rate micros = micros / 1000000 * bit_rate + micros % 1000000 * bit_r
 abbrev pub load : ℕ → ℕ → Option ℕ
 load bits room = ratio bits 1000 room
 
--- ---- heartbeats and emergencies, by identifier (CiA 301, 7.3.3)
+-- ---- heartbeats, by identifier (CiA 301, 7.3.3)
 
 abbrev pub is_heartbeat : ℕ → Bool
 is_heartbeat id = nat_lt 0x700 id && nat_lt id 0x780
-
-abbrev pub is_emergency : ℕ → Bool
-is_emergency id = nat_lt 0x80 id && nat_lt id 0x100
 
 -- whether a time is more than one and a half times the mean gap; false with fewer than two gaps
 abbrev pub is_long : Tally → ℕ → Bool

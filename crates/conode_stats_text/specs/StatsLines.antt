@@ -6,7 +6,7 @@ use Rattle.conode_stats_counts.specs.declared.load.Second.{Second}
 use Rattle.conode_stats_counts.specs.declared.row.Row.{Row}
 use Rattle.conode_stats_counts.specs.declared.tally.Tally.{Tally}
 use Rattle.conode_stats_text.specs.Cells.{left, name_text, or_none, right, seconds, tenths, thousandths}
-use Rattle.conode_stats_text.specs.Figures.{gap_of, has_lost, is_emergency, is_heartbeat, is_silent, load, mean, rate, room_in}
+use Rattle.conode_stats_text.specs.Figures.{gap_of, has_lost, is_heartbeat, is_silent, load, mean, rate, room_in}
 
 -- an identifier in three digits; in eight, if it has 29 bits or is of an error frame
 unfoldable pub id_text : ℕ → List ℕ
@@ -73,10 +73,6 @@ lost_line interface node tally =
     node_front interface node ++ codes " heartbeats up to " ++ thousandths tally.greatest ++ codes " ms apart, in the mean "
     ++ or_none thousandths (mean tally) ++ codes " ms\n"
 
-unfoldable pub emergency_line : List ℕ → ℕ → Tally → List ℕ
-emergency_line interface node tally =
-    node_front interface node ++ codes " EMCY messages: " ++ decimal tally.frames ++ codes ", the last at " ++ seconds tally.last ++ codes "\n"
-
 -- the line of other things, with their count
 unfoldable pub count_line : List ℕ → List ℕ → ℕ → List ℕ
 count_line front what count = codes "  " ++ front ++ what ++ codes ": " ++ decimal count ++ codes "\n"
@@ -85,10 +81,10 @@ count_line front what count = codes "  " ++ front ++ what ++ codes ": " ++ decim
 abbrev pub if_any : List ℕ → List ℕ → ℕ → List ℕ
 if_any front what count = if count == 0 then [] else count_line front what count
 
--- what looks wrong with an identifier, if the last frame of the bus has this stamp
+-- what looks wrong with the heartbeats of an identifier, if the bus's last frame has this stamp
 unfoldable pub wrong_in : List ℕ → ℕ → Row → List ℕ
 wrong_in interface end row =
     if is_heartbeat row.can_id
     then (if is_silent end row.tally then silent_line interface (row.can_id - 0x700) row.tally else [])
     ++ (if has_lost row.tally then lost_line interface (row.can_id - 0x700) row.tally else [])
-    else (if is_emergency row.can_id then emergency_line interface (row.can_id - 0x80) row.tally else [])
+    else []

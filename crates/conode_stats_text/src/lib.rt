@@ -2,8 +2,12 @@
 #![tactic(auto)]
 
 mod cells;
+mod failure_tokens;
+mod failures;
 mod figures;
 mod lines;
+mod node_tokens;
+mod nodes;
 mod page;
 mod tokens;
 mod wrong;

@@ -53,7 +53,8 @@ fn push_gaps(text: &mut String, cell: &mut String, tally: &Tally) -> Result<(), 
     push_right(text, 14, cell.as_str())
 }
 
-fn set_name(cell: &mut String, name: &[u8]) -> Result<(), AllocError>
+/// Sets the text to a name.
+pub(crate) fn set_name(cell: &mut String, name: &[u8]) -> Result<(), AllocError>
     ensures { OnOk result (string_bytes cell.new ≡ name_text name.now) }
 {
     cell.clear();

@@ -3,10 +3,12 @@
 ghost use Rattle.std.specs.Prelude.{◌≤◌, IfSome};
 
 use crate::cells::push_name;
+use crate::failures::{push_emergency, push_failure, push_open};
 use crate::lines::{push_bus, push_load, push_row};
+use crate::nodes::{push_node_in, push_restarts};
 use crate::wrong::{push_count, push_wrong_in};
 use co_text::push_decimal;
-use conode_stats_counts::{Bus, Counts, Row};
+use conode_stats_counts::{Bus, Counts, FailureRow, Row};
 use std::alloc::{AllocError, Global};
 
 /// The contents of the page.
@@ -23,6 +25,16 @@ pub struct Page<'a> {
 /// The columns of identifiers.
 const HEAD: &str =
     "interface              id       frames    frames/s    smallest ms     mean ms   greatest ms\n";
+
+/// The columns of nodes.
+const NODE_HEAD: &str =
+    "interface            node     boot-ups    restarts    boot-up s  pre-operational s  operational s    stopped s    unknown s  at the end\n";
+
+/// The words about SDO transfers without a line.
+const MORE_FAILURES: &str = "SDO transfers that failed with further nodes and codes";
+
+/// The words about EMCY messages without a line.
+const MORE_EMERGENCIES: &str = "EMCY messages of further nodes and codes";
 
 /// The words about frames without a row, and about frames without a bus.
 const MORE_IDENTIFIERS: &str = "frames of more than 4,096 identifiers, not in the table";
@@ -57,8 +69,60 @@ pub(crate) fn sorted_rows(alloc: Global, bus: &Bus) -> Result<Vec<Row>, AllocErr
     Ok(rows)
 }
 
-// what looks wrong on a bus
-fn push_wrong_on(
+// the restarts on a bus
+fn push_restarts_on(text: &mut String, bus: &Bus) -> Result<(), AllocError> {
+    for number in 1..128u32 {
+        if let Some(node) = bus.nodes().get(number as usize) {
+            push_restarts(text, bus.interface(), number, node)?;
+        }
+    }
+    Ok(())
+}
+
+/// The rows of SDO transfers that failed, by node.
+pub(crate) fn sorted_failures(alloc: Global, bus: &Bus) -> Result<Vec<FailureRow>, AllocError> {
+    let mut rows = bus.transfers().rows().to_vec(alloc)?;
+    rows.sort_by_key(|row| row.cause.node)?;
+    Ok(rows)
+}
+
+// the SDO transfers that failed on a bus
+fn push_failures_on(alloc: Global, text: &mut String, bus: &Bus) -> Result<(), AllocError> {
+    let rows = sorted_failures(alloc, bus)?;
+    for row in &rows {
+        push_failure(text, bus.interface(), row)?;
+    }
+    Ok(())
+}
+
+// the SDO transfers that are open on a bus
+fn push_open_on(text: &mut String, bus: &Bus) -> Result<(), AllocError> {
+    let end = bus.all().last;
+    for track in bus.transfers().channels() {
+        let transfer = track.channel.unfinished(end);
+        push_open(text, bus.interface(), u32::from(track.node), end, &transfer)?;
+    }
+    Ok(())
+}
+
+/// The rows of EMCY messages, by node.
+pub(crate) fn sorted_emergencies(alloc: Global, bus: &Bus) -> Result<Vec<FailureRow>, AllocError> {
+    let mut rows = bus.emergencies().rows().to_vec(alloc)?;
+    rows.sort_by_key(|row| row.cause.node)?;
+    Ok(rows)
+}
+
+// the EMCY messages on a bus
+fn push_emergencies_on(alloc: Global, text: &mut String, bus: &Bus) -> Result<(), AllocError> {
+    let rows = sorted_emergencies(alloc, bus)?;
+    for row in &rows {
+        push_emergency(text, bus.interface(), row)?;
+    }
+    Ok(())
+}
+
+// the heartbeats that look wrong on a bus
+fn push_heartbeats_on(
     alloc: Global,
     text: &mut String,
     cell: &mut String,
@@ -69,10 +133,27 @@ fn push_wrong_on(
     for row in &rows {
         push_wrong_in(text, cell, bus.interface(), end, row)?;
     }
+    Ok(())
+}
+
+// what looks wrong on a bus
+fn push_wrong_on(
+    alloc: Global,
+    text: &mut String,
+    cell: &mut String,
+    bus: &Bus,
+) -> Result<(), AllocError> {
+    push_restarts_on(text, bus)?;
+    push_failures_on(alloc, text, bus)?;
+    push_open_on(text, bus)?;
+    push_emergencies_on(alloc, text, bus)?;
+    push_heartbeats_on(alloc, text, cell, bus)?;
     cell.clear();
     push_name(cell, bus.interface())?;
     cell.push_str(": ")?;
     let front = cell.as_str();
+    push_count(text, front, MORE_FAILURES, bus.transfers().left_out())?;
+    push_count(text, front, MORE_EMERGENCIES, bus.emergencies().left_out())?;
     push_count(text, front, "error frames", error_frames(bus))?;
     push_count(text, front, "stamps that step back", bus.all().steps_back)?;
     push_count(text, front, MORE_IDENTIFIERS, bus.left_out())
@@ -120,6 +201,34 @@ fn push_front(text: &mut String, bus: &Bus, bit_rate: Option<u32>) -> Result<(),
     text.push_str("\n")
 }
 
+// whether a node sent a frame of error control
+fn has_nodes(bus: &Bus) -> bool {
+    bus.nodes().iter().any(|node| node.last.is_some())
+}
+
+// the nodes of a bus, by node-ID
+fn push_nodes(text: &mut String, cell: &mut String, bus: &Bus) -> Result<(), AllocError> {
+    let end = bus.all().last;
+    for number in 1..128u32 {
+        if let Some(node) = bus.nodes().get(number as usize) {
+            push_node_in(text, cell, bus.interface(), end, number, node)?;
+        }
+    }
+    Ok(())
+}
+
+// the table of nodes, if there is any
+fn push_all_nodes(text: &mut String, cell: &mut String, page: &Page<'_>) -> Result<(), AllocError> {
+    if !page.counts.buses().iter().any(|bus| has_nodes(bus)) {
+        return Ok(());
+    }
+    text.push_str(NODE_HEAD)?;
+    for bus in page.counts.buses() {
+        push_nodes(text, cell, bus)?;
+    }
+    Ok(())
+}
+
 // the identifiers of a bus, the smallest first
 fn push_rows(
     alloc: Global,
@@ -134,8 +243,8 @@ fn push_rows(
     Ok(())
 }
 
-/// Sets the text to the page: what looks wrong, the buses, and their identifiers. `Err`: out of
-/// memory; the text is then any part of the page.
+/// Sets the text to the page: what looks wrong, the buses, their nodes, and their identifiers.
+/// `Err`: out of memory; the text is then any part of the page.
 pub fn set_page(alloc: Global, text: &mut String, page: &Page<'_>) -> Result<(), AllocError>
     requires { IfSome page.now.bit_rate (λ rate. rate ≤ 1000000) }
 {
@@ -146,6 +255,7 @@ pub fn set_page(alloc: Global, text: &mut String, page: &Page<'_>) -> Result<(),
     for bus in page.counts.buses() {
         push_front(text, bus, page.bit_rate)?;
     }
+    push_all_nodes(text, &mut cell, page)?;
     text.push_str(HEAD)?;
     for bus in page.counts.buses() {
         push_rows(alloc, text, &mut cell, bus)?;

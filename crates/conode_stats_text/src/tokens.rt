@@ -16,7 +16,9 @@ ghost use Rattle.conode_stats_text.specs.StatsTokens.{
 };
 
 use crate::cells::push_name;
+use crate::failure_tokens::{put_all_open, put_emergencies, put_failures};
 use crate::lines::set_id;
+use crate::node_tokens::put_nodes;
 use crate::page::{Page, sorted_rows};
 use co_text::decimal_digits;
 use conode_stats_counts::{Bus, Load, Row, Second, Tally};
@@ -37,8 +39,9 @@ fn put_count(writer: &mut Writer, count: u64) -> Result<(), AllocError>
     }
 }
 
+/// Writes a member that is a number.
 #[tactic(auto, unfolding(crate::specs::StatsTokens::number_member))]
-fn put_number(writer: &mut Writer, name: &str, count: u64) -> Result<(), AllocError>
+pub(crate) fn put_number(writer: &mut Writer, name: &str, count: u64) -> Result<(), AllocError>
     ensures { OnOk result
         (writer.new.tokens ≡ writer.old.tokens ++ number_member name.now count) }
 {
@@ -46,8 +49,9 @@ fn put_number(writer: &mut Writer, name: &str, count: u64) -> Result<(), AllocEr
     put_count(writer, count)
 }
 
+/// Writes a member that is a text.
 #[tactic(auto, unfolding(crate::specs::StatsTokens::text_member))]
-fn put_text(writer: &mut Writer, name: &str, text: &str) -> Result<(), AllocError>
+pub(crate) fn put_text(writer: &mut Writer, name: &str, text: &str) -> Result<(), AllocError>
     ensures { OnOk result
         (writer.new.tokens ≡ writer.old.tokens ++ text_member name.now text.now) }
 {
@@ -155,6 +159,10 @@ fn put_bus(
     put_tally(writer, &bus.all())?;
     put_load(writer, &bus.load())?;
     put_number(writer, "framesLeftOut", bus.left_out())?;
+    put_failures(alloc, writer, cell, bus)?;
+    put_all_open(writer, bus)?;
+    put_emergencies(alloc, writer, cell, bus)?;
+    put_nodes(writer, bus)?;
     put_rows(alloc, writer, cell, bus)?;
     writer.end_object()
 }

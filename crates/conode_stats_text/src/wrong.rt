@@ -6,7 +6,6 @@ ghost use Rattle.conode_stats_text.specs.Cells.{name_text, or_none, seconds, tho
 ghost use Rattle.conode_stats_text.specs.Figures.{has_lost, is_long, is_silent, mean};
 ghost use Rattle.conode_stats_text.specs.StatsLines.{
   count_line,
-  emergency_line,
   if_any,
   lost_line,
   node_front,
@@ -20,7 +19,8 @@ use co_text::push_decimal;
 use conode_stats_counts::{Row, Tally};
 use std::alloc::AllocError;
 
-fn push_node(text: &mut String, interface: &[u8], node: u32) -> Result<(), AllocError>
+/// Appends the front of a line about a node.
+pub(crate) fn push_node(text: &mut String, interface: &[u8], node: u32) -> Result<(), AllocError>
     ensures { OnOk result (string_bytes text.new
         ≡ string_bytes text.old ++ node_front interface.now node) }
 {
@@ -76,24 +76,6 @@ fn push_lost(
     push_words(text, " ms\n")
 }
 
-#[tactic(auto, unfolding(crate::specs::StatsLines::emergency_line))]
-fn push_emergencies(
-    text: &mut String,
-    interface: &[u8],
-    node: u32,
-    tally: &Tally,
-) -> Result<(), AllocError>
-    ensures { OnOk result (string_bytes text.new
-        ≡ string_bytes text.old ++ emergency_line interface.now node tally.now) }
-{
-    push_node(text, interface, node)?;
-    push_words(text, " EMCY messages: ")?;
-    push_decimal(text, tally.frames)?;
-    push_words(text, ", the last at ")?;
-    push_seconds(text, tally.last)?;
-    push_words(text, "\n")
-}
-
 // what looks wrong with a node, by its heartbeats
 fn push_wrong_heartbeats(
     text: &mut String,
@@ -116,8 +98,8 @@ fn push_wrong_heartbeats(
     Ok(())
 }
 
-/// Appends what looks wrong with an identifier. `end` is the stamp of the bus's last frame, in
-/// microseconds; `cell` is scratch space.
+/// Appends what looks wrong with the heartbeats of an identifier. `end` is the stamp of the bus's
+/// last frame, in microseconds; `cell` is scratch space.
 #[tactic(auto, unfolding(crate::specs::StatsLines::wrong_in))]
 pub(crate) fn push_wrong_in(
     text: &mut String,
@@ -132,9 +114,6 @@ pub(crate) fn push_wrong_in(
     let id = row.can_id;
     if id > 0x700 && id < 0x780 {
         return push_wrong_heartbeats(text, cell, interface, end, id - 0x700, &row.tally);
-    }
-    if id > 0x80 && id < 0x100 {
-        return push_emergencies(text, interface, id - 0x80, &row.tally);
     }
     Ok(())
 }

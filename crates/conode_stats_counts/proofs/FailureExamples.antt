@@ -1,0 +1,84 @@
+-- SDO transfers that failed, evaluated.
+use Rattle.std.proofs.Common.{List, [], ◌∷◌, ◌≡◌, Some, None, true, false, refl}
+use Rattle.conode_explain_transfers.specs.declared.ended.Ending.TheVariants.{Aborted, Unanswered, Repeated, Interrupted, Done, Irregular, SizeDiffers, CrcDiffers}
+use Rattle.conode_explain_transfers.specs.declared.kinds.Side.TheVariants.{Client, Server}
+use Rattle.conode_record.specs.declared.content.Content.TheVariants.{Data, Remote}
+use Rattle.conode_record.specs.declared.fields.Identifier.TheVariants.{Base, Extended}
+use Rattle.conode_stats_counts.specs.declared.failure.Failure.{Failure}
+use Rattle.conode_stats_counts.specs.Failures.{cause_of, failure_by, failure_row, plain, same_cause}
+use Rattle.conode_stats_counts.specs.Groups.{grouped, keys_of, left_out}
+
+-- ---- what failed
+
+aborted_by_server : failure_by 5 40 (Aborted Server (record { 0 = 0x06020000 }))
+    ≡ Some (record { cause = record { node = 5; code = Some 0x06020000 }; micros = 40 })
+aborted_by_server = refl
+
+aborted_by_client : failure_by 5 40 (Aborted Client (record { 0 = 0x05040000 }))
+    ≡ Some (record { cause = record { node = 5; code = Some 0x05040000 }; micros = 40 })
+aborted_by_client = refl
+
+unanswered : failure_by 6 40 Unanswered ≡ Some (record { cause = record { node = 6; code = None }; micros = 40 })
+unanswered = refl
+
+repeated : failure_by 6 40 Repeated ≡ Some (record { cause = record { node = 6; code = None }; micros = 40 })
+repeated = refl
+
+done : failure_by 6 40 (Done true) ≡ None
+done = refl
+
+interrupted : failure_by 6 40 Interrupted ≡ None
+interrupted = refl
+
+irregular : failure_by 6 40 Irregular ≡ None
+irregular = refl
+
+other_size : failure_by 6 40 (SizeDiffers 3) ≡ None
+other_size = refl
+
+other_crc : failure_by 6 40 (CrcDiffers 3 4) ≡ None
+other_crc = refl
+
+-- ---- which frames have a channel
+
+data_frame : plain (Base 0x585) (Data (0x80 ∷ [])) ≡ Some (record { id = 0x585; bytes = 0x80 ∷ [] })
+data_frame = refl
+
+remote_frame : plain (Base 0x585) (Remote 8) ≡ None
+remote_frame = refl
+
+extended_frame : plain (Extended 0x585) (Data (0x80 ∷ [])) ≡ None
+extended_frame = refl
+
+-- ---- by node and code, the newest first
+
+other_node : same_cause (record { node = 5; code = None }) (record { node = 6; code = None }) ≡ false
+other_node = refl
+
+other_code : same_cause (record { node = 5; code = Some 1 }) (record { node = 5; code = Some 2 }) ≡ false
+other_code = refl
+
+no_code : same_cause (record { node = 5; code = Some 0 }) (record { node = 5; code = None }) ≡ false
+no_code = refl
+
+abbrev failures : List Failure
+failures =
+    record { cause = record { node = 5; code = Some 1 }; micros = 30 }
+    ∷ record { cause = record { node = 5; code = None }; micros = 20 }
+    ∷ record { cause = record { node = 5; code = Some 1 }; micros = 10 } ∷ []
+
+two_rows : grouped same_cause cause_of 2 failure_row failures
+    ≡ record { cause = record { node = 5; code = Some 1 }; count = 2; last = 30 }
+    ∷ record { cause = record { node = 5; code = None }; count = 1; last = 20 } ∷ []
+unfolding grouped keys_of
+two_rows = refl
+
+-- without room for a second
+one_row : grouped same_cause cause_of 1 failure_row failures
+    ≡ record { cause = record { node = 5; code = Some 1 }; count = 2; last = 30 } ∷ []
+unfolding grouped keys_of
+one_row = refl
+
+one_without : left_out same_cause cause_of 1 failures ≡ 1
+unfolding left_out keys_of
+one_without = refl

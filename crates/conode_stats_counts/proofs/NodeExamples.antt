@@ -1,0 +1,173 @@
+-- What nodes show, evaluated.
+use Rattle.std.proofs.Common.{ℕ, List, [], ◌∷◌, ◌≡◌, Some, refl}
+use Rattle.conode_record.specs.declared.content.Content.TheVariants.{Data, Remote}
+use Rattle.conode_record.specs.declared.fields.Identifier.TheVariants.{Base, Extended}
+use Rattle.conode_stats_counts.specs.declared.sign.Sign.TheVariants.{Reset, Shows, Other}
+use Rattle.conode_stats_counts.specs.declared.state.NmtState.TheVariants.{BootUp, PreOperational, Operational, Stopped, Unknown}
+use Rattle.conode_stats_counts.specs.Nodes.{log_with, sign_as, table}
+use Rattle.conode_stats_counts.specs.States.{NodeEvent, Commanded, Sent, boot_ups, is_commanded, last_restart, newest, restarts, state_of, time_in}
+
+-- ---- what a byte of error control shows (CiA 301, 7.2.8.3.2)
+
+boot_up_byte : state_of 0x00 ≡ BootUp
+boot_up_byte = refl
+
+stopped_byte : state_of 0x04 ≡ Stopped
+stopped_byte = refl
+
+operational_byte : state_of 0x05 ≡ Operational
+operational_byte = refl
+
+pre_operational_byte : state_of 0x7F ≡ PreOperational
+pre_operational_byte = refl
+
+-- with the toggle bit of node guarding
+toggled_stopped : state_of 0x84 ≡ Stopped
+toggled_stopped = refl
+
+toggled_pre_operational : state_of 0xFF ≡ PreOperational
+toggled_pre_operational = refl
+
+no_state : state_of 0x06 ≡ Unknown
+no_state = refl
+
+toggled_zero : state_of 0x80 ≡ Unknown
+toggled_zero = refl
+
+-- ---- what a frame shows
+
+reset_node : sign_as (Base 0x000) (Data (0x81 ∷ 5 ∷ [])) ≡ Reset 5
+reset_node = refl
+
+reset_communication : sign_as (Base 0x000) (Data (0x82 ∷ 0 ∷ [])) ≡ Reset 0
+reset_communication = refl
+
+last_node : sign_as (Base 0x000) (Data (0x81 ∷ 127 ∷ [])) ≡ Reset 127
+last_node = refl
+
+no_node : sign_as (Base 0x000) (Data (0x81 ∷ 128 ∷ [])) ≡ Other
+no_node = refl
+
+pre_operational_command : sign_as (Base 0x000) (Data (0x80 ∷ 5 ∷ [])) ≡ Other
+pre_operational_command = refl
+
+another_command : sign_as (Base 0x000) (Data (0x83 ∷ 5 ∷ [])) ≡ Other
+another_command = refl
+
+longer_command : sign_as (Base 0x000) (Data (0x81 ∷ 5 ∷ 0 ∷ [])) ≡ Other
+longer_command = refl
+
+first_control : sign_as (Base 0x701) (Data (0x05 ∷ [])) ≡ Shows 1 Operational
+first_control = refl
+
+last_control : sign_as (Base 0x77F) (Data (0x00 ∷ [])) ≡ Shows 127 BootUp
+last_control = refl
+
+before_control : sign_as (Base 0x700) (Data (0x05 ∷ [])) ≡ Other
+before_control = refl
+
+after_control : sign_as (Base 0x780) (Data (0x05 ∷ [])) ≡ Other
+after_control = refl
+
+longer_control : sign_as (Base 0x705) (Data (0x05 ∷ 0x00 ∷ [])) ≡ Other
+longer_control = refl
+
+guarding_request : sign_as (Base 0x705) (Remote 1) ≡ Other
+guarding_request = refl
+
+extended_control : sign_as (Extended 0x705) (Data (0x05 ∷ [])) ≡ Other
+extended_control = refl
+
+-- ---- to which nodes it matters
+
+to_all : log_with 6 (Reset 0) 10 [] ≡ Commanded ∷ []
+to_all = refl
+
+to_it : log_with 6 (Reset 6) 10 [] ≡ Commanded ∷ []
+to_it = refl
+
+to_another : log_with 6 (Reset 7) 10 [] ≡ []
+to_another = refl
+
+of_another : log_with 6 (Shows 7 BootUp) 10 [] ≡ []
+of_another = refl
+
+-- ---- times and restarts, the newest first
+
+-- 20 µs after the boot-up message, 100 + 130 operational, 0 where a stamp steps back, 50 pre-operational
+abbrev session : List NodeEvent
+session = Sent Stopped 330 ∷ Sent PreOperational 280 ∷ Sent Operational 290 ∷ Sent Operational 160 ∷ Commanded ∷ Sent Operational 60 ∷ Sent BootUp 40 ∷ []
+
+operational_time : time_in Operational session ≡ 230
+unfolding time_in newest
+operational_time = refl
+
+pre_operational_time : time_in PreOperational session ≡ 50
+unfolding time_in newest
+pre_operational_time = refl
+
+boot_up_time : time_in BootUp session ≡ 20
+unfolding time_in newest
+boot_up_time = refl
+
+-- after frames with a number that no state has, 30 and 10 µs
+unknown_time : time_in Unknown (Sent Operational 90 ∷ Sent Unknown 80 ∷ Sent Operational 70 ∷ Sent Unknown 40 ∷ []) ≡ 40
+unfolding time_in newest
+unknown_time = refl
+
+-- after the last frame no time is counted
+stopped_time : time_in Stopped session ≡ 0
+unfolding time_in newest
+stopped_time = refl
+
+newest_of_session : newest (Commanded ∷ session) ≡ Some (record { state = Stopped; micros = 330 })
+unfolding newest
+newest_of_session = refl
+
+-- the first frame of a recording is no restart
+first_boot : restarts (Sent BootUp 40 ∷ []) ≡ 0
+unfolding restarts newest is_commanded
+first_boot = refl
+
+-- nor is a boot-up after a command, with a heartbeat between them that was on its way
+commanded_boot : restarts (Sent BootUp 40 ∷ Sent Operational 30 ∷ Commanded ∷ Sent Operational 20 ∷ []) ≡ 0
+unfolding restarts newest is_commanded
+commanded_boot = refl
+
+-- nor are those after a command before the first frame
+early_command : restarts (Sent BootUp 40 ∷ Sent Operational 30 ∷ Commanded ∷ []) ≡ 0
+unfolding restarts newest is_commanded
+early_command = refl
+
+-- one command is for one boot-up
+second_boot : restarts (Sent BootUp 50 ∷ Sent BootUp 40 ∷ Commanded ∷ Sent Operational 20 ∷ []) ≡ 1
+unfolding restarts newest is_commanded
+second_boot = refl
+
+-- a boot-up in the middle of a recording
+restarted : restarts (Sent Operational 60 ∷ Sent BootUp 40 ∷ Sent Operational 20 ∷ []) ≡ 1
+unfolding restarts newest is_commanded
+restarted = refl
+
+restarted_at : last_restart (Sent Operational 60 ∷ Sent BootUp 40 ∷ Sent Operational 20 ∷ []) ≡ 40
+unfolding last_restart newest is_commanded
+restarted_at = refl
+
+-- the newer of two
+restarted_again_at : last_restart (Sent BootUp 70 ∷ Sent Operational 60 ∷ Sent BootUp 40 ∷ Sent Operational 20 ∷ []) ≡ 70
+unfolding last_restart newest is_commanded
+restarted_again_at = refl
+
+booted_twice : boot_ups (Sent Operational 60 ∷ Sent BootUp 40 ∷ Commanded ∷ Sent BootUp 20 ∷ []) ≡ 2
+unfolding boot_ups
+booted_twice = refl
+
+-- ---- tables
+
+three : table {A = ℕ} (λ n. 10) 5 3 ≡ 10 ∷ 10 ∷ 10 ∷ []
+unfolding table
+three = refl
+
+from_five : table {A = ℕ} (λ n. n) 5 3 ≡ 5 ∷ 6 ∷ 7 ∷ []
+unfolding table
+from_five = refl

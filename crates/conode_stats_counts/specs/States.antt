@@ -1,0 +1,147 @@
+-- What a node shows of its NMT state (CiA 301, 7.2.8.3.2): the newest first, its frames of error
+-- control and the commands to reset it.
+use Rattle.std.specs.Prelude.{ℕ, ◌+◌, ◌-◌, ◌%◌, ◌==◌, Bool, true, false, not, ◌&&◌, if◌then◌else◌, List, [], ◌∷◌, Option, Some, None, is_some}
+use Rattle.conode_stats_counts.specs.declared.node.Node.{Node}
+use Rattle.conode_stats_counts.specs.declared.node.Shown.{Shown}
+use Rattle.conode_stats_counts.specs.declared.state.NmtState.{NmtState}
+use Rattle.conode_stats_counts.specs.declared.state.NmtState.TheVariants.{BootUp, PreOperational, Operational, Stopped, Unknown}
+use Rattle.conode_stats_counts.specs.declared.state.StateTimes.{StateTimes}
+use Rattle.conode_stats_counts.specs.Gaps.{counted}
+
+-- ---- states
+
+-- by its number; bit 7 of the byte is the toggle bit of node guarding
+abbrev pub numbered : ℕ → NmtState
+numbered number =
+    if number == 4 then Stopped else (if number == 5 then Operational else (if number == 127 then PreOperational else Unknown))
+
+-- the state that a byte shows; 0 is the boot-up message
+abbrev pub state_of : ℕ → NmtState
+state_of byte = if byte == 0 then BootUp else numbered (byte % 128)
+
+abbrev pub same_state : NmtState → NmtState → Bool
+same_state BootUp BootUp = true
+same_state PreOperational PreOperational = true
+same_state Operational Operational = true
+same_state Stopped Stopped = true
+same_state Unknown Unknown = true
+same_state _ _ = false
+
+-- ---- what happens to a node
+
+pub data NodeEvent : Type 0 where
+  -- a command to reset the node, or all nodes, or their communication
+  Commanded : NodeEvent
+  -- a frame of error control that shows a state, with its stamp
+  Sent : NmtState → ℕ → NodeEvent
+
+-- its newest frame
+unfoldable pub newest : List NodeEvent → Option Shown
+newest [] = None
+newest (Commanded ∷ older) = newest older
+newest (Sent state micros ∷ older) = Some (record { state = state; micros = micros })
+
+-- ---- times
+
+abbrev pub gap_if : Bool → ℕ → ℕ
+gap_if true gap = gap
+gap_if false gap = 0
+
+-- the time since a frame, if it shows this state; none where the stamp steps back
+abbrev pub time_since : NmtState → Option Shown → ℕ → ℕ
+time_since state None micros = 0
+time_since state (Some before) micros = gap_if (same_state before.state state) (micros - before.micros)
+
+-- the time in a state: after each frame that shows it, up to the next one
+unfoldable pub time_in : NmtState → List NodeEvent → ℕ
+time_in state [] = 0
+time_in state (Commanded ∷ older) = time_in state older
+time_in state (Sent other micros ∷ older) = time_since state (newest older) micros + time_in state older
+
+abbrev pub times_of : List NodeEvent → StateTimes
+times_of log = record {
+  boot_up = counted (time_in BootUp log);
+  pre_operational = counted (time_in PreOperational log);
+  operational = counted (time_in Operational log);
+  stopped = counted (time_in Stopped log);
+  unknown = counted (time_in Unknown log);
+}
+
+-- ---- boot-ups
+
+unfoldable pub boot_ups : List NodeEvent → ℕ
+boot_ups [] = 0
+boot_ups (Commanded ∷ older) = boot_ups older
+boot_ups (Sent state micros ∷ older) = (if same_state state BootUp then 1 else 0) + boot_ups older
+
+-- whether a command to reset came since the last boot-up
+unfoldable pub is_commanded : List NodeEvent → Bool
+is_commanded [] = false
+is_commanded (Commanded ∷ older) = true
+is_commanded (Sent state micros ∷ older) = if same_state state BootUp then false else is_commanded older
+
+-- whether a frame that shows this state is a restart without a command: a boot-up of a node that
+-- sent another frame before, and for which no command came since the boot-up before
+abbrev pub is_restart : NmtState → List NodeEvent → Bool
+is_restart state older = same_state state BootUp && (is_some (newest older) && not (is_commanded older))
+
+unfoldable pub restarts : List NodeEvent → ℕ
+restarts [] = 0
+restarts (Commanded ∷ older) = restarts older
+restarts (Sent state micros ∷ older) = (if is_restart state older then 1 else 0) + restarts older
+
+-- the stamp of the last of them, 0 where there is none
+unfoldable pub last_restart : List NodeEvent → ℕ
+last_restart [] = 0
+last_restart (Commanded ∷ older) = last_restart older
+last_restart (Sent state micros ∷ older) = if is_restart state older then micros else last_restart older
+
+-- ---- the whole
+
+unfoldable pub node_of : List NodeEvent → Node
+node_of log = record {
+  last = newest log;
+  boot_ups = counted (boot_ups log);
+  restarts = counted (restarts log);
+  last_restart = last_restart log;
+  is_commanded = is_commanded log;
+  times = times_of log;
+}
+
+-- ---- one event more, as it is counted
+
+abbrev pub times_with : NmtState → ℕ → StateTimes → StateTimes
+times_with BootUp gap times = record times { boot_up = counted (times.boot_up + gap) }
+times_with PreOperational gap times = record times { pre_operational = counted (times.pre_operational + gap) }
+times_with Operational gap times = record times { operational = counted (times.operational + gap) }
+times_with Stopped gap times = record times { stopped = counted (times.stopped + gap) }
+times_with Unknown gap times = record times { unknown = counted (times.unknown + gap) }
+
+abbrev pub times_since : Option Shown → ℕ → StateTimes → StateTimes
+times_since None micros times = times
+times_since (Some before) micros times = times_with before.state (micros - before.micros) times
+
+-- a boot-up
+abbrev pub booted : ℕ → Node → Node
+booted micros node =
+    if is_some node.last && not node.is_commanded
+    then record node {
+      boot_ups = counted (node.boot_ups + 1);
+      restarts = counted (node.restarts + 1);
+      last_restart = micros;
+      is_commanded = false;
+    }
+    else record node { boot_ups = counted (node.boot_ups + 1); is_commanded = false }
+
+abbrev pub booted_if : Bool → ℕ → Node → Node
+booted_if true micros node = booted micros node
+booted_if false micros node = node
+
+unfoldable pub node_with : NmtState → ℕ → Node → Node
+node_with state micros node = record (booted_if (same_state state BootUp) micros node) {
+  last = Some (record { state = state; micros = micros });
+  times = times_since node.last micros node.times;
+}
+
+unfoldable pub node_commanded : Node → Node
+node_commanded node = record node { is_commanded = true }

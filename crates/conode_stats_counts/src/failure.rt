@@ -1,0 +1,163 @@
+//! SDO transfers that failed, by node and abort code, and EMCY messages, by node and error code.
+
+ghost use Rattle.std.specs.Prelude.{◌≡◌, ◌<◌, ◌+◌, length, position, OnOk, IfOk, IfSome};
+ghost use Rattle.conode_stats_counts.specs.Failures.{
+  failure_added,
+  failure_by,
+  failure_in,
+  failure_of,
+  is_failure,
+  more_left_out,
+  new_failure,
+  rows_with,
+  same_cause,
+  same_code,
+};
+
+use crate::tally::counted;
+use conode_explain_channels::Told;
+use conode_explain_transfers::{Ended, Ending};
+use std::alloc::AllocError;
+
+/// The most nodes and codes counted on a bus.
+const MOST_FAILURES: usize = 256;
+
+/// Whose transfers failed, and why; or who sent EMCY messages, and why.
+#[derive(Clone, Copy)]
+pub struct Cause {
+    /// The node-ID of the server, or of the sender.
+    pub node: u8,
+    /// The code of the abort; `None`: the client awaited an answer, and began another transfer. Of
+    /// an EMCY message its error code; `None`: it is too short for one.
+    pub code: Option<u32>,
+}
+
+/// A transfer that failed, or an EMCY message.
+#[derive(Clone, Copy)]
+pub(crate) struct Failure {
+    /// Whose it is, and why.
+    pub(crate) cause: Cause,
+    /// The stamp of its end, or of the message, in microseconds.
+    pub(crate) micros: u64,
+}
+
+/// The transfers of one node that failed in one way, or its EMCY messages with one code. Counts
+/// saturate at 2^64 - 1.
+#[derive(Clone, Copy)]
+pub struct FailureRow {
+    /// Whose they are, and why.
+    pub cause: Cause,
+    /// How many there are.
+    pub count: u64,
+    /// The stamp at which the last of them ended, or came, in microseconds.
+    pub last: u64,
+}
+
+fn same_code(a: Option<u32>, b: Option<u32>) -> bool
+    ensures { result ≡ same_code a b }
+{
+    match (a, b) {
+        (None, None) => true,
+        (Some(a), Some(b)) => a == b,
+        _ => false,
+    }
+}
+
+impl Failure {
+    // a transfer with a node that ended like this
+    fn by(node: u8, micros: u64, ending: Ending) -> Option<Failure>
+        ensures { result ≡ failure_by node micros ending }
+    {
+        let code = match ending {
+            Ending::Aborted { by: _by, code } => Some(code.0),
+            Ending::Unanswered | Ending::Repeated => None,
+            _ => return None,
+        };
+        Some(Failure {
+            cause: Cause { node, code },
+            micros,
+        })
+    }
+
+    fn in_transfer(node: u8, ended: &Option<Ended>) -> Option<Failure>
+        ensures { result ≡ failure_in node ended.now }
+    {
+        match ended {
+            Some(ended) => Failure::by(node, ended.end, ended.ending),
+            None => None,
+        }
+    }
+
+    /// The failure that channels tell of, if it is one.
+    pub(crate) fn of(told: &Option<Told>) -> Option<Failure>
+        ensures { result ≡ failure_of told.now }
+    {
+        match told {
+            Some(told) => Failure::in_transfer(told.node, &told.ended),
+            None => None,
+        }
+    }
+}
+
+impl FailureRow {
+    fn new(cause: Cause) -> FailureRow
+        ensures { result ≡ new_failure cause }
+    {
+        FailureRow {
+            cause,
+            count: 0,
+            last: 0,
+        }
+    }
+
+    fn is_of(&self, cause: Cause) -> bool
+        ensures { result ≡ is_failure cause self.now }
+    {
+        self.cause.node == cause.node && same_code(self.cause.code, cause.code)
+    }
+
+    fn add(&mut self, micros: u64)
+        ensures { self.new ≡ failure_added micros self.old }
+    {
+        self.count = counted(self.count, 1);
+        self.last = micros;
+    }
+}
+
+// the place of the row of a cause
+fn place_of(rows: &[FailureRow], cause: Cause) -> Option<usize>
+    ensures place { result ≡ position (is_failure cause) rows.now }
+    ensures within { IfSome result (λ place. place < length rows.now) }
+{
+    rows.iter().position(|row| row.is_of(cause))
+}
+
+/// Adds a failure, if there is one, to the row of its cause, a new one if there is none. Returns 1
+/// if there is no room for a new row, else 0. `Err`: out of memory.
+#[tactic(auto, unfolding(crate::specs::Groups::group_with, crate::specs::Groups::no_room))]
+pub(crate) fn add_failure(
+    rows: &mut Vec<FailureRow>,
+    failure: Option<Failure>,
+) -> Result<u64, AllocError>
+    ensures rows { OnOk result (rows.new.items ≡ rows_with failure rows.old.items) }
+    ensures left_out { IfOk result (λ count. count ≡ more_left_out failure rows.old.items) }
+{
+    let Some(failure) = failure else {
+        return Ok(0);
+    };
+    match place_of(rows.as_slice(), failure.cause) {
+        Some(place) => {
+            rows[place].add(failure.micros);
+            Ok(0)
+        }
+        None => {
+            if rows.len() >= MOST_FAILURES {
+                return Ok(1);
+            }
+            let mut row = FailureRow::new(failure.cause);
+            row.add(failure.micros);
+            rows.push(row)?;
+            Ok(0)
+        }
+    }
+}

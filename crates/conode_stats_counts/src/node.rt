@@ -1,0 +1,102 @@
+//! What a node shows of its state, counted.
+
+ghost use Rattle.std.specs.Prelude.{◌≡◌, [], ◌+◌, ◌-◌};
+ghost use Rattle.conode_stats_counts.specs.States.{
+  booted,
+  node_commanded,
+  node_of,
+  node_with,
+  times_since,
+};
+
+use crate::state::{NmtState, StateTimes};
+use crate::tally::counted;
+
+/// A frame of error control: a boot-up message, a heartbeat or a guarding answer (CiA 301,
+/// 7.2.8.3.2, 7.2.8.3.3).
+#[derive(Clone, Copy)]
+pub struct Shown {
+    /// The state that it shows.
+    pub state: NmtState,
+    /// Its stamp, in microseconds.
+    pub micros: u64,
+}
+
+/// What a node shows by its frames of error control. Counts and sums saturate at 2^64 - 1.
+#[derive(Clone, Copy)]
+pub struct Node {
+    /// The newest of these frames; `None` if there is none.
+    pub last: Option<Shown>,
+    /// How many of them are boot-ups.
+    pub boot_ups: u64,
+    /// How many boot-ups are restarts without a command: the node sent another frame before, and
+    /// since its boot-up before no command came to reset it.
+    pub restarts: u64,
+    /// The stamp of the last restart without a command, in microseconds; 0 if there is none.
+    pub last_restart: u64,
+    /// Whether a command to reset the node, or all, came since its last boot-up.
+    pub is_commanded: bool,
+    /// The time in each state.
+    pub times: StateTimes,
+}
+
+impl Node {
+    /// A node that sent nothing.
+    #[tactic(auto, unfolding(crate::specs::States::node_of, crate::specs::States::newest, crate::specs::States::boot_ups, crate::specs::States::restarts, crate::specs::States::last_restart, crate::specs::States::is_commanded))]
+    pub(crate) fn new() -> Node
+        ensures { result ≡ node_of [] }
+    {
+        Node {
+            last: None,
+            boot_ups: 0,
+            restarts: 0,
+            last_restart: 0,
+            is_commanded: false,
+            times: StateTimes::new(),
+        }
+    }
+
+    /// Notes a command to reset the node.
+    #[tactic(auto, unfolding(crate::specs::States::node_commanded))]
+    pub(crate) fn command(&mut self)
+        ensures { self.new ≡ node_commanded self.old }
+    {
+        self.is_commanded = true;
+    }
+
+    // counts a boot-up
+    fn boot(&mut self, micros: u64)
+        ensures { self.new ≡ booted micros self.old }
+    {
+        if self.last.is_some() && !self.is_commanded {
+            self.restarts = counted(self.restarts, 1);
+            self.last_restart = micros;
+        }
+        self.boot_ups = counted(self.boot_ups, 1);
+        self.is_commanded = false;
+    }
+
+    // adds the time since the frame before
+    fn pass(&mut self, micros: u64)
+        ensures { self.new ≡ record self.old {
+          times = times_since self.old.last micros self.old.times;
+        } }
+    {
+        if let Some(last) = self.last {
+            self.times
+                .add(last.state, micros.saturating_sub(last.micros));
+        }
+    }
+
+    /// Counts a frame of error control.
+    #[tactic(auto, unfolding(crate::specs::States::node_with))]
+    pub(crate) fn show(&mut self, state: NmtState, micros: u64)
+        ensures { self.new ≡ node_with state micros self.old }
+    {
+        self.pass(micros);
+        if let NmtState::BootUp = state {
+            self.boot(micros);
+        }
+        self.last = Some(Shown { state, micros });
+    }
+}

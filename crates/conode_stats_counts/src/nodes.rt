@@ -1,0 +1,65 @@
+//! The nodes of a bus, by node-ID.
+
+ghost use Rattle.std.specs.Prelude.{◌≡◌, [], map, IfOk};
+ghost use Rattle.conode_stats_counts.specs.Nodes.{changed_at, nodes_of, nodes_with};
+ghost use Rattle.conode_stats_counts.specs.States.{node_commanded, node_with};
+
+use crate::node::Node;
+use crate::sign::Sign;
+use crate::state::NmtState;
+use std::alloc::{AllocError, Global};
+
+/// Node-IDs are below this number; 0 is none.
+const MOST_NODES: usize = 128;
+
+/// Nodes that sent nothing. `Err`: out of memory.
+#[tactic(auto, using(crate::proofs::Noded::none))]
+pub(crate) fn new_nodes(alloc: Global) -> Result<Vec<Node>, AllocError>
+    ensures { IfOk result (λ nodes. nodes.items ≡ nodes_of []) }
+{
+    let node = Node::new();
+    Ok(vec![in alloc; node; MOST_NODES]?)
+}
+
+// notes a command to reset all nodes
+#[tactic(auto, using(crate::proofs::Changes::done_more, crate::proofs::Changes::all_done))]
+fn command_all(nodes: &mut [Node])
+    ensures { nodes.new ≡ map node_commanded nodes.old }
+{
+    for node in nodes.iter_mut() {
+        node.command();
+    }
+}
+
+// notes a command to reset a node
+fn command_one(nodes: &mut [Node], node: u8)
+    ensures { nodes.new ≡ changed_at node node_commanded nodes.old }
+{
+    let place = usize::from(node);
+    if place < nodes.len() {
+        nodes[place].command();
+    }
+}
+
+// counts a node's frame of error control
+fn show_one(nodes: &mut [Node], node: u8, state: NmtState, micros: u64)
+    ensures { nodes.new ≡ changed_at node (node_with state micros) nodes.old }
+{
+    let place = usize::from(node);
+    if place < nodes.len() {
+        nodes[place].show(state, micros);
+    }
+}
+
+/// Counts a frame that shows this.
+#[tactic(auto, unfolding(crate::specs::Nodes::nodes_with))]
+pub(crate) fn show_sign(nodes: &mut [Node], sign: Sign, micros: u64)
+    ensures { nodes.new ≡ nodes_with sign micros nodes.old }
+{
+    match sign {
+        Sign::Reset(0) => command_all(nodes),
+        Sign::Reset(node) => command_one(nodes, node),
+        Sign::Shows(node, state) => show_one(nodes, node, state, micros),
+        Sign::Other => {}
+    }
+}

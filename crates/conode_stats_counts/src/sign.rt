@@ -1,0 +1,75 @@
+//! What a frame shows of nodes.
+
+ghost use Rattle.std.specs.Prelude.{◌≡◌, ◌==◌, ◌||◌};
+ghost use Rattle.conode_stats_counts.specs.Nodes.{command_in, control_in, sign_as, sign_in};
+
+use crate::state::NmtState;
+use co_value::PackedBytes;
+use conode_record::{Content, Identifier};
+
+/// What a frame is to the nodes of its bus.
+#[derive(Clone, Copy)]
+pub(crate) enum Sign {
+    /// A command to reset a node or its communication (NMT, cs = 129, 130); of all nodes: 0.
+    Reset(u8),
+    /// A node's frame of error control shows this state.
+    Shows(u8, NmtState),
+    /// None of these.
+    Other,
+}
+
+/// The command specifiers of reset node and of reset communication (CiA 301, 7.2.8.3.1).
+const RESET_NODE: u8 = 129;
+
+const RESET_COMMUNICATION: u8 = 130;
+
+fn is_reset(command: u8) -> bool
+    ensures { result ≡ ((command == 129) || (command == 130)) }
+{
+    command == RESET_NODE || command == RESET_COMMUNICATION
+}
+
+// a frame with the identifier of NMT commands
+fn command_in(bytes: &[u8]) -> Sign
+    ensures { result ≡ command_in bytes.now }
+{
+    match bytes {
+        [command, node] if is_reset(*command) && *node < 128 => Sign::Reset(*node),
+        _ => Sign::Other,
+    }
+}
+
+// a frame with a node's identifier of error control
+fn control_in(node: u8, bytes: &[u8]) -> Sign
+    ensures { result ≡ control_in node bytes.now }
+{
+    match bytes {
+        [byte] => Sign::Shows(node, NmtState::of(*byte)),
+        _ => Sign::Other,
+    }
+}
+
+// a frame with data, by its identifier
+fn sign_in(id: u16, bytes: &PackedBytes) -> Sign
+    ensures { result ≡ sign_in id bytes.now }
+{
+    if id == 0 {
+        return command_in(bytes.to_list().as_slice());
+    }
+    if 0x700 < id && id < 0x780 {
+        return control_in((id - 0x700) as u8, bytes.to_list().as_slice());
+    }
+    Sign::Other
+}
+
+impl Sign {
+    /// What a frame with this identifier and content shows.
+    pub(crate) fn of(id: Identifier, content: &Content) -> Sign
+        ensures { result ≡ sign_as id content.now }
+    {
+        match (id, content) {
+            (Identifier::Base(id), Content::Data(data)) => sign_in(id, data),
+            _ => Sign::Other,
+        }
+    }
+}

@@ -1,0 +1,85 @@
+-- The lines and the JSON of nodes, evaluated.
+use Rattle.std.proofs.Common.{ℕ, [], ◌∷◌, ◌++◌, ◌≡◌, Some, None, false, refl}
+use Rattle.std.specs.Prelude.{codes}
+use Rattle.std.specs.Fmt.{digits}
+use Rattle.json.specs.Token.{begin_object, end_object, key, number, string}
+use Rattle.co_text.specs.Printed.{digits_text}
+use Rattle.conode_stats_counts.specs.declared.node.Node.{Node}
+use Rattle.conode_stats_counts.specs.declared.node.Shown.{Shown}
+use Rattle.conode_stats_counts.specs.declared.state.NmtState.TheVariants.{Stopped}
+use Rattle.conode_stats_counts.specs.declared.state.StateTimes.{StateTimes}
+use Rattle.conode_stats_text.specs.Cells.{seconds, thousandths}
+use Rattle.conode_stats_text.specs.NodeLines.{millis_of, node_in, node_line, restart_line, restarts_in, time_cells}
+use Rattle.conode_stats_text.specs.NodeTokens.{count_members, node_tokens, state_members, time_members, times_tokens, tokens_in}
+use Rattle.conode_stats_text.specs.StatsTokens.{number_member, text_member}
+
+-- five different times
+abbrev times : StateTimes
+times = record { boot_up = 1999; pre_operational = 2000000; operational = 30000000; stopped = 400; unknown = 5000 }
+
+abbrev last : Shown
+last = record { state = Stopped; micros = 40000000 }
+
+abbrev node : ℕ → Node
+node restarts = record { last = Some last; boot_ups = 3; restarts = restarts; last_restart = 1130000; is_commanded = false; times = times }
+
+-- ---- what looks wrong
+
+two_restarts : restarts_in (codes "can0") 6 (node 2) ≡ codes "  can0: node 6 restarts without a reset command: 2, the last at 1.130000\n"
+unfolding restart_line seconds digits_text digits
+two_restarts = refl
+
+no_restart : restarts_in (codes "can0") 6 (node 0) ≡ []
+no_restart = refl
+
+-- ---- the table
+
+row : node_in (codes "can0") 41000000 127 (node 2) (Some last)
+    ≡ codes "can0                  127            3           2        0.001              2.000         30.000        0.000        0.005  stopped\n"
+unfolding node_line time_cells thousandths digits_text digits
+row = refl
+
+no_row : node_in (codes "can0") 41000000 127 (node 2) None ≡ []
+no_row = refl
+
+-- by the stamp of the bus's last frame, and not by that of the node's
+with_stamps : millis_of 1 1999 ≡ Some 1
+with_stamps = refl
+
+without_stamps : millis_of 0 0 ≡ None
+without_stamps = refl
+
+-- ---- JSON
+
+five_times : time_members times
+    ≡ key (codes "bootUp") ∷ number (codes "1999") ∷ key (codes "preOperational") ∷ number (codes "2000000")
+    ∷ key (codes "operational") ∷ number (codes "30000000") ∷ key (codes "stopped") ∷ number (codes "400")
+    ∷ key (codes "unknown") ∷ number (codes "5000") ∷ []
+unfolding time_members number_member digits
+five_times = refl
+
+counts : count_members 6 (node 2)
+    ≡ key (codes "node") ∷ number (codes "6") ∷ key (codes "bootUps") ∷ number (codes "3")
+    ∷ key (codes "restartsWithoutCommand") ∷ number (codes "2") ∷ key (codes "lastRestart") ∷ number (codes "1130000") ∷ []
+unfolding count_members number_member digits
+counts = refl
+
+-- without a restart there is no stamp of the last one
+counts_without : count_members 6 (node 0)
+    ≡ key (codes "node") ∷ number (codes "6") ∷ key (codes "bootUps") ∷ number (codes "3")
+    ∷ key (codes "restartsWithoutCommand") ∷ number (codes "0") ∷ []
+unfolding count_members number_member digits
+counts_without = refl
+
+state : state_members last ≡ key (codes "state") ∷ string (codes "stopped") ∷ key (codes "last") ∷ number (codes "40000000") ∷ []
+unfolding state_members number_member text_member digits
+state = refl
+
+object : tokens_in 6 (node 2) (Some last)
+    ≡ (begin_object ∷ []) ++ count_members 6 (node 2) ++ state_members last
+    ++ ((key (codes "times") ∷ begin_object ∷ []) ++ time_members times ++ end_object ∷ []) ++ end_object ∷ []
+unfolding node_tokens times_tokens
+object = refl
+
+no_object : tokens_in 6 (node 2) None ≡ []
+no_object = refl

@@ -1,0 +1,43 @@
+-- SDO transfers that failed, or are open, and EMCY messages, in JSON. Stamps are in microseconds.
+use Rattle.std.specs.Prelude.{ℕ, ◌%◌, if◌then◌else◌, List, [], ◌∷◌, ◌++◌, codes, Option, Some, None}
+use Rattle.json.specs.Token.{Token, begin_object, end_object}
+use Rattle.co_text.specs.Printed.{digits_text}
+use Rattle.co_value.specs.declared.key.Key.{Key}
+use Rattle.conode_explain_transfers.specs.declared.ended.Ended.{Ended}
+use Rattle.conode_stats_counts.specs.declared.failure.FailureRow.{FailureRow}
+use Rattle.conode_stats_text.specs.FailureLines.{is_waiting}
+use Rattle.conode_stats_text.specs.StatsTokens.{number_member, text_member}
+
+-- the code of an abort
+abbrev pub code_members : Option ℕ → List Token
+code_members None = []
+code_members (Some code) = text_member (codes "abortCode") (digits_text 16 8 code)
+
+unfoldable pub failure_tokens : FailureRow → List Token
+failure_tokens row =
+    (begin_object ∷ []) ++ number_member (codes "node") row.cause.node ++ code_members row.cause.code
+    ++ number_member (codes "count") row.count ++ number_member (codes "last") row.last ++ end_object ∷ []
+
+-- the error code of EMCY messages
+abbrev pub error_members : Option ℕ → List Token
+error_members None = []
+error_members (Some code) = text_member (codes "errorCode") (digits_text 16 4 (code % 65536))
+
+unfoldable pub emergency_tokens : FailureRow → List Token
+emergency_tokens row =
+    (begin_object ∷ []) ++ number_member (codes "node") row.cause.node ++ error_members row.cause.code
+    ++ number_member (codes "count") row.count ++ number_member (codes "last") row.last ++ end_object ∷ []
+
+unfoldable pub key_members : Key → List Token
+key_members key = number_member (codes "index") key.index ++ number_member (codes "subIndex") key.sub
+
+-- a transfer that is open at the end
+unfoldable pub open_tokens : ℕ → Ended → List Token
+open_tokens node transfer =
+    (begin_object ∷ []) ++ number_member (codes "node") node ++ key_members transfer.key
+    ++ number_member (codes "since") transfer.newest ++ end_object ∷ []
+
+-- nothing of one with a frame in the last second
+abbrev pub open_tokens_in : ℕ → ℕ → Option Ended → List Token
+open_tokens_in node end None = []
+open_tokens_in node end (Some transfer) = if is_waiting end transfer then open_tokens node transfer else []

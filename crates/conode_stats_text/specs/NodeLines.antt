@@ -1,0 +1,54 @@
+-- The lines of the page about nodes.
+use Rattle.std.specs.Prelude.{ℕ, ◌/◌, ◌==◌, if◌then◌else◌, List, [], ◌++◌, codes, decimal, Option, Some, None}
+use Rattle.conode_stats_counts.specs.declared.node.Node.{Node}
+use Rattle.conode_stats_counts.specs.declared.node.Shown.{Shown}
+use Rattle.conode_stats_counts.specs.declared.state.NmtState.{NmtState}
+use Rattle.conode_stats_counts.specs.declared.state.NmtState.TheVariants.{BootUp, PreOperational, Operational, Stopped, Unknown}
+use Rattle.conode_stats_counts.specs.declared.state.StateTimes.{StateTimes}
+use Rattle.conode_stats_text.specs.Cells.{left, name_text, or_none, right, seconds, thousandths}
+use Rattle.conode_stats_text.specs.StatsLines.{node_front}
+
+-- the words of a state
+abbrev pub state_word : NmtState → List ℕ
+state_word BootUp = codes "boot-up"
+state_word PreOperational = codes "pre-operational"
+state_word Operational = codes "operational"
+state_word Stopped = codes "stopped"
+state_word Unknown = codes "unknown"
+
+-- ---- what looks wrong
+
+unfoldable pub restart_line : List ℕ → ℕ → Node → List ℕ
+restart_line interface number node =
+    node_front interface number ++ codes " restarts without a reset command: " ++ decimal node.restarts ++ codes ", the last at " ++ seconds node.last_restart ++ codes "\n"
+
+-- nothing of a node without such restarts
+abbrev pub restarts_in : List ℕ → ℕ → Node → List ℕ
+restarts_in interface number node = if node.restarts == 0 then [] else restart_line interface number node
+
+-- ---- the table of nodes
+
+-- a time in milliseconds, for seconds with three decimals; none in a log without stamps, where that
+-- of the bus's last frame is 0
+abbrev pub millis_of : ℕ → ℕ → Option ℕ
+millis_of end micros = if end == 0 then None else Some (micros / 1000)
+
+-- the cell of a time in a column of this width
+abbrev pub time_cell : ℕ → ℕ → ℕ → List ℕ
+time_cell end width micros = right width (or_none thousandths (millis_of end micros))
+
+unfoldable pub time_cells : ℕ → StateTimes → List ℕ
+time_cells end times =
+    time_cell end 13 times.boot_up ++ time_cell end 19 times.pre_operational ++ time_cell end 15 times.operational
+    ++ time_cell end 13 times.stopped ++ time_cell end 13 times.unknown
+
+-- the line of a node whose newest frame is this one, on an interface whose last frame has a stamp
+unfoldable pub node_line : List ℕ → ℕ → ℕ → Node → Shown → List ℕ
+node_line interface end number node last =
+    left 15 (name_text interface) ++ codes "  " ++ right 8 (decimal number) ++ right 13 (decimal node.boot_ups) ++ right 12 (decimal node.restarts)
+    ++ time_cells end node.times ++ codes "  " ++ state_word last.state ++ codes "\n"
+
+-- nothing of a node without a frame of error control
+abbrev pub node_in : List ℕ → ℕ → ℕ → Node → Option Shown → List ℕ
+node_in interface end number node None = []
+node_in interface end number node (Some last) = node_line interface end number node last
