@@ -1,12 +1,12 @@
 -- Signals, their values and the lines, evaluated on both sides of each edge.
-use Rattle.std.proofs.Common.{◌≡◌, ℕ, true, false, List, [], ◌∷◌, Option, Some, None, Ok, Err, map, refl}
+use Rattle.std.proofs.Common.{◌≡◌, ℕ, true, false, List, [], ◌∷◌, Option, Some, None, Ok, Err, map, option_and_then, refl}
 use Rattle.std.specs.Prelude.{codes}
 use Rattle.std.specs.Fmt.{digits}
 use Rattle.std.specs.Str.{is_utf8, chars}
 use lib.Utf8.{encode}
 use Rattle.co_text.specs.Printed.{digits_text}
 use Rattle.co_value.specs.declared.data_type.DataType.{DataType}
-use Rattle.co_value.specs.declared.data_type.DataType.TheVariants.{Boolean, Integer16, Unsigned8, Unsigned32, VisibleString}
+use Rattle.co_value.specs.declared.data_type.DataType.TheVariants.{Boolean, Integer8, Integer16, Unsigned8, Unsigned32, VisibleString}
 use Rattle.co_value.specs.declared.key.Key.{Key}
 use Rattle.co_value.specs.KeyTexts.{key_in}
 use Rattle.co_profile.specs.declared.access.Access.TheVariants.{Rw}
@@ -33,7 +33,7 @@ use Rattle.conode_explain_values.specs.Numbers.{number_text}
 use Rattle.conode_explain_values.specs.Values.{value_text}
 use Rattle.conode_explain_signals.specs.declared.signal.Signal.{Signal}
 use Rattle.conode_explain_signals.specs.Fields.{entry_field, field_of, pdo_bits, sdo_value, value_field}
-use Rattle.conode_explain_signals.specs.Lines.{column_name, csv_field, first_missing, header, row_of, signal_line}
+use Rattle.conode_explain_signals.specs.Lines.{column_name, csv_field, first_missing, first_row, header, row_of, signal_line}
 use Rattle.conode_explain_signals.specs.Stamps.{seconds_text, stamp_field}
 use Rattle.conode_explain_signals.specs.Words.{signal_word, signals_in, signals_of, words_in}
 
@@ -81,8 +81,18 @@ back = refl
 -- ---- the text of values
 
 booleans : map (λ byte. value_field (Plain Boolean) 8 (byte ∷ [])) (0 ∷ 1 ∷ 2 ∷ []) ≡ codes "0" ∷ codes "1" ∷ codes "2" ∷ []
-unfolding digits
+unfolding value_text number_text digits
 booleans = refl
+
+-- bits that are no whole BOOLEAN
+some_bits : map (λ bits. value_field (Plain Boolean) bits (1 ∷ [])) (2 ∷ 4 ∷ 7 ∷ []) ≡ codes "01 (2 of 8 bits)" ∷ codes "01 (4 of 8 bits)" ∷ codes "01 (7 of 8 bits)" ∷ []
+unfolding value_text digits digits_text
+some_bits = refl
+
+-- a byte of another type
+no_boolean : value_field (Plain Integer8) 8 (1 ∷ []) ≡ codes "1"
+unfolding value_text number_text digits
+no_boolean = refl
 
 one_bit : value_field (Plain Boolean) 1 (1 ∷ []) ≡ codes "1"
 unfolding digits
@@ -128,7 +138,7 @@ four = 0xE8 ∷ 0x03 ∷ 0 ∷ 0 ∷ []
 abbrev done : Ending
 done = Done false
 
--- without a size: as many bytes as the type has; of a string all
+-- as many bytes as the type has; of a string all
 expedited : map (λ t. sdo_value signal t (told 5 (Some (ended Expedited done 4 four)))) (Integer16 ∷ Unsigned8 ∷ Unsigned32 ∷ VisibleString ∷ [])
     ≡ Some (0xE8 ∷ 0x03 ∷ []) ∷ Some (0xE8 ∷ []) ∷ Some four ∷ Some four ∷ []
 expedited = refl
@@ -234,18 +244,52 @@ of_two = refl
 plain_field : csv_field (codes "node 5 2001:01 T; 1") ≡ codes "node 5 2001:01 T; 1"
 plain_field = refl
 
-quoted_fields : map csv_field (codes "a,b" ∷ codes "a\"b" ∷ codes "a\nb" ∷ codes "a\rb" ∷ []) ≡ codes "\"a,b\"" ∷ codes "\"a\"\"b\"" ∷ codes "\"a\nb\"" ∷ codes "\"a\rb\"" ∷ []
+quoted_fields : map csv_field (codes "a,b" ∷ codes "a\"b" ∷ codes "a\nb" ∷ (0x7F ∷ []) ∷ []) ≡ codes "\"a,b\"" ∷ codes "\"a\"\"b\"" ∷ codes "\"a\\x0Ab\"" ∷ codes "\"\\x7F\"" ∷ []
+unfolding digits_text
 quoted_fields = refl
 
 names_of_columns : header (sheet (Some 5) (codes "T, inside") ∷ sheet None (codes "T") ∷ []) (signal ∷ of_node 6 0x2001 1 ∷ [])
     ≡ codes "time,\"node 5 2001:01 T, inside\",node 6 2001:01 T\n"
-unfolding header column_name row_of entry_of digits digits_text is_utf8 chars encode
+unfolding header column_name first_row names_for entry_of digits digits_text is_utf8 chars encode
 names_of_columns = refl
 
 missing : first_missing (sheet (Some 5) (codes "T") ∷ []) (signal ∷ of_node 6 0x2001 1 ∷ of_node 5 0x2003 0 ∷ []) ≡ Some (of_node 6 0x2001 1)
-unfolding row_of entry_of
+unfolding first_row names_for entry_of
 missing = refl
 
 none_missing : first_missing (sheet (Some 5) (codes "T") ∷ sheet None (codes "T") ∷ []) (signal ∷ of_node 6 0x2001 1 ∷ []) ≡ None
-unfolding row_of entry_of
+unfolding first_row names_for entry_of
 none_missing = refl
+
+-- ---- which of several sheets counts
+
+-- a sheet that has 2003:00 alone
+abbrev lacking : Option (List ℕ) → Option ℕ → KnownSheet
+lacking interface only = record {
+  interface = interface;
+  names = record {
+    sheet = Some (record { objects = []; rows = row 0x2003 0 Integer16 (codes "L") ∷ []; sections = []; notes = []; dummies = []; node_id = None });
+    only = only;
+    originals = λ line. None;
+  };
+  pdos = [];
+}
+
+-- the sheet for an interface
+abbrev on : List ℕ → KnownSheet → KnownSheet
+on interface known = record { interface = Some interface; names = known.names; pdos = known.pdos }
+
+abbrev name_in : List KnownSheet → Option (List ℕ)
+name_in sheets = option_and_then (λ found. found.name) (row_of sheets signal)
+
+-- one that counts before the one that has the entry lacks it: on each interface, on the same one
+shadowed : map name_in ((lacking None (Some 5) ∷ sheet None (codes "T") ∷ []) ∷ (lacking (Some (codes "a")) (Some 5) ∷ on (codes "a") (sheet (Some 5) (codes "T")) ∷ []) ∷ []) ≡ None ∷ None ∷ []
+unfolding first_row names_for entry_of
+shadowed = refl
+
+-- the sheet of one interface is named first; it alone has the entry, in place of one for each or of
+-- one for another; it alone lacks it
+of_interfaces : map name_in ((on (codes "a") (sheet (Some 5) (codes "A")) ∷ sheet (Some 5) (codes "T") ∷ []) ∷ (on (codes "a") (sheet (Some 5) (codes "A")) ∷ lacking None (Some 5) ∷ []) ∷ (lacking (Some (codes "a")) (Some 5) ∷ on (codes "b") (sheet (Some 5) (codes "B")) ∷ []) ∷ (lacking (Some (codes "a")) (Some 5) ∷ sheet None (codes "T") ∷ []) ∷ [])
+    ≡ Some (codes "T") ∷ Some (codes "A") ∷ Some (codes "B") ∷ Some (codes "T") ∷ []
+unfolding first_row names_for entry_of
+of_interfaces = refl

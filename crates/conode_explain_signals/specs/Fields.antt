@@ -1,5 +1,5 @@
 -- Which value of a signal a frame has, and its text.
-use Rattle.std.specs.Prelude.{ℕ, ◌*◌, ◌==◌, Bool, true, false, ◌&&◌, if◌then◌else◌, List, [], ◌∷◌, length, take, decimal, Option, Some, None, min, option_map, option_and_then, unwrap_or}
+use Rattle.std.specs.Prelude.{ℕ, ◌*◌, ◌==◌, Bool, true, false, nat_lt, ◌&&◌, ◌||◌, if◌then◌else◌, List, [], ◌∷◌, length, take, decimal, Option, Some, None, min, option_map, option_and_then, unwrap_or}
 use Rattle.std.specs.Option.{option_map_or}
 use Rattle.co_value.specs.declared.data_type.DataType.{DataType}
 use Rattle.co_value.specs.Keys.{same_key}
@@ -25,10 +25,15 @@ use Rattle.conode_explain_signals.specs.declared.signal.Signal.{Signal}
 
 -- ---- its text
 
--- a BOOLEAN is 0 or 1; every other value is as `explain` has it, a string thus in double quotes
+-- a whole BOOLEAN, of one bit or of a byte, that is false or true
+abbrev pub is_zero_or_one : ValueType → ℕ → List ℕ → Bool
+is_zero_or_one t bits bytes =
+    (is_boolean_type t && ((bits == 1) || (bits == 8))) && nat_lt (unsigned_of bytes) 2
+
+-- such a one is 0 or 1; every other value is as `explain` has it, a string thus in double quotes
 abbrev pub value_field : ValueType → ℕ → List ℕ → List ℕ
 value_field t bits bytes =
-    if is_boolean_type t && (length bytes == 1) then decimal (unsigned_of bytes) else value_text t bits bytes
+    if is_zero_or_one t bits bytes then decimal (unsigned_of bytes) else value_text t bits bytes
 
 -- ---- of an SDO transfer
 
@@ -40,8 +45,9 @@ abbrev pub is_expedited : Protocol → Bool
 is_expedited Expedited = true
 is_expedited other = false
 
--- the bytes that the transfer had: an expedited one that doesn't indicate its size has four, of
--- which as many count as the type has
+-- the bytes that count of those that the transfer had: of an expedited one no more than the type
+-- has, whether its size is indicated or not, since `Ended` doesn't have which; of a type without a
+-- width all
 abbrev pub bytes_of : DataType → Ended → List ℕ
 bytes_of t e = if is_expedited e.protocol then take (min (unwrap_or (width_of t) 4) 4) e.first.items else e.first.items
 

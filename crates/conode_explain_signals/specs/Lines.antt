@@ -5,7 +5,8 @@ use Rattle.std.specs.Option.{option_map_or}
 use Rattle.co_value.specs.KeyTexts.{key_text}
 use Rattle.co_sheet.specs.Content.{Row}
 use Rattle.conode_decode.specs.Names.{entry_of, shown_name}
-use Rattle.conode_explain_pdo.specs.Known.{KnownSheet}
+use Rattle.conode_explain_pdo.specs.Known.{KnownSheet, names_for}
+use Rattle.conode_explain_text.specs.Said.{is_control, shown_byte}
 use Rattle.conode_explain_text.specs.declared.so_far.Times.{Times}
 use Rattle.conode_explain_text.specs.declared.stamps.StampForm.{StampForm}
 use Rattle.conode_explain_signals.specs.declared.signal.Signal.{Signal}
@@ -27,24 +28,36 @@ has_one value signals = list_any (λ signal. is_some (value signal)) signals
 
 -- ---- the first line
 
--- a byte within quotes
-abbrev pub doubled : ℕ → List ℕ
-doubled byte = if byte == 0x22 then 0x22 ∷ 0x22 ∷ [] else byte ∷ []
+-- a byte within quotes: a quote is doubled, and a control character shown as in the other lines
+abbrev pub quoted_byte : ℕ → List ℕ
+quoted_byte byte = if byte == 0x22 then 0x22 ∷ 0x22 ∷ [] else shown_byte byte
 
--- a comma, a quote or a line end
+-- a quote, a comma or a control character
 abbrev pub needs_quotes : List ℕ → Bool
-needs_quotes field = list_any (λ b. ((b == 0x22) || (b == 0x2C)) || ((b == 10) || (b == 13))) field
+needs_quotes field = list_any (λ b. ((b == 0x22) || (b == 0x2C)) || is_control b) field
 
 abbrev pub csv_field : List ℕ → List ℕ
-csv_field field = if needs_quotes field then 0x22 ∷ [] ++ flat_map doubled field ++ 0x22 ∷ [] else field
+csv_field field = if needs_quotes field then 0x22 ∷ [] ++ flat_map quoted_byte field ++ 0x22 ∷ [] else field
 
--- the entry of a signal in the first sheet that has it
-unfoldable pub row_of : List KnownSheet → Signal → Option Row
-row_of [] signal = None
-row_of (sheet ∷ sheets) signal =
-    option_map_or (λ row. Some row) (entry_of sheet.names signal.node signal.key) (row_of sheets signal)
+-- the entry of a signal in the sheet that counts for its node on an interface
+abbrev pub row_on : List KnownSheet → Signal → List ℕ → Option Row
+row_on sheets signal interface = entry_of (names_for sheets interface signal.node) signal.node signal.key
 
--- no sheet has it
+-- the interface of a sheet; one that is for each is for the one without a name
+abbrev pub interface_of : KnownSheet → List ℕ
+interface_of sheet = unwrap_or sheet.interface []
+
+-- on the first of the interfaces of these sheets on which it has one
+unfoldable pub first_row : List KnownSheet → Signal → List KnownSheet → Option Row
+first_row sheets signal [] = None
+first_row sheets signal (sheet ∷ more) =
+    option_map_or (λ row. Some row) (row_on sheets signal (interface_of sheet)) (first_row sheets signal more)
+
+-- on an interface that no sheet names, else on the first of the others
+abbrev pub row_of : List KnownSheet → Signal → Option Row
+row_of sheets signal = option_map_or (λ row. Some row) (row_on sheets signal []) (first_row sheets signal sheets)
+
+-- on no interface
 abbrev pub is_missing : List KnownSheet → Signal → Bool
 is_missing sheets signal = is_none (row_of sheets signal)
 

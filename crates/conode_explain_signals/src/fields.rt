@@ -10,14 +10,13 @@ ghost use Rattle.conode_explain_values.specs.Values.{HasBits};
 ghost use Rattle.conode_explain_signals.specs.Fields.{
   bytes_of,
   claim_bits,
-  ended_value,
   entry_field,
   field_of,
   has_value,
   is_done,
   is_expedited,
+  is_zero_or_one,
   pdo_bits,
-  row_field,
   sdo_value,
   value_field,
 };
@@ -45,6 +44,14 @@ fn is_boolean(value_type: ValueType) -> bool
     }
 }
 
+// whether a value is a BOOLEAN of one bit or of a byte that is false or true
+fn is_zero_or_one(value_type: ValueType, bits: usize, bytes: &[u8]) -> bool
+    requires { HasBits bits bytes.now }
+    ensures { result ≡ is_zero_or_one value_type bits bytes.now }
+{
+    is_boolean(value_type) && (bits == 1 || bits == 8) && unsigned_of(bytes) < 2
+}
+
 fn push_value_field(
     text: &mut String,
     value_type: ValueType,
@@ -55,7 +62,7 @@ fn push_value_field(
     ensures { OnOk result
         (string_bytes text.new ≡ string_bytes text.old ++ value_field value_type bits bytes.now) }
 {
-    if is_boolean(value_type) && bytes.len() == 1 {
+    if is_zero_or_one(value_type, bits, bytes) {
         return push_decimal(text, unsigned_of(bytes));
     }
     push_value(text, value_type, bits, bytes)
