@@ -17,7 +17,7 @@ use Rattle.conode_explain_channels.specs.declared.told.Told.{Told}
 use Rattle.conode_explain_transfers.specs.declared.ended.Ended.{Ended}
 use Rattle.conode_explain_transfers.specs.declared.ended.Ending.{Ending}
 use Rattle.conode_explain_transfers.specs.declared.ended.Ending.TheVariants.{Done, Irregular, Unfinished}
-use Rattle.conode_explain_transfers.specs.declared.kinds.Direction.TheVariants.{Upload}
+use Rattle.conode_explain_transfers.specs.declared.kinds.Direction.TheVariants.{Download, Upload}
 use Rattle.conode_explain_transfers.specs.declared.kinds.Protocol.{Protocol}
 use Rattle.conode_explain_transfers.specs.declared.kinds.Protocol.TheVariants.{Expedited, Segmented}
 use Rattle.conode_explain_pdo.specs.declared.claim.Claim.{Claim}
@@ -126,6 +126,21 @@ ended protocol ending count bytes = record {
   ending = ending;
 }
 
+-- of a download
+abbrev down : Ended → Ended
+down e = record {
+  key = e.key;
+  direction = Download;
+  protocol = e.protocol;
+  bytes = e.bytes;
+  first = e.first;
+  frames = e.frames;
+  begun = e.begun;
+  newest = e.newest;
+  end = e.end;
+  ending = e.ending;
+}
+
 abbrev told : ℕ → Option Ended → Option Told
 told node e = Some (record { node = node; part = None; ended = e })
 
@@ -138,33 +153,50 @@ four = 0xE8 ∷ 0x03 ∷ 0 ∷ 0 ∷ []
 abbrev done : Ending
 done = Done false
 
+-- with a frame that doesn't indicate the size
+abbrev answered : Signal → DataType → Option Told → Option (List ℕ)
+answered s t of_channel = sdo_value s t (0x42 ∷ []) of_channel
+
 -- as many bytes as the type has; of a string all
-expedited : map (λ t. sdo_value signal t (told 5 (Some (ended Expedited done 4 four)))) (Integer16 ∷ Unsigned8 ∷ Unsigned32 ∷ VisibleString ∷ [])
+expedited : map (λ t. answered signal t (told 5 (Some (ended Expedited done 4 four)))) (Integer16 ∷ Unsigned8 ∷ Unsigned32 ∷ VisibleString ∷ [])
     ≡ Some (0xE8 ∷ 0x03 ∷ []) ∷ Some (0xE8 ∷ []) ∷ Some four ∷ Some four ∷ []
 expedited = refl
 
 -- with fewer than the type has
-indicated : sdo_value signal Unsigned32 (told 5 (Some (ended Expedited done 2 (1 ∷ 2 ∷ [])))) ≡ Some (1 ∷ 2 ∷ [])
+indicated : answered signal Unsigned32 (told 5 (Some (ended Expedited done 2 (1 ∷ 2 ∷ [])))) ≡ Some (1 ∷ 2 ∷ [])
 indicated = refl
 
-segmented : sdo_value signal Integer16 (told 5 (Some (ended Segmented done 4 four))) ≡ Some four
+segmented : answered signal Integer16 (told 5 (Some (ended Segmented done 4 four))) ≡ Some four
 segmented = refl
 
 -- another node, another entry, not done, more bytes than are kept, no transfer ended, no SDO channel
-other_node : sdo_value signal Integer16 (told 6 (Some (ended Expedited done 4 four))) ≡ None
+other_node : answered signal Integer16 (told 6 (Some (ended Expedited done 4 four))) ≡ None
 other_node = refl
 
-other_sub_index : sdo_value (of_node 5 0x2001 2) Integer16 (told 5 (Some (ended Expedited done 4 four))) ≡ None
+other_sub_index : answered (of_node 5 0x2001 2) Integer16 (told 5 (Some (ended Expedited done 4 four))) ≡ None
 other_sub_index = refl
 
-not_done : map (λ ending. sdo_value signal Integer16 (told 5 (Some (ended Expedited ending 4 four)))) (Irregular ∷ Unfinished ∷ []) ≡ None ∷ None ∷ []
+not_done : map (λ ending. answered signal Integer16 (told 5 (Some (ended Expedited ending 4 four)))) (Irregular ∷ Unfinished ∷ []) ≡ None ∷ None ∷ []
 not_done = refl
 
-too_long : sdo_value signal VisibleString (told 5 (Some (ended Segmented done 65 four))) ≡ None
+too_long : answered signal VisibleString (told 5 (Some (ended Segmented done 65 four))) ≡ None
 too_long = refl
 
-not_ended : map (sdo_value signal Integer16) (told 5 None ∷ None ∷ []) ≡ None ∷ None ∷ []
+not_ended : map (answered signal Integer16) (told 5 None ∷ None ∷ []) ≡ None ∷ None ∷ []
 not_ended = refl
+
+-- with one that does: all bytes of an upload; of a download the answer says nothing; of no frame
+abbrev with_frame : List ℕ → Ended → Option (List ℕ)
+with_frame frame e = sdo_value signal Integer16 frame (told 5 (Some e))
+
+sized : with_frame (0x43 ∷ 0 ∷ []) (ended Expedited done 4 four) ≡ Some four
+sized = refl
+
+not_of_an_upload : with_frame (0x43 ∷ 0 ∷ []) (down (ended Expedited done 4 four)) ≡ Some (0xE8 ∷ 0x03 ∷ [])
+not_of_an_upload = refl
+
+no_frame : with_frame [] (ended Expedited done 4 four) ≡ Some (0xE8 ∷ 0x03 ∷ [])
+no_frame = refl
 
 -- ---- a node with a sheet: 1800h sends 2001:01 with 16 bits after a bit of 2002:00
 

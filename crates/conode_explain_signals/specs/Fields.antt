@@ -1,5 +1,5 @@
 -- Which value of a signal a frame has, and its text.
-use Rattle.std.specs.Prelude.{ℕ, ◌*◌, ◌==◌, Bool, true, false, nat_lt, ◌&&◌, ◌||◌, if◌then◌else◌, List, [], ◌∷◌, length, take, decimal, Option, Some, None, min, option_map, option_and_then, unwrap_or}
+use Rattle.std.specs.Prelude.{ℕ, ◌*◌, ◌%◌, ◌==◌, Bool, true, false, not, nat_lt, ◌&&◌, ◌||◌, if◌then◌else◌, List, [], ◌∷◌, length, slice_index, take, decimal, Option, Some, None, min, option_map, option_and_then, unwrap_or}
 use Rattle.std.specs.Option.{option_map_or}
 use Rattle.co_value.specs.declared.data_type.DataType.{DataType}
 use Rattle.co_value.specs.Keys.{same_key}
@@ -11,6 +11,8 @@ use Rattle.conode_explain_channels.specs.declared.told.Told.{Told}
 use Rattle.conode_explain_transfers.specs.declared.ended.Ended.{Ended}
 use Rattle.conode_explain_transfers.specs.declared.ended.Ending.{Ending}
 use Rattle.conode_explain_transfers.specs.declared.ended.Ending.TheVariants.{Done}
+use Rattle.conode_explain_transfers.specs.declared.kinds.Direction.{Direction}
+use Rattle.conode_explain_transfers.specs.declared.kinds.Direction.TheVariants.{Upload}
 use Rattle.conode_explain_transfers.specs.declared.kinds.Protocol.{Protocol}
 use Rattle.conode_explain_transfers.specs.declared.kinds.Protocol.TheVariants.{Expedited}
 use Rattle.conode_explain_pdo.specs.declared.claim.Claim.{Claim}
@@ -45,26 +47,40 @@ abbrev pub is_expedited : Protocol → Bool
 is_expedited Expedited = true
 is_expedited other = false
 
--- the bytes that count of those that the transfer had: of an expedited one no more than the type
--- has, whether its size is indicated or not, since `Ended` doesn't have which; of a type without a
--- width all
-abbrev pub bytes_of : DataType → Ended → List ℕ
-bytes_of t e = if is_expedited e.protocol then take (min (unwrap_or (width_of t) 4) 4) e.first.items else e.first.items
+abbrev pub is_upload : Direction → Bool
+is_upload Upload = true
+is_upload other = false
+
+-- the size bit of the answer of an expedited upload (7.2.4.3.6)
+abbrev pub size_bit : List ℕ → Bool
+size_bit frame = nat_lt 0 (length frame) && (slice_index frame 0 % 2 == 1)
+
+-- the frame with which a transfer ended indicates how many bytes it had; of a download the request
+-- would, and isn't kept
+abbrev pub shows_size : List ℕ → Ended → Bool
+shows_size frame e = is_upload e.direction && size_bit frame
+
+-- the bytes that count of those that a transfer had that ended with a frame: of an expedited one no
+-- more than the type has, where the frame doesn't show how many there are
+abbrev pub bytes_of : DataType → List ℕ → Ended → List ℕ
+bytes_of t frame e =
+    if is_expedited e.protocol && not (shows_size frame e)
+    then take (min (unwrap_or (width_of t) 4) 4) e.first.items else e.first.items
 
 -- it is done, is of the entry, and all of its bytes are kept
 abbrev pub has_value : Signal → Ended → Bool
 has_value signal e = is_done e.ending && (same_key e.key signal.key && (e.bytes == length e.first.items))
 
-abbrev pub ended_value : Signal → DataType → Ended → Option (List ℕ)
-ended_value signal t e = if has_value signal e then Some (bytes_of t e) else None
+abbrev pub ended_value : Signal → DataType → List ℕ → Ended → Option (List ℕ)
+ended_value signal t frame e = if has_value signal e then Some (bytes_of t frame e) else None
 
 -- where a transfer of the node ended with the frame
-abbrev pub told_value : Signal → DataType → Told → Option (List ℕ)
-told_value signal t told =
-    if told.node == signal.node then option_and_then (ended_value signal t) told.ended else None
+abbrev pub told_value : Signal → DataType → List ℕ → Told → Option (List ℕ)
+told_value signal t frame told =
+    if told.node == signal.node then option_and_then (ended_value signal t frame) told.ended else None
 
-abbrev pub sdo_value : Signal → DataType → Option Told → Option (List ℕ)
-sdo_value signal t told = option_and_then (told_value signal t) told
+abbrev pub sdo_value : Signal → DataType → List ℕ → Option Told → Option (List ℕ)
+sdo_value signal t frame told = option_and_then (told_value signal t frame) told
 
 -- ---- of PDOs
 
@@ -87,7 +103,7 @@ part_field t part = value_field t part.bits part.bytes.items
 -- transfer that is done with it, else that of a PDO
 unfoldable pub entry_field : Bus → List Claim → List ℕ → Option Told → Signal → ValueType → DataType → Option (List ℕ)
 entry_field bus claims bytes told signal t data_type =
-    option_map_or (λ value. Some (value_field t (8 * length value) value)) (sdo_value signal data_type told)
+    option_map_or (λ value. Some (value_field t (8 * length value) value)) (sdo_value signal data_type bytes told)
     (option_map (part_field t) (pdo_bits bus signal bytes claims))
 
 abbrev pub row_field : Bus → List Claim → List ℕ → Option Told → Signal → Names → Row → Option (List ℕ)

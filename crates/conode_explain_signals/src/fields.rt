@@ -15,9 +15,12 @@ ghost use Rattle.conode_explain_signals.specs.Fields.{
   has_value,
   is_done,
   is_expedited,
+  is_upload,
   is_zero_or_one,
   pdo_bits,
   sdo_value,
+  shows_size,
+  size_bit,
   value_field,
 };
 
@@ -28,7 +31,7 @@ use co_value::{DataType, unsigned_of};
 use conode_decode::Names;
 use conode_explain_channels::Told;
 use conode_explain_pdo::{Bus, Claim, EntryBits, type_in};
-use conode_explain_transfers::{Ended, Ending, Protocol};
+use conode_explain_transfers::{Direction, Ended, Ending, Protocol};
 use conode_explain_values::{ValueType, push_value};
 use std::alloc::AllocError;
 
@@ -92,12 +95,30 @@ fn first_bytes(bytes: &[u8], count: usize) -> &[u8]
     }
 }
 
-fn bytes_of(data_type: DataType, ended: &Ended) -> &[u8]
-    ensures bytes { result.now ≡ bytes_of data_type ended.now }
+fn is_upload(direction: Direction) -> bool
+    ensures { result ≡ is_upload direction }
+{
+    matches!(direction, Direction::Upload)
+}
+
+fn size_bit(frame: &[u8]) -> bool
+    ensures { result ≡ size_bit frame.now }
+{
+    !frame.is_empty() && frame[0] % 2 == 1
+}
+
+fn shows_size(frame: &[u8], ended: &Ended) -> bool
+    ensures { result ≡ shows_size frame.now ended.now }
+{
+    is_upload(ended.direction) && size_bit(frame)
+}
+
+fn bytes_of<'t>(data_type: DataType, frame: &[u8], ended: &'t Ended) -> &'t [u8]
+    ensures bytes { result.now ≡ bytes_of data_type frame.now ended.now }
     ensures few { length result.now ≤ 64 }
 {
     let bytes = ended.first.as_slice();
-    if is_expedited(ended.protocol) {
+    if is_expedited(ended.protocol) && !shows_size(frame, ended) {
         return first_bytes(bytes, data_type.width().unwrap_or(4).min(4));
     }
     bytes
@@ -112,8 +133,13 @@ fn has_value(signal: Signal, ended: &Ended) -> bool
 }
 
 // the value of an SDO transfer of the node that is done with the frame
-fn sdo_value<'t>(signal: Signal, data_type: DataType, told: &'t Option<Told>) -> Option<&'t [u8]>
-    ensures value { option_copied result ≡ sdo_value signal data_type told.now }
+fn sdo_value<'t>(
+    signal: Signal,
+    data_type: DataType,
+    frame: &[u8],
+    told: &'t Option<Told>,
+) -> Option<&'t [u8]>
+    ensures value { option_copied result ≡ sdo_value signal data_type frame.now told.now }
     ensures few { IfSome result (λ value. length value.now ≤ 64) }
 {
     let Some(told) = told else {
@@ -128,7 +154,7 @@ fn sdo_value<'t>(signal: Signal, data_type: DataType, told: &'t Option<Told>) ->
     if !has_value(signal, ended) {
         return None;
     }
-    Some(bytes_of(data_type, ended))
+    Some(bytes_of(data_type, frame, ended))
 }
 
 fn claim_bits(
@@ -186,7 +212,7 @@ fn push_entry_field(
         ++ unwrap_or (entry_field (bus_view bus.entry)
         claims.now bytes.now told.now signal value_type data_type) []) }
 {
-    if let Some(value) = sdo_value(signal, data_type, told) {
+    if let Some(value) = sdo_value(signal, data_type, bytes, told) {
         push_value_field(text, value_type, 8 * value.len(), value)?;
         return Ok(true);
     }
