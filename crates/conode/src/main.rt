@@ -219,6 +219,7 @@ fn carry_out_task<O: Write, E: Write>(
             lines_as,
             form,
             only,
+            signals,
         } => {
             let options = ExplainOptions {
                 stamps: stamp_form(stamps),
@@ -227,6 +228,7 @@ fn carry_out_task<O: Write, E: Write>(
                 format: line_format(lines_as),
                 log: recorded_form(form),
                 filter: filter_words(only),
+                signals,
             };
             explain_files(rt, trace, sheets.as_slice(), &options, out, err)
         }

@@ -1,7 +1,7 @@
 -- What a log is explained as: the lines of its frames that are asked for, in order, each with that
 -- of the transfer that ended with it, and at the end those of the transfers that are open. A bad
 -- line has none here, and is counted.
-use Rattle.std.specs.Prelude.{ℕ, ◌+◌, Bool, nat_lt, ◌||◌, if◌then◌else◌, List, [], ◌∷◌, ◌++◌, length, Option, Some, None}
+use Rattle.std.specs.Prelude.{ℕ, ◌+◌, ◌==◌, Bool, nat_lt, ◌||◌, if◌then◌else◌, List, [], ◌∷◌, ◌++◌, length, Option, Some, None}
 use Rattle.std.specs.List.{flat_map}
 use Rattle.std.specs.Str.Lines.{lines}
 use Rattle.co_bounded_lines.specs.Founds.{is_closed}
@@ -34,6 +34,8 @@ use Rattle.conode_explain_filter.specs.declared.kind.Kind.{Kind}
 use Rattle.conode_explain_filter.specs.declared.kind.Kind.TheVariants.{Sdo}
 use Rattle.conode_explain_filter.specs.declared.subject.Subject.{Subject}
 use Rattle.conode_explain_json.specs.JsonLines.{json_line}
+use Rattle.conode_explain_signals.specs.Fields.{field_of}
+use Rattle.conode_explain_signals.specs.Lines.{has_one, header, signal_line}
 use Rattle.conode_explain_text.specs.Lines.{Part, line_parts, line_text, own_parts}
 use Rattle.conode_explain_text.specs.SoFar.{SoFar, nothing_seen, seen_with, shows_interface, times_at}
 use Rattle.conode_explain.specs.declared.progress.Progress.{Progress}
@@ -41,7 +43,7 @@ use Rattle.conode_explain.specs.declared.progress.Layout.{Layout}
 use Rattle.conode_explain.specs.declared.progress.LineFormat.{LineFormat}
 use Rattle.conode_explain.specs.declared.progress.LineFormat.TheVariants.{Text, Json}
 use Rattle.conode_explain.specs.LogLines.{line_at}
-use Rattle.conode_explain.specs.Filtered.{is_news, lasts_told, shows_end, shows_frame, subject_in}
+use Rattle.conode_explain.specs.Filtered.{data_of, is_news, lasts_told, shows_end, shows_frame, subject_in}
 use Rattle.conode_explain.specs.ToldWords.{ended_words, told_words}
 
 -- ---- the lines of frames
@@ -93,6 +95,30 @@ unfoldable pub lasts_after : Layout → SoFar → List Said → Subject → Reco
 lasts_after form so_far lasts subject frame words =
     if shows_frame form so_far subject frame.micros then lasts_told form lasts subject frame words else lasts
 
+-- the first line of a table of signals, where they are asked for
+abbrev pub header_lines : Layout → List KnownSheet → List (List ℕ)
+header_lines form sheets = if length form.signals.now == 0 then [] else header sheets form.signals.now ∷ []
+
+-- in a table of signals: the line of a frame that has a value of one
+unfoldable pub signal_lines : Layout → SoFar → Bus → List Claim → Record → Option Told → List (List ℕ)
+signal_lines form so_far bus claims frame told =
+    let value = field_of bus claims (data_of frame.content) told in
+    if has_one value form.signals.now
+    then signal_line form.stamps (times_at so_far frame.micros) value form.signals.now ∷ [] else []
+
+-- and is asked for
+abbrev pub shown_signals : Layout → SoFar → Bus → List Claim → Record → Option Told → List (List ℕ)
+shown_signals form so_far bus claims frame told =
+    if shows_frame form so_far (subject_in claims frame) frame.micros
+    then signal_lines form so_far bus claims frame told else []
+
+-- the line of a frame: of a table, where signals are asked for
+abbrev pub first_lines : Layout → Bus → List Claim → SoFar → List Said → Record → Option Told → List (List ℕ)
+first_lines form bus claims so_far lasts frame told =
+    if length form.signals.now == 0
+    then shown_lines form so_far lasts (subject_in claims frame) frame (told_words bus claims frame told)
+    else shown_signals form so_far bus claims frame told
+
 -- the line of a transfer of a node that ended, where one did and it is asked for
 unfoldable pub end_line : Layout → List KnownSheet → SoFar → ℕ → List ℕ → ℕ → Ended → List ℕ
 end_line form sheets so_far micros interface node e =
@@ -111,13 +137,13 @@ told_lines form sheets so_far frame (Some told) = ended_lines form sheets so_far
 -- the lines of a frame on a bus that is these PDOs, by what its SDO channel says about it
 abbrev pub lines_with : Layout → List KnownSheet → Bus → List Claim → SoFar → List Said → Record → Option Told → List (List ℕ)
 lines_with form sheets bus claims so_far lasts frame told =
-    shown_lines form so_far lasts (subject_in claims frame) frame (told_words bus claims frame told)
-    ++ told_lines form sheets so_far frame told
+    first_lines form bus claims so_far lasts frame told ++ told_lines form sheets so_far frame told
 
--- and what was said last after it
+-- and what was said last after it: in a table nothing is
 abbrev pub lasts_with : Layout → Bus → List Claim → SoFar → List Said → Record → Option Told → List Said
 lasts_with form bus claims so_far lasts frame told =
-    lasts_after form so_far lasts (subject_in claims frame) frame (told_words bus claims frame told)
+    if length form.signals.now == 0
+    then lasts_after form so_far lasts (subject_in claims frame) frame (told_words bus claims frame told) else lasts
 
 -- the lines of a frame
 unfoldable pub frame_lines : Layout → List KnownSheet → Progress → Record → List (List ℕ)

@@ -1,5 +1,5 @@
 -- Which lines are printed.
-use Rattle.std.specs.Prelude.{ℕ, Bool, true, false, not, ◌&&◌, if◌then◌else◌, List, [], ◌∷◌, Option, Some, None}
+use Rattle.std.specs.Prelude.{ℕ, ◌==◌, Bool, true, false, not, ◌&&◌, if◌then◌else◌, List, [], ◌∷◌, length, Option, Some, None}
 use Rattle.conode_record.specs.declared.content.Content.{Content}
 use Rattle.conode_record.specs.declared.content.Content.TheVariants.{Data}
 use Rattle.conode_record.specs.declared.line.Record.{Record}
@@ -30,9 +30,10 @@ passes_frame form so_far subject micros = passes form.filter.now subject (times_
 abbrev pub shows_frame : Layout → SoFar → Subject → ℕ → Bool
 shows_frame form so_far subject micros = not form.transfers && passes_frame form so_far subject micros
 
--- the line of a transfer of a node that ended at a stamp
+-- the line of a transfer of a node that ended at a stamp is left out where signals are asked for
 abbrev pub shows_end : Layout → SoFar → ℕ → ℕ → Bool
-shows_end form so_far micros node = passes_transfer form.filter.now node (times_at so_far micros)
+shows_end form so_far micros node =
+    (length form.signals.now == 0) && passes_transfer form.filter.now node (times_at so_far micros)
 
 -- ---- changes alone
 

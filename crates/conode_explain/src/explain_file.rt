@@ -7,10 +7,11 @@ use crate::explained::explain;
 use crate::progress::{Layout, LineFormat};
 use crate::sheet_word::{SheetWord, SheetWordFault, sheet_words};
 use crate::sheets::{ReadSheet, known_sheets};
-use crate::writes::Settings;
+use crate::writes::{Settings, write_header};
 use co_sheet::{FaultKind, GREATEST_SIZE, SheetFault, read};
 use co_sheet_changes::Originals;
 use conode_explain_filter::{Filter, FilterFault, FilterWords};
+use conode_explain_signals::{Signal, SignalFault, first_missing};
 use conode_explain_text::StampForm;
 use conode_io::{CmdFault, cannot_read, faulty_sheet, file_text, flushed, no_text, stopped};
 use conode_logs::Form;
@@ -23,7 +24,8 @@ use std::rt::Files;
 /// The path that stands for standard input.
 const STANDARD_INPUT: &str = "-";
 
-// Explains an input. Says on `err` how many lines are bad, or why it stopped.
+// Explains an input; the first line of a table of signals comes first. Says on `err` how many lines
+// are bad, or why it stopped.
 fn explain_input<R: Read, O: Write, E: Write>(
     alloc: Global,
     input: &mut R,
@@ -33,7 +35,10 @@ fn explain_input<R: Read, O: Write, E: Write>(
 ) -> ExitCode
     ensures { (exit_status result ≡ 0) ⊎ (exit_status result ≡ 1) }
 {
-    let outcome = explain(alloc, input, settings, out, err);
+    let outcome = match write_header(alloc, settings, out) {
+        Ok(()) => explain(alloc, input, settings, out, err),
+        Err(fault) => Err(fault),
+    };
     match flushed(out, outcome) {
         Ok(0) => ExitCode::SUCCESS,
         Ok(bad) => {
@@ -80,7 +85,27 @@ fn originals_in(alloc: Global, text: &[u8]) -> Result<Originals, SheetFault> {
     }
 }
 
+// explains the recording of a path by data sheets that are known, if they have all signals
+#[tactic(auto, using(crate::proofs::WriteLemmas::or_two))]
+fn explain_known<R: Files + AllocGlobal + Input, O: Write, E: Write>(
+    rt: &R,
+    path: &str,
+    settings: &Settings<'_, '_, '_, '_>,
+    out: &mut O,
+    err: &mut E,
+) -> ExitCode
+    ensures { (exit_status result ≡ 0) ⊎ ((exit_status result ≡ 1) ⊎ (exit_status result ≡ 2)) }
+{
+    if let Some(signal) = first_missing(settings.sheets, settings.form.signals) {
+        let (node, key) = (signal.node, signal.key);
+        let _ = writeln!(err, "--signal: no data sheet has {key} of node {node}");
+        return ExitCode::from(2);
+    }
+    explain_path(rt, path, settings, out, err)
+}
+
 // explains the recording of a path by data sheets
+#[tactic(auto, using(crate::proofs::WriteLemmas::one_or_two))]
 fn explain_by<R: Files + AllocGlobal + Input, O: Write, E: Write>(
     rt: &R,
     path: &str,
@@ -89,13 +114,13 @@ fn explain_by<R: Files + AllocGlobal + Input, O: Write, E: Write>(
     out: &mut O,
     err: &mut E,
 ) -> ExitCode
-    ensures { (exit_status result ≡ 0) ⊎ (exit_status result ≡ 1) }
+    ensures { (exit_status result ≡ 0) ⊎ ((exit_status result ≡ 1) ⊎ (exit_status result ≡ 2)) }
 {
     match known_sheets(rt.alloc(), sheets) {
         Ok(known) => {
             let sheets = known.as_slice();
             let settings = Settings { form, sheets };
-            explain_path(rt, path, &settings, out, err)
+            explain_known(rt, path, &settings, out, err)
         }
         Err(_) => stopped(CmdFault::Memory, out, err).status(),
     }
@@ -193,7 +218,7 @@ fn explain_named<R: Files + AllocGlobal + Input, O: Write, E: Write>(
     out: &mut O,
     err: &mut E,
 ) -> ExitCode
-    ensures { (exit_status result ≡ 0) ⊎ (exit_status result ≡ 1) }
+    ensures { (exit_status result ≡ 0) ⊎ ((exit_status result ≡ 1) ⊎ (exit_status result ≡ 2)) }
 {
     let texts = match texts_of(rt, words, out, err) {
         Ok(texts) => texts,
@@ -223,7 +248,7 @@ fn bad_sheet_word<O: Write, E: Write>(
 }
 
 // explains the recording of a path by the data sheets that the words of the command line name
-#[tactic(auto, using(crate::proofs::WriteLemmas::or_two, crate::proofs::WriteLemmas::one_or_two))]
+#[tactic(auto, using(crate::proofs::WriteLemmas::one_or_two))]
 fn explain_in<R: Files + AllocGlobal + Input, O: Write, E: Write>(
     rt: &R,
     recording: &str,
@@ -255,6 +280,28 @@ pub struct ExplainOptions<'a> {
     pub log: Form,
     /// Which lines are printed.
     pub filter: FilterWords<'a>,
+    /// The signals whose values are written as a table, as `5:2001:01,5:2001:02`; `None`: the lines
+    /// are those of frames and transfers.
+    pub signals: Option<&'a str>,
+}
+
+impl ExplainOptions<'_> {
+    // the option that asks for other lines than those of the table of signals that is asked for
+    fn other_lines(&self) -> Option<&'static str> {
+        if self.signals.is_none() {
+            return None;
+        }
+        if self.transfers {
+            return Some("--transfers");
+        }
+        if self.changes {
+            return Some("--changes");
+        }
+        match self.format {
+            LineFormat::Text => None,
+            LineFormat::Json => Some("--format json"),
+        }
+    }
 }
 
 // says which word of a filter is wrong
@@ -270,13 +317,69 @@ fn bad_filter<O: Write, E: Write>(fault: FilterFault<'_>, out: &mut O, err: &mut
     }
 }
 
+// says which word names no signal
+fn bad_signal<O: Write, E: Write>(fault: SignalFault<'_>, out: &mut O, err: &mut E) -> ExitCode
+    ensures { (exit_status result ≡ 1) ⊎ (exit_status result ≡ 2) }
+{
+    match fault {
+        SignalFault::Word(word) => {
+            let _ = writeln!(
+                err,
+                "--signal: {word} is not a node-ID, an index and a sub-index, as 5:2001:01"
+            );
+            ExitCode::from(2)
+        }
+        SignalFault::Memory => stopped(CmdFault::Memory, out, err).status(),
+    }
+}
+
+// the signals that are asked for; none without the option
+fn signals_in<'a>(alloc: Global, text: Option<&'a str>) -> Result<Vec<Signal>, SignalFault<'a>> {
+    match text {
+        Some(text) => Signal::read_all(alloc, text),
+        None => Ok(Vec::new(alloc)),
+    }
+}
+
+// explains the recording of a path by a filter
+#[tactic(auto, using(crate::proofs::WriteLemmas::one_or_two))]
+fn explain_filtered<R: Files + AllocGlobal + Input, O: Write, E: Write>(
+    rt: &R,
+    recording: &str,
+    sheets: &[&str],
+    options: &ExplainOptions<'_>,
+    filter: &Filter,
+    out: &mut O,
+    err: &mut E,
+) -> ExitCode
+    ensures { (exit_status result ≡ 0) ⊎ ((exit_status result ≡ 1) ⊎ (exit_status result ≡ 2)) }
+{
+    match signals_in(rt.alloc(), options.signals) {
+        Ok(signals) => {
+            let form = Layout {
+                stamps: options.stamps,
+                transfers: options.transfers,
+                changes: options.changes,
+                format: options.format,
+                log: options.log,
+                filter,
+                signals: signals.as_slice(),
+            };
+            explain_in(rt, recording, sheets, form, out, err)
+        }
+        Err(fault) => bad_signal(fault, out, err),
+    }
+}
+
 /// Explains the recording of a path, or of standard input where that is `-`, by the data sheets
-/// that words name, each `[INTERFACE:][NODE=]FILE`. The words of the filter are read first, and
-/// then those of the sheets: the first that its option doesn't have is named on `err`, and the
-/// status is 2. Then the sheets are read: a fault of one goes to `out`, and where there are
-/// several, its path to `err`. Bad lines, and a file that can't be read, are named on `err`. The
-/// status is 0 where all lines are good, else 1.
-#[tactic(auto, using(crate::proofs::WriteLemmas::or_two, crate::proofs::WriteLemmas::one_or_two))]
+/// that words name, each `[INTERFACE:][NODE=]FILE`. The words of the filter are read first, then
+/// those of signals, and then those of the sheets: the first that its option doesn't have is named
+/// on `err`, and the status is 2; so it is with an option that asks for other lines than a table of
+/// signals. Then the sheets are read: a fault of one goes to `out`, and where there are several,
+/// its path to `err`. A signal that no sheet has is named on `err`, and the status is 2. Bad lines,
+/// and a file that can't be read, are named on `err`. The status is 0 where all lines are good,
+/// else 1.
+#[tactic(auto, using(crate::proofs::WriteLemmas::one_or_two))]
 pub fn explain_files<R: Files + AllocGlobal + Input, O: Write, E: Write>(
     rt: &R,
     recording: &str,
@@ -287,18 +390,12 @@ pub fn explain_files<R: Files + AllocGlobal + Input, O: Write, E: Write>(
 ) -> ExitCode
     ensures { (exit_status result ≡ 0) ⊎ ((exit_status result ≡ 1) ⊎ (exit_status result ≡ 2)) }
 {
+    if let Some(other) = options.other_lines() {
+        let _ = writeln!(err, "--signal: it can't be used with {other}");
+        return ExitCode::from(2);
+    }
     match Filter::read(rt.alloc(), &options.filter) {
-        Ok(filter) => {
-            let form = Layout {
-                stamps: options.stamps,
-                transfers: options.transfers,
-                changes: options.changes,
-                format: options.format,
-                log: options.log,
-                filter: &filter,
-            };
-            explain_in(rt, recording, sheets, form, out, err)
-        }
+        Ok(filter) => explain_filtered(rt, recording, sheets, options, &filter, out, err),
         Err(fault) => bad_filter(fault, out, err),
     }
 }

@@ -58,11 +58,12 @@ pub(crate) fn shows_frame(form: &Layout<'_>, seen: &Seen, subject: &Subject, mic
     !form.transfers && passes_frame(form, seen, subject, micros)
 }
 
-/// Whether the line of a node's transfer that ended at this stamp is printed.
+/// Whether the line of a node's transfer that ended at this stamp is printed; in a table of signals
+/// none is.
 pub(crate) fn shows_end(form: &Layout<'_>, seen: &Seen, micros: u64, node: u8) -> bool
     ensures { result ≡ shows_end form.now seen.now micros node }
 {
-    form.filter.passes_transfer(node, seen.times(micros))
+    form.signals.is_empty() && form.filter.passes_transfer(node, seen.times(micros))
 }
 
 // of these kinds only changes are printed, where that is asked for
@@ -72,8 +73,8 @@ fn repeats(kind: Kind) -> bool
     matches!(kind, Kind::Pdo | Kind::Heartbeat | Kind::Sync)
 }
 
-// the bytes of a frame of data
-fn data_of(content: &Content) -> ArrayVec<u8, 8>
+/// The bytes of a frame of data; none of another one.
+pub(crate) fn data_of(content: &Content) -> ArrayVec<u8, 8>
     ensures { result.items ≡ data_of content.now }
 {
     match content {

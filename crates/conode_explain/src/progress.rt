@@ -11,6 +11,7 @@ use conode_explain_changes::Lasts;
 use conode_explain_channels::{Channels, Told};
 use conode_explain_entries::Entries;
 use conode_explain_filter::Filter;
+use conode_explain_signals::Signal;
 use conode_explain_text::{Seen, StampForm};
 use conode_logs::Form;
 use conode_record::{Content, Identifier, Record};
@@ -40,6 +41,8 @@ pub struct Layout<'f> {
     pub log: Form,
     /// Which lines are printed.
     pub filter: &'f Filter,
+    /// The signals whose values are written; none: the lines are those of frames and transfers.
+    pub signals: &'f [Signal],
 }
 
 /// What a recording showed so far: its stamps and interfaces, the SDO channels, entries of nodes,

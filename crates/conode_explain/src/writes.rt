@@ -10,8 +10,10 @@ ghost use Rattle.conode_explain.specs.Explained.{
   bus_of,
   claims_at,
   ended_lines,
+  first_lines,
   frame_line,
   frame_lines,
+  header_lines,
   lasts_after,
   lasts_with,
   line_as,
@@ -19,6 +21,8 @@ ghost use Rattle.conode_explain.specs.Explained.{
   news_lines,
   progress_with,
   shown_lines,
+  shown_signals,
+  signal_lines,
   told_lines,
   unfinished_lines,
 };
@@ -26,7 +30,7 @@ ghost use Rattle.conode_explain.specs.Filtered.{lasts_told, subject_in};
 ghost use Rattle.conode_explain.specs.ToldWords.{told_words};
 ghost use Rattle.conode_explain.specs.Sheets.{sheets_of};
 
-use crate::filtered::{is_news, shows_end, shows_frame, subject_in};
+use crate::filtered::{data_of, is_news, shows_end, shows_frame, subject_in};
 use crate::progress::{Layout, LineFormat, Progress};
 use crate::told_words::{set_ended_words, set_told_words};
 use conode_explain_changes::Lasts;
@@ -35,6 +39,7 @@ use conode_explain_entries::Entries;
 use conode_explain_filter::{Kind, Subject};
 use conode_explain_json::{json_line, own_json_line};
 use conode_explain_pdo::{Bus, Claim, KnownSheet, add_claims, names_for};
+use conode_explain_signals::{header, set_signal_line};
 use conode_explain_text::{Seen, set_line, set_own_line};
 use conode_explain_transfers::Ended;
 use conode_io::{CmdFault, hand_over};
@@ -211,8 +216,9 @@ fn write_shown<W: Write>(
     ensures lines { OnOk result (WritesLines (W.contents out.old) (W.contents out.new)
         (shown_lines form.now seen.now lasts.old (subject_in claims.now frame.now) frame.now
         (told_words (bus_view bus.entry) claims.now frame.now told.now))) }
-    ensures lasts { OnOk result (lasts.new
-        ≡ lasts_with form.now (bus_view bus.entry) claims.now seen.now lasts.old frame.now told.now) }
+    ensures lasts { OnOk result (lasts.new ≡ lasts_after form.now seen.now lasts.old
+        (subject_in claims.now frame.now) frame.now
+        (told_words (bus_view bus.entry) claims.now frame.now told.now)) }
     ensures err { IfErr result (λ fault. (fault ≡ CmdFault.Write) ⊎ (fault ≡ CmdFault.Memory)) }
 {
     let subject = subject_in(claims, frame);
@@ -222,6 +228,82 @@ fn write_shown<W: Write>(
     write_news(
         room, form, seen, lasts, bus, claims, &subject, frame, told, out,
     )
+}
+
+// Writes the line of a frame in a table of signals, if it has a value of one.
+#[tactic(auto, unfolding(crate::specs::Explained::signal_lines), using(conode_io::proofs::WriteLemmas::line_alone, crate::proofs::WriteLemmas::are_shown, crate::proofs::WriteLemmas::are_hidden))]
+fn write_signals<W: Write>(
+    text: &mut String,
+    form: &Layout<'_>,
+    seen: &Seen,
+    bus: Bus<'_, '_, '_, '_, '_>,
+    claims: &[Claim],
+    frame: &Record<'_>,
+    told: &Option<Told>,
+    out: &mut W,
+) -> Result<(), CmdFault>
+    ensures lines { OnOk result (WritesLines (W.contents out.old) (W.contents out.new)
+        (signal_lines form.now seen.now (bus_view bus.entry) claims.now frame.now told.now)) }
+    ensures err { IfErr result (λ fault. (fault ≡ CmdFault.Write) ⊎ (fault ≡ CmdFault.Memory)) }
+{
+    let times = seen.times(frame.micros);
+    let data = data_of(&frame.content);
+    let bytes = data.as_slice();
+    let (stamps, signals) = (form.stamps, form.signals);
+    if !set_signal_line(text, stamps, times, bus, claims, bytes, told, signals)? {
+        return Ok(());
+    }
+    hand_over(text.as_bytes(), out)
+}
+
+// The same, if it is asked for.
+#[tactic(auto, using(crate::proofs::WriteLemmas::are_shown, crate::proofs::WriteLemmas::are_hidden))]
+fn write_shown_signals<W: Write>(
+    text: &mut String,
+    form: &Layout<'_>,
+    seen: &Seen,
+    bus: Bus<'_, '_, '_, '_, '_>,
+    claims: &[Claim],
+    frame: &Record<'_>,
+    told: &Option<Told>,
+    out: &mut W,
+) -> Result<(), CmdFault>
+    requires { IsIdentifier frame.now.id }
+    ensures lines { OnOk result (WritesLines (W.contents out.old) (W.contents out.new)
+        (shown_signals form.now seen.now (bus_view bus.entry) claims.now frame.now told.now)) }
+    ensures err { IfErr result (λ fault. (fault ≡ CmdFault.Write) ⊎ (fault ≡ CmdFault.Memory)) }
+{
+    let subject = subject_in(claims, frame);
+    if !shows_frame(form, seen, &subject, frame.micros) {
+        return Ok(());
+    }
+    write_signals(text, form, seen, bus, claims, frame, told, out)
+}
+
+// Writes the line of a frame, or where signals are asked for, that of a table.
+fn write_first<W: Write>(
+    room: &mut Room,
+    form: &Layout<'_>,
+    seen: &Seen,
+    lasts: &mut Lasts,
+    bus: Bus<'_, '_, '_, '_, '_>,
+    claims: &[Claim],
+    frame: &Record<'_>,
+    told: &Option<Told>,
+    out: &mut W,
+) -> Result<(), CmdFault>
+    requires { IsIdentifier frame.now.id }
+    ensures lines { OnOk result (WritesLines (W.contents out.old) (W.contents out.new)
+        (first_lines form.now (bus_view bus.entry) claims.now seen.now lasts.old frame.now
+        told.now)) }
+    ensures lasts { OnOk result (lasts.new
+        ≡ lasts_with form.now (bus_view bus.entry) claims.now seen.now lasts.old frame.now told.now) }
+    ensures err { IfErr result (λ fault. (fault ≡ CmdFault.Write) ⊎ (fault ≡ CmdFault.Memory)) }
+{
+    if form.signals.is_empty() {
+        return write_shown(room, form, seen, lasts, bus, claims, frame, told, out);
+    }
+    write_shown_signals(&mut room.text, form, seen, bus, claims, frame, told, out)
 }
 
 // Sets `line` to the line of an ended transfer, with these words.
@@ -344,7 +426,7 @@ fn write_told<W: Write>(
         (bus_view bus.entry) claims.now seen.now lasts.old frame.now told.now) }
     ensures err { IfErr result (λ fault. (fault ≡ CmdFault.Write) ⊎ (fault ≡ CmdFault.Memory)) }
 {
-    write_shown(
+    write_first(
         room,
         &settings.form,
         seen,
@@ -356,6 +438,23 @@ fn write_told<W: Write>(
         out,
     )?;
     write_told_end(room, seen, settings, frame, told, out)
+}
+
+/// Writes the first line of a table of signals, where they are asked for.
+#[tactic(auto, using(conode_io::proofs::WriteLemmas::line_alone))]
+pub(crate) fn write_header<W: Write>(
+    alloc: Global,
+    settings: &Settings<'_, '_, '_, '_>,
+    out: &mut W,
+) -> Result<(), CmdFault>
+    ensures lines { OnOk result (WritesLines (W.contents out.old) (W.contents out.new)
+        (header_lines settings.now.form (sheets_of settings.now))) }
+{
+    if settings.form.signals.is_empty() {
+        return Ok(());
+    }
+    let line = header(alloc, settings.sheets, settings.form.signals)?;
+    hand_over(line.as_slice(), out)
 }
 
 /// Writes the lines of a frame, and adds it to what the recording showed; `claims` is scratch space

@@ -1,5 +1,5 @@
 -- The data of PDOs, evaluated on both sides of each edge.
-use Rattle.std.proofs.Common.{◌≡◌, ℕ, Bool, true, false, [], ◌∷◌, List, Some, None, refl, pos}
+use Rattle.std.proofs.Common.{◌≡◌, ℕ, Bool, true, false, [], ◌∷◌, List, Option, Some, None, refl, pos}
 use Rattle.std.specs.Prelude.{codes, length, not, ◌==◌, if◌then◌else◌}
 use Rattle.std.specs.Fmt.{digits}
 use Rattle.std.specs.Str.{is_utf8, chars}
@@ -15,6 +15,8 @@ use Rattle.conode_explain_values.specs.Numbers.{number_text}
 use Rattle.conode_explain_values.specs.Unicode.{characters_text}
 use Rattle.conode_explain_values.specs.Values.{entry_text, value_text}
 use Rattle.conode_explain_pdo.specs.declared.cob_id.SheetCobId.{SheetCobId}
+use Rattle.conode_explain_pdo.specs.declared.entry_bits.EntryBits.{EntryBits}
+use Rattle.conode_explain_pdo.specs.EntryBits.{entry_bits, place_from, shown_bits}
 use Rattle.conode_explain_pdo.specs.Mappings.{addressing_word, bits_at, bytes_words, data_text, mapped_text, more_parts, more_text, multiplexed_data, multiplexed_text, part_bytes, part_text, parts_text, short_text}
 use Rattle.conode_explain_pdo.specs.CobIds.{has_identifier, is_of, may_be_pdo, node_with}
 use Rattle.conode_explain_entries.specs.declared.entries.ShownPdo.{ShownPdo}
@@ -431,3 +433,49 @@ consumer = refl
 elsewhere : said_by (known_sheet (Some (codes "can1")) (names_with rows_of_tpdo) ∷ []) [] 0x185 (1 ∷ []) ≡ []
 unfolding claims_with sheets_claims sheet_claim shown_claim pdos_text node_with is_of sheet_pdos pdos_in pdo_of mapping_at words_at number_at
 elsewhere = refl
+
+-- ---- the bits of an entry alone
+
+abbrev bits_by_count : ℕ → List ℕ → Option EntryBits
+bits_by_count count bytes = entry_bits (record { index = 0x2001; sub = 2 }) bytes (record { count = count; words = 0x20010110 ∷ 0x20010210 ∷ 0x20010208 ∷ [] })
+
+abbrev is_bits : ℕ → List ℕ → Option EntryBits
+is_bits bits bytes = Some (record { bits = bits; bytes = record { items = bytes } })
+
+-- also in data that are longer than what is mapped, and of two places the first
+second_entry : bits_by_count 2 (0xE8 ∷ 0x03 ∷ 0x10 ∷ 0x27 ∷ []) ≡ is_bits 16 (0x10 ∷ 0x27 ∷ [])
+unfolding entry_bits place_from part_bytes
+second_entry = refl
+
+longer_data : bits_by_count 3 (0xE8 ∷ 0x03 ∷ 0x10 ∷ 0x27 ∷ 0x05 ∷ 0xFF ∷ []) ≡ is_bits 16 (0x10 ∷ 0x27 ∷ [])
+unfolding entry_bits place_from part_bytes
+longer_data = refl
+
+-- in data that are shorter there is none, nor below the count, nor in a multiplexed PDO
+shorter_data : bits_by_count 3 (0xE8 ∷ 0x03 ∷ 0x10 ∷ 0x27 ∷ []) ≡ None
+unfolding entry_bits place_from
+shorter_data = refl
+
+not_counted : bits_by_count 1 (0xE8 ∷ 0x03 ∷ 0x10 ∷ 0x27 ∷ []) ≡ None
+unfolding entry_bits place_from
+not_counted = refl
+
+multiplexed_bits : bits_by_count 0xFE (1 ∷ 2 ∷ 3 ∷ 4 ∷ 5 ∷ 6 ∷ 7 ∷ 8 ∷ []) ≡ None
+unfolding entry_bits place_from
+multiplexed_bits = refl
+
+-- by a mapping that the recording shows, is being changed, or isn't known
+abbrev bits_by_these : List Value → Bool → Option EntryBits
+bits_by_these mapping changes =
+    shown_bits (record { index = 0x2001; sub = 1 }) (0xE8 ∷ 0x03 ∷ []) None (shown 0x1800 Assumed mapping changes).state
+
+seen_bits : bits_by_these (Seen 1 ∷ Seen 0x20010110 ∷ []) false ≡ is_bits 16 (0xE8 ∷ 0x03 ∷ [])
+unfolding entry_bits place_from part_bytes mapping_in_force words_in_force
+seen_bits = refl
+
+changed_bits : bits_by_these (Seen 1 ∷ Seen 0x20010110 ∷ []) true ≡ None
+changed_bits = refl
+
+unknown_bits : bits_by_these (Seen 1 ∷ Assumed ∷ []) false ≡ None
+unfolding mapping_in_force words_in_force
+unknown_bits = refl

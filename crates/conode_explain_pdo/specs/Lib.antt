@@ -2,6 +2,7 @@ pub mod Buses
 pub mod Claims
 pub mod CobIds
 pub mod Content
+pub mod EntryBits
 pub mod InForce
 pub mod Known
 pub mod Mappings

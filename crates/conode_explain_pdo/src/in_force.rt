@@ -101,7 +101,11 @@ fn mapping_of(pdos: &[SheetPdo], index: u16) -> Option<&Mapping>
 }
 
 // what the sheet says of the mapping of a node's PDO
-fn sheet_mapping<'k>(bus: Bus<'k, '_, '_, '_, '_>, node: u8, index: u16) -> Option<&'k Mapping>
+pub(crate) fn sheet_mapping<'k>(
+    bus: Bus<'k, '_, '_, '_, '_>,
+    node: u8,
+    index: u16,
+) -> Option<&'k Mapping>
     ensures { option_copied result ≡ sheet_mapping (bus_view bus.entry) node index }
 {
     match sheet_for(bus.sheets, bus.interface, node) {
@@ -185,7 +189,7 @@ fn words_in_force(values: &[Value], sheet: Option<&Mapping>, count: u8) -> Optio
     Some(words)
 }
 
-fn word_count(count: u8) -> u8
+pub(crate) fn word_count(count: u8) -> u8
     ensures words { result ≡ word_count count }
     ensures few { result ≤ 64 }
 {
@@ -200,7 +204,7 @@ fn mapping_with(values: &[Value], sheet: Option<&Mapping>, count: u8) -> Option<
 }
 
 #[tactic(auto, unfolding(crate::specs::InForce::mapping_in_force))]
-fn mapping_in_force(values: &[Value], sheet: Option<&Mapping>) -> Option<Mapping>
+pub(crate) fn mapping_in_force(values: &[Value], sheet: Option<&Mapping>) -> Option<Mapping>
     ensures { result ≡ mapping_in_force values.now (option_copied sheet.entry) }
 {
     let count = count_in_force(values, sheet)?;

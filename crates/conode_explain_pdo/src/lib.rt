@@ -4,6 +4,7 @@
 mod bus;
 mod claim;
 mod cob_id;
+mod entry_bits;
 mod in_force;
 mod known;
 mod known_sheet;
@@ -15,6 +16,7 @@ mod value_type;
 pub use bus::Bus;
 pub use claim::{Claim, add_claims};
 pub use cob_id::SheetCobId;
+pub use entry_bits::EntryBits;
 pub use known::names_for;
 pub use known_sheet::KnownSheet;
 pub use mapping::{Mapping, push_data};

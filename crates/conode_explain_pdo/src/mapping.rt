@@ -55,7 +55,7 @@ impl Model for Mapping {
     ghost view = { λ mapping. record { count = mapping.count; words = mapping.words.items } };
 }
 
-fn word_key(word: u32) -> Key
+pub(crate) fn word_key(word: u32) -> Key
     ensures { result ≡ word_key word }
 {
     Key {
@@ -64,13 +64,13 @@ fn word_key(word: u32) -> Key
     }
 }
 
-fn word_bits(word: u32) -> usize
+pub(crate) fn word_bits(word: u32) -> usize
     ensures { result ≡ word_bits word }
 {
     (word % 256) as usize
 }
 
-fn total_bits(words: &[u32]) -> usize
+pub(crate) fn total_bits(words: &[u32]) -> usize
     requires { length words.now ≤ 64 }
     ensures bits { result ≡ total_bits words.now }
     ensures few { result ≤ 255 * length words.now }
@@ -115,7 +115,7 @@ fn low_bytes(number: u64, count: usize) -> ArrayVec<u8, 8>
 
 // the bits of data from an offset on
 #[tactic(auto, unfolding(crate::specs::Mappings::part_bytes))]
-fn part_bytes(bytes: &[u8], offset: usize, bits: usize) -> ArrayVec<u8, 8>
+pub(crate) fn part_bytes(bytes: &[u8], offset: usize, bits: usize) -> ArrayVec<u8, 8>
     requires few { length bytes.now ≤ 8 }
     requires within { offset + bits ≤ 64 }
     ensures bits { result.items ≡ part_bytes bytes.now offset bits }

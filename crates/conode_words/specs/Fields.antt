@@ -81,7 +81,7 @@ AsksFor name rows (explain a) =
     × (a.sheets ≡ words_for (codes "sheet") rows) × IsChoice stamps_of (codes "stamps") rows a.stamps
     × (a.transfers ≡ is_used (codes "transfers") rows) × (a.changes ≡ is_used (codes "changes") rows)
     × IsChoice lines_as_of (codes "format") rows a.lines_as × IsChoice log_form_of (codes "log") rows a.form
-    × (a.only ≡ asked_lines rows)
+    × (a.only ≡ asked_lines rows) × (a.signals ≡ first_of (codes "signal") rows)
 AsksFor name rows (convert a) =
     (name ≡ codes "convert") × IsWord (codes "LOG") rows a.log × IsChoice log_form_of (codes "log") rows a.form
 AsksFor name rows (stats a) =

@@ -89,6 +89,7 @@ pub record AskedExplain : Type 0 where
   pub lines_as : LinesAs
   pub form : LogForm
   pub only : AskedLines
+  pub signals : Option Text
 
 -- what the words after `convert` ask for
 pub record AskedConvert : Type 0 where
@@ -158,7 +159,7 @@ asked_by (LoopBack sheet key bytes mode device) =
 asked_by (Show sheet node form) = show (record { sheet = sheet.now; node = node; shown_as = form })
 asked_by (Adapt sheet zeros force) =
     adapt (record { sheet = sheet.now; leading_zeros = zeros; force = force })
-asked_by (Explain trace sheets stamps transfers changes lines_as form only) =
+asked_by (Explain trace sheets stamps transfers changes lines_as form only signals) =
     explain (record {
       trace = trace.now;
       sheets = map (λ word. word.now) sheets.items;
@@ -168,6 +169,7 @@ asked_by (Explain trace sheets stamps transfers changes lines_as form only) =
       lines_as = lines_as;
       form = form;
       only = lines_by only;
+      signals = option_copied signals;
     })
 asked_by (Convert log form) = convert (record { log = log.now; form = form })
 asked_by (Stats trace sheet bit_rate lines_as form) =
@@ -305,6 +307,7 @@ asked_explain_of sheets rows =
       lines_as = lines_as;
       form = form;
       only = asked_lines rows;
+      signals = first_of (codes "signal") rows;
     }))
     (log_form_for rows)) (lines_as_for rows)) (stamps_for rows)) (first_of (codes "TRACE") rows)
 

@@ -213,6 +213,7 @@ fn explain_of<'a>(found: &ArgMatches<'a>, sheets: Vec<&'a str>) -> Option<Task<'
         lines_as,
         form,
         only: only_words(found),
+        signals: word_for(found, "signal"),
     })
 }
 

@@ -187,7 +187,7 @@ const ADAPT: [Word; 3] = [
     ),
 ];
 
-const EXPLAIN: [Word; 12] = [
+const EXPLAIN: [Word; 13] = [
     RECORDING,
     Word(
         "sheet",
@@ -208,6 +208,11 @@ const EXPLAIN: [Word; 12] = [
         "changes",
         Flag,
         "PDOs, heartbeats, SYNCs only where they change",
+    ),
+    Word(
+        "signal",
+        Valued("SIGNALS"),
+        "Values as CSV, of entries as 5:2001:01,5:2001:02",
     ),
     TEXT_OR_JSON,
     RECORDING_FORM,

@@ -248,6 +248,14 @@ SYNC has a line only where its data or its meaning differ from those of the last
 one on its identifier and interface. --format json writes each line as an object
 of JSON.
 
+With --signal a table is printed in place of these lines, as comma-separated
+values: a first line with the names of the entries, and a line for each frame
+that has a value of one of them, in a PDO, or at the end of an SDO transfer that
+is done. Each entry has to be in a data sheet. It is named by its node-ID, index
+and sub-index:
+
+  conode explain drive.log --sheet 5=sensor.eds --signal 5:2001:01,5:2001:02
+
 With --sheet entries have their names, and their values in expedited SDO
 transfers and in PDOs, by the mapping that the recording shows, else by the
 sheet's. The option may be given again: `--sheet 5=sensor.eds` is for node-ID 5,

@@ -226,6 +226,9 @@ pub enum Task<'a> {
         form: LogForm,
         /// Which lines are printed.
         only: OnlyWords<'a>,
+        /// The word that names the signals whose values are printed as a table; `None`: it isn't
+        /// given.
+        signals: Option<&'a str>,
     },
     /// To print the statistics of a bus on one page.
     Stats {
