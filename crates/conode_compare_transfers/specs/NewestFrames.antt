@@ -7,35 +7,45 @@ use Rattle.conode_explain_transfers.specs.declared.kinds.Side.TheVariants.{Clien
 use Rattle.conode_explain_transfers.specs.declared.kinds.What.{What}
 use Rattle.conode_explain_transfers.specs.declared.kinds.What.TheVariants.{Initiate, Part, Segment, OutOfSequence}
 use Rattle.conode_compare_transfers.specs.declared.newest.Newest.{Newest}
-use Rattle.conode_compare_transfers.specs.declared.newest.Newest.TheVariants.{Request, Answer, Data}
+use Rattle.conode_compare_transfers.specs.declared.newest.Newest.TheVariants.{Request, Answer, Data, Acknowledge, LaterData}
 
--- another frame in a row
-abbrev pub goes_on : Option Newest → Newest → Option Newest
-goes_on (Some newest) next = Some next
-goes_on None next = None
+-- a segment of a block download
+abbrev pub goes_on : Option Newest → Option Newest
+goes_on (Some newest) = Some Request
+goes_on None = None
 
--- the client's next frame: after an answer, or after the segments of a block
+-- a segment of a block upload; after an acknowledge it may be of the sub-block before, which the
+-- client may have acknowledged before its end
+abbrev pub segment_after : Option Newest → Option Newest
+segment_after (Some Acknowledge) = Some LaterData
+segment_after (Some LaterData) = Some LaterData
+segment_after (Some newest) = Some Data
+segment_after None = None
+
+-- the client's next frame: after an answer, or after the segments of a block, which it acknowledges
 abbrev pub asks_after : Option Newest → Option Newest
 asks_after (Some Answer) = Some Request
-asks_after (Some Data) = Some Request
+asks_after (Some Data) = Some Acknowledge
+asks_after (Some LaterData) = Some Acknowledge
 asks_after other = None
 
 -- the device's answer, after a request
 abbrev pub answers_after : Option Newest → Option Newest
 answers_after (Some Request) = Some Answer
+answers_after (Some Acknowledge) = Some Answer
 answers_after other = None
 
 abbrev pub client_newest : What → Option Newest → Option Newest
 client_newest Initiate newest = Some Request
 client_newest Part newest = asks_after newest
-client_newest (Segment number) newest = goes_on newest Request
-client_newest (OutOfSequence number awaited) newest = goes_on newest Request
+client_newest (Segment number) newest = goes_on newest
+client_newest (OutOfSequence number awaited) newest = goes_on newest
 client_newest what newest = None
 
 abbrev pub server_newest : What → Option Newest → Option Newest
 server_newest Part newest = answers_after newest
-server_newest (Segment number) newest = goes_on newest Data
-server_newest (OutOfSequence number awaited) newest = goes_on newest Data
+server_newest (Segment number) newest = segment_after newest
+server_newest (OutOfSequence number awaited) newest = segment_after newest
 server_newest what newest = None
 
 -- whose frame the newest one is after a frame by an end

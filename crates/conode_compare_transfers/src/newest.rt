@@ -7,6 +7,7 @@ ghost use Rattle.conode_compare_transfers.specs.NewestFrames.{
   client_newest,
   goes_on,
   newest_after,
+  segment_after,
   server_newest,
 };
 
@@ -19,16 +20,32 @@ pub enum Newest {
     Request,
     /// An answer of the device.
     Answer,
-    /// A segment of a block upload.
+    /// A segment of the first sub-block of a block upload.
     Data,
+    /// The client's acknowledge of a sub-block of a block upload.
+    Acknowledge,
+    /// A segment after such an acknowledge. It may be of the sub-block before: the client may have
+    /// acknowledged that before its end.
+    LaterData,
 }
 
-// another frame in a row
-fn goes_on(newest: Option<Newest>, next: Newest) -> Option<Newest>
-    ensures { result ≡ goes_on newest next }
+// a segment of a block download
+fn goes_on(newest: Option<Newest>) -> Option<Newest>
+    ensures { result ≡ goes_on newest }
 {
     match newest {
-        Some(_) => Some(next),
+        Some(_) => Some(Newest::Request),
+        None => None,
+    }
+}
+
+// a segment of a block upload
+fn segment_after(newest: Option<Newest>) -> Option<Newest>
+    ensures { result ≡ segment_after newest }
+{
+    match newest {
+        Some(Newest::Acknowledge | Newest::LaterData) => Some(Newest::LaterData),
+        Some(_) => Some(Newest::Data),
         None => None,
     }
 }
@@ -38,7 +55,8 @@ fn asks_after(newest: Option<Newest>) -> Option<Newest>
     ensures { result ≡ asks_after newest }
 {
     match newest {
-        Some(Newest::Answer | Newest::Data) => Some(Newest::Request),
+        Some(Newest::Answer) => Some(Newest::Request),
+        Some(Newest::Data | Newest::LaterData) => Some(Newest::Acknowledge),
         _ => None,
     }
 }
@@ -48,7 +66,7 @@ fn answers_after(newest: Option<Newest>) -> Option<Newest>
     ensures { result ≡ answers_after newest }
 {
     match newest {
-        Some(Newest::Request) => Some(Newest::Answer),
+        Some(Newest::Request | Newest::Acknowledge) => Some(Newest::Answer),
         _ => None,
     }
 }
@@ -63,7 +81,7 @@ fn client_newest(what: What, newest: Option<Newest>) -> Option<Newest>
         | What::OutOfSequence {
             number: _,
             awaited: _,
-        } => goes_on(newest, Newest::Request),
+        } => goes_on(newest),
         _ => None,
     }
 }
@@ -77,7 +95,7 @@ fn server_newest(what: What, newest: Option<Newest>) -> Option<Newest>
         | What::OutOfSequence {
             number: _,
             awaited: _,
-        } => goes_on(newest, Newest::Data),
+        } => segment_after(newest),
         _ => None,
     }
 }

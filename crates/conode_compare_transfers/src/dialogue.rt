@@ -2,7 +2,7 @@
 
 ghost use Rattle.std.specs.Prelude.{◌≡◌, ◌<◌, length, None};
 ghost use Rattle.conode_explain_transfers.specs.Followed.{followed};
-ghost use Rattle.conode_compare_rules.specs.Dialogues.{
+ghost use Rattle.conode_compare_transfers.specs.Dialogues.{
   asked_after,
   asks_to_write,
   leaves_request_open,
@@ -12,56 +12,164 @@ ghost use Rattle.conode_compare_rules.specs.Dialogues.{
   both_know_its_end,
   given_up,
   interrupted,
+  is_answer,
   is_certain,
   is_initiate,
+  is_late_answer,
+  is_left,
+  is_of_other,
+  is_slow_answer,
+  is_timed,
+  leaves_slow,
   newest_heard,
   nothing_asked,
   owes,
   continues,
   exchange_in,
+  slow_after,
 };
 
-use crate::limits::{Limits, is_past};
+use crate::breach::{Breach, breach_at, byte_at, key_in};
+use crate::newest::{Newest, newest_after};
+use crate::times::is_past;
 use co_frame::Frame;
+use co_profile::{RESTORE_PARAMETERS, STORE_PARAMETERS};
 use co_value::Key;
-use conode_compare_transfers::{Breach, Newest, breach_at, byte_at, key_in, newest_after};
 use conode_explain_transfers::{Channel, Ended, Ending, Heard, Protocol, Side, What};
 
 /// An initiate request that is not answered yet.
 #[derive(Clone, Copy)]
-pub(crate) struct Asked {
-    pub(crate) key: Key,
-    pub(crate) micros: u64,
+pub struct Asked {
+    /// Its multiplexer.
+    pub key: Key,
+    /// Its stamp.
+    pub micros: u64,
     /// Whether it asks to write.
-    pub(crate) writes: bool,
+    pub writes: bool,
 }
 
 /// What a recording shows of a device's default SDO channel.
 #[derive(Drop)]
-pub(crate) struct Dialogue {
-    pub(crate) channel: Channel,
+pub struct Dialogue {
+    /// Its transfers.
+    pub channel: Channel,
     /// The initiate request, where it is the newest frame.
-    pub(crate) asked: Option<Asked>,
+    pub asked: Option<Asked>,
     /// The stamp of the newest frame by which an earlier request may still be answered.
-    pub(crate) doubted: Option<u64>,
+    pub doubted: Option<u64>,
+    /// How many requests that may take long were left before their answer, up to 255.
+    pub slow: u8,
     /// Whose frame the newest one of the open transfer is, where each of its frames came in its
     /// turn.
-    pub(crate) newest: Option<Newest>,
+    pub newest: Option<Newest>,
 }
 
 /// What a frame of the channel is in it.
 #[derive(Drop)]
-pub(crate) struct Exchange {
-    pub(crate) heard: Heard,
+pub struct Exchange {
+    /// What it is in the transfers.
+    pub heard: Heard,
     /// The initiate request right before it.
-    pub(crate) asked: Option<Asked>,
+    pub asked: Option<Asked>,
     /// Whether the device owes an answer to the request before it: no earlier one could still be
     /// answered when it came.
-    pub(crate) owed: bool,
+    pub owed: bool,
     /// Whether no earlier request can be answered here.
-    pub(crate) certain: bool,
+    pub certain: bool,
     /// The difference in the open transfer.
-    pub(crate) breach: Option<Breach>,
+    pub breach: Option<Breach>,
+}
+
+/// Whether an answer has its time: storing, restoring, and what a program is loaded by (1F00h to
+/// 1FFFh, CiA 302) may take long.
+pub fn is_timed(key: Key) -> bool
+    ensures { result ≡ is_timed key }
+{
+    key.index != STORE_PARAMETERS
+        && key.index != RESTORE_PARAMETERS
+        && !(0x1F00 <= key.index && key.index <= 0x1FFF)
+}
+
+// whether a transfer was left, and not ended by the device
+fn is_left(ending: Ending) -> bool
+    ensures { result ≡ is_left ending }
+{
+    matches!(
+        ending,
+        Ending::Unanswered
+            | Ending::Repeated
+            | Ending::Interrupted
+            | Ending::Aborted {
+                by: Side::Client,
+                code: _,
+            }
+    )
+}
+
+fn is_answer(newest: Option<Newest>) -> bool
+    ensures { result ≡ is_answer newest }
+{
+    matches!(newest, Some(Newest::Answer))
+}
+
+// whether a transfer of an entry that may take long was left before its answer
+fn leaves_slow(newest: Option<Newest>, ended: &Option<Ended>) -> bool
+    ensures { result ≡ leaves_slow newest ended.now }
+{
+    match ended {
+        Some(ended) => !is_answer(newest) && is_left(ended.ending) && !is_timed(ended.key),
+        None => false,
+    }
+}
+
+// whether a frame is a response to initiate, or an abort, of an entry that may take long
+fn is_slow_answer(frame: &Frame) -> bool
+    ensures { result ≡ is_slow_answer frame.now }
+{
+    let first = byte_at(frame, 0);
+    0x40 <= first && first < 0xA0 && !is_timed(key_in(frame))
+}
+
+// whether a frame of the device isn't of the open transfer
+fn is_of_other(heard: &Heard, frame: &Frame) -> bool
+    ensures { result ≡ is_of_other heard.now.what heard.now.ended frame.now }
+{
+    match (heard.what, &heard.ended) {
+        (What::Part, Some(ended)) => key_in(frame) != ended.key,
+        (
+            What::Part
+            | What::Segment { number: _ }
+            | What::OutOfSequence {
+                number: _,
+                awaited: _,
+            },
+            _,
+        ) => false,
+        _ => true,
+    }
+}
+
+// whether a frame answers an earlier request, which may take long
+fn is_late_answer(side: Side, heard: &Heard, frame: &Frame) -> bool
+    ensures { result ≡ is_late_answer side heard.now frame.now }
+{
+    match side {
+        Side::Server => is_slow_answer(frame) && is_of_other(heard, frame),
+        Side::Client => false,
+    }
+}
+
+// how many requests that may take long aren't answered
+fn slow_after(leaves: bool, answers: bool, slow: u8) -> u8
+    ensures { result ≡ slow_after leaves answers slow }
+{
+    if leaves && slow < 255 {
+        slow + 1
+    } else if answers {
+        slow.saturating_sub(1)
+    } else {
+        slow
+    }
 }
 
 // whether an initiate request is one of a download, by its command specifier
@@ -150,28 +258,30 @@ fn leaves_request_open(side: Side, heard: &Heard, frame: &Frame) -> bool
 
 impl Dialogue {
     /// Nothing was heard.
-    pub(crate) fn new() -> Dialogue
+    pub fn new() -> Dialogue
         ensures { result ≡ nothing_asked }
     {
         Dialogue {
             channel: Channel::new(),
             asked: None,
             doubted: None,
+            slow: 0,
             newest: None,
         }
     }
 
     /// Whether no earlier request can be answered any more: the recording shows all that came
-    /// within the time that an answer may take, and nothing of it leaves a doubt.
+    /// within the time that an answer may take, nothing of it leaves a doubt, and no answer that may
+    /// take long is awaited.
     #[tactic(auto, unfolding(crate::specs::Dialogues::is_certain))]
-    pub(crate) fn is_certain(&self, limits: &Limits, started: u64, micros: u64) -> bool
-        ensures { result ≡ is_certain limits.now started self.now.doubted micros }
+    pub fn is_certain(&self, answer: u32, started: u64, micros: u64) -> bool
+        ensures { result ≡ is_certain answer started self.now.slow self.now.doubted micros }
     {
-        if !is_past(started, limits.answer, micros) {
+        if self.slow > 0 || !is_past(started, answer, micros) {
             return false;
         }
         match self.doubted {
-            Some(doubted) => is_past(doubted, limits.answer, micros),
+            Some(doubted) => is_past(doubted, answer, micros),
             None => true,
         }
     }
@@ -179,50 +289,53 @@ impl Dialogue {
     /// Whether no request before the one that is asked could still be answered when that came: a
     /// server that still awaits the segments of a block download takes another request as one of
     /// them.
-    fn owes(&self, limits: &Limits, started: u64) -> bool
-        ensures { result ≡ owes limits.now started self.now }
+    fn owes(&self, answer: u32, started: u64) -> bool
+        ensures { result ≡ owes answer started self.now }
     {
         match self.asked {
-            Some(asked) => self.is_certain(limits, started, asked.micros),
+            Some(asked) => self.is_certain(answer, started, asked.micros),
             None => false,
         }
     }
 
-    /// Takes a frame of the channel by an end.
+    /// Takes a frame of the channel by an end. `answer`: how long an answer may take, in ms;
+    /// `started`: the stamp at which the recording began.
     #[tactic(auto, unfolding(crate::specs::Dialogues::exchange_in, crate::specs::Dialogues::dialogue_heard))]
-    pub(crate) fn hear(
+    pub fn hear(
         &mut self,
-        limits: &Limits,
+        answer: u32,
         started: u64,
         micros: u64,
         side: Side,
         frame: &Frame,
     ) -> Exchange
-        ensures exchange { result ≡ exchange_in limits.now started self.old micros side frame.now }
-        ensures next { self.new ≡ dialogue_heard limits.now started self.old micros side frame.now }
+        ensures exchange { result ≡ exchange_in answer started self.old micros side frame.now }
+        ensures next { self.new ≡ dialogue_heard answer started self.old micros side frame.now }
     {
-        let owed = self.owes(limits, started);
-        let certain = self.is_certain(limits, started, micros);
+        let owed = self.owes(answer, started);
+        let known = self.is_certain(answer, started, micros);
         let asked = self.asked;
         let heard = self.channel.take(micros, side, frame);
         let breach = breach_at(self.newest, side, &heard, frame);
+        let late = is_late_answer(side, &heard, frame);
         self.asked = asked_after(heard.what, micros, frame);
         if leaves_request_open(side, &heard, frame) {
             self.doubted = Some(micros);
         }
-        let judged = self.is_certain(limits, started, micros);
+        self.slow = slow_after(leaves_slow(self.newest, &heard.ended), late, self.slow);
+        let judged = self.is_certain(answer, started, micros);
         self.newest = newest_heard(judged, side, heard.what, self.newest);
         Exchange {
             heard,
             asked,
             owed,
-            certain,
+            certain: known && !late,
             breach,
         }
     }
 
     /// The request wasn't answered in time, and may be answered later.
-    pub(crate) fn give_up(&mut self, micros: u64)
+    pub fn give_up(&mut self, micros: u64)
         ensures { self.new ≡ given_up self.old micros }
     {
         self.asked = None;
@@ -232,12 +345,14 @@ impl Dialogue {
 
     /// The device is reset, booted up, or an error frame came: nothing is open any more. Where
     /// something was, it may be answered all the same.
-    pub(crate) fn interrupt(&mut self, micros: u64)
+    pub fn interrupt(&mut self, micros: u64)
         ensures { self.new ≡ interrupted self.old micros }
     {
-        if self.channel.boot_up(micros).is_some() {
+        let ended = self.channel.boot_up(micros);
+        if ended.is_some() {
             self.doubted = Some(micros);
         }
+        self.slow = slow_after(leaves_slow(self.newest, &ended), false, self.slow);
         self.asked = None;
         self.newest = None;
     }
