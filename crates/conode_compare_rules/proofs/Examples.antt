@@ -1,6 +1,7 @@
 -- What is a difference and what isn't, on both sides of each edge, computed from the definitions.
 use Rattle.std.proofs.Common.{◌≡◌, ℕ, Bool, true, false, List, [], ◌∷◌, Some, None, refl}
 use Rattle.std.specs.Prelude.{pos}
+use Rattle.co_frame.specs.SdoRequests.{request_row_in}
 use Rattle.co_frame.specs.declared.nmt.NmtService.TheVariants.{Start, Stop, ResetNode}
 use Rattle.co_profile.specs.declared.access.Access.{Access}
 use Rattle.co_profile.specs.declared.access.Access.TheVariants.{Rw, Constant}
@@ -28,7 +29,8 @@ use Rattle.conode_compare_rules.specs.declared.kind.FrameKind.TheVariants.{Comma
 use Rattle.conode_compare_rules.specs.declared.limits.Limits.{Limits}
 use Rattle.conode_compare_rules.specs.declared.nmt.Nmt.{Nmt}
 use Rattle.conode_compare_rules.specs.Answers.{confirmed_finding, stopped_finding}
-use Rattle.conode_compare_transfers.specs.Dialogues.{dialogue_heard, nothing_asked}
+use Rattle.conode_compare_transfers.specs.Dialogues.{dialogue_heard, is_certain, nothing_asked}
+use Rattle.conode_compare_transfers.specs.NewestFrames.{newest_after}
 use Rattle.conode_compare_rules.specs.EmergencyRules.{emergency_finding, inhibit_finding}
 use Rattle.conode_compare_rules.specs.EntriesInForce.{ended_entries, facts_of, initial_entries, sheet_entries, shown_inhibit, shown_period}
 use Rattle.conode_compare_rules.specs.FrameKinds.{command_kind}
@@ -425,7 +427,7 @@ constant_sheet = refl
 
 -- a recording that begins anew awaits it all the same
 still_saving : (still_awaited (dialogue_heard 1000 0 nothing_asked 2000000 Client (record { id = 0x605; bytes = 0x23 ∷ 0x10 ∷ 0x10 ∷ 1 ∷ 0x73 ∷ 0x61 ∷ 0x76 ∷ 0x65 ∷ [] })) 9000000).slow ≡ 1
-unfolding dialogue_heard
+unfolding dialogue_heard is_certain newest_after request_row_in
 still_saving = refl
 
 -- ---- answers while stopped

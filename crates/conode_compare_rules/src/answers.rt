@@ -30,7 +30,9 @@ use crate::limits::{Limits, Subject};
 use crate::nmt::Nmt;
 use co_frame::Frame;
 use co_sheet::EntryRow;
-use conode_compare_transfers::{Asked, Breach, Dialogue, Exchange, byte_at, is_past, is_timed, key_in};
+use conode_compare_transfers::{
+    Asked, Breach, Dialogue, Exchange, byte_at, is_past, is_timed, key_in,
+};
 use conode_compare_values::{Mismatch, mismatch_at};
 use conode_explain_transfers::{Ended, What};
 

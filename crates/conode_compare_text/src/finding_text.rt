@@ -12,8 +12,8 @@ ghost use Rattle.conode_compare_text.specs.FindingTexts.{
 
 use crate::parts::{
     push_coded, push_codes, push_key, push_key_code, push_key_codes, push_key_numbers,
-    push_key_time, push_key_values, push_named, push_number, push_number_time, push_number_times, push_numbers,
-    push_time, push_time_number, push_times, push_words,
+    push_key_time, push_key_values, push_named, push_number, push_number_time, push_number_times,
+    push_numbers, push_time, push_time_number, push_times, push_words,
 };
 use conode_compare_pdos::Deviation;
 use conode_compare_rules::{Finding, NmtState};

@@ -1,6 +1,8 @@
 -- What a transfer is otherwise than prescribed and what it isn't, on both sides of each edge, computed from the definitions.
 use Rattle.std.proofs.Common.{◌≡◌, ℕ, List, [], ◌∷◌, true, false, map, Option, Some, None, refl}
 use Rattle.co_frame.specs.FrameContent.{FrameContent}
+use Rattle.co_frame.specs.SdoRequests.{request_row_in}
+use Rattle.co_frame.specs.SdoResponses.{response_row_in}
 use Rattle.co_value.specs.declared.key.Key.{Key}
 use Rattle.conode_explain_transfers.specs.declared.channel.Heard.{Heard}
 use Rattle.conode_explain_transfers.specs.declared.ended.Ended.{Ended}
@@ -16,9 +18,8 @@ use Rattle.conode_explain_transfers.specs.declared.kinds.What.TheVariants.{Begun
 use Rattle.conode_compare_transfers.specs.declared.breach.Breach.{Breach}
 use Rattle.conode_compare_transfers.specs.declared.breach.Breach.TheVariants.{AbortKey, Crc, Form, Size, Toggle}
 use Rattle.conode_compare_transfers.specs.declared.dialogue.Dialogue.{Dialogue}
-use Rattle.conode_compare_transfers.specs.declared.newest.Newest.{Newest}
 use Rattle.conode_compare_transfers.specs.declared.newest.Newest.TheVariants.{Acknowledge, Answer, Data, LaterData, Request}
-use Rattle.conode_compare_transfers.specs.Breaches.{abort_breach, breach_at, server_breach}
+use Rattle.conode_compare_transfers.specs.Breaches.{breach_at, server_breach}
 use Rattle.conode_compare_transfers.specs.Dialogues.{dialogue_heard, exchange_in, is_certain, is_late_answer, is_timed, leaves_slow, nothing_asked, owes, slow_after}
 use Rattle.conode_compare_transfers.specs.NewestFrames.{newest_after}
 
@@ -373,13 +374,13 @@ abbrev saving : Dialogue
 saving = sent (sent nothing_asked 2000000 Client (0x23 ∷ 0x10 ∷ 0x10 ∷ 1 ∷ 0x73 ∷ 0x61 ∷ 0x76 ∷ 0x65 ∷ [])) 3000000 Client (0x40 ∷ 0 ∷ 0x10 ∷ 0 ∷ 0 ∷ 0 ∷ 0 ∷ 0 ∷ [])
 
 is_saving : saving.slow ≡ 1
-unfolding dialogue_heard
+unfolding dialogue_heard is_certain newest_after request_row_in
 is_saving = refl
 
 late_save : (exchange_in 1000 0 saving 9000000 Server (reply 0x60 0x10)).certain ≡ false
-unfolding exchange_in is_certain dialogue_heard
+unfolding exchange_in is_certain dialogue_heard newest_after request_row_in response_row_in
 late_save = refl
 
 saved : (sent saving 9000000 Server (0x60 ∷ 0x10 ∷ 0x10 ∷ 1 ∷ 0 ∷ 0 ∷ 0 ∷ 0 ∷ [])).slow ≡ 0
-unfolding dialogue_heard
+unfolding dialogue_heard is_certain newest_after request_row_in response_row_in
 saved = refl

@@ -1,5 +1,5 @@
 -- What of a transfer's end differs from the data sheet and what doesn't, on both sides of each edge, computed from the definitions.
-use Rattle.std.proofs.Common.{◌≡◌, ℕ, Bool, true, false, List, [], ◌∷◌, map, Option, Some, None, refl}
+use Rattle.std.proofs.Common.{◌≡◌, ℕ, true, false, List, [], ◌∷◌, map, Option, Some, None, refl}
 use Rattle.std.specs.Prelude.{ℤ, pos, neg_ℤ}
 use Rattle.co_profile.specs.declared.access.Access.{Access}
 use Rattle.co_profile.specs.declared.access.Access.TheVariants.{Ro, Wo, Rw, Constant}

@@ -189,12 +189,7 @@ fn written_mismatch(row: &EntryRow<'_>, bytes: &[u8]) -> Option<Mismatch>
 }
 
 // the difference of an upload that is done
-fn value_mismatch(
-    node: u8,
-    row: &EntryRow<'_>,
-    indicated: bool,
-    ended: &Ended,
-) -> Option<Mismatch>
+fn value_mismatch(node: u8, row: &EntryRow<'_>, indicated: bool, ended: &Ended) -> Option<Mismatch>
     ensures { result ≡ value_mismatch node (row_view row.now) indicated ended.now }
 {
     match ended.protocol {
