@@ -1,20 +1,16 @@
 -- Lines of differences, computed from the definitions.
-use Rattle.std.proofs.Common.{◌≡◌, ℕ, [], ◌∷◌, ◌++◌, refl, codes}
+use Rattle.std.proofs.Common.{◌≡◌, [], ◌∷◌, ◌++◌, refl, codes}
 use Rattle.std.specs.Fmt.{digits}
-use Rattle.std.specs.Float.{float_is_finite}
-use Rattle.std.specs.Float.Ieee.{to_bits}
-use Rattle.fast_float.proofs.OnLiterals.{fast_float_on_literals}
 use Rattle.co_text.specs.Printed.{digits_text}
 use Rattle.co_value.specs.declared.data_type.DataType.TheVariants.{Unsigned32}
 use Rattle.co_value.specs.declared.key.Key.{Key}
 use Rattle.conode_explain_values.specs.declared.value_type.ValueType.{ValueType}
 use Rattle.conode_explain_values.specs.declared.value_type.ValueType.TheVariants.{Plain, Real32, TimeOfDay}
-use Rattle.conode_explain_values.specs.Reals.{doubled, fixed_text, halved, text_from}
 use Rattle.conode_explain_values.specs.Values.{value_text}
 use Rattle.conode_compare_pdos.specs.declared.deviation.Deviation.TheVariants.{Length, NotOperational, WithoutSync, Inhibit, Timer}
 use Rattle.conode_compare_transfers.specs.declared.breach.Breach.TheVariants.{Toggle, Form, AbortKey, Size, Crc}
 use Rattle.conode_compare_values.specs.declared.mismatch.Mismatch.TheVariants.{ValueLength, ValueConst, ReadRefused, Written, AboveLimit, BelowLimit}
-use Rattle.conode_compare_rules.specs.declared.finding.Finding.TheVariants.{BootMissing, SecondBootUp, HeartbeatLength, NoState, WrongState, HeartbeatLate, EmergencyLength, EmergencyStopped, EmergencyRegister, EmergencyInhibit, NoAnswer, Unasked, AnswerKey, AnswerForm, AnswerStopped, Transfer, Value, Pdo}
+use Rattle.conode_compare_rules.specs.declared.finding.Finding.TheVariants.{BootMissing, SecondBootUp, HeartbeatLength, NoState, WrongState, HeartbeatLate, EmergencyLength, EmergencyRegister, EmergencyInhibit, NoAnswer, AnswerKey, AnswerForm, AnswerStopped, Transfer, Value, Pdo}
 use Rattle.conode_compare_rules.specs.declared.finding.NmtState.TheVariants.{PreOperational, Operational}
 use Rattle.conode_compare_text.specs.FindingTexts.{coded, finding_line, finding_text, hexadecimal, keyed, keyed_code, keyed_codes, keyed_numbers, keyed_time, keyed_values, millis_text, mismatch_text, named, numbered, numbered_time, numbered_times, pdo_text, shown_value, three_numbers, timed, timed_number, transfer_text, two_codes, two_times}
 use Rattle.conode_compare_text.specs.Tallies.{summary}
@@ -82,8 +78,8 @@ unfolding finding_text mismatch_text keyed_values shown_value hexadecimal digits
 value_const = refl
 
 -- a REAL32 of an adapted sheet, by its value
-value_const_real : finding_text Real32 (Value (ValueConst key 0x41BC0000 0xBDCCCCCD)) ≡ codes "value-const: 1018:01 has 23.5, the sheet -0.1"
-unfolding finding_text mismatch_text keyed_values shown_value value_text text_from halved doubled fixed_text digits digits_text fast_float_on_literals float_is_finite to_bits
+value_const_real : finding_text Real32 (Value (ValueConst key 0x7F800000 0x80000000)) ≡ codes "value-const: 1018:01 has inf, the sheet -0.0"
+unfolding finding_text mismatch_text keyed_values shown_value value_text digits_text
 value_const_real = refl
 
 -- four bytes aren't a whole TIME_OF_DAY
