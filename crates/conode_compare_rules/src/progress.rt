@@ -62,7 +62,7 @@ use crate::verdict::Findings;
 use co_frame::{Frame, NmtService};
 use co_sheet::EntryRow;
 use conode_compare_pdos::{Moment, Pdos, Sighting};
-use conode_compare_transfers::{Asked, Dialogue, Exchange, is_past};
+use conode_compare_transfers::{Asked, Dialogue, Exchange, Left, is_past};
 use conode_explain_transfers::{Ended, Side, What};
 
 /// What a recording shows of a device.
@@ -285,7 +285,7 @@ impl Progress {
             .nmt
             .after_control(&subject.limits, self.started, micros, 0);
         self.break_off(micros);
-        self.dialogue.slow = 0;
+        self.dialogue.slow = Left::new();
         self.entries = subject.facts.booted;
         self.pdos = subject.facts.pdos;
         self.heartbeats.since = Some(micros);

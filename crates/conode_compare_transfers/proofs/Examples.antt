@@ -18,9 +18,10 @@ use Rattle.conode_explain_transfers.specs.declared.kinds.What.TheVariants.{Begun
 use Rattle.conode_compare_transfers.specs.declared.breach.Breach.{Breach}
 use Rattle.conode_compare_transfers.specs.declared.breach.Breach.TheVariants.{AbortKey, Crc, Form, Size, Toggle}
 use Rattle.conode_compare_transfers.specs.declared.dialogue.Dialogue.{Dialogue}
+use Rattle.conode_compare_transfers.specs.declared.left.Left.{Left}
 use Rattle.conode_compare_transfers.specs.declared.newest.Newest.TheVariants.{Acknowledge, Answer, Data, LaterData, Request}
 use Rattle.conode_compare_transfers.specs.Breaches.{breach_at, server_breach}
-use Rattle.conode_compare_transfers.specs.Dialogues.{dialogue_heard, exchange_in, is_certain, is_late_answer, is_timed, leaves_slow, nothing_asked, owes, slow_after}
+use Rattle.conode_compare_transfers.specs.Dialogues.{dialogue_heard, exchange_in, is_certain, is_late_answer, is_timed, is_awaited, is_in_turn, leaves_slow, left_after, left_after_answer, nothing_asked, nothing_left, owes}
 use Rattle.conode_compare_transfers.specs.NewestFrames.{newest_after}
 
 abbrev key : Key
@@ -298,21 +299,29 @@ left_by index ending = Some (record {
 })
 
 -- saving is left by another request, by the same one again, and by an abort of the client
-left_open : map (λ ending. leaves_slow (Some Request) (left_by 0x1010 ending)) (Unanswered ∷ Again ∷ Interrupted ∷ Aborted Client (record { 0 = 0x05040000 }) ∷ [])
+left_open : map (λ ending. leaves_slow false (Some Request) (left_by 0x1010 ending)) (Unanswered ∷ Again ∷ Interrupted ∷ Aborted Client (record { 0 = 0x05040000 }) ∷ [])
     ≡ true ∷ true ∷ true ∷ true ∷ []
 left_open = refl
 
 -- the device answered; and another entry has its time
-answered_all : map (λ ending. leaves_slow None (left_by 0x1010 ending)) (Done false ∷ Irregular ∷ Aborted Server (record { 0 = 0x08000020 }) ∷ []) ≡ false ∷ false ∷ false ∷ []
+answered_all : map (λ ending. leaves_slow false None (left_by 0x1010 ending)) (Done false ∷ Irregular ∷ Aborted Server (record { 0 = 0x08000020 }) ∷ []) ≡ false ∷ false ∷ false ∷ []
 answered_all = refl
 
-answered_last : leaves_slow (Some Answer) (left_by 0x1010 Interrupted) ≡ false
+-- after an answer, and among the segments of a block upload, nothing is owed
+answered_last : map (λ newest. leaves_slow false (Some newest) (left_by 0x1010 Interrupted)) (Answer ∷ Data ∷ LaterData ∷ Acknowledge ∷ Request ∷ []) ≡ false ∷ false ∷ false ∷ true ∷ true ∷ []
 answered_last = refl
 
-left_timed : leaves_slow (Some Request) (left_by 0x1000 Unanswered) ≡ false
+-- another entry is refused, whose request came earlier
+refuses_earlier : leaves_slow true (Some Request) (left_by 0x1010 (Aborted Server (record { 0 = 0x06020000 }))) ≡ true
+refuses_earlier = refl
+
+done_other : leaves_slow true (Some Request) (left_by 0x1010 (Done false)) ≡ false
+done_other = refl
+
+left_timed : leaves_slow false (Some Request) (left_by 0x1000 Unanswered) ≡ false
 left_timed = refl
 
-none_left : leaves_slow (Some Request) None ≡ false
+none_left : leaves_slow false (Some Request) None ≡ false
 none_left = refl
 
 abbrev reply : ℕ → ℕ → FrameContent
@@ -344,27 +353,82 @@ slow_segment = refl
 slow_request : is_late_answer Client (heard_as Stray None) (reply 0x60 0x10) ≡ false
 slow_request = refl
 
--- those with a multiplexer: an upload's response to initiate, a download's, and an abort
-with_key : map (λ first. is_late_answer Server (heard_as Stray None) (reply first 0x10)) (0x3F ∷ 0x40 ∷ 0x9F ∷ 0xA0 ∷ []) ≡ false ∷ true ∷ true ∷ false ∷ []
+slow_out_of_sequence : is_late_answer Server (heard_as (OutOfSequence 0x60 1) None) (reply 0x60 0x10) ≡ false
+slow_out_of_sequence = refl
+
+-- those with a multiplexer: responses to initiate of an upload and of a download, aborts, and responses to initiate of block transfers
+with_key : map (λ first. is_late_answer Server (heard_as Stray None) (reply first 0x10)) (0x3F ∷ 0x40 ∷ 0x9F ∷ 0xA0 ∷ 0xA1 ∷ 0xA2 ∷ 0xA4 ∷ 0xC0 ∷ 0xC1 ∷ 0xC2 ∷ 0xC4 ∷ 0xC6 ∷ 0xC7 ∷ [])
+    ≡ false ∷ true ∷ true ∷ true ∷ false ∷ false ∷ true ∷ true ∷ false ∷ true ∷ true ∷ true ∷ false ∷ []
 with_key = refl
 
-counts : map (slow_after true false) (0 ∷ 254 ∷ 255 ∷ []) ≡ 1 ∷ 255 ∷ 255 ∷ []
+abbrev left_at : ℕ → ℕ → Left
+left_at count newest = record { count = count; newest = newest }
+
+counts : map (λ count. left_after true 9 (left_at count 7)) (0 ∷ 254 ∷ 255 ∷ []) ≡ left_at 1 9 ∷ left_at 255 9 ∷ left_at 255 9 ∷ []
 counts = refl
 
-counts_down : map (slow_after false true) (0 ∷ 1 ∷ 255 ∷ []) ≡ 0 ∷ 0 ∷ 254 ∷ []
+-- those before it are awaited no more
+counts_anew : left_after true 60000008 (left_at 3 7) ≡ left_at 1 60000008
+counts_anew = refl
+
+counts_down : map (λ count. left_after_answer true false (left_at count 7)) (0 ∷ 1 ∷ 255 ∷ []) ≡ left_at 0 7 ∷ left_at 0 7 ∷ left_at 254 7 ∷ []
 counts_down = refl
 
-stays : map (slow_after false false) (0 ∷ 1 ∷ []) ≡ 0 ∷ 1 ∷ []
+stays : map (λ count. left_after false 9 (left_after_answer false false (left_at count 7))) (0 ∷ 1 ∷ []) ≡ left_at 0 7 ∷ left_at 1 7 ∷ []
 stays = refl
 
-nothing_awaited : is_certain 1000 0 0 (Some 7) 1000008 ≡ true
+forgotten : left_after_answer false true (left_at 2 7) ≡ nothing_left
+forgotten = refl
+
+-- for a minute, and not where the stamps step back
+awaited : map (is_awaited (left_at 1 7)) (6 ∷ 7 ∷ 60000007 ∷ 60000008 ∷ []) ≡ false ∷ true ∷ true ∷ false ∷ []
+awaited = refl
+
+none_awaited : is_awaited (left_at 0 7) 8 ≡ false
+none_awaited = refl
+
+nothing_awaited : is_certain 1000 0 nothing_left (Some 7) 1000008 ≡ true
 unfolding is_certain
 nothing_awaited = refl
 
--- however long it takes
-one_awaited : is_certain 1000 0 1 None 100000000 ≡ false
+one_awaited : is_certain 1000 0 (left_at 1 7) None 60000007 ≡ false
 unfolding is_certain
 one_awaited = refl
+
+no_longer_awaited : is_certain 1000 0 (left_at 1 7) None 60000008 ≡ true
+unfolding is_certain
+no_longer_awaited = refl
+
+-- 1000:00 was asked for while one that may take long was awaited: its answer, to a request that came once all others had their time
+abbrev asked_later : ℕ → Dialogue
+asked_later micros = record (asked_at 2000000 micros) { slow = left_at 1 2000000 }
+
+abbrev value_of : ℕ → FrameContent
+value_of low = record { id = 0x585; bytes = 0x43 ∷ low ∷ 0x10 ∷ 0 ∷ 1 ∷ 0 ∷ 0 ∷ 0 ∷ [] }
+
+in_turn : map (λ micros. is_in_turn 1000 0 (asked_later micros) Server Part (value_of 0)) (3000000 ∷ 3000001 ∷ []) ≡ false ∷ true ∷ []
+unfolding is_certain
+in_turn = refl
+
+-- of another entry; another frame; the client's; none is asked for
+not_in_turn : is_in_turn 1000 0 (asked_later 3000001) Server Part (value_of 1) ≡ false
+not_in_turn = refl
+
+overtaken_turn : is_in_turn 1000 0 (asked_later 3000001) Server Overtaken (value_of 0) ≡ false
+overtaken_turn = refl
+
+client_turn : is_in_turn 1000 0 (asked_later 3000001) Client Part (value_of 0) ≡ false
+client_turn = refl
+
+no_turn : is_in_turn 1000 0 nothing_asked Server Part (value_of 0) ≡ false
+no_turn = refl
+
+-- the same entry that may take long may have been left before
+abbrev asked_slow : Dialogue
+asked_slow = record (asked_later 3000001) { asked = Some (record { key = record { index = 0x1010; sub = 1 }; micros = 3000001; writes = true }) }
+
+slow_turn : is_in_turn 1000 0 asked_slow Server Part (reply 0x60 0x10) ≡ false
+slow_turn = refl
 
 -- 1010:01 is written, then 1000:00 is asked for: the answer of the first leaves a doubt, also of what comes next
 abbrev sent : Dialogue → ℕ → Side → List ℕ → Dialogue
@@ -373,7 +437,7 @@ sent dialogue micros side bytes = dialogue_heard 1000 0 dialogue micros side (re
 abbrev saving : Dialogue
 saving = sent (sent nothing_asked 2000000 Client (0x23 ∷ 0x10 ∷ 0x10 ∷ 1 ∷ 0x73 ∷ 0x61 ∷ 0x76 ∷ 0x65 ∷ [])) 3000000 Client (0x40 ∷ 0 ∷ 0x10 ∷ 0 ∷ 0 ∷ 0 ∷ 0 ∷ 0 ∷ [])
 
-is_saving : saving.slow ≡ 1
+is_saving : saving.slow ≡ left_at 1 3000000
 unfolding dialogue_heard is_certain newest_after request_row_in
 is_saving = refl
 
@@ -381,6 +445,30 @@ late_save : (exchange_in 1000 0 saving 9000000 Server (reply 0x60 0x10)).certain
 unfolding exchange_in is_certain dialogue_heard newest_after request_row_in response_row_in
 late_save = refl
 
-saved : (sent saving 9000000 Server (0x60 ∷ 0x10 ∷ 0x10 ∷ 1 ∷ 0 ∷ 0 ∷ 0 ∷ 0 ∷ [])).slow ≡ 0
+saved : (sent saving 9000000 Server (0x60 ∷ 0x10 ∷ 0x10 ∷ 1 ∷ 0 ∷ 0 ∷ 0 ∷ 0 ∷ [])).slow ≡ left_at 0 3000000
 unfolding dialogue_heard is_certain newest_after request_row_in response_row_in
 saved = refl
+
+-- an answer of an entry that may take long, where none is awaited: its request may have come before the recording
+abbrev asking : Dialogue
+asking = sent nothing_asked 2000000 Client (0x40 ∷ 0 ∷ 0x10 ∷ 0 ∷ 0 ∷ 0 ∷ 0 ∷ 0 ∷ [])
+
+none_left_before : asking.slow ≡ nothing_left
+unfolding dialogue_heard is_certain newest_after request_row_in
+none_left_before = refl
+
+never_judged : (exchange_in 1000 0 asking 2500000 Server (reply 0x60 0x10)).certain ≡ false
+unfolding exchange_in is_certain dialogue_heard newest_after request_row_in response_row_in
+never_judged = refl
+
+-- 1000:00 is asked for once more, and answered in its turn: nothing is awaited any more
+abbrev asked_anew : Dialogue
+asked_anew = sent (sent saving 3500000 Server (0x43 ∷ 0 ∷ 0x10 ∷ 0 ∷ 1 ∷ 0 ∷ 0 ∷ 0 ∷ [])) 5000000 Client (0x40 ∷ 0 ∷ 0x10 ∷ 0 ∷ 0 ∷ 0 ∷ 0 ∷ 0 ∷ [])
+
+still_awaited : asked_anew.slow ≡ left_at 1 3000000
+unfolding dialogue_heard is_certain newest_after request_row_in response_row_in
+still_awaited = refl
+
+answered_anew : (sent asked_anew 5001000 Server (0x43 ∷ 0 ∷ 0x10 ∷ 0 ∷ 1 ∷ 0 ∷ 0 ∷ 0 ∷ [])).slow ≡ nothing_left
+unfolding dialogue_heard is_certain newest_after request_row_in response_row_in
+answered_anew = refl

@@ -18,16 +18,21 @@ use Rattle.conode_explain_transfers.specs.declared.kinds.What.{What}
 use Rattle.conode_explain_transfers.specs.declared.kinds.What.TheVariants.{Initiate, Part, Segment, OutOfSequence}
 use Rattle.conode_explain_transfers.specs.Followed.{after_boot, closed, followed, nothing_heard}
 use Rattle.conode_compare_transfers.specs.declared.newest.Newest.{Newest}
-use Rattle.conode_compare_transfers.specs.declared.newest.Newest.TheVariants.{Answer}
+use Rattle.conode_compare_transfers.specs.declared.newest.Newest.TheVariants.{Answer, Data, LaterData}
 use Rattle.conode_compare_transfers.specs.Breaches.{breach_at, byte_at, key_in}
 use Rattle.conode_compare_transfers.specs.NewestFrames.{newest_after}
 use Rattle.conode_compare_transfers.specs.declared.dialogue.Asked.{Asked}
 use Rattle.conode_compare_transfers.specs.declared.dialogue.Dialogue.{Dialogue}
 use Rattle.conode_compare_transfers.specs.declared.dialogue.Exchange.{Exchange}
+use Rattle.conode_compare_transfers.specs.declared.left.Left.{Left}
 use Rattle.conode_compare_transfers.specs.Times.{is_past}
 
+-- no request that may take long was left before its answer
+abbrev pub nothing_left : Left
+nothing_left = record { count = 0; newest = 0 }
+
 abbrev pub nothing_asked : Dialogue
-nothing_asked = record { channel = nothing_heard; asked = None; doubted = None; slow = 0; newest = None }
+nothing_asked = record { channel = nothing_heard; asked = None; doubted = None; slow = nothing_left; newest = None }
 
 -- ---- initiate requests
 
@@ -87,31 +92,47 @@ abbrev pub is_timed : Key → Bool
 is_timed key =
     not (key.index == store_parameters) && (not (key.index == restore_parameters) && not (nat_le 0x1F00 key.index && nat_le key.index 0x1FFF))
 
--- a transfer that was left, and not ended by the device
-abbrev pub is_left : Ending → Bool
-is_left Unanswered = true
-is_left Repeated = true
-is_left Interrupted = true
-is_left (Aborted Client code) = true
-is_left other = false
+-- the multiplexer of a frame isn't that of the transfer that it ends
+abbrev pub names_other : Option Ended → FrameContent → Bool
+names_other ended frame = option_map_or (λ e. not (same_key (key_in frame) e.key)) ended false
 
-abbrev pub is_answer : Option Newest → Bool
-is_answer (Some Answer) = true
-is_answer other = false
+-- A transfer that was left, and not ended by the device. An abort of another entry answers an
+-- earlier request.
+abbrev pub is_left : Bool → Ending → Bool
+is_left other Unanswered = true
+is_left other Repeated = true
+is_left other Interrupted = true
+is_left other (Aborted Client code) = true
+is_left other (Aborted Server code) = other
+is_left other ending = false
+
+-- nothing is owed but what the device sends by itself: after its answer, and among its segments
+abbrev pub owes_nothing : Option Newest → Bool
+owes_nothing (Some Answer) = true
+owes_nothing (Some Data) = true
+owes_nothing (Some LaterData) = true
+owes_nothing newest = false
 
 -- A transfer of an entry that may take long was left before its answer: that may come at any time.
-abbrev pub leaves_slow : Option Newest → Option Ended → Bool
-leaves_slow newest ended =
-    not (is_answer newest) && option_map_or (λ e. is_left e.ending && not (is_timed e.key)) ended false
+-- `other`: the frame is of another entry.
+abbrev pub leaves_slow : Bool → Option Newest → Option Ended → Bool
+leaves_slow other newest ended =
+    not (owes_nothing newest) && option_map_or (λ e. is_left other e.ending && not (is_timed e.key)) ended false
 
--- a response to initiate, scs = 2 or 3, or an abort, cs = 4, of an entry that may take long
+-- A response to initiate has its multiplexer: scs = 2 and 3; of a block download scs = 5 and ss = 0,
+-- of a block upload scs = 6 and ss = 0. So has an abort, cs = 4.
+abbrev pub has_key : ℕ → Bool
+has_key first =
+    (nat_le 0x40 first && nat_lt first 0xA0)
+    || ((first == 0xA0) || ((first == 0xA4) || ((first == 0xC0) || ((first == 0xC2) || ((first == 0xC4) || (first == 0xC6))))))
+
+-- one of these, of an entry that may take long
 abbrev pub is_slow_answer : FrameContent → Bool
-is_slow_answer frame =
-    (nat_le 0x40 (byte_at frame 0) && nat_lt (byte_at frame 0) 0xA0) && not (is_timed (key_in frame))
+is_slow_answer frame = has_key (byte_at frame 0) && not (is_timed (key_in frame))
 
 -- a frame of the device that isn't of the open transfer
 abbrev pub is_of_other : What → Option Ended → FrameContent → Bool
-is_of_other Part ended frame = option_map_or (λ e. not (same_key (key_in frame) e.key)) ended false
+is_of_other Part ended frame = names_other ended frame
 is_of_other (Segment number) ended frame = false
 is_of_other (OutOfSequence number awaited) ended frame = false
 is_of_other what ended frame = true
@@ -121,17 +142,35 @@ abbrev pub is_late_answer : Side → Heard → FrameContent → Bool
 is_late_answer Server heard frame = is_slow_answer frame && is_of_other heard.what heard.ended frame
 is_late_answer Client heard frame = false
 
--- how many of these requests aren't answered, up to 255: one more is left, or one is answered
-abbrev pub slow_after : Bool → Bool → ℕ → ℕ
-slow_after leaves answers slow = if leaves && nat_lt slow 255 then slow + 1 else (if answers then slow - 1 else slow)
+-- one of these requests is answered; or one after them is, in its turn
+abbrev pub left_after_answer : Bool → Bool → Left → Left
+left_after_answer answers turns left = if turns then nothing_left else (if answers then record left { count = left.count - 1 } else left)
+
+-- how long they are awaited, in ms: a minute
+abbrev pub slow_limit : ℕ
+slow_limit = 60000
+
+-- one of them is awaited still; not where the stamps step back
+abbrev pub is_awaited : Left → ℕ → Bool
+is_awaited left micros = nat_lt 0 left.count && (nat_le left.newest micros && not (is_past left.newest slow_limit micros))
+
+abbrev pub awaited_count : Left → ℕ → ℕ
+awaited_count left micros = if is_awaited left micros then left.count else 0
+
+-- one more, up to 255
+abbrev pub one_more : ℕ → ℕ
+one_more count = if nat_lt count 255 then count + 1 else count
+
+abbrev pub left_after : Bool → ℕ → Left → Left
+left_after leaves micros left = if leaves then record { count = one_more (awaited_count left micros); newest = micros } else left
 
 -- ---- certainty
 
 -- no earlier request can be answered any more: an answer takes no longer than it may, and none that
 -- may take long is awaited
-unfoldable pub is_certain : ℕ → ℕ → ℕ → Option ℕ → ℕ → Bool
+unfoldable pub is_certain : ℕ → ℕ → Left → Option ℕ → ℕ → Bool
 is_certain answer started slow doubted micros =
-    (slow == 0) && (is_past started answer micros && option_map_or (λ d. is_past d answer micros) doubted true)
+    not (is_awaited slow micros) && (is_past started answer micros && option_map_or (λ d. is_past d answer micros) doubted true)
 
 -- The device owes an answer to the request before a frame: no earlier one could still be answered
 -- when it came. A server that still awaits the segments of a block download takes another request
@@ -139,6 +178,20 @@ is_certain answer started slow doubted micros =
 abbrev pub owes : ℕ → ℕ → Dialogue → Bool
 owes answer started dialogue =
     option_map_or (λ a. is_certain answer started dialogue.slow dialogue.doubted a.micros) dialogue.asked false
+
+-- The answer to a request that came when none but those that may take long could be answered. A
+-- server takes requests in turn, so those are answered no more.
+abbrev pub answers_in_turn : ℕ → ℕ → Option ℕ → FrameContent → Asked → Bool
+answers_in_turn answer started doubted frame asked =
+    (is_timed asked.key && same_key (key_in frame) asked.key) && is_certain answer started nothing_left doubted asked.micros
+
+abbrev pub is_part : Side → What → Bool
+is_part Server Part = true
+is_part side what = false
+
+abbrev pub is_in_turn : ℕ → ℕ → Dialogue → Side → What → FrameContent → Bool
+is_in_turn answer started dialogue side what frame =
+    is_part side what && option_map_or (λ a. answers_in_turn answer started dialogue.doubted frame a) dialogue.asked false
 
 -- ---- a frame
 
@@ -164,7 +217,9 @@ unfoldable pub dialogue_heard : ℕ → ℕ → Dialogue → ℕ → Side → Fr
 dialogue_heard answer started dialogue micros side frame =
     let f = followed dialogue.channel micros side frame.bytes in
     let doubted = doubted_after side f.says frame dialogue.doubted micros in
-    let slow = slow_after (leaves_slow dialogue.newest f.says.ended) (is_late_answer side f.says frame) dialogue.slow in
+    let leaves = leaves_slow (names_other f.says.ended frame) dialogue.newest f.says.ended in
+    let turns = is_in_turn answer started dialogue side f.says.what frame in
+    let slow = left_after leaves micros (left_after_answer (is_late_answer side f.says frame) turns dialogue.slow) in
     record {
       channel = f.next;
       asked = asked_after f.says.what micros frame;
@@ -184,6 +239,6 @@ interrupted dialogue micros = record {
   channel = after_boot dialogue.channel;
   asked = None;
   doubted = if is_some dialogue.channel.transfer then Some micros else dialogue.doubted;
-  slow = slow_after (leaves_slow dialogue.newest (closed dialogue.channel.transfer micros Interrupted)) false dialogue.slow;
+  slow = left_after (leaves_slow false dialogue.newest (closed dialogue.channel.transfer micros Interrupted)) micros dialogue.slow;
   newest = None;
 }

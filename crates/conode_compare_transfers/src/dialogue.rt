@@ -3,6 +3,7 @@
 ghost use Rattle.std.specs.Prelude.{◌≡◌, ◌<◌, length, None};
 ghost use Rattle.conode_explain_transfers.specs.Followed.{followed};
 ghost use Rattle.conode_compare_transfers.specs.Dialogues.{
+  answers_in_turn,
   asked_after,
   asks_to_write,
   leaves_request_open,
@@ -12,24 +13,28 @@ ghost use Rattle.conode_compare_transfers.specs.Dialogues.{
   both_know_its_end,
   given_up,
   interrupted,
-  is_answer,
   is_certain,
+  is_in_turn,
   is_initiate,
   is_late_answer,
   is_left,
   is_of_other,
+  is_part,
   is_slow_answer,
   is_timed,
   leaves_slow,
+  names_other,
   newest_heard,
   nothing_asked,
   owes,
+  owes_nothing,
   continues,
   exchange_in,
-  slow_after,
+  has_key,
 };
 
 use crate::breach::{Breach, breach_at, byte_at, key_in};
+use crate::left::Left;
 use crate::newest::{Newest, newest_after};
 use crate::times::is_past;
 use co_frame::Frame;
@@ -57,8 +62,8 @@ pub struct Dialogue {
     pub asked: Option<Asked>,
     /// The stamp of the newest frame by which an earlier request may still be answered.
     pub doubted: Option<u64>,
-    /// How many requests that may take long were left before their answer, up to 255.
-    pub slow: u8,
+    /// The requests that may take long and were left before their answer.
+    pub slow: Left,
     /// Whose frame the newest one of the open transfer is, where each of its frames came in its
     /// turn.
     pub newest: Option<Newest>,
@@ -90,61 +95,96 @@ pub fn is_timed(key: Key) -> bool
         && !(0x1F00 <= key.index && key.index <= 0x1FFF)
 }
 
-// whether a transfer was left, and not ended by the device
-fn is_left(ending: Ending) -> bool
-    ensures { result ≡ is_left ending }
-{
-    matches!(
-        ending,
-        Ending::Unanswered
-            | Ending::Repeated
-            | Ending::Interrupted
-            | Ending::Aborted {
-                by: Side::Client,
-                code: _,
-            }
-    )
-}
-
-fn is_answer(newest: Option<Newest>) -> bool
-    ensures { result ≡ is_answer newest }
-{
-    matches!(newest, Some(Newest::Answer))
-}
-
-// whether a transfer of an entry that may take long was left before its answer
-fn leaves_slow(newest: Option<Newest>, ended: &Option<Ended>) -> bool
-    ensures { result ≡ leaves_slow newest ended.now }
+// whether the multiplexer of a frame isn't that of the transfer that it ends
+fn names_other(ended: &Option<Ended>, frame: &Frame) -> bool
+    ensures { result ≡ names_other ended.now frame.now }
 {
     match ended {
-        Some(ended) => !is_answer(newest) && is_left(ended.ending) && !is_timed(ended.key),
+        Some(ended) => key_in(frame) != ended.key,
         None => false,
     }
 }
 
-// whether a frame is a response to initiate, or an abort, of an entry that may take long
+// Whether a transfer was left, and not ended by the device. An abort of another entry answers an
+// earlier request.
+fn is_left(other: bool, ending: Ending) -> bool
+    ensures { result ≡ is_left other ending }
+{
+    match ending {
+        Ending::Unanswered
+        | Ending::Repeated
+        | Ending::Interrupted
+        | Ending::Aborted {
+            by: Side::Client,
+            code: _,
+        } => true,
+        Ending::Aborted {
+            by: Side::Server,
+            code: _,
+        } => other,
+        _ => false,
+    }
+}
+
+// whether nothing is owed but what the device sends by itself
+fn owes_nothing(newest: Option<Newest>) -> bool
+    ensures { result ≡ owes_nothing newest }
+{
+    matches!(
+        newest,
+        Some(Newest::Answer | Newest::Data | Newest::LaterData)
+    )
+}
+
+// whether a transfer of an entry that may take long was left before its answer
+fn leaves_slow(other: bool, newest: Option<Newest>, ended: &Option<Ended>) -> bool
+    ensures { result ≡ leaves_slow other newest ended.now }
+{
+    match ended {
+        Some(ended) => {
+            !owes_nothing(newest) && is_left(other, ended.ending) && !is_timed(ended.key)
+        }
+        None => false,
+    }
+}
+
+// whether a frame of the device has a multiplexer: a response to initiate, or an abort
+fn has_key(first: u8) -> bool
+    ensures { result ≡ has_key first }
+{
+    (0x40 <= first && first < 0xA0)
+        || first == 0xA0
+        || first == 0xA4
+        || first == 0xC0
+        || first == 0xC2
+        || first == 0xC4
+        || first == 0xC6
+}
+
+// whether a frame is one of these, of an entry that may take long
 fn is_slow_answer(frame: &Frame) -> bool
     ensures { result ≡ is_slow_answer frame.now }
 {
-    let first = byte_at(frame, 0);
-    0x40 <= first && first < 0xA0 && !is_timed(key_in(frame))
+    has_key(byte_at(frame, 0)) && !is_timed(key_in(frame))
+}
+
+fn is_part(side: Side, what: What) -> bool
+    ensures { result ≡ is_part side what }
+{
+    matches!((side, what), (Side::Server, What::Part))
 }
 
 // whether a frame of the device isn't of the open transfer
 fn is_of_other(heard: &Heard, frame: &Frame) -> bool
     ensures { result ≡ is_of_other heard.now.what heard.now.ended frame.now }
 {
-    match (heard.what, &heard.ended) {
-        (What::Part, Some(ended)) => key_in(frame) != ended.key,
-        (
-            What::Part
-            | What::Segment { number: _ }
-            | What::OutOfSequence {
-                number: _,
-                awaited: _,
-            },
-            _,
-        ) => false,
+    match heard.what {
+        What::Part => names_other(&heard.ended, frame),
+        What::Segment { number: _ }
+        | What::OutOfSequence {
+            number: _,
+            awaited: _,
+        } => false,
         _ => true,
     }
 }
@@ -156,19 +196,6 @@ fn is_late_answer(side: Side, heard: &Heard, frame: &Frame) -> bool
     match side {
         Side::Server => is_slow_answer(frame) && is_of_other(heard, frame),
         Side::Client => false,
-    }
-}
-
-// how many requests that may take long aren't answered
-fn slow_after(leaves: bool, answers: bool, slow: u8) -> u8
-    ensures { result ≡ slow_after leaves answers slow }
-{
-    if leaves && slow < 255 {
-        slow + 1
-    } else if answers {
-        slow.saturating_sub(1)
-    } else {
-        slow
     }
 }
 
@@ -256,6 +283,36 @@ fn leaves_request_open(side: Side, heard: &Heard, frame: &Frame) -> bool
     odd || ends_in_doubt(&heard.ended, frame)
 }
 
+// whether no earlier request can be answered at a stamp
+#[tactic(auto, unfolding(crate::specs::Dialogues::is_certain))]
+fn is_certain(answer: u32, started: u64, slow: Left, doubted: Option<u64>, micros: u64) -> bool
+    ensures { result ≡ is_certain answer started slow doubted micros }
+{
+    if slow.is_awaited(micros) || !is_past(started, answer, micros) {
+        return false;
+    }
+    match doubted {
+        Some(doubted) => is_past(doubted, answer, micros),
+        None => true,
+    }
+}
+
+// Whether a frame answers a request that came when none but those that may take long could be
+// answered. A server takes requests in turn, so those are answered no more.
+fn answers_in_turn(
+    answer: u32,
+    started: u64,
+    doubted: Option<u64>,
+    frame: &Frame,
+    asked: Asked,
+) -> bool
+    ensures { result ≡ answers_in_turn answer started doubted frame.now asked }
+{
+    is_timed(asked.key)
+        && key_in(frame) == asked.key
+        && is_certain(answer, started, Left::new(), doubted, asked.micros)
+}
+
 impl Dialogue {
     /// Nothing was heard.
     pub fn new() -> Dialogue
@@ -265,7 +322,7 @@ impl Dialogue {
             channel: Channel::new(),
             asked: None,
             doubted: None,
-            slow: 0,
+            slow: Left::new(),
             newest: None,
         }
     }
@@ -273,16 +330,22 @@ impl Dialogue {
     /// Whether no earlier request can be answered any more: the recording shows all that came
     /// within the time that an answer may take, nothing of it leaves a doubt, and no answer that may
     /// take long is awaited.
-    #[tactic(auto, unfolding(crate::specs::Dialogues::is_certain))]
     pub fn is_certain(&self, answer: u32, started: u64, micros: u64) -> bool
         ensures { result ≡ is_certain answer started self.now.slow self.now.doubted micros }
     {
-        if self.slow > 0 || !is_past(started, answer, micros) {
-            return false;
-        }
-        match self.doubted {
-            Some(doubted) => is_past(doubted, answer, micros),
-            None => true,
+        is_certain(answer, started, self.slow, self.doubted, micros)
+    }
+
+    // Whether a frame answers, in its turn, a request that came when none but those that may take
+    // long could be answered.
+    fn is_in_turn(&self, answer: u32, started: u64, side: Side, what: What, frame: &Frame) -> bool
+        ensures { result ≡ is_in_turn answer started self.now side what frame.now }
+    {
+        match self.asked {
+            Some(asked) => {
+                is_part(side, what) && answers_in_turn(answer, started, self.doubted, frame, asked)
+            }
+            None => false,
         }
     }
 
@@ -318,11 +381,14 @@ impl Dialogue {
         let heard = self.channel.take(micros, side, frame);
         let breach = breach_at(self.newest, side, &heard, frame);
         let late = is_late_answer(side, &heard, frame);
+        let turns = self.is_in_turn(answer, started, side, heard.what, frame);
+        let other = names_other(&heard.ended, frame);
+        let leaves = leaves_slow(other, self.newest, &heard.ended);
+        self.slow = self.slow.after_answer(late, turns).after(leaves, micros);
         self.asked = asked_after(heard.what, micros, frame);
         if leaves_request_open(side, &heard, frame) {
             self.doubted = Some(micros);
         }
-        self.slow = slow_after(leaves_slow(self.newest, &heard.ended), late, self.slow);
         let judged = self.is_certain(answer, started, micros);
         self.newest = newest_heard(judged, side, heard.what, self.newest);
         Exchange {
@@ -352,7 +418,8 @@ impl Dialogue {
         if ended.is_some() {
             self.doubted = Some(micros);
         }
-        self.slow = slow_after(leaves_slow(self.newest, &ended), false, self.slow);
+        let leaves = leaves_slow(false, self.newest, &ended);
+        self.slow = self.slow.after(leaves, micros);
         self.asked = None;
         self.newest = None;
     }

@@ -6,11 +6,11 @@ use Rattle.co_profile.specs.declared.access.Access.TheVariants.{Ro, Wo, Rw, Cons
 use Rattle.co_sheet.specs.Content.{Row}
 use Rattle.co_sheet.specs.Limits.{Default, absent, number, node_id}
 use Rattle.co_value.specs.declared.data_type.DataType.{DataType}
-use Rattle.co_value.specs.declared.data_type.DataType.TheVariants.{Integer16, Unsigned8, Unsigned16, Unsigned40, VisibleString}
+use Rattle.co_value.specs.declared.data_type.DataType.TheVariants.{Boolean, Integer16, Unsigned8, Unsigned16, Unsigned40, VisibleString}
 use Rattle.co_value.specs.declared.key.Key.{Key}
 use Rattle.conode_compare_values.specs.declared.mismatch.Mismatch.{Mismatch}
 use Rattle.conode_compare_values.specs.declared.mismatch.Mismatch.TheVariants.{ValueLength, ValueConst, ReadRefused, Written, AboveLimit, BelowLimit}
-use Rattle.conode_compare_values.specs.SheetValues.{refused_mismatch, upload_mismatch, written_mismatch}
+use Rattle.conode_compare_values.specs.SheetValues.{binds, refused_mismatch, upload_mismatch, written_mismatch}
 
 abbrev key : ℕ → ℕ → Key
 key index sub = record { index = index; sub = sub }
@@ -135,6 +135,30 @@ other_bytes = refl
 -- below 2000h CiA 301 says which values there are, as bit 31 of a COB-ID
 of_cia301 : written_mismatch (limited 0x1FFF Unsigned16 None (Some (pos 1))) (0xFF ∷ 0 ∷ []) ≡ None
 of_cia301 = refl
+
+-- HighLimit=0xFFFF of an INTEGER16 is -1, and may be meant as none; so may a LowLimit
+sole_high : map (λ limit. binds None (Some limit)) (pos 0 ∷ neg_ℤ (pos 1) ∷ []) ≡ true ∷ false ∷ []
+sole_high = refl
+
+sole_low : map (λ limit. binds (Some limit) None) (pos 0 ∷ neg_ℤ (pos 1) ∷ []) ≡ true ∷ false ∷ []
+sole_low = refl
+
+-- from 5 to 5, and from 5 to 4
+two_limits : map (λ high. binds (Some (pos 5)) (Some high)) (pos 5 ∷ pos 4 ∷ []) ≡ true ∷ false ∷ []
+two_limits = refl
+
+negative_limits : binds (Some (neg_ℤ (pos 5))) (Some (neg_ℤ (pos 1))) ≡ true
+negative_limits = refl
+
+no_limits : binds None None ≡ false
+no_limits = refl
+
+meant_as_none : written_mismatch (limited 0x2011 Integer16 None (Some (neg_ℤ (pos 1)))) (5 ∷ 0 ∷ []) ≡ None
+meant_as_none = refl
+
+-- one bit of eight
+boolean : written_mismatch (limited 0x2010 Boolean None (Some (pos 1))) (0xFF ∷ []) ≡ None
+boolean = refl
 
 read_only_limits : written_mismatch (record (row 0x2000 0 Unsigned8 Ro absent) { high = Some (pos 1) }) (0xFF ∷ []) ≡ Some (Written (key 0x2000 0))
 read_only_limits = refl

@@ -1,6 +1,6 @@
 -- The end of a transfer, compared with the row of its entry in the data sheet (CiA 301, 7.4 and
 -- 7.2.4.3; CiA 306).
-use Rattle.std.specs.Prelude.{ℕ, ℤ, ◌==◌, int_lt, nat_lt, nat_le, Bool, true, false, not, ◌&&◌, ◌||◌, if◌then◌else◌, List, length, take, Option, Some, None, option_and_then}
+use Rattle.std.specs.Prelude.{ℕ, ℤ, pos, ◌==◌, int_lt, nat_lt, nat_le, Bool, true, false, not, ◌&&◌, ◌||◌, if◌then◌else◌, List, length, take, Option, Some, None, option_and_then}
 use Rattle.std.specs.Option.{option_map_or}
 use Rattle.co_frame.specs.declared.abort_code.AbortCode.{AbortCode}
 use Rattle.co_frame.specs.AbortCodes.{write_only, object_missing, sub_index_missing}
@@ -8,6 +8,8 @@ use Rattle.co_profile.specs.declared.access.Access.{Access}
 use Rattle.co_profile.specs.declared.access.Access.TheVariants.{Ro, Wo, Constant}
 use Rattle.co_profile.specs.Indices.{device_type}
 use Rattle.co_sheet.specs.Content.{Row}
+use Rattle.co_value.specs.declared.data_type.DataType.{DataType}
+use Rattle.co_value.specs.declared.data_type.DataType.TheVariants.{Boolean}
 use Rattle.co_value.specs.declared.key.Key.{Key}
 use Rattle.co_value.specs.Numbers as numbers
 use Rattle.co_value.specs.Numbers.{unsigned_of}
@@ -89,10 +91,22 @@ refused_mismatch modular row code =
 
 -- ---- downloads
 
+abbrev pub is_boolean : DataType → Bool
+is_boolean Boolean = true
+is_boolean other = false
+
+-- Limits that can be meant: a sole one isn't below 0, since HighLimit=0xFFFF of an INTEGER16 may be
+-- meant as none; and two leave a number.
+abbrev pub binds : Option ℤ → Option ℤ → Bool
+binds (Some low) (Some high) = not (int_lt high low)
+binds (Some low) None = not (int_lt low (pos 0))
+binds None (Some high) = not (int_lt high (pos 0))
+binds None None = false
+
 -- CiA 301 and 302 say which values entries below 2000h have; a sheet's limits may leave out some of
--- them, as bit 31 of a COB-ID
+-- them, as bit 31 of a COB-ID. Of the byte of a BOOLEAN only one bit may count.
 abbrev pub has_limits : Row → Bool
-has_limits row = nat_le 0x2000 row.key.index
+has_limits row = nat_le 0x2000 row.key.index && (not (is_boolean row.data_type) && binds row.low row.high)
 
 abbrev pub is_above : Option ℤ → ℤ → Bool
 is_above limit value = option_map_or (λ high. int_lt high value) limit false

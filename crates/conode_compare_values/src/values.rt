@@ -6,12 +6,14 @@ ghost use Rattle.co_sheet.specs.SheetViews.{row_view};
 ghost use Rattle.co_value.specs.Keys.{is_key_before};
 ghost use Rattle.conode_compare_values.specs.SheetValues.{
   beyond_mismatch,
+  binds,
   constant_mismatch,
   denies,
   has_limits,
   held_number,
   is_above,
   is_below,
+  is_boolean,
   is_held,
   is_readable,
   is_read_only,
@@ -29,7 +31,7 @@ use crate::mismatch::Mismatch;
 use co_frame::AbortCode;
 use co_profile::{Access, DEVICE_TYPE};
 use co_sheet::EntryRow;
-use co_value::{Key, from_bytes, unsigned_of};
+use co_value::{DataType, Key, from_bytes, unsigned_of};
 use conode_compare_pdos::number_of;
 use conode_decode::row_at;
 use conode_explain_transfers::{Direction, Ended, Ending, Protocol, Side};
@@ -126,11 +128,28 @@ fn refused_mismatch(modular: bool, row: &EntryRow<'_>, code: AbortCode) -> Optio
     }
 }
 
-// whether the limits of an entry are the data sheet's alone
+// whether limits can be meant: a sole one isn't below 0, and two leave a number
+fn binds(low: Option<i128>, high: Option<i128>) -> bool
+    ensures { result ≡ binds low high }
+{
+    match (low, high) {
+        (Some(low), Some(high)) => low <= high,
+        (Some(limit), None) | (None, Some(limit)) => 0 <= limit,
+        (None, None) => false,
+    }
+}
+
+fn is_boolean(data_type: DataType) -> bool
+    ensures { result ≡ is_boolean data_type }
+{
+    matches!(data_type, DataType::Boolean)
+}
+
+// whether the limits of an entry are the data sheet's alone, and can be meant
 fn has_limits(row: &EntryRow<'_>) -> bool
     ensures { result ≡ has_limits (row_view row.now) }
 {
-    row.key.index >= 0x2000
+    row.key.index >= 0x2000 && !is_boolean(row.data_type) && binds(row.low, row.high)
 }
 
 fn is_above(limit: Option<i128>, value: i128) -> bool
