@@ -1,5 +1,5 @@
 -- What is a difference and what isn't, on both sides of each edge, computed from the definitions.
-use Rattle.std.proofs.Common.{◌≡◌, ℕ, Bool, true, false, List, [], ◌∷◌, Some, None, refl}
+use Rattle.std.proofs.Common.{◌≡◌, ℕ, Bool, true, false, List, [], ◌∷◌, map, Some, None, refl}
 use Rattle.std.specs.Prelude.{pos}
 use Rattle.co_frame.specs.SdoRequests.{request_row_in}
 use Rattle.co_frame.specs.declared.nmt.NmtService.TheVariants.{Start, Stop, ResetNode}
@@ -36,7 +36,7 @@ use Rattle.conode_compare_rules.specs.EntriesInForce.{ended_entries, facts_of, i
 use Rattle.conode_compare_rules.specs.FrameKinds.{command_kind}
 use Rattle.conode_compare_rules.specs.Heartbeats.{follows_closely, late_finding, overdue_by, is_gap}
 use Rattle.conode_compare_rules.specs.Progresses.{free_at, still_awaited}
-use Rattle.conode_compare_rules.specs.States.{after_boot_up, after_command, after_other, awaits_boot_up, boot_finding, is_settled, nothing_commanded, second_boot_up, state_finding}
+use Rattle.conode_compare_rules.specs.States.{either_state, after_boot_up, after_command, after_other, awaits_boot_up, boot_finding, is_settled, nothing_commanded, second_boot_up, state_finding}
 
 -- 10 ms, 1 %, 1 s and 10 s
 abbrev limits : Limits
@@ -429,6 +429,14 @@ constant_sheet = refl
 still_saving : (still_awaited (dialogue_heard 1000 0 nothing_asked 2000000 Client (record { id = 0x605; bytes = 0x23 ∷ 0x10 ∷ 0x10 ∷ 1 ∷ 0x73 ∷ 0x61 ∷ 0x76 ∷ 0x65 ∷ [] })) 9000000).slow ≡ record { count = 1; newest = 9000000 }
 unfolding dialogue_heard is_certain newest_after request_row_in
 still_saving = refl
+
+-- ---- a command that may be the device's own
+
+same_state : map (λ state. either_state state state) (Initialising ∷ PreOperational ∷ Operational ∷ Stopped ∷ []) ≡ Initialising ∷ PreOperational ∷ Operational ∷ Stopped ∷ []
+same_state = refl
+
+other_state : map (either_state PreOperational) (Operational ∷ Stopped ∷ []) ≡ Unknown ∷ Unknown ∷ []
+other_state = refl
 
 -- ---- answers while stopped
 

@@ -19,7 +19,7 @@ use Rattle.conode_compare_transfers.specs.declared.breach.Breach.{Breach}
 use Rattle.conode_compare_transfers.specs.declared.breach.Breach.TheVariants.{AbortKey, Crc, Form, Size, Toggle}
 use Rattle.conode_compare_transfers.specs.declared.dialogue.Dialogue.{Dialogue}
 use Rattle.conode_compare_transfers.specs.declared.left.Left.{Left}
-use Rattle.conode_compare_transfers.specs.declared.newest.Newest.TheVariants.{Acknowledge, Answer, Data, LaterData, Request}
+use Rattle.conode_compare_transfers.specs.declared.newest.Newest.TheVariants.{Acknowledge, Answer, Data, LaterAcknowledge, LaterData, Request}
 use Rattle.conode_compare_transfers.specs.Breaches.{breach_at, server_breach}
 use Rattle.conode_compare_transfers.specs.Dialogues.{dialogue_heard, exchange_in, is_certain, is_late_answer, is_timed, is_awaited, is_in_turn, leaves_slow, left_after, left_after_answer, nothing_asked, nothing_left, owes}
 use Rattle.conode_compare_transfers.specs.NewestFrames.{newest_after}
@@ -62,7 +62,12 @@ upload_acknowledged : newest_after Client Part (Some Data) ≡ Some Acknowledge
 unfolding newest_after
 upload_acknowledged = refl
 
-segment_after_acknowledge : newest_after Server (Segment 1) (Some Acknowledge) ≡ Some LaterData
+-- the new sub-block begins; or a segment of the one before is on its way
+new_sub_block : newest_after Server (Segment 1) (Some Acknowledge) ≡ Some Data
+unfolding newest_after
+new_sub_block = refl
+
+segment_after_acknowledge : newest_after Server (OutOfSequence 2 1) (Some Acknowledge) ≡ Some LaterData
 unfolding newest_after
 segment_after_acknowledge = refl
 
@@ -70,9 +75,21 @@ segment_later : newest_after Server (Segment 2) (Some LaterData) ≡ Some LaterD
 unfolding newest_after
 segment_later = refl
 
-acknowledged_again : newest_after Client Part (Some LaterData) ≡ Some Acknowledge
+acknowledged_again : newest_after Client Part (Some LaterData) ≡ Some LaterAcknowledge
 unfolding newest_after
 acknowledged_again = refl
+
+-- it may be of the sub-block before
+segment_of_either : newest_after Server (Segment 1) (Some LaterAcknowledge) ≡ Some LaterData
+unfolding newest_after
+segment_of_either = refl
+
+end_of_either : newest_after Server Part (Some LaterAcknowledge) ≡ Some Answer
+unfolding newest_after
+end_of_either = refl
+
+number_of_either : map (server_breach LaterAcknowledge key Unexpected) (0 ∷ 0x80 ∷ 1 ∷ []) ≡ Some (Form key) ∷ Some (Form key) ∷ None ∷ []
+number_of_either = refl
 
 acknowledged_twice : newest_after Client Part (Some Acknowledge) ≡ None
 unfolding newest_after
@@ -413,6 +430,10 @@ in_turn = refl
 -- of another entry; another frame; the client's; none is asked for
 not_in_turn : is_in_turn 1000 0 (asked_later 3000001) Server Part (value_of 1) ≡ false
 not_in_turn = refl
+
+-- refused, perhaps before its turn
+refused_turn : is_in_turn 1000 0 (asked_later 3000001) Server Part (record { id = 0x585; bytes = 0x80 ∷ 0 ∷ 0x10 ∷ 0 ∷ 0x22 ∷ 0 ∷ 0 ∷ 8 ∷ [] }) ≡ false
+refused_turn = refl
 
 overtaken_turn : is_in_turn 1000 0 (asked_later 3000001) Server Overtaken (value_of 0) ≡ false
 overtaken_turn = refl

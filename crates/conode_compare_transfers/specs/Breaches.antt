@@ -20,7 +20,7 @@ use Rattle.conode_explain_transfers.specs.declared.kinds.What.TheVariants.{Repea
 use Rattle.conode_compare_transfers.specs.declared.breach.Breach.{Breach}
 use Rattle.conode_compare_transfers.specs.declared.breach.Breach.TheVariants.{Toggle, Form, AbortKey, Size, Crc}
 use Rattle.conode_compare_transfers.specs.declared.newest.Newest.{Newest}
-use Rattle.conode_compare_transfers.specs.declared.newest.Newest.TheVariants.{Request, Data, Acknowledge, LaterData}
+use Rattle.conode_compare_transfers.specs.declared.newest.Newest.TheVariants.{Request, Data, Acknowledge, LaterData, LaterAcknowledge}
 
 -- ---- frames
 
@@ -70,6 +70,7 @@ server_breach Request key Repeated first = Some (Toggle key)
 server_breach Request key Unexpected first = if first / 32 == 6 then None else Some (Form key)
 server_breach Data key Unexpected first = if first / 32 == 6 then None else Some (Form key)
 server_breach Acknowledge key Unexpected first = if first % 128 == 0 then Some (Form key) else None
+server_breach LaterAcknowledge key Unexpected first = if first % 128 == 0 then Some (Form key) else None
 server_breach LaterData key Unexpected first = if first % 128 == 0 then Some (Form key) else None
 server_breach newest key what first = None
 

@@ -180,10 +180,10 @@ owes answer started dialogue =
     option_map_or (λ a. is_certain answer started dialogue.slow dialogue.doubted a.micros) dialogue.asked false
 
 -- The answer to a request that came when none but those that may take long could be answered. A
--- server takes requests in turn, so those are answered no more.
+-- server takes requests in turn, so those are answered no more. It may refuse one before its turn.
 abbrev pub answers_in_turn : ℕ → ℕ → Option ℕ → FrameContent → Asked → Bool
 answers_in_turn answer started doubted frame asked =
-    (is_timed asked.key && same_key (key_in frame) asked.key) && is_certain answer started nothing_left doubted asked.micros
+    (is_timed asked.key && (same_key (key_in frame) asked.key && not (byte_at frame 0 / 32 == 4))) && is_certain answer started nothing_left doubted asked.micros
 
 abbrev pub is_part : Side → What → Bool
 is_part Server Part = true

@@ -116,9 +116,8 @@ fn server_breach(newest: Newest, key: Key, what: What, first: u8) -> Option<Brea
         (Newest::Request | Newest::Data, What::Unexpected) if first / 32 != 6 => {
             Some(Breach::Form(key))
         }
-        (Newest::Acknowledge | Newest::LaterData, What::Unexpected) if first % 128 == 0 => {
-            Some(Breach::Form(key))
-        }
+        (Newest::Acknowledge | Newest::LaterData | Newest::LaterAcknowledge, What::Unexpected)
+            if first % 128 == 0 => Some(Breach::Form(key)),
         _ => None,
     }
 }

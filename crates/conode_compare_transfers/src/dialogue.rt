@@ -298,7 +298,8 @@ fn is_certain(answer: u32, started: u64, slow: Left, doubted: Option<u64>, micro
 }
 
 // Whether a frame answers a request that came when none but those that may take long could be
-// answered. A server takes requests in turn, so those are answered no more.
+// answered. A server takes requests in turn, so those are answered no more. It may refuse one
+// before its turn.
 fn answers_in_turn(
     answer: u32,
     started: u64,
@@ -310,6 +311,7 @@ fn answers_in_turn(
 {
     is_timed(asked.key)
         && key_in(frame) == asked.key
+        && byte_at(frame, 0) / 32 != 4
         && is_certain(answer, started, Left::new(), doubted, asked.micros)
 }
 

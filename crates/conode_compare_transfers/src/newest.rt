@@ -20,13 +20,15 @@ pub enum Newest {
     Request,
     /// An answer of the device.
     Answer,
-    /// A segment of the first sub-block of a block upload.
+    /// A segment of a block upload, which is of the sub-block that the client asked for last.
     Data,
-    /// The client's acknowledge of a sub-block of a block upload.
+    /// The client's acknowledge after such a segment.
     Acknowledge,
-    /// A segment after such an acknowledge. It may be of the sub-block before: the client may have
+    /// A segment after an acknowledge. It may be of the sub-block before: the client may have
     /// acknowledged that before its end.
     LaterData,
+    /// The client's acknowledge after such a segment.
+    LaterAcknowledge,
 }
 
 // a segment of a block download
@@ -39,12 +41,16 @@ fn goes_on(newest: Option<Newest>) -> Option<Newest>
     }
 }
 
-// a segment of a block upload
-fn segment_after(newest: Option<Newest>) -> Option<Newest>
-    ensures { result ≡ segment_after newest }
+// A segment of a block upload. The first one of the sub-block before an acknowledge had come, so
+// another one with the number 1 is of the new sub-block, and so are all after it.
+fn segment_after(number: u8, newest: Option<Newest>) -> Option<Newest>
+    ensures { result ≡ segment_after number newest }
 {
     match newest {
-        Some(Newest::Acknowledge | Newest::LaterData) => Some(Newest::LaterData),
+        Some(Newest::Acknowledge) if number == 1 => Some(Newest::Data),
+        Some(Newest::Acknowledge | Newest::LaterData | Newest::LaterAcknowledge) => {
+            Some(Newest::LaterData)
+        }
         Some(_) => Some(Newest::Data),
         None => None,
     }
@@ -56,7 +62,8 @@ fn asks_after(newest: Option<Newest>) -> Option<Newest>
 {
     match newest {
         Some(Newest::Answer) => Some(Newest::Request),
-        Some(Newest::Data | Newest::LaterData) => Some(Newest::Acknowledge),
+        Some(Newest::Data) => Some(Newest::Acknowledge),
+        Some(Newest::LaterData) => Some(Newest::LaterAcknowledge),
         _ => None,
     }
 }
@@ -66,7 +73,9 @@ fn answers_after(newest: Option<Newest>) -> Option<Newest>
     ensures { result ≡ answers_after newest }
 {
     match newest {
-        Some(Newest::Request | Newest::Acknowledge) => Some(Newest::Answer),
+        Some(Newest::Request | Newest::Acknowledge | Newest::LaterAcknowledge) => {
+            Some(Newest::Answer)
+        }
         _ => None,
     }
 }
@@ -91,11 +100,9 @@ fn server_newest(what: What, newest: Option<Newest>) -> Option<Newest>
 {
     match what {
         What::Part => answers_after(newest),
-        What::Segment { number: _ }
-        | What::OutOfSequence {
-            number: _,
-            awaited: _,
-        } => segment_after(newest),
+        What::Segment { number } | What::OutOfSequence { number, awaited: _ } => {
+            segment_after(number, newest)
+        }
         _ => None,
     }
 }

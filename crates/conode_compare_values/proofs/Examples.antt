@@ -6,7 +6,7 @@ use Rattle.co_profile.specs.declared.access.Access.TheVariants.{Ro, Wo, Rw, Cons
 use Rattle.co_sheet.specs.Content.{Row}
 use Rattle.co_sheet.specs.Limits.{Default, absent, number, node_id}
 use Rattle.co_value.specs.declared.data_type.DataType.{DataType}
-use Rattle.co_value.specs.declared.data_type.DataType.TheVariants.{Boolean, Integer16, Unsigned8, Unsigned16, Unsigned40, VisibleString}
+use Rattle.co_value.specs.declared.data_type.DataType.TheVariants.{Boolean, Integer16, Integer24, Integer64, Unsigned8, Unsigned16, Unsigned40, VisibleString}
 use Rattle.co_value.specs.declared.key.Key.{Key}
 use Rattle.conode_compare_values.specs.declared.mismatch.Mismatch.{Mismatch}
 use Rattle.conode_compare_values.specs.declared.mismatch.Mismatch.TheVariants.{ValueLength, ValueConst, ReadRefused, Written, AboveLimit, BelowLimit}
@@ -131,6 +131,16 @@ other_limit = refl
 -- another number of bytes than the type has
 other_bytes : written_mismatch (limited 0x2000 Unsigned16 None (Some (pos 1))) (0xFF ∷ []) ≡ None
 other_bytes = refl
+
+more_bytes : written_mismatch (limited 0x2000 Unsigned8 None (Some (pos 1))) (0xFF ∷ 0 ∷ 0 ∷ 0 ∷ []) ≡ None
+more_bytes = refl
+
+-- -1 and -2 of 24 and of 64 bits, which aren't expedited
+three_bytes : map (λ low. written_mismatch (limited 0x2000 Integer24 (Some (neg_ℤ (pos 1))) (Some (pos 1))) (low ∷ 0xFF ∷ 0xFF ∷ [])) (0xFF ∷ 0xFE ∷ []) ≡ None ∷ Some (BelowLimit (key 0x2000 0)) ∷ []
+three_bytes = refl
+
+eight_bytes : map (λ low. written_mismatch (limited 0x2000 Integer64 (Some (neg_ℤ (pos 1))) (Some (pos 1))) (low ∷ 0xFF ∷ 0xFF ∷ 0xFF ∷ 0xFF ∷ 0xFF ∷ 0xFF ∷ 0xFF ∷ [])) (0xFF ∷ 0xFE ∷ []) ≡ None ∷ Some (BelowLimit (key 0x2000 0)) ∷ []
+eight_bytes = refl
 
 -- below 2000h CiA 301 says which values there are, as bit 31 of a COB-ID
 of_cia301 : written_mismatch (limited 0x1FFF Unsigned16 None (Some (pos 1))) (0xFF ∷ 0 ∷ []) ≡ None
