@@ -432,11 +432,11 @@ still_saving = refl
 
 -- ---- a command that may be the device's own
 
-same_state : map (λ state. either_state state state) (Initialising ∷ PreOperational ∷ Operational ∷ Stopped ∷ []) ≡ Initialising ∷ PreOperational ∷ Operational ∷ Stopped ∷ []
-same_state = refl
+either_same : map (λ state. either_state state state) (Initialising ∷ PreOperational ∷ Operational ∷ Stopped ∷ []) ≡ Initialising ∷ PreOperational ∷ Operational ∷ Stopped ∷ []
+either_same = refl
 
-other_state : map (either_state PreOperational) (Operational ∷ Stopped ∷ []) ≡ Unknown ∷ Unknown ∷ []
-other_state = refl
+either_other : map (either_state PreOperational) (Operational ∷ Stopped ∷ []) ≡ Unknown ∷ Unknown ∷ []
+either_other = refl
 
 -- ---- answers while stopped
 
