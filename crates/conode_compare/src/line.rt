@@ -81,7 +81,7 @@ fn take_record<W: Write, E: Write>(
 }
 
 // Takes a line of a log.
-#[tactic(auto, unfolding(conode_explain::specs::LogLines::line_at), using(conode_explain::proofs::LogLemmas::candump_line, conode_explain::proofs::LogLemmas::candump_log))]
+#[tactic(auto, unfolding(conode_explain::specs::LogLines::line_at))]
 fn take_log_line<W: Write, E: Write>(
     comparing: &mut Comparing,
     log: &mut Log,
@@ -102,9 +102,6 @@ fn take_log_line<W: Write, E: Write>(
     ensures log { OnOk result (log.new ≡ (says log.old line.now).0) }
     ensures err { IfErr result (λ fault. (fault ≡ CmdFault.Write) ⊎ (fault ≡ CmdFault.Memory)) }
 {
-    if let Form::Candump = log.form {
-        return take_record(comparing, text, settings, number, line, out, err);
-    }
     match log.read(line) {
         Ok(LogLine::Skipped) => Ok(()),
         Ok(LogLine::AsItIs) => take_record(comparing, text, settings, number, line, out, err),
