@@ -7,6 +7,12 @@ use Rattle.std.specs.Str.Lines.{lines}
 use Rattle.arrayvec.specs.ArrayVec.{ArrayVec}
 use Rattle.co_bounded_lines.specs.Founds.{is_closed}
 use Rattle.co_sheet.specs.Content.{Row}
+use Rattle.co_value.specs.declared.data_type.DataType.TheVariants.{Unsigned32}
+use Rattle.co_value.specs.declared.key.Key.{Key}
+use Rattle.conode_decode.specs.Names.{row_at}
+use Rattle.conode_explain_values.specs.declared.value_type.ValueType.{ValueType}
+use Rattle.conode_explain_values.specs.declared.value_type.ValueType.TheVariants.{Plain}
+use Rattle.conode_explain_values.specs.Types.{type_of}
 use Rattle.conode_convert.specs.Converted.{at_start}
 use Rattle.conode_explain.specs.LogLines.{line_at}
 use Rattle.conode_logs.specs.declared.log.Form.{Form}
@@ -16,6 +22,8 @@ use Rattle.conode_record.specs.declared.line.Record.{Record}
 use Rattle.conode_record.specs.declared.line.RecordLine.{RecordLine}
 use Rattle.conode_record.specs.declared.line.RecordLine.TheVariants.{Skipped, Frame}
 use Rattle.conode_compare_rules.specs.declared.finding.Finding.{Finding}
+use Rattle.conode_compare_rules.specs.declared.finding.Finding.TheVariants.{Value}
+use Rattle.conode_compare_values.specs.declared.mismatch.Mismatch.TheVariants.{ValueConst}
 use Rattle.conode_compare_rules.specs.declared.limits.Subject.{Subject}
 use Rattle.conode_compare_rules.specs.declared.verdict.Findings.{Findings}
 use Rattle.conode_compare_rules.specs.FrameKinds.{kind_of}
@@ -24,23 +32,33 @@ use Rattle.conode_compare_text.specs.FindingTexts.{finding_line}
 use Rattle.conode_compare_text.specs.Tallies.{no_frames, tally_with}
 use Rattle.conode_compare.specs.declared.comparing.Comparing.{Comparing}
 
--- what is compared: a device, the entries of its data sheet, the name of the recording, and the
--- interface, if it is named
+-- what is compared: a device, the entries of its data sheet, the codes of their original data types
+-- by the line of their sections, the name of the recording, and the interface, if it is named
 pub record Comparison : Type 0 where
   pub subject : Subject
   pub rows : List Row
+  pub originals : ℕ → Option (List ℕ)
   pub recording : List ℕ
   pub interface : Option (List ℕ)
 
 -- ---- lines
 
-abbrev pub listed : List ℕ → ℕ → Option Finding → List (List ℕ)
-listed recording number None = []
-listed recording number (Some finding) = finding_line recording number finding ∷ []
+-- the data type of the values of an entry: its original one, where the sheet was adapted
+abbrev pub type_at : Comparison → Key → ValueType
+type_at c key = option_map_or (λ row. type_of (c.originals row.line) row.data_type) (row_at c.rows key) (Plain Unsigned32)
 
-unfoldable pub findings_lines : List ℕ → ℕ → Findings → List (List ℕ)
-findings_lines recording number found =
-    listed recording number found.boot ++ (listed recording number found.heartbeat ++ (listed recording number found.answer ++ listed recording number found.frame))
+-- the data type in which the values of a difference are shown
+abbrev pub shown_type : Comparison → Finding → ValueType
+shown_type c (Value (ValueConst key shown held)) = type_at c key
+shown_type c finding = Plain Unsigned32
+
+abbrev pub listed : Comparison → ℕ → Option Finding → List (List ℕ)
+listed c number None = []
+listed c number (Some finding) = finding_line c.recording number (shown_type c finding) finding ∷ []
+
+unfoldable pub findings_lines : Comparison → ℕ → Findings → List (List ℕ)
+findings_lines c number found =
+    listed c number found.boot ++ (listed c number found.heartbeat ++ (listed c number found.answer ++ listed c number found.frame))
 
 -- ---- frames
 
@@ -60,7 +78,7 @@ found_at c so_far frame = findings_at c.subject c.rows so_far.progress frame.mic
 
 abbrev pub frame_lines : Comparison → ℕ → Comparing → Record → List (List ℕ)
 frame_lines c number so_far frame =
-    if is_compared c.interface so_far.first.items frame.interface then findings_lines c.recording number (found_at c so_far frame) else []
+    if is_compared c.interface so_far.first.items frame.interface then findings_lines c number (found_at c so_far frame) else []
 
 abbrev pub first_with : ArrayVec ℕ → List ℕ → ArrayVec ℕ
 first_with first name = if is_first first.items then record { items = name } else first

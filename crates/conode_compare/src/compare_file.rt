@@ -1,6 +1,6 @@
 //! The file of a recording, compared with the data sheet of a device.
 
-ghost use Rattle.std.specs.Prelude.{◌≡◌, ◌⊎◌, ◌≤◌, true};
+ghost use Rattle.std.specs.Prelude.{◌≡◌, ◌⊎◌, ◌≤◌, length, true};
 ghost use Rattle.std.specs.List.{AllPairs};
 ghost use Rattle.std.specs.Process.{exit_status};
 ghost use Rattle.co_value.specs.Keys.{is_key_before};
@@ -10,11 +10,12 @@ use crate::compared::compare;
 use crate::comparing::Comparing;
 use crate::writes::Settings;
 use co_sheet::{Sheet, read};
+use co_sheet_changes::Originals;
 use conode_compare_rules::{Limits, Subject, facts_of};
 use conode_compare_text::{Tally, set_summary};
 use conode_io::{
     CmdFault, cannot_read, faulty_sheet, file_text, flushed, hand_over, no_node_id, no_text,
-    stopped,
+    out_of_memory, stopped,
 };
 use conode_logs::Form;
 use std::alloc::Global;
@@ -148,10 +149,11 @@ fn compare_path<R: Files + AllocGlobal + Input, O: Write, E: Write>(
     }
 }
 
-// compares the recording of a path with a data sheet
+// compares the recording of a path with a data sheet, whose entries have these original data types
 fn compare_sheet<R: Files + AllocGlobal + Input, O: Write, E: Write>(
     rt: &R,
     sheet: &Sheet<'_>,
+    originals: &Originals,
     recording: &str,
     asked: Asked<'_>,
     out: &mut O,
@@ -176,10 +178,33 @@ fn compare_sheet<R: Files + AllocGlobal + Input, O: Write, E: Write>(
     let settings = Settings {
         subject,
         rows,
+        originals,
         recording,
         interface,
     };
     compare_path(rt, &settings, asked.form, out, err)
+}
+
+// compares the recording of a path with the data sheet of a text
+fn compare_text<R: Files + AllocGlobal + Input, O: Write, E: Write>(
+    rt: &R,
+    text: &[u8],
+    sheet: &Sheet<'_>,
+    recording: &str,
+    asked: Asked<'_>,
+    out: &mut O,
+    err: &mut E,
+) -> ExitCode
+    requires { length text.now ≤ 1048576 }
+    ensures { exit_status result ≤ 2 }
+{
+    match Originals::in_text(rt.alloc(), text) {
+        Ok(originals) => compare_sheet(rt, sheet, &originals, recording, asked, out, err),
+        Err(_) => {
+            let _ = out_of_memory(out);
+            ExitCode::from(NOT_COMPARED)
+        }
+    }
 }
 
 /// Compares the recording of a path, or of standard input where that is `-`, with the data sheet of
@@ -205,7 +230,7 @@ pub fn compare_files<R: Files + AllocGlobal + Input, O: Write, E: Write>(
         }
     };
     match read(rt.alloc(), text.as_slice()) {
-        Ok(sheet) => compare_sheet(rt, &sheet, recording, asked, out, err),
+        Ok(sheet) => compare_text(rt, text.as_slice(), &sheet, recording, asked, out, err),
         Err(fault) => {
             let _ = faulty_sheet(fault, out);
             ExitCode::from(NOT_COMPARED)

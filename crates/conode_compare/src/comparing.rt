@@ -131,6 +131,6 @@ impl Comparing {
             return Ok(());
         }
         let found = self.take(settings, frame);
-        write_findings(text, settings.recording, number, found, out)
+        write_findings(text, settings, number, found, out)
     }
 }

@@ -1,12 +1,20 @@
 //! The lines of differences.
 
-ghost use Rattle.std.specs.Prelude.{◌≡◌, ◌⊎◌, OnOk, IfErr};
+ghost use Rattle.std.specs.Prelude.{◌≡◌, ◌⊎◌, OnOk, IfErr, true};
+ghost use Rattle.std.specs.List.{AllPairs};
+ghost use Rattle.co_value.specs.Keys.{is_key_before};
 ghost use Rattle.conode_io.specs.Written.{WritesLines};
-ghost use Rattle.conode_compare.specs.Compared.{findings_lines, listed};
+ghost use Rattle.conode_compare.specs.Compared.{findings_lines, listed, shown_type, type_at};
+ghost use Rattle.conode_compare.specs.Views.{comparison_view};
 
 use co_sheet::EntryRow;
+use co_sheet_changes::Originals;
+use co_value::{DataType, Key};
 use conode_compare_rules::{Finding, Findings, Subject};
 use conode_compare_text::set_finding_line;
+use conode_compare_values::Mismatch;
+use conode_decode::row_at;
+use conode_explain_values::ValueType;
 use conode_io::{CmdFault, hand_over};
 use std::io::Write;
 
@@ -17,28 +25,54 @@ pub struct Settings<'s, 'a> {
     pub subject: Subject,
     /// The entries of its data sheet, in increasing key.
     pub rows: &'s [EntryRow<'a>],
+    /// The original data types of these entries, where the sheet was adapted.
+    pub originals: &'s Originals,
     /// The name of the recording, for the lines.
     pub recording: &'s str,
     /// The interface whose frames are compared; `None`: that of the first frame.
     pub interface: Option<&'s [u8]>,
 }
 
+// the data type of the values of an entry: its original one, where the sheet was adapted
+fn type_at(settings: &Settings<'_, '_>, key: Key) -> ValueType
+    requires { AllPairs (λ e f. is_key_before e.key f.key ≡ true) settings.now.rows.now }
+    ensures { result ≡ type_at (comparison_view settings.now) key }
+{
+    match row_at(settings.rows, key) {
+        Some(row) => ValueType::of(settings.originals.at(row.line), row.data_type),
+        None => ValueType::Plain(DataType::Unsigned32),
+    }
+}
+
+// the data type in which the values of a difference are shown
+fn shown_type(settings: &Settings<'_, '_>, finding: Finding) -> ValueType
+    requires { AllPairs (λ e f. is_key_before e.key f.key ≡ true) settings.now.rows.now }
+    ensures { result ≡ shown_type (comparison_view settings.now) finding }
+{
+    match finding {
+        Finding::Value(Mismatch::ValueConst(key, _, _)) => type_at(settings, key),
+        _ => ValueType::Plain(DataType::Unsigned32),
+    }
+}
+
 // Writes the line of a difference, if there is one.
 #[tactic(auto, using(conode_io::proofs::WriteLemmas::line_alone))]
 fn write_listed<W: Write>(
     text: &mut String,
-    recording: &str,
+    settings: &Settings<'_, '_>,
     number: u64,
     finding: Option<Finding>,
     out: &mut W,
 ) -> Result<(), CmdFault>
+    requires { AllPairs (λ e f. is_key_before e.key f.key ≡ true) settings.now.rows.now }
     ensures lines { OnOk result (WritesLines (W.contents out.old) (W.contents out.new)
-        (listed recording.now number finding)) }
+        (listed (comparison_view settings.now) number finding)) }
     ensures err { IfErr result (λ fault. (fault ≡ CmdFault.Write) ⊎ (fault ≡ CmdFault.Memory)) }
 {
     match finding {
         Some(finding) => {
-            set_finding_line(text, recording, number, finding)?;
+            let value_type = shown_type(settings, finding);
+            set_finding_line(text, settings.recording, number, value_type, finding)?;
             hand_over(text.as_bytes(), out)
         }
         None => Ok(()),
@@ -49,17 +83,18 @@ fn write_listed<W: Write>(
 #[tactic(auto, unfolding(crate::specs::Compared::findings_lines), using(crate::proofs::WriteLemmas::four))]
 pub(crate) fn write_findings<W: Write>(
     text: &mut String,
-    recording: &str,
+    settings: &Settings<'_, '_>,
     number: u64,
     found: Findings,
     out: &mut W,
 ) -> Result<(), CmdFault>
+    requires { AllPairs (λ e f. is_key_before e.key f.key ≡ true) settings.now.rows.now }
     ensures lines { OnOk result (WritesLines (W.contents out.old) (W.contents out.new)
-        (findings_lines recording.now number found)) }
+        (findings_lines (comparison_view settings.now) number found)) }
     ensures err { IfErr result (λ fault. (fault ≡ CmdFault.Write) ⊎ (fault ≡ CmdFault.Memory)) }
 {
-    write_listed(text, recording, number, found.boot, out)?;
-    write_listed(text, recording, number, found.heartbeat, out)?;
-    write_listed(text, recording, number, found.answer, out)?;
-    write_listed(text, recording, number, found.frame, out)
+    write_listed(text, settings, number, found.boot, out)?;
+    write_listed(text, settings, number, found.heartbeat, out)?;
+    write_listed(text, settings, number, found.answer, out)?;
+    write_listed(text, settings, number, found.frame, out)
 }

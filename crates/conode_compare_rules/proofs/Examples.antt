@@ -1,13 +1,14 @@
 -- What is a difference and what isn't, on both sides of each edge, computed from the definitions.
-use Rattle.std.proofs.Common.{◌≡◌, ℕ, Bool, true, false, List, [], ◌∷◌, Some, None, refl}
+use Rattle.std.proofs.Common.{◌≡◌, ℕ, Bool, true, false, List, [], ◌∷◌, map, Some, None, refl}
 use Rattle.std.specs.Prelude.{pos}
+use Rattle.co_frame.specs.SdoRequests.{request_row_in}
 use Rattle.co_frame.specs.declared.nmt.NmtService.TheVariants.{Start, Stop, ResetNode}
 use Rattle.co_profile.specs.declared.access.Access.{Access}
-use Rattle.co_profile.specs.declared.access.Access.TheVariants.{Ro, Wo, Rw, Constant}
+use Rattle.co_profile.specs.declared.access.Access.TheVariants.{Rw, Constant}
 use Rattle.co_sheet.specs.Content.{Row}
 use Rattle.co_sheet.specs.Limits.{Default, absent, number, node_id}
 use Rattle.co_value.specs.declared.data_type.DataType.{DataType}
-use Rattle.co_value.specs.declared.data_type.DataType.TheVariants.{Unsigned8, Unsigned16, Unsigned32, Unsigned40, VisibleString}
+use Rattle.co_value.specs.declared.data_type.DataType.TheVariants.{Unsigned8, Unsigned16, Unsigned32}
 use Rattle.co_value.specs.declared.key.Key.{Key}
 use Rattle.conode_compare_pdos.specs.Followed.{pdos_of}
 use Rattle.conode_explain_transfers.specs.declared.ended.Ended.{Ended}
@@ -15,24 +16,27 @@ use Rattle.conode_explain_transfers.specs.declared.ended.Ending.TheVariants.{Don
 use Rattle.conode_explain_transfers.specs.declared.kinds.Direction.TheVariants.{Download}
 use Rattle.conode_explain_transfers.specs.declared.kinds.Protocol.{Protocol}
 use Rattle.conode_explain_transfers.specs.declared.kinds.Protocol.TheVariants.{Expedited, Segmented}
+use Rattle.conode_explain_transfers.specs.declared.kinds.Side.TheVariants.{Client}
 use Rattle.conode_explain_transfers.specs.declared.kinds.What.TheVariants.{Part}
 use Rattle.conode_compare_transfers.specs.declared.breach.Breach.TheVariants.{Toggle}
-use Rattle.conode_compare_rules.specs.declared.dialogue.Dialogue.{Dialogue}
-use Rattle.conode_compare_rules.specs.declared.dialogue.Exchange.{Exchange}
+use Rattle.conode_compare_transfers.specs.declared.dialogue.Exchange.{Exchange}
 use Rattle.conode_compare_rules.specs.declared.entries.Entries.{Entries}
-use Rattle.conode_compare_rules.specs.declared.finding.Finding.TheVariants.{BootMissing, SecondBootUp, NoState, WrongState, HeartbeatLate, EmergencyStopped, EmergencyRegister, EmergencyInhibit, ValueLength, ValueConst, ReadRefused, Written, AnswerStopped, Transfer}
+use Rattle.conode_compare_rules.specs.declared.finding.Finding.TheVariants.{BootMissing, SecondBootUp, NoState, WrongState, HeartbeatLate, EmergencyStopped, EmergencyRegister, EmergencyInhibit, AnswerStopped, Transfer}
+use Rattle.conode_compare_rules.specs.declared.finding.NmtState.{NmtState}
 use Rattle.conode_compare_rules.specs.declared.finding.NmtState.TheVariants.{Unknown, Initialising, PreOperational, Operational, Stopped}
 use Rattle.conode_compare_rules.specs.declared.heartbeats.Heartbeats.{Heartbeats}
+use Rattle.conode_compare_rules.specs.declared.kind.FrameKind.TheVariants.{Command, CommandToAll, Other}
 use Rattle.conode_compare_rules.specs.declared.limits.Limits.{Limits}
 use Rattle.conode_compare_rules.specs.declared.nmt.Nmt.{Nmt}
 use Rattle.conode_compare_rules.specs.Answers.{confirmed_finding, stopped_finding}
-use Rattle.conode_compare_rules.specs.Dialogues.{is_certain, nothing_asked, owes}
+use Rattle.conode_compare_transfers.specs.Dialogues.{dialogue_heard, is_certain, nothing_asked}
+use Rattle.conode_compare_transfers.specs.NewestFrames.{newest_after}
 use Rattle.conode_compare_rules.specs.EmergencyRules.{emergency_finding, inhibit_finding}
 use Rattle.conode_compare_rules.specs.EntriesInForce.{ended_entries, facts_of, initial_entries, sheet_entries, shown_inhibit, shown_period}
+use Rattle.conode_compare_rules.specs.FrameKinds.{command_kind}
 use Rattle.conode_compare_rules.specs.Heartbeats.{follows_closely, late_finding, overdue_by, is_gap}
-use Rattle.conode_compare_rules.specs.Progresses.{free_at}
-use Rattle.conode_compare_rules.specs.SheetValues.{refused_finding, upload_finding, written_finding}
-use Rattle.conode_compare_rules.specs.States.{after_boot_up, after_command, after_other, awaits_boot_up, boot_finding, is_settled, nothing_commanded, second_boot_up, state_finding}
+use Rattle.conode_compare_rules.specs.Progresses.{free_at, still_awaited}
+use Rattle.conode_compare_rules.specs.States.{either_state, after_boot_up, after_command, after_other, awaits_boot_up, boot_finding, is_settled, nothing_commanded, second_boot_up, state_finding}
 
 -- 10 ms, 1 %, 1 s and 10 s
 abbrev limits : Limits
@@ -173,12 +177,12 @@ unfolding boot_finding awaits_boot_up
 missing = refl
 
 -- a Start that comes meanwhile changes nothing of it
-missing_after_start : boot_finding limits (after_command (reset_at 1) Start 9000000) 10000002 ≡ Some (BootMissing 10000001)
+missing_after_start : boot_finding limits (after_command (reset_at 1) Start false 9000000) 10000002 ≡ Some (BootMissing 10000001)
 unfolding boot_finding awaits_boot_up after_command
 missing_after_start = refl
 
 -- another reset does
-awaited_again : boot_finding limits (after_command (reset_at 1) ResetNode 2) 10000002 ≡ None
+awaited_again : boot_finding limits (after_command (reset_at 1) ResetNode false 2) 10000002 ≡ None
 unfolding boot_finding awaits_boot_up after_command
 awaited_again = refl
 
@@ -196,25 +200,25 @@ unfolding second_boot_up
 again = refl
 
 -- a device that is up answers a reset by one boot-up
-one_due : (after_boot_up limits (after_command (record { state = Stopped; commanded = None; reset = None; several = false; booted = None }) ResetNode 0) 5).booted ≡ Some 5
+one_due : (after_boot_up limits (after_command (record { state = Stopped; commanded = None; reset = None; several = false; booted = None }) ResetNode false 0) 5).booted ≡ Some 5
 unfolding after_command after_boot_up
 one_due = refl
 
 -- two resets before a boot-up, or a reset of a device that may be booting, may give two
-two_due : (after_boot_up limits (after_command (reset_at 0) ResetNode 1) 5).booted ≡ None
+two_due : (after_boot_up limits (after_command (reset_at 0) ResetNode false 1) 5).booted ≡ None
 unfolding after_command after_boot_up
 two_due = refl
 
-perhaps_two : (after_boot_up limits (after_command nothing_commanded ResetNode 0) 5).booted ≡ None
+perhaps_two : (after_boot_up limits (after_command nothing_commanded ResetNode false 0) 5).booted ≡ None
 unfolding after_command after_boot_up
 perhaps_two = refl
 
 -- another frame of the device doesn't say that none is due any more; that the newest reset is old does
-two_still_due : (after_other limits (after_command (reset_at 0) ResetNode 1) 10000001).several ≡ true
+two_still_due : (after_other limits (after_command (reset_at 0) ResetNode false 1) 10000001).several ≡ true
 unfolding after_command after_other awaits_boot_up
 two_still_due = refl
 
-none_due : (after_other limits (after_command (reset_at 0) ResetNode 1) 10000002).several ≡ false
+none_due : (after_other limits (after_command (reset_at 0) ResetNode false 1) 10000002).several ≡ false
 unfolding after_command after_other awaits_boot_up
 none_due = refl
 
@@ -241,13 +245,48 @@ unfolding after_boot_up
 boots_after_reset = refl
 
 -- while it is initialising it takes no Start
-start_initialising : (after_command (reset_at 0) Start 5).state ≡ Initialising
+start_initialising : (after_command (reset_at 0) Start false 5).state ≡ Initialising
 unfolding after_command
 start_initialising = refl
 
-start : (after_command (record { state = PreOperational; commanded = None; reset = None; several = false; booted = Some 0 }) Start 5).state ≡ Operational
+start : (after_command (record { state = PreOperational; commanded = None; reset = None; several = false; booted = Some 0 }) Start false 5).state ≡ Operational
 unfolding after_command
 start = refl
+
+-- a command to all nodes that the device may have sent itself, as the NMT master: it may follow it or
+-- not
+abbrev up_in : NmtState → Nmt
+up_in state = record { state = state; commanded = None; reset = None; several = false; booted = Some 0 }
+
+stop_of_others : (after_command (up_in Operational) Stop false 5).state ≡ Stopped
+unfolding after_command
+stop_of_others = refl
+
+stop_of_its_own : (after_command (up_in Operational) Stop true 5).state ≡ Unknown
+unfolding after_command
+stop_of_its_own = refl
+
+same_state : (after_command (up_in Operational) Start true 5).state ≡ Operational
+unfolding after_command
+same_state = refl
+
+reset_of_its_own : boot_finding limits (after_command (up_in Operational) ResetNode true 1) 10000002 ≡ None
+unfolding boot_finding awaits_boot_up after_command
+reset_of_its_own = refl
+
+-- after a reset by another one the boot-up is awaited all the same
+still_missing : boot_finding limits (after_command (reset_at 0) ResetNode true 1) 10000002 ≡ Some (BootMissing 10000001)
+unfolding boot_finding awaits_boot_up after_command
+still_missing = refl
+
+to_all : command_kind 5 (record { id = 0; bytes = 2 ∷ 0 ∷ [] }) ≡ CommandToAll Stop
+to_all = refl
+
+to_it : command_kind 5 (record { id = 0; bytes = 2 ∷ 5 ∷ [] }) ≡ Command Stop
+to_it = refl
+
+to_another : command_kind 5 (record { id = 0; bytes = 2 ∷ 6 ∷ [] }) ≡ Other
+to_another = refl
 
 abbrev key : ℕ → ℕ → Key
 key index sub = record { index = index; sub = sub }
@@ -343,7 +382,7 @@ other_written : ended_entries entries (transferred (key 0x1017 1) Expedited) ≡
 unfolding shown_period shown_inhibit
 other_written = refl
 
--- ---- values
+-- ---- what a data sheet says
 
 abbrev row : ℕ → ℕ → DataType → Access → Default → Row
 row index sub data_type access default = record {
@@ -357,79 +396,6 @@ row index sub data_type access default = record {
   name = None;
   line = 1;
 }
-
-same_const : upload_finding 5 (row 0x2000 0 Unsigned16 Constant (number (pos 258))) true (2 ∷ 1 ∷ []) ≡ None
-unfolding upload_finding
-same_const = refl
-
-other_const : upload_finding 5 (row 0x2000 0 Unsigned16 Constant (number (pos 258))) true (3 ∷ 1 ∷ []) ≡ Some (ValueConst (key 0x2000 0) 259 258)
-unfolding upload_finding
-other_const = refl
-
--- without its size the first bytes count
-no_size : upload_finding 5 (row 0x2000 0 Unsigned16 Constant (number (pos 258))) false (2 ∷ 1 ∷ 9 ∷ 9 ∷ []) ≡ None
-unfolding upload_finding
-no_size = refl
-
-other_length : upload_finding 5 (row 0x2000 0 Unsigned16 Rw absent) true (2 ∷ 1 ∷ 0 ∷ 0 ∷ []) ≡ Some (ValueLength (key 0x2000 0) 4 2)
-unfolding upload_finding
-other_length = refl
-
-wide : upload_finding 5 (row 0x2000 0 Unsigned40 Rw absent) false (1 ∷ 0 ∷ 0 ∷ 0 ∷ []) ≡ Some (ValueLength (key 0x2000 0) 4 5)
-unfolding upload_finding
-wide = refl
-
-text : upload_finding 5 (row 0x1008 0 VisibleString Constant absent) true (65 ∷ []) ≡ None
-unfolding upload_finding
-text = refl
-
-not_const : upload_finding 5 (row 0x2000 0 Unsigned8 Rw (number (pos 1))) true (2 ∷ []) ≡ None
-unfolding upload_finding
-not_const = refl
-
-node_added : upload_finding 5 (row 0x2000 0 Unsigned8 Constant (node_id 1)) true (6 ∷ []) ≡ None
-unfolding upload_finding
-node_added = refl
-
-device_type : upload_finding 5 (row 0x1000 0 Unsigned8 Ro (number (pos 1))) true (2 ∷ []) ≡ Some (ValueConst (key 0x1000 0) 2 1)
-unfolding upload_finding
-device_type = refl
-
-product : upload_finding 5 (row 0x1018 2 Unsigned8 Ro (number (pos 1))) true (2 ∷ []) ≡ Some (ValueConst (key 0x1018 2) 2 1)
-unfolding upload_finding
-product = refl
-
-revision : upload_finding 5 (row 0x1018 3 Unsigned8 Constant (number (pos 1))) true (2 ∷ []) ≡ None
-unfolding upload_finding
-revision = refl
-
--- ---- refusals
-
-refused : refused_finding false (row 0x2000 0 Unsigned8 Ro absent) (record { 0 = 0x06020000 }) ≡ Some (ReadRefused (key 0x2000 0) (record { 0 = 0x06020000 }))
-refused = refl
-
-refused_sub : refused_finding false (row 0x2000 1 Unsigned8 Ro absent) (record { 0 = 0x06020000 }) ≡ None
-refused_sub = refl
-
-write_only_sub : refused_finding false (row 0x2000 1 Unsigned8 Rw absent) (record { 0 = 0x06010001 }) ≡ Some (ReadRefused (key 0x2000 1) (record { 0 = 0x06010001 }))
-write_only_sub = refl
-
-is_write_only : refused_finding false (row 0x2000 1 Unsigned8 Wo absent) (record { 0 = 0x06010001 }) ≡ None
-is_write_only = refl
-
-for_now : refused_finding false (row 0x2000 0 Unsigned8 Ro absent) (record { 0 = 0x08000022 }) ≡ None
-for_now = refl
-
-of_modules : refused_finding true (row 0x2000 0 Unsigned8 Ro absent) (record { 0 = 0x06020000 }) ≡ None
-of_modules = refl
-
-written : written_finding (row 0x2000 0 Unsigned8 Ro absent) ≡ Some (Written (key 0x2000 0))
-written = refl
-
-writeable : written_finding (row 0x2000 0 Unsigned8 Rw absent) ≡ None
-writeable = refl
-
--- ---- what a data sheet says
 
 abbrev rows : List Row
 rows = row 0x1014 0 Unsigned32 Rw (node_id 0x80) ∷ row 0x1017 0 Unsigned16 Rw (number (pos 500)) ∷ []
@@ -457,25 +423,20 @@ constant_sheet : (facts_of (row 0x1017 0 Unsigned16 Constant (number (pos 500)) 
 unfolding facts_of initial_entries sheet_entries
 constant_sheet = refl
 
--- ---- requests that an answer is owed to
+-- ---- gaps
 
-abbrev asked_at : ℕ → ℕ → Dialogue
-asked_at doubted micros = record nothing_asked {
-  asked = Some (record { key = record { index = 0x1000; sub = 0 }; micros = micros; writes = false });
-  doubted = Some doubted;
-}
+-- a recording that begins anew awaits it all the same
+still_saving : (still_awaited (dialogue_heard 1000 0 nothing_asked 2000000 Client (record { id = 0x605; bytes = 0x23 ∷ 0x10 ∷ 0x10 ∷ 1 ∷ 0x73 ∷ 0x61 ∷ 0x76 ∷ 0x65 ∷ [] })) 9000000).slow ≡ record { count = 1; newest = 9000000 }
+unfolding dialogue_heard is_certain newest_after request_row_in
+still_saving = refl
 
-owed : owes limits 0 (asked_at 2000000 3000001) ≡ true
-unfolding is_certain
-owed = refl
+-- ---- a command that may be the device's own
 
--- it came while another could still be answered
-not_owed : owes limits 0 (asked_at 2000000 3000000) ≡ false
-unfolding is_certain
-not_owed = refl
+either_same : map (λ state. either_state state state) (Initialising ∷ PreOperational ∷ Operational ∷ Stopped ∷ []) ≡ Initialising ∷ PreOperational ∷ Operational ∷ Stopped ∷ []
+either_same = refl
 
-nothing_owed : owes limits 0 nothing_asked ≡ false
-nothing_owed = refl
+either_other : map (either_state PreOperational) (Operational ∷ Stopped ∷ []) ≡ Unknown ∷ Unknown ∷ []
+either_other = refl
 
 -- ---- answers while stopped
 

@@ -1,36 +1,29 @@
 -- Answers of a device on its default SDO channel (CiA 301, 7.2.4.3).
-use Rattle.std.specs.Prelude.{ℕ, ◌-◌, ◌/◌, ◌%◌, ◌==◌, nat_le, Bool, true, false, not, ◌&&◌, if◌then◌else◌, List, Option, Some, None, option_map, option_and_then}
+use Rattle.std.specs.Prelude.{ℕ, ◌-◌, ◌/◌, ◌%◌, ◌==◌, Bool, true, false, not, ◌&&◌, if◌then◌else◌, List, Option, Some, None, option_map, option_and_then}
 use Rattle.co_frame.specs.FrameContent.{FrameContent}
-use Rattle.co_profile.specs.Indices.{store_parameters, restore_parameters}
 use Rattle.co_sheet.specs.Content.{Row}
-use Rattle.co_value.specs.declared.key.Key.{Key}
 use Rattle.co_value.specs.Keys.{same_key}
 use Rattle.conode_explain_transfers.specs.declared.ended.Ended.{Ended}
 use Rattle.conode_explain_transfers.specs.declared.kinds.What.{What}
 use Rattle.conode_explain_transfers.specs.declared.kinds.What.TheVariants.{Part, Overtaken, Unexpected, Stray}
 use Rattle.conode_compare_transfers.specs.declared.breach.Breach.{Breach}
 use Rattle.conode_compare_transfers.specs.Breaches.{byte_at, key_in}
-use Rattle.conode_compare_rules.specs.declared.dialogue.Asked.{Asked}
-use Rattle.conode_compare_rules.specs.declared.dialogue.Dialogue.{Dialogue}
-use Rattle.conode_compare_rules.specs.declared.dialogue.Exchange.{Exchange}
+use Rattle.conode_compare_values.specs.declared.mismatch.Mismatch.{Mismatch}
+use Rattle.conode_compare_values.specs.SheetValues.{mismatch_at}
+use Rattle.conode_compare_transfers.specs.declared.dialogue.Asked.{Asked}
+use Rattle.conode_compare_transfers.specs.declared.dialogue.Dialogue.{Dialogue}
+use Rattle.conode_compare_transfers.specs.declared.dialogue.Exchange.{Exchange}
 use Rattle.conode_compare_rules.specs.declared.finding.Finding.{Finding}
-use Rattle.conode_compare_rules.specs.declared.finding.Finding.TheVariants.{NoAnswer, Unasked, AnswerKey, AnswerForm, AnswerStopped, Transfer}
+use Rattle.conode_compare_rules.specs.declared.finding.Finding.TheVariants.{NoAnswer, Unasked, AnswerKey, AnswerForm, AnswerStopped, Transfer, Value}
 use Rattle.conode_compare_rules.specs.declared.finding.NmtState.{NmtState}
 use Rattle.conode_compare_rules.specs.declared.finding.NmtState.TheVariants.{PreOperational, Operational}
 use Rattle.conode_compare_rules.specs.declared.limits.Limits.{Limits}
 use Rattle.conode_compare_rules.specs.declared.limits.Subject.{Subject}
 use Rattle.conode_compare_rules.specs.declared.nmt.Nmt.{Nmt}
-use Rattle.conode_compare_rules.specs.Dialogues.{is_certain}
+use Rattle.conode_compare_transfers.specs.Dialogues.{is_certain, is_timed}
 use Rattle.conode_compare_rules.specs.EmergencyRules.{is_stopped}
-use Rattle.conode_compare_rules.specs.SheetValues.{end_finding}
 use Rattle.conode_compare_rules.specs.States.{is_settled}
-use Rattle.conode_compare_rules.specs.Times.{is_past}
-
--- storing and restoring parameters, and what a program is loaded by (1F00h to 1FFFh, CiA 302), may
--- take long
-abbrev pub is_timed : Key → Bool
-is_timed key =
-    not (key.index == store_parameters) && (not (key.index == restore_parameters) && not (nat_le 0x1F00 key.index && nat_le key.index 0x1FFF))
+use Rattle.conode_compare_transfers.specs.Times.{is_past}
 
 -- abort SDO transfer, cs = 4
 abbrev pub is_abort : FrameContent → Bool
@@ -64,9 +57,14 @@ form_finding asked = option_map (λ a. AnswerForm a.key) asked
 abbrev pub refuses_other : FrameContent → Ended → Bool
 refuses_other frame ended = is_abort frame && not (same_key (key_in frame) ended.key)
 
+-- otherwise than the data sheet has the entry
+abbrev pub value_finding : Option Mismatch → Option Finding
+value_finding mismatch = option_map (λ m. Value m) mismatch
+
 abbrev pub known_finding : Subject → List Row → FrameContent → Ended → Option Finding
 known_finding subject rows frame ended =
-    if refuses_other frame ended then None else end_finding subject rows (is_indicated frame) ended
+    if refuses_other frame ended then None
+    else value_finding (mismatch_at subject.node subject.facts.modular rows (is_indicated frame) ended)
 
 -- by the end of the transfer
 abbrev pub ended_finding : Subject → List Row → FrameContent → Option Ended → Option Finding
@@ -128,7 +126,7 @@ answers_in other = false
 
 abbrev pub could_answer : Limits → ℕ → Nmt → Dialogue → Asked → Bool
 could_answer limits started nmt dialogue asked =
-    answers_in nmt.state && (is_settled limits started nmt.commanded asked.micros && is_certain limits started dialogue.doubted asked.micros)
+    answers_in nmt.state && (is_settled limits started nmt.commanded asked.micros && is_certain limits.answer started dialogue.slow dialogue.doubted asked.micros)
 
 -- `no-answer`, by a heartbeat: the device lives, and could have answered since it was asked
 abbrev pub silence_of : Limits → ℕ → Nmt → Dialogue → Option Asked → ℕ → Option Finding

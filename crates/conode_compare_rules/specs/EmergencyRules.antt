@@ -8,7 +8,8 @@ use Rattle.conode_compare_rules.specs.declared.finding.NmtState.{NmtState}
 use Rattle.conode_compare_rules.specs.declared.finding.NmtState.TheVariants.{Stopped}
 use Rattle.conode_compare_rules.specs.declared.limits.Limits.{Limits}
 use Rattle.conode_compare_rules.specs.States.{is_initialising}
-use Rattle.conode_compare_rules.specs.Times.{micros_of, drift_of, is_past}
+use Rattle.conode_compare_transfers.specs.Times.{micros_of, is_past}
+use Rattle.conode_compare_rules.specs.Times.{drift_of}
 
 -- bit 0 of the error register is set; or no bit is, and the code is one of "error reset or no
 -- error", 00xxh

@@ -5,7 +5,8 @@ use Rattle.conode_compare_rules.specs.declared.finding.Finding.TheVariants.{Hear
 use Rattle.conode_compare_rules.specs.declared.heartbeats.Heartbeats.{Heartbeats}
 use Rattle.conode_compare_rules.specs.declared.limits.Limits.{Limits}
 use Rattle.conode_compare_rules.specs.States.{is_guarded_state}
-use Rattle.conode_compare_rules.specs.Times.{is_past, micros_of, drift_of}
+use Rattle.conode_compare_transfers.specs.Times.{is_past, micros_of}
+use Rattle.conode_compare_rules.specs.Times.{drift_of}
 
 abbrev pub no_heartbeat : Heartbeats
 no_heartbeat = record { guarded = false; since = None }

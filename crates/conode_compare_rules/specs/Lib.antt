@@ -1,10 +1,8 @@
 pub mod Answers
 pub mod Progresses
-pub mod Dialogues
 pub mod EmergencyRules
 pub mod EntriesInForce
 pub mod Heartbeats
-pub mod SheetValues
 pub mod FrameKinds
 pub mod States
 pub mod Times

@@ -15,27 +15,27 @@ use Rattle.conode_compare_pdos.specs.declared.pdos.Pdos.{Pdos}
 use Rattle.conode_compare_pdos.specs.declared.pdos.Sighting.{Sighting}
 use Rattle.conode_compare_pdos.specs.Followed as tpdos
 use Rattle.conode_compare_rules.specs.declared.progress.Progress.{Progress}
-use Rattle.conode_compare_rules.specs.declared.dialogue.Asked.{Asked}
-use Rattle.conode_compare_rules.specs.declared.dialogue.Exchange.{Exchange}
+use Rattle.conode_compare_transfers.specs.declared.dialogue.Asked.{Asked}
+use Rattle.conode_compare_transfers.specs.declared.dialogue.Exchange.{Exchange}
 use Rattle.conode_compare_rules.specs.declared.entries.Entries.{Entries}
 use Rattle.conode_compare_rules.specs.declared.finding.Finding.{Finding}
 use Rattle.conode_compare_rules.specs.declared.finding.Finding.TheVariants.{HeartbeatLength, Pdo as PdoFinding}
 use Rattle.conode_compare_rules.specs.declared.finding.NmtState.{NmtState}
 use Rattle.conode_compare_rules.specs.declared.finding.NmtState.TheVariants.{Unknown, Initialising, PreOperational, Stopped}
-use Rattle.conode_compare_rules.specs.declared.dialogue.Dialogue.{Dialogue}
+use Rattle.conode_compare_transfers.specs.declared.dialogue.Dialogue.{Dialogue}
 use Rattle.conode_compare_rules.specs.declared.limits.Limits.{Limits}
 use Rattle.conode_compare_rules.specs.declared.limits.Subject.{Subject}
 use Rattle.conode_compare_rules.specs.declared.kind.FrameKind.{FrameKind}
-use Rattle.conode_compare_rules.specs.declared.kind.FrameKind.TheVariants.{Command, Guarding, Control, OddControl, Emergency, OddEmergency, Sdo, Process, Polled, Fault, Other}
+use Rattle.conode_compare_rules.specs.declared.kind.FrameKind.TheVariants.{Command, CommandToAll, Guarding, Control, OddControl, Emergency, OddEmergency, Sdo, Process, Polled, Fault, Other}
 use Rattle.conode_compare_rules.specs.declared.verdict.Findings.{Findings}
 use Rattle.conode_compare_rules.specs.Answers.{answer_finding, confirmed_finding, first_of, silence_finding, stopped_finding}
-use Rattle.conode_compare_rules.specs.Dialogues.{dialogue_heard, given_up, interrupted, nothing_asked, exchange_in}
+use Rattle.conode_compare_transfers.specs.Dialogues.{dialogue_heard, given_up, interrupted, nothing_asked, nothing_left, exchange_in}
 use Rattle.conode_compare_rules.specs.EmergencyRules.{emergency_finding, length_finding}
 use Rattle.conode_compare_rules.specs.EntriesInForce.{asked_to_write, ended_entries, reset_entries, shown_period}
 use Rattle.conode_compare_rules.specs.Heartbeats.{after_byte, follows_closely, late_finding, no_heartbeat, is_gap}
 use Rattle.conode_compare_rules.specs.States as states
 use Rattle.conode_compare_rules.specs.States.{boot_finding, control_finding, is_reset, is_settled, nothing_commanded}
-use Rattle.conode_compare_rules.specs.Times.{is_past}
+use Rattle.conode_compare_transfers.specs.Times.{is_past}
 use Rattle.conode_compare_rules.specs.Verdicts.{found, nothing_found}
 
 -- ---- the begin of a recording, and gaps in it
@@ -77,10 +77,19 @@ free_at (Some newest) free micros = if follows_closely newest micros then free e
 abbrev pub pdos_with_quiet : Limits → Progress → ℕ → Pdos
 pdos_with_quiet limits progress micros = if was_quiet limits progress micros then tpdos.interrupted progress.pdos else progress.pdos
 
+-- an answer that may take long is awaited all the same
+abbrev pub still_awaited : Dialogue → ℕ → Dialogue
+still_awaited dialogue micros = record nothing_asked { slow = (interrupted dialogue micros).slow }
+
 -- then nothing is known; where it was quiet, no request is
 unfoldable pub begun : Subject → Progress → ℕ → Progress
 begun subject progress micros =
-    if begins_anew subject.limits progress micros then record (before_recording subject) { newest = Some micros; started = micros; free = micros }
+    if begins_anew subject.limits progress micros then record (before_recording subject) {
+      newest = Some micros;
+      started = micros;
+      free = micros;
+      dialogue = still_awaited progress.dialogue micros;
+    }
     else record progress {
       newest = Some micros;
       free = free_at progress.newest progress.free micros;
@@ -103,10 +112,11 @@ after_fault progress micros = record (with_gap progress micros) { nmt = nothing_
 
 -- ---- commands and node guarding
 
--- after a reset nothing is known of its PDOs until the boot-up, nor of the inhibit time of its EMCY
-unfoldable pub after_command : Progress → NmtService → ℕ → Progress
-after_command progress service micros =
-    let commanded = record progress { nmt = states.after_command progress.nmt service micros; pdos = tpdos.commanded progress.pdos } in
+-- A command, which is perhaps the device's own. After a reset nothing is known of its PDOs until the
+-- boot-up, nor of the inhibit time of its EMCY.
+unfoldable pub after_command : Progress → NmtService → Bool → ℕ → Progress
+after_command progress service own micros =
+    let commanded = record progress { nmt = states.after_command progress.nmt service own micros; pdos = tpdos.commanded progress.pdos } in
     if is_reset service then record (with_gap commanded micros) { entries = reset_entries progress.entries; pdos = tpdos.unknown_pdos }
     else commanded
 
@@ -120,14 +130,14 @@ boot_findings subject progress micros =
     found None None None (control_finding subject progress.started progress.heartbeats.guarded progress.nmt micros 0) true
 
 -- the entries have what the data sheet says, as far as that is known, and the next heartbeat is
--- awaited
+-- awaited; no earlier request is answered any more, however long it took
 unfoldable pub booted : Subject → Progress → ℕ → Progress
 booted subject progress micros = record progress {
   nmt = states.after_control subject.limits progress.started progress.nmt micros 0;
   heartbeats = record progress.heartbeats { since = Some micros };
   entries = subject.facts.booted;
   emergency = None;
-  dialogue = interrupted progress.dialogue micros;
+  dialogue = record (interrupted progress.dialogue micros) { slow = nothing_left };
   pdos = subject.facts.pdos;
 }
 
@@ -231,11 +241,11 @@ abbrev pub pdos_heard : Pdos → Option Ended → Option Asked → ℕ → Pdos
 pdos_heard pdos ended asked micros = pdos_asked (pdos_ended pdos ended micros) asked micros
 
 unfoldable pub exchange_at : Subject → Progress → ℕ → Side → FrameContent → Exchange
-exchange_at subject progress micros side frame = exchange_in subject.limits progress.started progress.dialogue micros side frame
+exchange_at subject progress micros side frame = exchange_in subject.limits.answer progress.started progress.dialogue micros side frame
 
 unfoldable pub after_sdo : Subject → Progress → ℕ → Side → FrameContent → Progress
 after_sdo subject progress micros side frame =
-    let next = dialogue_heard subject.limits progress.started progress.dialogue micros side frame in
+    let next = dialogue_heard subject.limits.answer progress.started progress.dialogue micros side frame in
     let ended = (followed progress.dialogue.channel micros side frame.bytes).says.ended in
     record progress {
       heartbeats = record progress.heartbeats { since = since_heard progress.heartbeats.since ended micros };
@@ -342,7 +352,8 @@ after_frame subject progress micros (Emergency code register) = after_emergency 
 after_frame subject progress micros (OddEmergency length) = after_emergency progress micros
 after_frame subject progress micros (Sdo Server frame) = after_answer subject progress micros frame
 after_frame subject progress micros (Sdo Client frame) = after_sdo subject progress micros Client frame
-after_frame subject progress micros (Command service) = after_command progress service micros
+after_frame subject progress micros (Command service) = after_command progress service false micros
+after_frame subject progress micros (CommandToAll service) = after_command progress service subject.facts.starts_itself micros
 after_frame subject progress micros (Process id length) = after_process subject progress micros id
 after_frame subject progress micros (Polled id) = after_poll progress id
 after_frame subject progress micros Guarding = after_guarding progress

@@ -12,7 +12,7 @@ use Rattle.conode_compare_rules.specs.declared.limits.Limits.{Limits}
 use Rattle.conode_compare_rules.specs.declared.limits.Subject.{Subject}
 use Rattle.conode_compare_rules.specs.declared.nmt.Commanded.{Commanded}
 use Rattle.conode_compare_rules.specs.declared.nmt.Nmt.{Nmt}
-use Rattle.conode_compare_rules.specs.Times.{is_past}
+use Rattle.conode_compare_transfers.specs.Times.{is_past}
 
 abbrev pub nothing_commanded : Nmt
 nothing_commanded = record { state = Unknown; commanded = None; reset = None; several = false; booted = None }
@@ -38,6 +38,20 @@ state_commanded service Unknown = if is_reset service then Initialising else Unk
 state_commanded service Initialising = Initialising
 state_commanded service state = goes_to service
 
+-- the state before a command, or after it
+abbrev pub either_state : NmtState → NmtState → NmtState
+either_state Initialising Initialising = Initialising
+either_state PreOperational PreOperational = PreOperational
+either_state Operational Operational = Operational
+either_state Stopped Stopped = Stopped
+either_state before after = Unknown
+
+-- A command to all nodes that the device may have sent itself, as the NMT master: it needn't follow
+-- that.
+abbrev pub state_after : NmtService → Bool → NmtState → NmtState
+state_after service own state =
+    if own then either_state state (state_commanded service state) else state_commanded service state
+
 -- the device has booted up and wasn't reset since
 abbrev pub is_up : NmtState → Bool
 is_up Unknown = false
@@ -49,9 +63,10 @@ is_up state = true
 abbrev pub several_after : NmtService → Nmt → Bool
 several_after service nmt = nmt.several || (is_reset service && not (is_up nmt.state))
 
-unfoldable pub after_command : Nmt → NmtService → ℕ → Nmt
-after_command nmt service micros = record {
-  state = state_commanded service nmt.state;
+-- a command, which is perhaps its own
+unfoldable pub after_command : Nmt → NmtService → Bool → ℕ → Nmt
+after_command nmt service own micros = record {
+  state = state_after service own nmt.state;
   commanded = Some (record { service = service; micros = micros });
   reset = if is_reset service then Some micros else nmt.reset;
   several = several_after service nmt;

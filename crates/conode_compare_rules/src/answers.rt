@@ -13,7 +13,6 @@ ghost use Rattle.conode_compare_rules.specs.Answers.{
   form_finding,
   is_abort,
   is_indicated,
-  is_timed,
   key_finding,
   known_answer,
   late_answer,
@@ -22,29 +21,20 @@ ghost use Rattle.conode_compare_rules.specs.Answers.{
   silence_finding,
   stopped_finding,
   unasked_finding,
+  value_finding,
   what_finding,
 };
 
-use crate::dialogue::{Asked, Dialogue, Exchange};
 use crate::finding::{Finding, NmtState};
-use crate::limits::{Limits, Subject, is_past};
+use crate::limits::{Limits, Subject};
 use crate::nmt::Nmt;
-use crate::values::end_finding;
 use co_frame::Frame;
-use co_profile::{RESTORE_PARAMETERS, STORE_PARAMETERS};
 use co_sheet::EntryRow;
-use co_value::Key;
-use conode_compare_transfers::{Breach, byte_at, key_in};
+use conode_compare_transfers::{
+    Asked, Breach, Dialogue, Exchange, byte_at, is_past, is_timed, key_in,
+};
+use conode_compare_values::{Mismatch, mismatch_at};
 use conode_explain_transfers::{Ended, What};
-
-// Storing, restoring, and what a program is loaded by (1F00h to 1FFFh, CiA 302) may take long.
-fn is_timed(key: Key) -> bool
-    ensures { result ≡ is_timed key }
-{
-    key.index != STORE_PARAMETERS
-        && key.index != RESTORE_PARAMETERS
-        && !(0x1F00 <= key.index && key.index <= 0x1FFF)
-}
 
 // an abort (CiA 301, 7.2.4.3.17)
 fn is_abort(frame: &Frame) -> bool
@@ -107,6 +97,15 @@ fn refuses_other(frame: &Frame, ended: &Ended) -> bool
     is_abort(frame) && key_in(frame) != ended.key
 }
 
+fn value_finding(mismatch: Option<Mismatch>) -> Option<Finding>
+    ensures { result ≡ value_finding mismatch }
+{
+    match mismatch {
+        Some(mismatch) => Some(Finding::Value(mismatch)),
+        None => None,
+    }
+}
+
 fn ended_finding(
     subject: &Subject,
     rows: &[EntryRow<'_>],
@@ -118,7 +117,9 @@ fn ended_finding(
 {
     match ended {
         Some(ended) if !refuses_other(frame, ended) => {
-            end_finding(subject, rows, is_indicated(frame), ended)
+            let indicated = is_indicated(frame);
+            let modular = subject.facts.modular;
+            value_finding(mismatch_at(subject.node, modular, rows, indicated, ended))
         }
         _ => None,
     }
@@ -263,7 +264,7 @@ pub(crate) fn silence_finding(
         return None;
     }
     if !nmt.is_settled(limits, started, asked.micros)
-        || !dialogue.is_certain(limits, started, asked.micros)
+        || !dialogue.is_certain(limits.answer, started, asked.micros)
     {
         return None;
     }

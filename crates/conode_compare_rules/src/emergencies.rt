@@ -13,7 +13,8 @@ ghost use Rattle.conode_compare_rules.specs.EmergencyRules.{
 
 use crate::entries::Entries;
 use crate::finding::{Finding, NmtState};
-use crate::limits::{Limits, drift_of, is_past, micros_of};
+use crate::limits::{Limits, drift_of};
+use conode_compare_transfers::{is_past, micros_of};
 
 // The error register has bit 0 wherever another bit is set, and while the code isn't one of "error
 // reset or no error".

@@ -52,7 +52,8 @@ pub struct Facts {
     /// What is known of its TPDOs after each boot-up; nothing where it can store parameters, and of
     /// a configuration.
     pub pdos: Pdos,
-    /// Whether it may enter operational by itself: it has the entry NMT startup, 1F80h (CiA 302-2).
+    /// Whether it may enter operational by itself, and may be the NMT master, which needn't follow
+    /// its own commands: it has the entry NMT startup, 1F80h (CiA 302-2).
     pub starts_itself: bool,
     /// Whether modules decide which entries it has: it has the module list, 1027h.
     pub modular: bool,

@@ -1,9 +1,9 @@
 //! The kinds of differences.
 
-use co_frame::AbortCode;
 use co_value::Key;
 use conode_compare_pdos::Deviation;
 use conode_compare_transfers::Breach;
+use conode_compare_values::Mismatch;
 
 /// The NMT state that a device is in, as commands and its own frames have it (CiA 301, 7.3.2.2).
 #[derive(Clone, Copy)]
@@ -57,17 +57,9 @@ pub enum Finding {
     /// `answer-toggle`, `answer-form`, `answer-size`, `answer-crc`, `abort-key`: a difference in an
     /// open transfer.
     Transfer(Breach),
-    /// `value-length`: an upload of this entry has so many bytes, and its type has so many.
-    ValueLength(Key, u8, u8),
-    /// `value-const`: an upload of this entry gives the first number, and the data sheet has the
-    /// second.
-    ValueConst(Key, u64, u64),
-    /// `access-read`: an upload of this entry, which the data sheet has as readable, is refused
-    /// with this code.
-    ReadRefused(Key, AbortCode),
-    /// `access-write`: a download to this entry, which the data sheet has as read only, is
-    /// acknowledged.
-    Written(Key),
+    /// `value-length`, `value-const`, `access-read`, `access-write`, `access-limits`: a transfer
+    /// ended otherwise than the data sheet has its entry.
+    Value(Mismatch),
     /// A difference of the TPDO with this number, from 1 on.
     Pdo(u8, Deviation),
 }

@@ -13,8 +13,9 @@ ghost use Rattle.conode_compare_rules.specs.Heartbeats.{
 
 use crate::entries::Entries;
 use crate::finding::Finding;
-use crate::limits::{Limits, drift_of, is_past, micros_of};
+use crate::limits::{Limits, drift_of};
 use crate::nmt::is_guarded_state;
+use conode_compare_transfers::{is_past, micros_of};
 
 /// What a recording shows of a device's heartbeats.
 #[derive(Clone, Copy)]

@@ -18,8 +18,10 @@ use conode_record::{Content, Identifier};
 /// What a frame is to a device.
 #[derive(Drop)]
 pub enum FrameKind {
-    /// An NMT command to it, or to all nodes (CiA 301, 7.2.8.3.1).
+    /// An NMT command to it (CiA 301, 7.2.8.3.1).
     Command(NmtService),
+    /// An NMT command to all nodes, which it doesn't follow if it sent that itself.
+    CommandToAll(NmtService),
     /// A remote frame that asks for its state: node guarding.
     Guarding,
     /// One byte on its identifier of error control: a boot-up, 0, or a heartbeat (CiA 301,
@@ -56,9 +58,8 @@ fn command_kind(node: u8, frame: &Frame) -> FrameKind
     ensures { result ≡ command_kind node frame.now }
 {
     match NmtCommand::read(frame) {
-        Some(command) if command.node == 0 || command.node == node => {
-            FrameKind::Command(command.service)
-        }
+        Some(command) if command.node == 0 => FrameKind::CommandToAll(command.service),
+        Some(command) if command.node == node => FrameKind::Command(command.service),
         _ => FrameKind::Other,
     }
 }

@@ -3,7 +3,6 @@
 #![tactic(auto)]
 
 mod answers;
-mod dialogue;
 mod emergencies;
 mod entries;
 mod finding;
@@ -12,7 +11,6 @@ mod kind;
 mod limits;
 mod nmt;
 mod progress;
-mod values;
 mod verdict;
 
 pub use entries::{Entries, Facts, facts_of};

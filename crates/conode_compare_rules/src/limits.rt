@@ -1,7 +1,7 @@
 //! How exactly a device is judged, and the device itself.
 
 ghost use Rattle.std.specs.Prelude.{◌≡◌};
-ghost use Rattle.conode_compare_rules.specs.Times.{is_past, micros_of, drift_of};
+ghost use Rattle.conode_compare_rules.specs.Times.{drift_of};
 
 use crate::entries::Facts;
 
@@ -29,23 +29,9 @@ pub struct Subject {
     pub facts: Facts,
 }
 
-/// Milliseconds in microseconds.
-pub(crate) fn micros_of(millis: u32) -> u64
-    ensures { result ≡ micros_of millis }
-{
-    u64::from(millis) * 1000
-}
-
 /// By how many microseconds the clocks may differ after so many ms.
 pub(crate) fn drift_of(limits: &Limits, millis: u16) -> u64
     ensures { result ≡ drift_of limits.now millis }
 {
     u64::from(u32::from(millis) * u32::from(limits.drift)) * 10
-}
-
-/// Whether a stamp is more than so many ms after another one.
-pub(crate) fn is_past(from: u64, millis: u32, micros: u64) -> bool
-    ensures { result ≡ is_past from millis micros }
-{
-    micros.saturating_sub(from) > micros_of(millis)
 }

@@ -10,12 +10,14 @@ ghost use Rattle.conode_compare_rules.specs.States.{
   boot_finding,
   boots_known,
   control_finding,
+  either_state,
   is_guarded_state,
   is_reset,
   is_settled,
   is_state,
   is_up,
   is_wrong,
+  state_after,
   state_commanded,
   state_of,
   nothing_commanded,
@@ -25,8 +27,9 @@ ghost use Rattle.conode_compare_rules.specs.States.{
 };
 
 use crate::finding::{Finding, NmtState};
-use crate::limits::{Limits, Subject, is_past};
+use crate::limits::{Limits, Subject};
 use co_frame::NmtService;
+use conode_compare_transfers::is_past;
 
 // two boot-ups within so many ms are those of two devices
 const SECOND_BOOT_UP: u32 = 1000;
@@ -78,6 +81,31 @@ fn state_commanded(service: NmtService, state: NmtState) -> NmtState
         NmtService::Start => NmtState::Operational,
         NmtService::Stop => NmtState::Stopped,
         _ => NmtState::PreOperational,
+    }
+}
+
+// the state where a device is in one of the two
+fn either_state(before: NmtState, after: NmtState) -> NmtState
+    ensures { result ≡ either_state before after }
+{
+    match (before, after) {
+        (NmtState::Initialising, NmtState::Initialising)
+        | (NmtState::PreOperational, NmtState::PreOperational)
+        | (NmtState::Operational, NmtState::Operational)
+        | (NmtState::Stopped, NmtState::Stopped) => before,
+        _ => NmtState::Unknown,
+    }
+}
+
+// the state after a command; the NMT master needn't follow its own ones
+fn state_after(service: NmtService, own: bool, state: NmtState) -> NmtState
+    ensures { result ≡ state_after service own state }
+{
+    let commanded = state_commanded(service, state);
+    if own {
+        either_state(state, commanded)
+    } else {
+        commanded
     }
 }
 
@@ -247,13 +275,14 @@ impl Nmt {
         }
     }
 
-    /// A command came.
+    /// A command came; `own`: the device may have sent it itself, as the NMT master, and needn't
+    /// follow it.
     #[tactic(auto, unfolding(crate::specs::States::after_command))]
-    pub(crate) fn after_command(self, service: NmtService, micros: u64) -> Nmt
-        ensures { result ≡ after_command self service micros }
+    pub(crate) fn after_command(self, service: NmtService, own: bool, micros: u64) -> Nmt
+        ensures { result ≡ after_command self service own micros }
     {
         Nmt {
-            state: state_commanded(service, self.state),
+            state: state_after(service, own, self.state),
             commanded: Some(Commanded { service, micros }),
             reset: if is_reset(service) {
                 Some(micros)

@@ -51,18 +51,18 @@ ghost use Rattle.conode_compare_rules.specs.Progresses.{
 use crate::answers::{
     answer_finding, confirmed_finding, first_of, silence_finding, stopped_finding,
 };
-use crate::dialogue::{Asked, Dialogue, Exchange};
 use crate::emergencies::{emergency_finding, length_finding};
 use crate::entries::{Entries, shown_period};
 use crate::finding::{Finding, NmtState};
 use crate::heartbeats::{Heartbeats, follows_closely, is_gap};
 use crate::kind::FrameKind;
-use crate::limits::{Limits, Subject, is_past};
+use crate::limits::{Limits, Subject};
 use crate::nmt::{Nmt, is_reset};
 use crate::verdict::Findings;
 use co_frame::{Frame, NmtService};
 use co_sheet::EntryRow;
 use conode_compare_pdos::{Moment, Pdos, Sighting};
+use conode_compare_transfers::{Asked, Dialogue, Exchange, Left, is_past};
 use conode_explain_transfers::{Ended, Side, What};
 
 /// What a recording shows of a device.
@@ -215,15 +215,18 @@ impl Progress {
         }
     }
 
-    // A frame comes. Where the recording begins anew, nothing is known; where it was quiet, no
-    // request is.
+    // A frame comes. Where the recording begins anew, nothing is known, but that an answer which may
+    // take long is awaited; where it was quiet, no request is known.
     #[tactic(auto, unfolding(crate::specs::Progresses::begun))]
     fn begin(&mut self, subject: &Subject, micros: u64)
         ensures { self.new ≡ begun subject.now self.old micros }
     {
         if self.begins_anew(&subject.limits, micros) {
+            self.dialogue.interrupt(micros);
+            let slow = self.dialogue.slow;
             *self = Progress::new(subject);
             self.started = micros;
+            self.dialogue.slow = slow;
         } else if self.was_quiet(&subject.limits, micros) {
             self.dialogue.interrupt(micros);
             self.pdos.interrupt();
@@ -243,13 +246,13 @@ impl Progress {
         self.pdos.interrupt();
     }
 
-    // a command; after a reset nothing is known of its PDOs until the boot-up, nor of the inhibit
-    // time of its EMCY
+    // A command; `own`: the device may have sent it itself, and needn't follow it. After a reset
+    // nothing is known of its PDOs until the boot-up, nor of the inhibit time of its EMCY.
     #[tactic(auto, unfolding(crate::specs::Progresses::after_command, crate::specs::Progresses::with_gap))]
-    fn take_command(&mut self, service: NmtService, micros: u64)
-        ensures { self.new ≡ after_command self.old service micros }
+    fn take_command(&mut self, service: NmtService, own: bool, micros: u64)
+        ensures { self.new ≡ after_command self.old service own micros }
     {
-        self.nmt = self.nmt.after_command(service, micros);
+        self.nmt = self.nmt.after_command(service, own, micros);
         self.pdos.command();
         if is_reset(service) {
             self.break_off(micros);
@@ -282,6 +285,7 @@ impl Progress {
             .nmt
             .after_control(&subject.limits, self.started, micros, 0);
         self.break_off(micros);
+        self.dialogue.slow = Left::new();
         self.entries = subject.facts.booted;
         self.pdos = subject.facts.pdos;
         self.heartbeats.since = Some(micros);
@@ -412,14 +416,14 @@ impl Progress {
     }
 
     // a frame of the SDO channel is heard
-    #[tactic(auto, unfolding(crate::specs::Progresses::exchange_at, crate::specs::Progresses::after_sdo, crate::specs::Dialogues::exchange_in))]
+    #[tactic(auto, unfolding(crate::specs::Progresses::exchange_at, crate::specs::Progresses::after_sdo, conode_compare_transfers::specs::Dialogues::exchange_in))]
     fn hear(&mut self, subject: &Subject, micros: u64, side: Side, frame: &Frame) -> Exchange
         ensures exchange { result ≡ exchange_at subject.now self.old micros side frame.now }
         ensures progress { self.new ≡ after_sdo subject.now self.old micros side frame.now }
     {
         let exchange = self
             .dialogue
-            .hear(&subject.limits, self.started, micros, side, frame);
+            .hear(subject.limits.answer, self.started, micros, side, frame);
         self.entries = entries_heard(self.entries, &exchange.heard.ended, self.dialogue.asked);
         self.heartbeats.since = since_heard(self.heartbeats.since, &exchange.heard.ended, micros);
         hear_pdos(
@@ -547,7 +551,10 @@ impl Progress {
                 return self.take_process(subject, micros, *id, *length);
             }
             FrameKind::Polled(id) => self.pdos.poll(*id),
-            FrameKind::Command(service) => self.take_command(*service, micros),
+            FrameKind::Command(service) => self.take_command(*service, false, micros),
+            FrameKind::CommandToAll(service) => {
+                self.take_command(*service, subject.facts.starts_itself, micros)
+            }
             FrameKind::Guarding => self.heartbeats.guarded = true,
             FrameKind::Fault => self.take_fault(micros),
             FrameKind::Other => {}

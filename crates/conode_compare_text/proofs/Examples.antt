@@ -1,81 +1,107 @@
 -- Lines of differences, computed from the definitions.
-use Rattle.std.proofs.Common.{◌≡◌, ℕ, [], ◌∷◌, ◌++◌, refl, codes}
+use Rattle.std.proofs.Common.{◌≡◌, [], ◌∷◌, ◌++◌, refl, codes}
 use Rattle.std.specs.Fmt.{digits}
 use Rattle.co_text.specs.Printed.{digits_text}
+use Rattle.co_value.specs.declared.data_type.DataType.TheVariants.{Unsigned32}
 use Rattle.co_value.specs.declared.key.Key.{Key}
+use Rattle.conode_explain_values.specs.declared.value_type.ValueType.{ValueType}
+use Rattle.conode_explain_values.specs.declared.value_type.ValueType.TheVariants.{Plain, Real32, TimeOfDay}
+use Rattle.conode_explain_values.specs.Values.{value_text}
 use Rattle.conode_compare_pdos.specs.declared.deviation.Deviation.TheVariants.{Length, NotOperational, WithoutSync, Inhibit, Timer}
 use Rattle.conode_compare_transfers.specs.declared.breach.Breach.TheVariants.{Toggle, Form, AbortKey, Size, Crc}
-use Rattle.conode_compare_rules.specs.declared.finding.Finding.TheVariants.{BootMissing, SecondBootUp, HeartbeatLength, NoState, WrongState, HeartbeatLate, EmergencyLength, EmergencyStopped, EmergencyRegister, EmergencyInhibit, NoAnswer, Unasked, AnswerKey, AnswerForm, ValueLength, ValueConst, ReadRefused, Written, AnswerStopped, Transfer, Pdo}
+use Rattle.conode_compare_values.specs.declared.mismatch.Mismatch.TheVariants.{ValueLength, ValueConst, ReadRefused, Written, AboveLimit, BelowLimit}
+use Rattle.conode_compare_rules.specs.declared.finding.Finding.TheVariants.{BootMissing, SecondBootUp, HeartbeatLength, NoState, WrongState, HeartbeatLate, EmergencyLength, EmergencyRegister, EmergencyInhibit, NoAnswer, AnswerKey, AnswerForm, AnswerStopped, Transfer, Value, Pdo}
 use Rattle.conode_compare_rules.specs.declared.finding.NmtState.TheVariants.{PreOperational, Operational}
-use Rattle.conode_compare_text.specs.FindingTexts.{coded, finding_line, finding_text, hexadecimal, keyed, keyed_code, keyed_codes, keyed_numbers, keyed_time, millis_text, named, numbered, numbered_time, numbered_times, pdo_text, three_numbers, timed, timed_number, transfer_text, two_codes, two_times}
+use Rattle.conode_compare_text.specs.FindingTexts.{coded, finding_line, finding_text, hexadecimal, keyed, keyed_code, keyed_codes, keyed_numbers, keyed_time, keyed_values, millis_text, mismatch_text, named, numbered, numbered_time, numbered_times, pdo_text, shown_value, three_numbers, timed, timed_number, transfer_text, two_codes, two_times}
 use Rattle.conode_compare_text.specs.Tallies.{summary}
 
 abbrev key : Key
 key = record { index = 0x1018; sub = 1 }
 
-late_line : finding_line (codes "r.log") 120 (HeartbeatLate 1020001 1000) ≡ codes "r.log:120: heartbeat-late: 1020.001 ms since the last one, 1017:00 has 1000 ms" ++ 10 ∷ []
+abbrev plain : ValueType
+plain = Plain Unsigned32
+
+late_line : finding_line (codes "r.log") 120 plain (HeartbeatLate 1020001 1000) ≡ codes "r.log:120: heartbeat-late: 1020.001 ms since the last one, 1017:00 has 1000 ms" ++ 10 ∷ []
 unfolding finding_line finding_text timed_number millis_text numbered digits_text digits
 late_line = refl
 
-boot_missing : finding_text (BootMissing 10000001) ≡ codes "boot-missing: no boot-up 10000.001 ms after the reset command"
+boot_missing : finding_text plain (BootMissing 10000001) ≡ codes "boot-missing: no boot-up 10000.001 ms after the reset command"
 unfolding finding_text timed millis_text digits_text digits
 boot_missing = refl
 
-second_boot_up : finding_text (SecondBootUp 999) ≡ codes "second-sender: a boot-up 0.999 ms after the last one"
+second_boot_up : finding_text plain (SecondBootUp 999) ≡ codes "second-sender: a boot-up 0.999 ms after the last one"
 unfolding finding_text timed millis_text digits_text digits
 second_boot_up = refl
 
-heartbeat_length : finding_text (HeartbeatLength 2) ≡ codes "heartbeat-length: 2 bytes, not 1"
+heartbeat_length : finding_text plain (HeartbeatLength 2) ≡ codes "heartbeat-length: 2 bytes, not 1"
 unfolding finding_text numbered digits
 heartbeat_length = refl
 
-no_state : finding_text (NoState 0xA) ≡ codes "heartbeat-state: 0Ah is no NMT state"
+no_state : finding_text plain (NoState 0xA) ≡ codes "heartbeat-state: 0Ah is no NMT state"
 unfolding finding_text coded digits_text
 no_state = refl
 
-wrong_state : finding_text (WrongState Operational PreOperational) ≡ codes "heartbeat-state: operational, but by the commands it is pre-operational"
+wrong_state : finding_text plain (WrongState Operational PreOperational) ≡ codes "heartbeat-state: operational, but by the commands it is pre-operational"
 unfolding finding_text named
 wrong_state = refl
 
-emergency_length : finding_text (EmergencyLength 7) ≡ codes "emcy-length: 7 bytes, not 8"
+emergency_length : finding_text plain (EmergencyLength 7) ≡ codes "emcy-length: 7 bytes, not 8"
 unfolding finding_text numbered digits
 emergency_length = refl
 
-emergency_register : finding_text (EmergencyRegister 0x8130 0x10) ≡ codes "emcy-register: code 8130h with error register 10h, whose bit 0 isn't set"
+emergency_register : finding_text plain (EmergencyRegister 0x8130 0x10) ≡ codes "emcy-register: code 8130h with error register 10h, whose bit 0 isn't set"
 unfolding finding_text two_codes digits_text
 emergency_register = refl
 
-emergency_inhibit : finding_text (EmergencyInhibit 88999 1000) ≡ codes "emcy-inhibit: 88.999 ms since the last one, 1015:00 has 100.000 ms"
+emergency_inhibit : finding_text plain (EmergencyInhibit 88999 1000) ≡ codes "emcy-inhibit: 88.999 ms since the last one, 1015:00 has 100.000 ms"
 unfolding finding_text two_times millis_text digits_text digits
 emergency_inhibit = refl
 
-no_answer : finding_text (NoAnswer key 1000001) ≡ codes "no-answer: 1018:01 was requested 1000.001 ms ago"
+no_answer : finding_text plain (NoAnswer key 1000001) ≡ codes "no-answer: 1018:01 was requested 1000.001 ms ago"
 unfolding finding_text keyed_time millis_text digits_text digits
 no_answer = refl
 
-answer_key : finding_text (AnswerKey key) ≡ codes "answer-key: 1018:01 was requested, another entry is answered"
+answer_key : finding_text plain (AnswerKey key) ≡ codes "answer-key: 1018:01 was requested, another entry is answered"
 unfolding finding_text keyed digits_text
 answer_key = refl
 
-answer_form : finding_text (AnswerForm key) ≡ codes "answer-form: 1018:01 was requested, which has no such answer"
+answer_form : finding_text plain (AnswerForm key) ≡ codes "answer-form: 1018:01 was requested, which has no such answer"
 unfolding finding_text keyed digits_text
 answer_form = refl
 
-value_length : finding_text (ValueLength key 2 4) ≡ codes "value-length: 1018:01 has 2 bytes, its type 4"
-unfolding finding_text keyed_numbers digits_text digits
+value_length : finding_text plain (Value (ValueLength key 2 4)) ≡ codes "value-length: 1018:01 has 2 bytes, its type 4"
+unfolding finding_text mismatch_text keyed_numbers digits_text digits
 value_length = refl
 
-value_const : finding_text (ValueConst key 0x12345678 0xABC) ≡ codes "value-const: 1018:01 has 12345678h, the sheet 00000ABCh"
-unfolding finding_text keyed_codes hexadecimal digits_text
+value_const : finding_text plain (Value (ValueConst key 0x12345678 0xABC)) ≡ codes "value-const: 1018:01 has 12345678h, the sheet 00000ABCh"
+unfolding finding_text mismatch_text keyed_values shown_value hexadecimal digits_text
 value_const = refl
 
-refused : finding_text (ReadRefused key (record { 0 = 0x06020000 })) ≡ codes "access-read: 1018:01 refused with 06020000, the sheet has it as readable"
-unfolding finding_text keyed_code digits_text
+-- a REAL32 of an adapted sheet, by its value
+value_const_real : finding_text Real32 (Value (ValueConst key 0x7F800000 0x80000000)) ≡ codes "value-const: 1018:01 has inf, the sheet -0.0"
+unfolding finding_text mismatch_text keyed_values shown_value value_text digits_text
+value_const_real = refl
+
+-- four bytes aren't a whole TIME_OF_DAY
+value_const_time : finding_text TimeOfDay (Value (ValueConst key 1 0x0A000000)) ≡ codes "value-const: 1018:01 has 01000000 (32 of 48 bits), the sheet 0000000A (32 of 48 bits)"
+unfolding finding_text mismatch_text keyed_values shown_value value_text digits digits_text
+value_const_time = refl
+
+refused : finding_text plain (Value (ReadRefused key (record { 0 = 0x06020000 }))) ≡ codes "access-read: 1018:01 refused with 06020000, the sheet has it as readable"
+unfolding finding_text mismatch_text keyed_code digits_text
 refused = refl
 
-written : finding_text (Written key) ≡ codes "access-write: 1018:01 was written, the sheet has it as read only"
-unfolding finding_text keyed digits_text
+written : finding_text plain (Value (Written key)) ≡ codes "access-write: 1018:01 was written, the sheet has it as read only"
+unfolding finding_text mismatch_text keyed digits_text
 written = refl
+
+above_limit : finding_text plain (Value (AboveLimit key)) ≡ codes "access-limits: 1018:01 was written, with a value above its HighLimit"
+unfolding finding_text mismatch_text keyed digits_text
+above_limit = refl
+
+below_limit : finding_text plain (Value (BelowLimit key)) ≡ codes "access-limits: 1018:01 was written, with a value below its LowLimit"
+unfolding finding_text mismatch_text keyed digits_text
+below_limit = refl
 
 sums : summary 5 (record { prescribed = 118; different = 2; unjudged = 14 })
     ≡ codes "node 5: 118 frames as prescribed, 2 with a difference, 14 unjudged" ++ 10 ∷ []
@@ -84,48 +110,48 @@ sums = refl
 
 -- ---- TPDOs
 
-pdo_length : finding_text (Pdo 1 (Length 3 4)) ≡ codes "pdo-length: TPDO1 has 3 bytes, its mapping 4"
+pdo_length : finding_text plain (Pdo 1 (Length 3 4)) ≡ codes "pdo-length: TPDO1 has 3 bytes, its mapping 4"
 unfolding finding_text pdo_text three_numbers digits
 pdo_length = refl
 
-pdo_state : finding_text (Pdo 2 NotOperational) ≡ codes "pdo-state: TPDO2 while the device isn't operational"
+pdo_state : finding_text plain (Pdo 2 NotOperational) ≡ codes "pdo-state: TPDO2 while the device isn't operational"
 unfolding finding_text pdo_text numbered digits
 pdo_state = refl
 
-pdo_sync : finding_text (Pdo 3 WithoutSync) ≡ codes "pdo-sync: TPDO3, and since its last one no SYNC came"
+pdo_sync : finding_text plain (Pdo 3 WithoutSync) ≡ codes "pdo-sync: TPDO3, and since its last one no SYNC came"
 unfolding finding_text pdo_text numbered digits
 pdo_sync = refl
 
-pdo_inhibit : finding_text (Pdo 4 (Inhibit 88999 1000)) ≡ codes "pdo-inhibit: TPDO4 88.999 ms since the last one, its inhibit time is 100.000 ms"
+pdo_inhibit : finding_text plain (Pdo 4 (Inhibit 88999 1000)) ≡ codes "pdo-inhibit: TPDO4 88.999 ms since the last one, its inhibit time is 100.000 ms"
 unfolding finding_text pdo_text numbered_times millis_text digits_text digits
 pdo_inhibit = refl
 
-pdo_late : finding_text (Pdo 1 (Timer 1020001 1000)) ≡ codes "pdo-late: TPDO1 1020.001 ms since the last one, its event timer has 1000 ms"
+pdo_late : finding_text plain (Pdo 1 (Timer 1020001 1000)) ≡ codes "pdo-late: TPDO1 1020.001 ms since the last one, its event timer has 1000 ms"
 unfolding finding_text pdo_text numbered_time millis_text digits_text digits
 pdo_late = refl
 
 -- ---- transfers
 
-answer_stopped : finding_text (AnswerStopped key) ≡ codes "answer-state: 1018:01 is answered while stopped"
+answer_stopped : finding_text plain (AnswerStopped key) ≡ codes "answer-state: 1018:01 is answered while stopped"
 unfolding finding_text keyed digits_text
 answer_stopped = refl
 
-toggle : finding_text (Transfer (Toggle key)) ≡ codes "answer-toggle: 1018:01 is transferred, a segment has the wrong toggle bit"
+toggle : finding_text plain (Transfer (Toggle key)) ≡ codes "answer-toggle: 1018:01 is transferred, a segment has the wrong toggle bit"
 unfolding finding_text transfer_text keyed digits_text
 toggle = refl
 
-form : finding_text (Transfer (Form key)) ≡ codes "answer-form: 1018:01 is transferred, which has no such answer here"
+form : finding_text plain (Transfer (Form key)) ≡ codes "answer-form: 1018:01 is transferred, which has no such answer here"
 unfolding finding_text transfer_text keyed digits_text
 form = refl
 
-abort_key : finding_text (Transfer (AbortKey key)) ≡ codes "abort-key: 1018:01 is transferred, the abort is of another entry"
+abort_key : finding_text plain (Transfer (AbortKey key)) ≡ codes "abort-key: 1018:01 is transferred, the abort is of another entry"
 unfolding finding_text transfer_text keyed digits_text
 abort_key = refl
 
-size : finding_text (Transfer (Size key 10 9)) ≡ codes "answer-size: 1018:01 has 9 bytes, its response to initiate has 10"
+size : finding_text plain (Transfer (Size key 10 9)) ≡ codes "answer-size: 1018:01 has 9 bytes, its response to initiate has 10"
 unfolding finding_text transfer_text keyed_numbers digits_text digits
 size = refl
 
-crc : finding_text (Transfer (Crc key 0x1234 0xABC)) ≡ codes "answer-crc: 1018:01 has the CRC 00001234h, that of its bytes is 00000ABCh"
+crc : finding_text plain (Transfer (Crc key 0x1234 0xABC)) ≡ codes "answer-crc: 1018:01 has the CRC 00001234h, that of its bytes is 00000ABCh"
 unfolding finding_text transfer_text keyed_codes hexadecimal digits_text
 crc = refl

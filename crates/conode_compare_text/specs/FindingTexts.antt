@@ -3,12 +3,18 @@ use Rattle.std.specs.Prelude.{ℕ, ◌*◌, ◌/◌, ◌%◌, List, [], ◌∷�
 use Rattle.co_text.specs.Printed.{digits_text}
 use Rattle.co_value.specs.declared.key.Key.{Key}
 use Rattle.co_value.specs.KeyTexts.{key_text}
+use Rattle.co_value.specs.Numbers.{low_bytes}
+use Rattle.conode_explain_values.specs.declared.value_type.ValueType.{ValueType}
+use Rattle.conode_explain_values.specs.declared.value_type.ValueType.TheVariants.{Plain}
+use Rattle.conode_explain_values.specs.Values.{value_text}
 use Rattle.conode_compare_pdos.specs.declared.deviation.Deviation.{Deviation}
 use Rattle.conode_compare_pdos.specs.declared.deviation.Deviation.TheVariants.{Length, NotOperational, WithoutSync, Inhibit, Timer}
 use Rattle.conode_compare_transfers.specs.declared.breach.Breach.{Breach}
 use Rattle.conode_compare_transfers.specs.declared.breach.Breach.TheVariants.{Toggle, Form, AbortKey, Size, Crc}
+use Rattle.conode_compare_values.specs.declared.mismatch.Mismatch.{Mismatch}
+use Rattle.conode_compare_values.specs.declared.mismatch.Mismatch.TheVariants.{ValueLength, ValueConst, ReadRefused, Written, AboveLimit, BelowLimit}
 use Rattle.conode_compare_rules.specs.declared.finding.Finding.{Finding}
-use Rattle.conode_compare_rules.specs.declared.finding.Finding.TheVariants.{BootMissing, SecondBootUp, HeartbeatLength, NoState, WrongState, HeartbeatLate, EmergencyLength, EmergencyStopped, EmergencyRegister, EmergencyInhibit, NoAnswer, Unasked, AnswerKey, AnswerForm, ValueLength, ValueConst, ReadRefused, Written, AnswerStopped, Transfer, Pdo}
+use Rattle.conode_compare_rules.specs.declared.finding.Finding.TheVariants.{BootMissing, SecondBootUp, HeartbeatLength, NoState, WrongState, HeartbeatLate, EmergencyLength, EmergencyStopped, EmergencyRegister, EmergencyInhibit, NoAnswer, Unasked, AnswerKey, AnswerForm, AnswerStopped, Transfer, Value, Pdo}
 use Rattle.conode_compare_rules.specs.declared.finding.NmtState.{NmtState}
 use Rattle.conode_compare_rules.specs.declared.finding.NmtState.TheVariants.{Unknown, Initialising, PreOperational, Operational, Stopped}
 
@@ -26,6 +32,12 @@ timed front micros end = front ++ millis_text micros ++ end
 -- a number in eight hexadecimal digits
 unfoldable pub hexadecimal : ℕ → List ℕ
 hexadecimal number = digits_text 16 4 (number / 0x10000 % 0x10000) ++ digits_text 16 4 (number % 0x10000) ++ codes "h"
+
+-- a value of up to four bytes: in hexadecimal digits; one with an original type, in a sheet that
+-- was adapted, as `explain` shows it
+unfoldable pub shown_value : ValueType → ℕ → List ℕ
+shown_value (Plain t) number = hexadecimal number
+shown_value original number = value_text original 32 (low_bytes 4 (number % 0x100000000))
 
 unfoldable pub keyed : List ℕ → Key → List ℕ → List ℕ
 keyed front key end = front ++ key_text key ++ end
@@ -54,6 +66,9 @@ keyed_numbers front key middle number last other = front ++ key_text key ++ midd
 
 unfoldable pub keyed_codes : List ℕ → Key → List ℕ → ℕ → List ℕ → ℕ → List ℕ
 keyed_codes front key middle number last other = front ++ key_text key ++ middle ++ hexadecimal number ++ last ++ hexadecimal other
+
+unfoldable pub keyed_values : List ℕ → Key → List ℕ → ValueType → ℕ → List ℕ → ℕ → List ℕ
+keyed_values front key middle t number last other = front ++ key_text key ++ middle ++ shown_value t number ++ last ++ shown_value t other
 
 unfoldable pub keyed_code : List ℕ → Key → List ℕ → ℕ → List ℕ → List ℕ
 keyed_code front key middle code end = front ++ key_text key ++ middle ++ digits_text 16 8 code ++ end
@@ -96,37 +111,43 @@ transfer_text (Size key indicated bytes) =
 transfer_text (Crc key came computed) =
     keyed_codes (codes "answer-crc: ") key (codes " has the CRC ") came (codes ", that of its bytes is ") computed
 
--- the name of the kind, and what is different
-unfoldable pub finding_text : Finding → List ℕ
-finding_text (BootMissing passed) = timed (codes "boot-missing: no boot-up ") passed (codes " after the reset command")
-finding_text (SecondBootUp passed) = timed (codes "second-sender: a boot-up ") passed (codes " after the last one")
-finding_text (HeartbeatLength length) = numbered (codes "heartbeat-length: ") length (codes " bytes, not 1")
-finding_text (NoState byte) = coded (codes "heartbeat-state: ") byte (codes "h is no NMT state")
-finding_text (WrongState shown held) =
-    named (codes "heartbeat-state: ") (state_name shown) (codes ", but by the commands it is ") (state_name held)
-finding_text (HeartbeatLate passed period) =
-    timed_number (codes "heartbeat-late: ") passed (codes " since the last one, 1017:00 has ") period (codes " ms")
-finding_text (EmergencyLength length) = numbered (codes "emcy-length: ") length (codes " bytes, not 8")
-finding_text EmergencyStopped = codes "emcy-state: an EMCY while stopped"
-finding_text (EmergencyRegister code register) =
-    two_codes (codes "emcy-register: code ") code (codes "h with error register ") register (codes "h, whose bit 0 isn't set")
-finding_text (EmergencyInhibit passed inhibit) =
-    two_times (codes "emcy-inhibit: ") passed (codes " since the last one, 1015:00 has ") (inhibit * 100)
-finding_text (NoAnswer key passed) = keyed_time (codes "no-answer: ") key (codes " was requested ") passed (codes " ago")
-finding_text Unasked = codes "second-sender: an answer without a request"
-finding_text (AnswerKey key) = keyed (codes "answer-key: ") key (codes " was requested, another entry is answered")
-finding_text (AnswerForm key) = keyed (codes "answer-form: ") key (codes " was requested, which has no such answer")
-finding_text (ValueLength key length width) =
+-- at the end of a transfer, where the values of the entry have this type
+unfoldable pub mismatch_text : ValueType → Mismatch → List ℕ
+mismatch_text t (ValueLength key length width) =
     keyed_numbers (codes "value-length: ") key (codes " has ") length (codes " bytes, its type ") width
-finding_text (ValueConst key shown held) = keyed_codes (codes "value-const: ") key (codes " has ") shown (codes ", the sheet ") held
-finding_text (ReadRefused key code) =
+mismatch_text t (ValueConst key shown held) = keyed_values (codes "value-const: ") key (codes " has ") t shown (codes ", the sheet ") held
+mismatch_text t (ReadRefused key code) =
     keyed_code (codes "access-read: ") key (codes " refused with ") code.0 (codes ", the sheet has it as readable")
-finding_text (Written key) = keyed (codes "access-write: ") key (codes " was written, the sheet has it as read only")
-finding_text (AnswerStopped key) = keyed (codes "answer-state: ") key (codes " is answered while stopped")
-finding_text (Transfer breach) = transfer_text breach
-finding_text (Pdo number deviation) = pdo_text number deviation
+mismatch_text t (Written key) = keyed (codes "access-write: ") key (codes " was written, the sheet has it as read only")
+mismatch_text t (AboveLimit key) = keyed (codes "access-limits: ") key (codes " was written, with a value above its HighLimit")
+mismatch_text t (BelowLimit key) = keyed (codes "access-limits: ") key (codes " was written, with a value below its LowLimit")
+
+-- the name of the kind, and what is different, where the values of the entry have this type
+unfoldable pub finding_text : ValueType → Finding → List ℕ
+finding_text t (BootMissing passed) = timed (codes "boot-missing: no boot-up ") passed (codes " after the reset command")
+finding_text t (SecondBootUp passed) = timed (codes "second-sender: a boot-up ") passed (codes " after the last one")
+finding_text t (HeartbeatLength length) = numbered (codes "heartbeat-length: ") length (codes " bytes, not 1")
+finding_text t (NoState byte) = coded (codes "heartbeat-state: ") byte (codes "h is no NMT state")
+finding_text t (WrongState shown held) =
+    named (codes "heartbeat-state: ") (state_name shown) (codes ", but by the commands it is ") (state_name held)
+finding_text t (HeartbeatLate passed period) =
+    timed_number (codes "heartbeat-late: ") passed (codes " since the last one, 1017:00 has ") period (codes " ms")
+finding_text t (EmergencyLength length) = numbered (codes "emcy-length: ") length (codes " bytes, not 8")
+finding_text t EmergencyStopped = codes "emcy-state: an EMCY while stopped"
+finding_text t (EmergencyRegister code register) =
+    two_codes (codes "emcy-register: code ") code (codes "h with error register ") register (codes "h, whose bit 0 isn't set")
+finding_text t (EmergencyInhibit passed inhibit) =
+    two_times (codes "emcy-inhibit: ") passed (codes " since the last one, 1015:00 has ") (inhibit * 100)
+finding_text t (NoAnswer key passed) = keyed_time (codes "no-answer: ") key (codes " was requested ") passed (codes " ago")
+finding_text t Unasked = codes "second-sender: an answer without a request"
+finding_text t (AnswerKey key) = keyed (codes "answer-key: ") key (codes " was requested, another entry is answered")
+finding_text t (AnswerForm key) = keyed (codes "answer-form: ") key (codes " was requested, which has no such answer")
+finding_text t (AnswerStopped key) = keyed (codes "answer-state: ") key (codes " is answered while stopped")
+finding_text t (Transfer breach) = transfer_text breach
+finding_text t (Value mismatch) = mismatch_text t mismatch
+finding_text t (Pdo number deviation) = pdo_text number deviation
 
 -- `recording.log:123: heartbeat-late: ..`
-unfoldable pub finding_line : List ℕ → ℕ → Finding → List ℕ
-finding_line recording line finding =
-    recording ++ numbered (codes ":") line (codes ": ") ++ finding_text finding ++ 10 ∷ []
+unfoldable pub finding_line : List ℕ → ℕ → ValueType → Finding → List ℕ
+finding_line recording line t finding =
+    recording ++ numbered (codes ":") line (codes ": ") ++ finding_text t finding ++ 10 ∷ []

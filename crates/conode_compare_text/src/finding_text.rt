@@ -4,6 +4,7 @@ ghost use Rattle.std.specs.Prelude.{◌≡◌, ◌++◌, OnOk, string_bytes};
 ghost use Rattle.conode_compare_text.specs.FindingTexts.{
   finding_line,
   finding_text,
+  mismatch_text,
   pdo_text,
   state_name,
   transfer_text,
@@ -11,12 +12,14 @@ ghost use Rattle.conode_compare_text.specs.FindingTexts.{
 
 use crate::parts::{
     push_coded, push_codes, push_key, push_key_code, push_key_codes, push_key_numbers,
-    push_key_time, push_named, push_number, push_number_time, push_number_times, push_numbers,
-    push_time, push_time_number, push_times, push_words,
+    push_key_time, push_key_values, push_named, push_number, push_number_time, push_number_times,
+    push_numbers, push_time, push_time_number, push_times, push_words,
 };
 use conode_compare_pdos::Deviation;
 use conode_compare_rules::{Finding, NmtState};
 use conode_compare_transfers::Breach;
+use conode_compare_values::Mismatch;
+use conode_explain_values::ValueType;
 use std::alloc::AllocError;
 
 fn state_name(state: NmtState) -> &'static str
@@ -127,11 +130,74 @@ fn push_transfer(text: &mut String, breach: Breach) -> Result<(), AllocError>
     }
 }
 
-// what is different
-#[tactic(auto, unfolding(crate::specs::FindingTexts::finding_text))]
-fn push_finding(text: &mut String, finding: Finding) -> Result<(), AllocError>
+// what is different at the end of a transfer, where the values of the entry have this type
+#[tactic(auto, unfolding(crate::specs::FindingTexts::mismatch_text))]
+fn push_mismatch(
+    text: &mut String,
+    value_type: ValueType,
+    mismatch: Mismatch,
+) -> Result<(), AllocError>
     ensures { OnOk result (string_bytes text.new
-        ≡ string_bytes text.old ++ finding_text finding) }
+        ≡ string_bytes text.old ++ mismatch_text value_type mismatch) }
+{
+    match mismatch {
+        Mismatch::ValueLength(key, length, width) => push_key_numbers(
+            text,
+            "value-length: ",
+            key,
+            " has ",
+            u64::from(length),
+            " bytes, its type ",
+            u64::from(width),
+        ),
+        Mismatch::ValueConst(key, shown, held) => push_key_values(
+            text,
+            "value-const: ",
+            key,
+            " has ",
+            value_type,
+            shown,
+            ", the sheet ",
+            held,
+        ),
+        Mismatch::ReadRefused(key, code) => push_key_code(
+            text,
+            "access-read: ",
+            key,
+            " refused with ",
+            code.0,
+            ", the sheet has it as readable",
+        ),
+        Mismatch::Written(key) => push_key(
+            text,
+            "access-write: ",
+            key,
+            " was written, the sheet has it as read only",
+        ),
+        Mismatch::AboveLimit(key) => push_key(
+            text,
+            "access-limits: ",
+            key,
+            " was written, with a value above its HighLimit",
+        ),
+        Mismatch::BelowLimit(key) => push_key(
+            text,
+            "access-limits: ",
+            key,
+            " was written, with a value below its LowLimit",
+        ),
+    }
+}
+
+// what is different, where the values of the entry have this type
+#[tactic(auto, unfolding(crate::specs::FindingTexts::finding_text))]
+fn push_finding(
+    text: &mut String,
+    value_type: ValueType,
+    finding: Finding,
+) -> Result<(), AllocError>
+    ensures { OnOk result (string_bytes text.new
+        ≡ string_bytes text.old ++ finding_text value_type finding) }
 {
     match finding {
         Finding::BootMissing(passed) => push_time(
@@ -208,62 +274,33 @@ fn push_finding(text: &mut String, finding: Finding) -> Result<(), AllocError>
             key,
             " was requested, which has no such answer",
         ),
-        Finding::ValueLength(key, length, width) => push_key_numbers(
-            text,
-            "value-length: ",
-            key,
-            " has ",
-            u64::from(length),
-            " bytes, its type ",
-            u64::from(width),
-        ),
-        Finding::ValueConst(key, shown, held) => push_key_codes(
-            text,
-            "value-const: ",
-            key,
-            " has ",
-            shown,
-            ", the sheet ",
-            held,
-        ),
-        Finding::ReadRefused(key, code) => push_key_code(
-            text,
-            "access-read: ",
-            key,
-            " refused with ",
-            code.0,
-            ", the sheet has it as readable",
-        ),
-        Finding::Written(key) => push_key(
-            text,
-            "access-write: ",
-            key,
-            " was written, the sheet has it as read only",
-        ),
         Finding::AnswerStopped(key) => {
             push_key(text, "answer-state: ", key, " is answered while stopped")
         }
         Finding::Transfer(breach) => push_transfer(text, breach),
+        Finding::Value(mismatch) => push_mismatch(text, value_type, mismatch),
         Finding::Pdo(number, deviation) => push_pdo(text, number, deviation),
     }
 }
 
 /// Sets a text to the line of a difference, with its line feed, as `recording.log:123:
-/// heartbeat-late: ..`: the name of the recording, and the number of its line. On an `Err` memory
-/// ran out, and a part of it may be there.
+/// heartbeat-late: ..`: the name of the recording, and the number of its line. The values of an
+/// entry are hexadecimal; in an original type, which an adapted sheet has in `OriginalDataType`,
+/// they are as `explain` shows them. On an `Err` memory ran out, and a part of it may be there.
 #[tactic(auto, unfolding(crate::specs::FindingTexts::finding_line))]
 pub fn set_finding_line(
     text: &mut String,
     recording: &str,
     line: u64,
+    value_type: ValueType,
     finding: Finding,
 ) -> Result<(), AllocError>
     ensures { OnOk result
-        (string_bytes text.new ≡ finding_line recording.now line finding) }
+        (string_bytes text.new ≡ finding_line recording.now line value_type finding) }
 {
     text.clear();
     push_words(text, recording)?;
     push_number(text, ":", line, ": ")?;
-    push_finding(text, finding)?;
+    push_finding(text, value_type, finding)?;
     text.push('\n')
 }

@@ -11,11 +11,13 @@ ghost use Rattle.conode_compare_text.specs.FindingTexts.{
   keyed_codes,
   keyed_numbers,
   keyed_time,
+  keyed_values,
   millis_text,
   named,
   numbered,
   numbered_time,
   numbered_times,
+  shown_value,
   three_numbers,
   timed,
   timed_number,
@@ -24,7 +26,8 @@ ghost use Rattle.conode_compare_text.specs.FindingTexts.{
 };
 
 use co_text::{push_byte, push_decimal, push_digit, push_u16, push_u32};
-use co_value::Key;
+use co_value::{Key, bytes_of_u32};
+use conode_explain_values::{ValueType, push_value};
 use std::alloc::AllocError;
 
 /// Words.
@@ -267,6 +270,44 @@ pub(crate) fn push_key_codes(
     push_hexadecimal(text, number)?;
     push_words(text, last)?;
     push_hexadecimal(text, other)
+}
+
+// a value of up to four bytes
+#[tactic(auto, unfolding(crate::specs::FindingTexts::shown_value))]
+fn push_shown(text: &mut String, value_type: ValueType, number: u64) -> Result<(), AllocError>
+    ensures { OnOk result (string_bytes text.new
+        ≡ string_bytes text.old ++ shown_value value_type number) }
+{
+    match value_type {
+        ValueType::Plain(_) => push_hexadecimal(text, number),
+        _ => {
+            let bytes = bytes_of_u32((number % 0x1_0000_0000) as u32);
+            push_value(text, value_type, 32, &bytes)
+        }
+    }
+}
+
+/// A key and two values of up to four bytes, each with words before it.
+#[tactic(auto, unfolding(crate::specs::FindingTexts::keyed_values))]
+pub(crate) fn push_key_values(
+    text: &mut String,
+    front: &str,
+    key: Key,
+    middle: &str,
+    value_type: ValueType,
+    number: u64,
+    last: &str,
+    other: u64,
+) -> Result<(), AllocError>
+    ensures { OnOk result (string_bytes text.new ≡ string_bytes text.old
+        ++ keyed_values front.now key middle.now value_type number last.now other) }
+{
+    push_words(text, front)?;
+    push_words(text, key.text().as_str())?;
+    push_words(text, middle)?;
+    push_shown(text, value_type, number)?;
+    push_words(text, last)?;
+    push_shown(text, value_type, other)
 }
 
 /// A key and an abort code between words.

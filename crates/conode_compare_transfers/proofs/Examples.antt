@@ -1,22 +1,27 @@
 -- What a transfer is otherwise than prescribed and what it isn't, on both sides of each edge, computed from the definitions.
-use Rattle.std.proofs.Common.{◌≡◌, ℕ, List, [], ◌∷◌, true, false, Option, Some, None, refl}
+use Rattle.std.proofs.Common.{◌≡◌, ℕ, List, [], ◌∷◌, true, false, map, Option, Some, None, refl}
 use Rattle.co_frame.specs.FrameContent.{FrameContent}
+use Rattle.co_frame.specs.SdoRequests.{request_row_in}
+use Rattle.co_frame.specs.SdoResponses.{response_row_in}
 use Rattle.co_value.specs.declared.key.Key.{Key}
 use Rattle.conode_explain_transfers.specs.declared.channel.Heard.{Heard}
 use Rattle.conode_explain_transfers.specs.declared.ended.Ended.{Ended}
 use Rattle.conode_explain_transfers.specs.declared.ended.Ending.{Ending}
-use Rattle.conode_explain_transfers.specs.declared.ended.Ending.TheVariants.{Aborted, CrcDiffers, Done, Irregular, SizeDiffers}
+use Rattle.conode_explain_transfers.specs.declared.ended.Ending.TheVariants.{Aborted, CrcDiffers, Done, Interrupted, Irregular, Repeated as Again, SizeDiffers, Unanswered}
 use Rattle.conode_explain_transfers.specs.declared.kinds.Direction.{Direction}
 use Rattle.conode_explain_transfers.specs.declared.kinds.Direction.TheVariants.{Download, Upload}
-use Rattle.conode_explain_transfers.specs.declared.kinds.Protocol.TheVariants.{Segmented}
+use Rattle.conode_explain_transfers.specs.declared.kinds.Protocol.TheVariants.{Expedited, Segmented}
+use Rattle.conode_explain_transfers.specs.declared.kinds.Side.{Side}
 use Rattle.conode_explain_transfers.specs.declared.kinds.Side.TheVariants.{Client, Server}
 use Rattle.conode_explain_transfers.specs.declared.kinds.What.{What}
-use Rattle.conode_explain_transfers.specs.declared.kinds.What.TheVariants.{Initiate, OutOfSequence, Part, Repeated, Segment, Stray, Unexpected}
+use Rattle.conode_explain_transfers.specs.declared.kinds.What.TheVariants.{BegunBefore, Initiate, OutOfSequence, Overtaken, Part, Repeated, Segment, Stray, Unexpected}
 use Rattle.conode_compare_transfers.specs.declared.breach.Breach.{Breach}
 use Rattle.conode_compare_transfers.specs.declared.breach.Breach.TheVariants.{AbortKey, Crc, Form, Size, Toggle}
-use Rattle.conode_compare_transfers.specs.declared.newest.Newest.{Newest}
-use Rattle.conode_compare_transfers.specs.declared.newest.Newest.TheVariants.{Answer, Data, Request}
-use Rattle.conode_compare_transfers.specs.Breaches.{abort_breach, breach_at, server_breach}
+use Rattle.conode_compare_transfers.specs.declared.dialogue.Dialogue.{Dialogue}
+use Rattle.conode_compare_transfers.specs.declared.left.Left.{Left}
+use Rattle.conode_compare_transfers.specs.declared.newest.Newest.TheVariants.{Acknowledge, Answer, Data, LaterAcknowledge, LaterData, Request}
+use Rattle.conode_compare_transfers.specs.Breaches.{breach_at, server_breach}
+use Rattle.conode_compare_transfers.specs.Dialogues.{dialogue_heard, exchange_in, is_certain, is_late_answer, is_timed, is_awaited, is_in_turn, leaves_slow, left_after, left_after_answer, nothing_asked, nothing_left, owes}
 use Rattle.conode_compare_transfers.specs.NewestFrames.{newest_after}
 
 abbrev key : Key
@@ -53,9 +58,52 @@ segment_after_segment : newest_after Server (OutOfSequence 3 2) (Some Data) ≡ 
 unfolding newest_after
 segment_after_segment = refl
 
-upload_acknowledged : newest_after Client Part (Some Data) ≡ Some Request
+upload_acknowledged : newest_after Client Part (Some Data) ≡ Some Acknowledge
 unfolding newest_after
 upload_acknowledged = refl
+
+-- the new sub-block begins; or a segment of the one before is on its way
+new_sub_block : newest_after Server (Segment 1) (Some Acknowledge) ≡ Some Data
+unfolding newest_after
+new_sub_block = refl
+
+segment_after_acknowledge : newest_after Server (OutOfSequence 2 1) (Some Acknowledge) ≡ Some LaterData
+unfolding newest_after
+segment_after_acknowledge = refl
+
+segment_later : newest_after Server (Segment 2) (Some LaterData) ≡ Some LaterData
+unfolding newest_after
+segment_later = refl
+
+acknowledged_again : newest_after Client Part (Some LaterData) ≡ Some LaterAcknowledge
+unfolding newest_after
+acknowledged_again = refl
+
+-- it may be of the sub-block before
+segment_of_either : newest_after Server (Segment 1) (Some LaterAcknowledge) ≡ Some LaterData
+unfolding newest_after
+segment_of_either = refl
+
+end_of_either : newest_after Server Part (Some LaterAcknowledge) ≡ Some Answer
+unfolding newest_after
+end_of_either = refl
+
+number_of_either : map (server_breach LaterAcknowledge key Unexpected) (0 ∷ 0x80 ∷ 1 ∷ []) ≡ Some (Form key) ∷ Some (Form key) ∷ None ∷ []
+number_of_either = refl
+
+acknowledged_twice : newest_after Client Part (Some Acknowledge) ≡ None
+unfolding newest_after
+acknowledged_twice = refl
+
+-- the end of the block upload
+end_after_acknowledge : newest_after Server Part (Some Acknowledge) ≡ Some Answer
+unfolding newest_after
+end_after_acknowledge = refl
+
+-- one on its way, which the new block size has no room for: nothing more is said
+segment_on_its_way : newest_after Server Unexpected (Some Acknowledge) ≡ None
+unfolding newest_after
+segment_on_its_way = refl
 
 download_segment : newest_after Client (Segment 2) (Some Request) ≡ Some Request
 unfolding newest_after
@@ -111,8 +159,25 @@ block_end : server_breach Data key Unexpected 0xC1 ≡ None
 block_end = refl
 
 -- after an acknowledge too, where the sub-block's last segment is missing in the recording
-block_end_early : server_breach Request key Unexpected 0xD5 ≡ None
+block_end_early : server_breach Acknowledge key Unexpected 0xD5 ≡ None
 block_end_early = refl
+
+-- a number above the block size: in the first sub-block; after an acknowledge the segment may be of the sub-block before
+above_size : server_breach Data key Unexpected 5 ≡ Some (Form key)
+above_size = refl
+
+above_smaller_size : server_breach Acknowledge key Unexpected 5 ≡ None
+above_smaller_size = refl
+
+above_smaller_size_last : server_breach LaterData key Unexpected 0x85 ≡ None
+above_smaller_size_last = refl
+
+-- none has the number 0
+number_0 : server_breach Acknowledge key Unexpected 0 ≡ Some (Form key)
+number_0 = refl
+
+number_0_later : server_breach LaterData key Unexpected 0 ≡ Some (Form key)
+number_0_later = refl
 
 block_gap : server_breach Data key (OutOfSequence 3 2) 3 ≡ None
 block_gap = refl
@@ -206,3 +271,225 @@ no_key = refl
 by_client : breach_at (Some Answer) Client (ended_by Download (Aborted Client (record { 0 = 0x08000000 }))) (abort_of 9 0) ≡ None
 unfolding breach_at
 by_client = refl
+
+-- ---- requests that an answer is owed to
+
+abbrev asked_at : ℕ → ℕ → Dialogue
+asked_at doubted micros = record nothing_asked {
+  asked = Some (record { key = record { index = 0x1000; sub = 0 }; micros = micros; writes = false });
+  doubted = Some doubted;
+}
+
+owed : owes 1000 0 (asked_at 2000000 3000001) ≡ true
+unfolding is_certain
+owed = refl
+
+-- it came while another could still be answered
+not_owed : owes 1000 0 (asked_at 2000000 3000000) ≡ false
+unfolding is_certain
+not_owed = refl
+
+nothing_owed : owes 1000 0 nothing_asked ≡ false
+nothing_owed = refl
+
+-- ---- requests that may take long
+
+abbrev entry : ℕ → Key
+entry index = record { index = index; sub = 1 }
+
+timed : map (λ index. is_timed (entry index)) (0x100F ∷ 0x1010 ∷ 0x1011 ∷ 0x1012 ∷ 0x1EFF ∷ 0x1F00 ∷ 0x1FFF ∷ 0x2000 ∷ [])
+    ≡ true ∷ false ∷ false ∷ true ∷ true ∷ false ∷ false ∷ true ∷ []
+timed = refl
+
+abbrev left_by : ℕ → Ending → Option Ended
+left_by index ending = Some (record {
+  key = entry index;
+  direction = Download;
+  protocol = Expedited;
+  bytes = 4;
+  first = record { items = [] };
+  frames = 1;
+  begun = 1;
+  newest = 1;
+  end = 7;
+  ending = ending;
+})
+
+-- saving is left by another request, by the same one again, and by an abort of the client
+left_open : map (λ ending. leaves_slow false (Some Request) (left_by 0x1010 ending)) (Unanswered ∷ Again ∷ Interrupted ∷ Aborted Client (record { 0 = 0x05040000 }) ∷ [])
+    ≡ true ∷ true ∷ true ∷ true ∷ []
+left_open = refl
+
+-- the device answered; and another entry has its time
+answered_all : map (λ ending. leaves_slow false None (left_by 0x1010 ending)) (Done false ∷ Irregular ∷ Aborted Server (record { 0 = 0x08000020 }) ∷ []) ≡ false ∷ false ∷ false ∷ []
+answered_all = refl
+
+-- after an answer, and among the segments of a block upload, nothing is owed
+answered_last : map (λ newest. leaves_slow false (Some newest) (left_by 0x1010 Interrupted)) (Answer ∷ Data ∷ LaterData ∷ Acknowledge ∷ Request ∷ []) ≡ false ∷ false ∷ false ∷ true ∷ true ∷ []
+answered_last = refl
+
+-- another entry is refused, whose request came earlier
+refuses_earlier : leaves_slow true (Some Request) (left_by 0x1010 (Aborted Server (record { 0 = 0x06020000 }))) ≡ true
+refuses_earlier = refl
+
+done_other : leaves_slow true (Some Request) (left_by 0x1010 (Done false)) ≡ false
+done_other = refl
+
+left_timed : leaves_slow false (Some Request) (left_by 0x1000 Unanswered) ≡ false
+left_timed = refl
+
+none_left : leaves_slow false (Some Request) None ≡ false
+none_left = refl
+
+abbrev reply : ℕ → ℕ → FrameContent
+reply first low = record { id = 0x585; bytes = first ∷ low ∷ 0x10 ∷ 1 ∷ 0 ∷ 0 ∷ 0 ∷ 0 ∷ [] }
+
+abbrev heard_as : What → Option Ended → Heard
+heard_as what ended = record { what = what; of = None; ended = ended }
+
+-- an answer of 1010:01 while another entry is asked for, and while none is
+late_answers : map (λ what. is_late_answer Server (heard_as what None) (reply 0x60 0x10)) (Overtaken ∷ Stray ∷ Unexpected ∷ BegunBefore ∷ []) ≡ true ∷ true ∷ true ∷ true ∷ []
+late_answers = refl
+
+late_abort : is_late_answer Server (heard_as Part (left_by 0x1000 (Aborted Server (record { 0 = 0x06060000 })))) (reply 0x80 0x10) ≡ true
+late_abort = refl
+
+own_answer : is_late_answer Server (heard_as Part (left_by 0x1010 (Done false))) (reply 0x60 0x10) ≡ false
+own_answer = refl
+
+own_begin : is_late_answer Server (heard_as Part None) (reply 0x41 0x10) ≡ false
+own_begin = refl
+
+-- an answer that has its time; a segment; a request
+timed_answer : is_late_answer Server (heard_as Overtaken None) (reply 0x60 0) ≡ false
+timed_answer = refl
+
+slow_segment : is_late_answer Server (heard_as (Segment 0x60) None) (reply 0x60 0x10) ≡ false
+slow_segment = refl
+
+slow_request : is_late_answer Client (heard_as Stray None) (reply 0x60 0x10) ≡ false
+slow_request = refl
+
+slow_out_of_sequence : is_late_answer Server (heard_as (OutOfSequence 0x60 1) None) (reply 0x60 0x10) ≡ false
+slow_out_of_sequence = refl
+
+-- those with a multiplexer: responses to initiate of an upload and of a download, aborts, and responses to initiate of block transfers
+with_key : map (λ first. is_late_answer Server (heard_as Stray None) (reply first 0x10)) (0x3F ∷ 0x40 ∷ 0x9F ∷ 0xA0 ∷ 0xA1 ∷ 0xA2 ∷ 0xA4 ∷ 0xC0 ∷ 0xC1 ∷ 0xC2 ∷ 0xC4 ∷ 0xC6 ∷ 0xC7 ∷ [])
+    ≡ false ∷ true ∷ true ∷ true ∷ false ∷ false ∷ true ∷ true ∷ false ∷ true ∷ true ∷ true ∷ false ∷ []
+with_key = refl
+
+abbrev left_at : ℕ → ℕ → Left
+left_at count newest = record { count = count; newest = newest }
+
+counts : map (λ count. left_after true 9 (left_at count 7)) (0 ∷ 254 ∷ 255 ∷ []) ≡ left_at 1 9 ∷ left_at 255 9 ∷ left_at 255 9 ∷ []
+counts = refl
+
+-- those before it are awaited no more
+counts_anew : left_after true 60000008 (left_at 3 7) ≡ left_at 1 60000008
+counts_anew = refl
+
+counts_down : map (λ count. left_after_answer true false (left_at count 7)) (0 ∷ 1 ∷ 255 ∷ []) ≡ left_at 0 7 ∷ left_at 0 7 ∷ left_at 254 7 ∷ []
+counts_down = refl
+
+stays : map (λ count. left_after false 9 (left_after_answer false false (left_at count 7))) (0 ∷ 1 ∷ []) ≡ left_at 0 7 ∷ left_at 1 7 ∷ []
+stays = refl
+
+forgotten : left_after_answer false true (left_at 2 7) ≡ nothing_left
+forgotten = refl
+
+-- for a minute, and not where the stamps step back
+awaited : map (is_awaited (left_at 1 7)) (6 ∷ 7 ∷ 60000007 ∷ 60000008 ∷ []) ≡ false ∷ true ∷ true ∷ false ∷ []
+awaited = refl
+
+none_awaited : is_awaited (left_at 0 7) 8 ≡ false
+none_awaited = refl
+
+nothing_awaited : is_certain 1000 0 nothing_left (Some 7) 1000008 ≡ true
+unfolding is_certain
+nothing_awaited = refl
+
+one_awaited : is_certain 1000 0 (left_at 1 7) None 60000007 ≡ false
+unfolding is_certain
+one_awaited = refl
+
+no_longer_awaited : is_certain 1000 0 (left_at 1 7) None 60000008 ≡ true
+unfolding is_certain
+no_longer_awaited = refl
+
+-- 1000:00 was asked for while one that may take long was awaited: its answer, to a request that came once all others had their time
+abbrev asked_later : ℕ → Dialogue
+asked_later micros = record (asked_at 2000000 micros) { slow = left_at 1 2000000 }
+
+abbrev value_of : ℕ → FrameContent
+value_of low = record { id = 0x585; bytes = 0x43 ∷ low ∷ 0x10 ∷ 0 ∷ 1 ∷ 0 ∷ 0 ∷ 0 ∷ [] }
+
+in_turn : map (λ micros. is_in_turn 1000 0 (asked_later micros) Server Part (value_of 0)) (3000000 ∷ 3000001 ∷ []) ≡ false ∷ true ∷ []
+unfolding is_certain
+in_turn = refl
+
+-- of another entry; another frame; the client's; none is asked for
+not_in_turn : is_in_turn 1000 0 (asked_later 3000001) Server Part (value_of 1) ≡ false
+not_in_turn = refl
+
+-- refused, perhaps before its turn
+refused_turn : is_in_turn 1000 0 (asked_later 3000001) Server Part (record { id = 0x585; bytes = 0x80 ∷ 0 ∷ 0x10 ∷ 0 ∷ 0x22 ∷ 0 ∷ 0 ∷ 8 ∷ [] }) ≡ false
+refused_turn = refl
+
+overtaken_turn : is_in_turn 1000 0 (asked_later 3000001) Server Overtaken (value_of 0) ≡ false
+overtaken_turn = refl
+
+client_turn : is_in_turn 1000 0 (asked_later 3000001) Client Part (value_of 0) ≡ false
+client_turn = refl
+
+no_turn : is_in_turn 1000 0 nothing_asked Server Part (value_of 0) ≡ false
+no_turn = refl
+
+-- the same entry that may take long may have been left before
+abbrev asked_slow : Dialogue
+asked_slow = record (asked_later 3000001) { asked = Some (record { key = record { index = 0x1010; sub = 1 }; micros = 3000001; writes = true }) }
+
+slow_turn : is_in_turn 1000 0 asked_slow Server Part (reply 0x60 0x10) ≡ false
+slow_turn = refl
+
+-- 1010:01 is written, then 1000:00 is asked for: the answer of the first leaves a doubt, also of what comes next
+abbrev sent : Dialogue → ℕ → Side → List ℕ → Dialogue
+sent dialogue micros side bytes = dialogue_heard 1000 0 dialogue micros side (record { id = 0x585; bytes = bytes })
+
+abbrev saving : Dialogue
+saving = sent (sent nothing_asked 2000000 Client (0x23 ∷ 0x10 ∷ 0x10 ∷ 1 ∷ 0x73 ∷ 0x61 ∷ 0x76 ∷ 0x65 ∷ [])) 3000000 Client (0x40 ∷ 0 ∷ 0x10 ∷ 0 ∷ 0 ∷ 0 ∷ 0 ∷ 0 ∷ [])
+
+is_saving : saving.slow ≡ left_at 1 3000000
+unfolding dialogue_heard is_certain newest_after request_row_in
+is_saving = refl
+
+late_save : (exchange_in 1000 0 saving 9000000 Server (reply 0x60 0x10)).certain ≡ false
+unfolding exchange_in is_certain dialogue_heard newest_after request_row_in response_row_in
+late_save = refl
+
+saved : (sent saving 9000000 Server (0x60 ∷ 0x10 ∷ 0x10 ∷ 1 ∷ 0 ∷ 0 ∷ 0 ∷ 0 ∷ [])).slow ≡ left_at 0 3000000
+unfolding dialogue_heard is_certain newest_after request_row_in response_row_in
+saved = refl
+
+-- an answer of an entry that may take long, where none is awaited: its request may have come before the recording
+abbrev asking : Dialogue
+asking = sent nothing_asked 2000000 Client (0x40 ∷ 0 ∷ 0x10 ∷ 0 ∷ 0 ∷ 0 ∷ 0 ∷ 0 ∷ [])
+
+none_left_before : asking.slow ≡ nothing_left
+unfolding dialogue_heard is_certain newest_after request_row_in
+none_left_before = refl
+
+never_judged : (exchange_in 1000 0 asking 2500000 Server (reply 0x60 0x10)).certain ≡ false
+unfolding exchange_in is_certain dialogue_heard newest_after request_row_in response_row_in
+never_judged = refl
+
+-- 1000:00 is asked for once more, and answered in its turn: nothing is awaited any more
+abbrev asked_anew : Dialogue
+asked_anew = sent (sent saving 3500000 Server (0x43 ∷ 0 ∷ 0x10 ∷ 0 ∷ 1 ∷ 0 ∷ 0 ∷ 0 ∷ [])) 5000000 Client (0x40 ∷ 0 ∷ 0x10 ∷ 0 ∷ 0 ∷ 0 ∷ 0 ∷ 0 ∷ [])
+
+still_awaited : asked_anew.slow ≡ left_at 1 3000000
+unfolding dialogue_heard is_certain newest_after request_row_in response_row_in
+still_awaited = refl
+
+answered_anew : (sent asked_anew 5001000 Server (0x43 ∷ 0 ∷ 0x10 ∷ 0 ∷ 1 ∷ 0 ∷ 0 ∷ 0 ∷ [])).slow ≡ nothing_left
+unfolding dialogue_heard is_certain newest_after request_row_in response_row_in
+answered_anew = refl

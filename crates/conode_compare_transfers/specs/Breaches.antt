@@ -20,7 +20,7 @@ use Rattle.conode_explain_transfers.specs.declared.kinds.What.TheVariants.{Repea
 use Rattle.conode_compare_transfers.specs.declared.breach.Breach.{Breach}
 use Rattle.conode_compare_transfers.specs.declared.breach.Breach.TheVariants.{Toggle, Form, AbortKey, Size, Crc}
 use Rattle.conode_compare_transfers.specs.declared.newest.Newest.{Newest}
-use Rattle.conode_compare_transfers.specs.declared.newest.Newest.TheVariants.{Request, Data}
+use Rattle.conode_compare_transfers.specs.declared.newest.Newest.TheVariants.{Request, Data, Acknowledge, LaterData, LaterAcknowledge}
 
 -- ---- frames
 
@@ -42,7 +42,7 @@ abbrev pub is_segmented : Protocol → Bool
 is_segmented Segmented = true
 is_segmented other = false
 
--- The last segment of an upload may have n = 0, though its data end within it: so many bytes are no
+-- The last segment of an upload may have n = 0, where its data end within it: so many bytes are no
 -- difference.
 abbrev pub is_padded : FrameContent → Ended → ℕ → Bool
 is_padded frame ended indicated =
@@ -64,12 +64,17 @@ ended_breach frame ended = ending_breach frame ended ended.direction ended.endin
 -- ---- another frame of the device
 
 -- `answer-toggle`, `answer-form`, by the first byte: the answer to a request of the open transfer.
--- Also a segment of a block upload whose number is 0 or above the block size. Not what looks like
--- the end of a block upload: segments before it may be missing in the recording.
+-- Among the segments of a block upload one whose number is 0 or above the block size; not what
+-- looks like the end of a block upload, before which segments may be missing in the recording.
+-- After an acknowledge a segment may be of the sub-block before, whose block size may have been
+-- greater: only the number 0 is none.
 abbrev pub server_breach : Newest → Key → What → ℕ → Option Breach
 server_breach Request key Repeated first = Some (Toggle key)
 server_breach Request key Unexpected first = if first / 32 == 6 then None else Some (Form key)
 server_breach Data key Unexpected first = if first / 32 == 6 then None else Some (Form key)
+server_breach Acknowledge key Unexpected first = if first % 128 == 0 then Some (Form key) else None
+server_breach LaterAcknowledge key Unexpected first = if first % 128 == 0 then Some (Form key) else None
+server_breach LaterData key Unexpected first = if first % 128 == 0 then Some (Form key) else None
 server_breach newest key what first = None
 
 -- of a frame without a multiplexer of its own

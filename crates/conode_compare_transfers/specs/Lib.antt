@@ -1,2 +1,4 @@
 pub mod NewestFrames
 pub mod Breaches
+pub mod Dialogues
+pub mod Times

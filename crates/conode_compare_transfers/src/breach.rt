@@ -22,8 +22,7 @@ use conode_explain_transfers::{Direction, Ended, Ending, Heard, Protocol, Side, 
 pub enum Breach {
     /// `answer-toggle`: a segment, or its confirmation, hasn't the toggle bit of its request.
     Toggle(Key),
-    /// `answer-form`: the protocol has no such answer there, or the block no segment with this
-    /// number.
+    /// `answer-form`: the protocol has no such answer there, or no segment of a block with this number.
     Form(Key),
     /// `abort-key`: an abort has another multiplexer.
     AbortKey(Key),
@@ -53,7 +52,7 @@ pub fn key_in(frame: &Frame) -> Key
     }
 }
 
-// An abort of another entry. A server that doesn't know a command may not know where its
+// An abort of another entry; a server that doesn't know a command may not know where its
 // multiplexer is.
 fn abort_breach(named: Key, key: Key, code: AbortCode) -> Option<Breach>
     ensures { result ≡ abort_breach named key code }
@@ -65,8 +64,8 @@ fn abort_breach(named: Key, key: Key, code: AbortCode) -> Option<Breach>
     }
 }
 
-// Whether an upload ends with a segment that has n = 0: the data may then end before the segment,
-// at the indicated size.
+// whether an upload ends with a segment that has n = 0, and in which the data may end where the
+// device indicated it
 fn is_padded(frame: &Frame, ended: &Ended, indicated: u32) -> bool
     ensures { result ≡ is_padded frame.now ended.now indicated }
 {
@@ -108,8 +107,9 @@ fn ended_breach(frame: &Frame, ended: &Ended) -> Option<Breach>
     }
 }
 
-// The difference of a frame of the device with this first byte, which doesn't end the transfer. A
-// block upload seems to end too early if segments are missing in the recording.
+// The difference of a frame of the device with this first byte that doesn't end the transfer. Where
+// segments of a block upload may be missing in the recording, its end comes before its turn. After
+// an acknowledge a segment may be of the sub-block before, whose block size may have been greater.
 fn server_breach(newest: Newest, key: Key, what: What, first: u8) -> Option<Breach>
     ensures { result ≡ server_breach newest key what first }
 {
@@ -118,6 +118,8 @@ fn server_breach(newest: Newest, key: Key, what: What, first: u8) -> Option<Brea
         (Newest::Request | Newest::Data, What::Unexpected) if first / 32 != 6 => {
             Some(Breach::Form(key))
         }
+        (Newest::Acknowledge | Newest::LaterData | Newest::LaterAcknowledge, What::Unexpected)
+            if first % 128 == 0 => Some(Breach::Form(key)),
         _ => None,
     }
 }

@@ -7,6 +7,7 @@ ghost use Rattle.conode_compare_transfers.specs.NewestFrames.{
   client_newest,
   goes_on,
   newest_after,
+  segment_after,
   server_newest,
 };
 
@@ -19,16 +20,38 @@ pub enum Newest {
     Request,
     /// An answer of the device.
     Answer,
-    /// A segment of a block upload.
+    /// A segment of a block upload, which is of the sub-block that the client asked for last.
     Data,
+    /// The client's acknowledge after such a segment.
+    Acknowledge,
+    /// A segment after an acknowledge. It may be of the sub-block before: the client may have
+    /// acknowledged that before its end.
+    LaterData,
+    /// The client's acknowledge after such a segment.
+    LaterAcknowledge,
 }
 
-// another frame in a row
-fn goes_on(newest: Option<Newest>, next: Newest) -> Option<Newest>
-    ensures { result ≡ goes_on newest next }
+// a segment of a block download
+fn goes_on(newest: Option<Newest>) -> Option<Newest>
+    ensures { result ≡ goes_on newest }
 {
     match newest {
-        Some(_) => Some(next),
+        Some(_) => Some(Newest::Request),
+        None => None,
+    }
+}
+
+// A segment of a block upload. The first one of the sub-block before an acknowledge had come, so
+// another one with the number 1 is of the new sub-block, and so are all after it.
+fn segment_after(number: u8, newest: Option<Newest>) -> Option<Newest>
+    ensures { result ≡ segment_after number newest }
+{
+    match newest {
+        Some(Newest::Acknowledge) if number == 1 => Some(Newest::Data),
+        Some(Newest::Acknowledge | Newest::LaterData | Newest::LaterAcknowledge) => {
+            Some(Newest::LaterData)
+        }
+        Some(_) => Some(Newest::Data),
         None => None,
     }
 }
@@ -38,7 +61,9 @@ fn asks_after(newest: Option<Newest>) -> Option<Newest>
     ensures { result ≡ asks_after newest }
 {
     match newest {
-        Some(Newest::Answer | Newest::Data) => Some(Newest::Request),
+        Some(Newest::Answer) => Some(Newest::Request),
+        Some(Newest::Data) => Some(Newest::Acknowledge),
+        Some(Newest::LaterData) => Some(Newest::LaterAcknowledge),
         _ => None,
     }
 }
@@ -48,7 +73,9 @@ fn answers_after(newest: Option<Newest>) -> Option<Newest>
     ensures { result ≡ answers_after newest }
 {
     match newest {
-        Some(Newest::Request) => Some(Newest::Answer),
+        Some(Newest::Request | Newest::Acknowledge | Newest::LaterAcknowledge) => {
+            Some(Newest::Answer)
+        }
         _ => None,
     }
 }
@@ -63,7 +90,7 @@ fn client_newest(what: What, newest: Option<Newest>) -> Option<Newest>
         | What::OutOfSequence {
             number: _,
             awaited: _,
-        } => goes_on(newest, Newest::Request),
+        } => goes_on(newest),
         _ => None,
     }
 }
@@ -73,11 +100,9 @@ fn server_newest(what: What, newest: Option<Newest>) -> Option<Newest>
 {
     match what {
         What::Part => answers_after(newest),
-        What::Segment { number: _ }
-        | What::OutOfSequence {
-            number: _,
-            awaited: _,
-        } => goes_on(newest, Newest::Data),
+        What::Segment { number } | What::OutOfSequence { number, awaited: _ } => {
+            segment_after(number, newest)
+        }
         _ => None,
     }
 }

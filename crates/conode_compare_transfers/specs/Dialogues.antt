@@ -1,0 +1,244 @@
+-- The default SDO channel of a device (CiA 301, 7.2.4): which request a frame answers. The
+-- transfers in it are those of `followed`.
+use Rattle.std.specs.Prelude.{ℕ, ◌+◌, ◌-◌, ◌/◌, ◌==◌, nat_le, nat_lt, Bool, true, false, not, ◌&&◌, ◌||◌, if◌then◌else◌, Option, Some, None, is_some}
+use Rattle.std.specs.Option.{option_map_or}
+use Rattle.co_frame.specs.FrameContent.{FrameContent}
+use Rattle.co_profile.specs.Indices.{store_parameters, restore_parameters}
+use Rattle.co_value.specs.declared.key.Key.{Key}
+use Rattle.co_value.specs.Keys.{same_key}
+use Rattle.conode_explain_transfers.specs.declared.channel.Heard.{Heard}
+use Rattle.conode_explain_transfers.specs.declared.ended.Ended.{Ended}
+use Rattle.conode_explain_transfers.specs.declared.ended.Ending.{Ending}
+use Rattle.conode_explain_transfers.specs.declared.ended.Ending.TheVariants.{Done, Aborted, Unanswered, Repeated, Interrupted}
+use Rattle.conode_explain_transfers.specs.declared.kinds.Protocol.{Protocol}
+use Rattle.conode_explain_transfers.specs.declared.kinds.Protocol.TheVariants.{Block}
+use Rattle.conode_explain_transfers.specs.declared.kinds.Side.{Side}
+use Rattle.conode_explain_transfers.specs.declared.kinds.Side.TheVariants.{Client, Server}
+use Rattle.conode_explain_transfers.specs.declared.kinds.What.{What}
+use Rattle.conode_explain_transfers.specs.declared.kinds.What.TheVariants.{Initiate, Part, Segment, OutOfSequence}
+use Rattle.conode_explain_transfers.specs.Followed.{after_boot, closed, followed, nothing_heard}
+use Rattle.conode_compare_transfers.specs.declared.newest.Newest.{Newest}
+use Rattle.conode_compare_transfers.specs.declared.newest.Newest.TheVariants.{Answer, Data, LaterData}
+use Rattle.conode_compare_transfers.specs.Breaches.{breach_at, byte_at, key_in}
+use Rattle.conode_compare_transfers.specs.NewestFrames.{newest_after}
+use Rattle.conode_compare_transfers.specs.declared.dialogue.Asked.{Asked}
+use Rattle.conode_compare_transfers.specs.declared.dialogue.Dialogue.{Dialogue}
+use Rattle.conode_compare_transfers.specs.declared.dialogue.Exchange.{Exchange}
+use Rattle.conode_compare_transfers.specs.declared.left.Left.{Left}
+use Rattle.conode_compare_transfers.specs.Times.{is_past}
+
+-- no request that may take long was left before its answer
+abbrev pub nothing_left : Left
+nothing_left = record { count = 0; newest = 0 }
+
+abbrev pub nothing_asked : Dialogue
+nothing_asked = record { channel = nothing_heard; asked = None; doubted = None; slow = nothing_left; newest = None }
+
+-- ---- initiate requests
+
+-- initiate of a download, ccs = 1, or of a block download, ccs = 6
+abbrev pub asks_to_write : FrameContent → Bool
+asks_to_write frame = (byte_at frame 0 / 32 == 1) || (byte_at frame 0 / 32 == 6)
+
+-- the initiate request that is not answered after a frame
+abbrev pub asked_after : What → ℕ → FrameContent → Option Asked
+asked_after Initiate micros frame = Some (record { key = key_in frame; micros = micros; writes = asks_to_write frame })
+asked_after what micros frame = None
+
+-- ---- doubts
+
+-- A transfer that both ends know to have ended; of a block transfer that isn't assumed. An abort of
+-- another entry answers an earlier request.
+abbrev pub is_block : Protocol → Bool
+is_block Block = true
+is_block other = false
+
+abbrev pub is_known_end : Ending → Key → FrameContent → Bool
+is_known_end (Done crc) key frame = true
+is_known_end (Aborted Server code) key frame = same_key (key_in frame) key
+is_known_end other key frame = false
+
+abbrev pub both_know_its_end : Ended → FrameContent → Bool
+both_know_its_end ended frame = not (is_block ended.protocol) && is_known_end ended.ending ended.key frame
+
+abbrev pub ends_in_doubt : Option Ended → FrameContent → Bool
+ends_in_doubt ended frame = option_map_or (λ e. not (both_know_its_end e frame)) ended false
+
+-- a frame that goes on with the open transfer
+abbrev pub continues : What → Bool
+continues Part = true
+continues (Segment number) = true
+continues other = false
+
+abbrev pub is_initiate : What → Bool
+is_initiate Initiate = true
+is_initiate other = false
+
+-- a client's frame that neither begins a transfer nor goes on with one may be answered all the same
+abbrev pub is_odd : Side → What → Bool
+is_odd Server what = not (continues what)
+is_odd Client what = not (is_initiate what || continues what)
+
+-- After a frame an earlier request may still be answered: a transfer was left, or the frame goes on
+-- with none.
+abbrev pub leaves_request_open : Side → Heard → FrameContent → Bool
+leaves_request_open side heard frame = is_odd side heard.what || ends_in_doubt heard.ended frame
+
+-- ---- requests that may take long
+
+-- storing and restoring parameters, and what a program is loaded by (1F00h to 1FFFh, CiA 302), may
+-- take long
+abbrev pub is_timed : Key → Bool
+is_timed key =
+    not (key.index == store_parameters) && (not (key.index == restore_parameters) && not (nat_le 0x1F00 key.index && nat_le key.index 0x1FFF))
+
+-- the multiplexer of a frame isn't that of the transfer that it ends
+abbrev pub names_other : Option Ended → FrameContent → Bool
+names_other ended frame = option_map_or (λ e. not (same_key (key_in frame) e.key)) ended false
+
+-- A transfer that was left, and not ended by the device. An abort of another entry answers an
+-- earlier request.
+abbrev pub is_left : Bool → Ending → Bool
+is_left other Unanswered = true
+is_left other Repeated = true
+is_left other Interrupted = true
+is_left other (Aborted Client code) = true
+is_left other (Aborted Server code) = other
+is_left other ending = false
+
+-- nothing is owed but what the device sends by itself: after its answer, and among its segments
+abbrev pub owes_nothing : Option Newest → Bool
+owes_nothing (Some Answer) = true
+owes_nothing (Some Data) = true
+owes_nothing (Some LaterData) = true
+owes_nothing newest = false
+
+-- A transfer of an entry that may take long was left before its answer: that may come at any time.
+-- `other`: the frame is of another entry.
+abbrev pub leaves_slow : Bool → Option Newest → Option Ended → Bool
+leaves_slow other newest ended =
+    not (owes_nothing newest) && option_map_or (λ e. is_left other e.ending && not (is_timed e.key)) ended false
+
+-- A response to initiate has its multiplexer: scs = 2 and 3; of a block download scs = 5 and ss = 0,
+-- of a block upload scs = 6 and ss = 0. So has an abort, cs = 4.
+abbrev pub has_key : ℕ → Bool
+has_key first =
+    (nat_le 0x40 first && nat_lt first 0xA0)
+    || ((first == 0xA0) || ((first == 0xA4) || ((first == 0xC0) || ((first == 0xC2) || ((first == 0xC4) || (first == 0xC6))))))
+
+-- one of these, of an entry that may take long
+abbrev pub is_slow_answer : FrameContent → Bool
+is_slow_answer frame = has_key (byte_at frame 0) && not (is_timed (key_in frame))
+
+-- a frame of the device that isn't of the open transfer
+abbrev pub is_of_other : What → Option Ended → FrameContent → Bool
+is_of_other Part ended frame = names_other ended frame
+is_of_other (Segment number) ended frame = false
+is_of_other (OutOfSequence number awaited) ended frame = false
+is_of_other what ended frame = true
+
+-- An answer to an earlier request, which may take long. That may have come before the recording.
+abbrev pub is_late_answer : Side → Heard → FrameContent → Bool
+is_late_answer Server heard frame = is_slow_answer frame && is_of_other heard.what heard.ended frame
+is_late_answer Client heard frame = false
+
+-- one of these requests is answered; or one after them is, in its turn
+abbrev pub left_after_answer : Bool → Bool → Left → Left
+left_after_answer answers turns left = if turns then nothing_left else (if answers then record left { count = left.count - 1 } else left)
+
+-- how long they are awaited, in ms: a minute
+abbrev pub slow_limit : ℕ
+slow_limit = 60000
+
+-- one of them is awaited still; not where the stamps step back
+abbrev pub is_awaited : Left → ℕ → Bool
+is_awaited left micros = nat_lt 0 left.count && (nat_le left.newest micros && not (is_past left.newest slow_limit micros))
+
+abbrev pub awaited_count : Left → ℕ → ℕ
+awaited_count left micros = if is_awaited left micros then left.count else 0
+
+-- one more, up to 255
+abbrev pub one_more : ℕ → ℕ
+one_more count = if nat_lt count 255 then count + 1 else count
+
+abbrev pub left_after : Bool → ℕ → Left → Left
+left_after leaves micros left = if leaves then record { count = one_more (awaited_count left micros); newest = micros } else left
+
+-- ---- certainty
+
+-- no earlier request can be answered any more: an answer takes no longer than it may, and none that
+-- may take long is awaited
+unfoldable pub is_certain : ℕ → ℕ → Left → Option ℕ → ℕ → Bool
+is_certain answer started slow doubted micros =
+    not (is_awaited slow micros) && (is_past started answer micros && option_map_or (λ d. is_past d answer micros) doubted true)
+
+-- The device owes an answer to the request before a frame: no earlier one could still be answered
+-- when it came. A server that still awaits the segments of a block download takes another request
+-- as one of them.
+abbrev pub owes : ℕ → ℕ → Dialogue → Bool
+owes answer started dialogue =
+    option_map_or (λ a. is_certain answer started dialogue.slow dialogue.doubted a.micros) dialogue.asked false
+
+-- The answer to a request that came when none but those that may take long could be answered. A
+-- server takes requests in turn, so those are answered no more. It may refuse one before its turn.
+abbrev pub answers_in_turn : ℕ → ℕ → Option ℕ → FrameContent → Asked → Bool
+answers_in_turn answer started doubted frame asked =
+    (is_timed asked.key && (same_key (key_in frame) asked.key && not (byte_at frame 0 / 32 == 4))) && is_certain answer started nothing_left doubted asked.micros
+
+abbrev pub is_part : Side → What → Bool
+is_part Server Part = true
+is_part side what = false
+
+abbrev pub is_in_turn : ℕ → ℕ → Dialogue → Side → What → FrameContent → Bool
+is_in_turn answer started dialogue side what frame =
+    is_part side what && option_map_or (λ a. answers_in_turn answer started dialogue.doubted frame a) dialogue.asked false
+
+-- ---- a frame
+
+-- what a frame is, by an end
+unfoldable pub exchange_in : ℕ → ℕ → Dialogue → ℕ → Side → FrameContent → Exchange
+exchange_in answer started dialogue micros side frame = record {
+  heard = (followed dialogue.channel micros side frame.bytes).says;
+  asked = dialogue.asked;
+  owed = owes answer started dialogue;
+  certain = is_certain answer started dialogue.slow dialogue.doubted micros
+      && not (is_late_answer side (followed dialogue.channel micros side frame.bytes).says frame);
+  breach = breach_at dialogue.newest side (followed dialogue.channel micros side frame.bytes).says frame;
+}
+
+abbrev pub doubted_after : Side → Heard → FrameContent → Option ℕ → ℕ → Option ℕ
+doubted_after side heard frame doubted micros = if leaves_request_open side heard frame then Some micros else doubted
+
+-- A transfer isn't judged whose initiate request comes while an earlier request may still be answered.
+abbrev pub newest_heard : Bool → Side → What → Option Newest → Option Newest
+newest_heard certain side what newest = if is_initiate what && not certain then None else newest_after side what newest
+
+unfoldable pub dialogue_heard : ℕ → ℕ → Dialogue → ℕ → Side → FrameContent → Dialogue
+dialogue_heard answer started dialogue micros side frame =
+    let f = followed dialogue.channel micros side frame.bytes in
+    let doubted = doubted_after side f.says frame dialogue.doubted micros in
+    let leaves = leaves_slow (names_other f.says.ended frame) dialogue.newest f.says.ended in
+    let turns = is_in_turn answer started dialogue side f.says.what frame in
+    let slow = left_after leaves micros (left_after_answer (is_late_answer side f.says frame) turns dialogue.slow) in
+    record {
+      channel = f.next;
+      asked = asked_after f.says.what micros frame;
+      doubted = doubted;
+      slow = slow;
+      newest = newest_heard (is_certain answer started slow doubted micros) side f.says.what dialogue.newest;
+    }
+
+-- the request wasn't answered in time
+abbrev pub given_up : Dialogue → ℕ → Dialogue
+given_up dialogue micros = record dialogue { asked = None; doubted = Some micros; newest = None }
+
+-- after a reset, a boot-up or an error frame nothing is open any more; what was may be answered all
+-- the same
+abbrev pub interrupted : Dialogue → ℕ → Dialogue
+interrupted dialogue micros = record {
+  channel = after_boot dialogue.channel;
+  asked = None;
+  doubted = if is_some dialogue.channel.transfer then Some micros else dialogue.doubted;
+  slow = left_after (leaves_slow false dialogue.newest (closed dialogue.channel.transfer micros Interrupted)) micros dialogue.slow;
+  newest = None;
+}

@@ -1,0 +1,428 @@
+//! The default SDO channel of a device: its requests and answers (CiA 301, 7.2.4).
+
+ghost use Rattle.std.specs.Prelude.{◌≡◌, ◌<◌, length, None};
+ghost use Rattle.conode_explain_transfers.specs.Followed.{followed};
+ghost use Rattle.conode_compare_transfers.specs.Dialogues.{
+  answers_in_turn,
+  asked_after,
+  asks_to_write,
+  leaves_request_open,
+  dialogue_heard,
+  doubted_after,
+  ends_in_doubt,
+  both_know_its_end,
+  given_up,
+  interrupted,
+  is_certain,
+  is_in_turn,
+  is_initiate,
+  is_late_answer,
+  is_left,
+  is_of_other,
+  is_part,
+  is_slow_answer,
+  is_timed,
+  leaves_slow,
+  names_other,
+  newest_heard,
+  nothing_asked,
+  owes,
+  owes_nothing,
+  continues,
+  exchange_in,
+  has_key,
+};
+
+use crate::breach::{Breach, breach_at, byte_at, key_in};
+use crate::left::Left;
+use crate::newest::{Newest, newest_after};
+use crate::times::is_past;
+use co_frame::Frame;
+use co_profile::{RESTORE_PARAMETERS, STORE_PARAMETERS};
+use co_value::Key;
+use conode_explain_transfers::{Channel, Ended, Ending, Heard, Protocol, Side, What};
+
+/// An initiate request that is not answered yet.
+#[derive(Clone, Copy)]
+pub struct Asked {
+    /// Its multiplexer.
+    pub key: Key,
+    /// Its stamp.
+    pub micros: u64,
+    /// Whether it asks to write.
+    pub writes: bool,
+}
+
+/// What a recording shows of a device's default SDO channel.
+#[derive(Drop)]
+pub struct Dialogue {
+    /// Its transfers.
+    pub channel: Channel,
+    /// The initiate request, where it is the newest frame.
+    pub asked: Option<Asked>,
+    /// The stamp of the newest frame by which an earlier request may still be answered.
+    pub doubted: Option<u64>,
+    /// The requests that may take long and were left before their answer.
+    pub slow: Left,
+    /// Whose frame the newest one of the open transfer is, where each of its frames came in its
+    /// turn.
+    pub newest: Option<Newest>,
+}
+
+/// What a frame of the channel is in it.
+#[derive(Drop)]
+pub struct Exchange {
+    /// What it is in the transfers.
+    pub heard: Heard,
+    /// The initiate request right before it.
+    pub asked: Option<Asked>,
+    /// Whether the device owes an answer to the request before it: no earlier one could still be
+    /// answered when it came.
+    pub owed: bool,
+    /// Whether no earlier request can be answered here.
+    pub certain: bool,
+    /// The difference in the open transfer.
+    pub breach: Option<Breach>,
+}
+
+/// Whether an answer has its time: storing, restoring, and what a program is loaded by (1F00h to
+/// 1FFFh, CiA 302) may take long.
+pub fn is_timed(key: Key) -> bool
+    ensures { result ≡ is_timed key }
+{
+    key.index != STORE_PARAMETERS
+        && key.index != RESTORE_PARAMETERS
+        && !(0x1F00 <= key.index && key.index <= 0x1FFF)
+}
+
+// whether the multiplexer of a frame isn't that of the transfer that it ends
+fn names_other(ended: &Option<Ended>, frame: &Frame) -> bool
+    ensures { result ≡ names_other ended.now frame.now }
+{
+    match ended {
+        Some(ended) => key_in(frame) != ended.key,
+        None => false,
+    }
+}
+
+// Whether a transfer was left, and not ended by the device. An abort of another entry answers an
+// earlier request.
+fn is_left(other: bool, ending: Ending) -> bool
+    ensures { result ≡ is_left other ending }
+{
+    match ending {
+        Ending::Unanswered
+        | Ending::Repeated
+        | Ending::Interrupted
+        | Ending::Aborted {
+            by: Side::Client,
+            code: _,
+        } => true,
+        Ending::Aborted {
+            by: Side::Server,
+            code: _,
+        } => other,
+        _ => false,
+    }
+}
+
+// whether nothing is owed but what the device sends by itself
+fn owes_nothing(newest: Option<Newest>) -> bool
+    ensures { result ≡ owes_nothing newest }
+{
+    matches!(
+        newest,
+        Some(Newest::Answer | Newest::Data | Newest::LaterData)
+    )
+}
+
+// whether a transfer of an entry that may take long was left before its answer
+fn leaves_slow(other: bool, newest: Option<Newest>, ended: &Option<Ended>) -> bool
+    ensures { result ≡ leaves_slow other newest ended.now }
+{
+    match ended {
+        Some(ended) => {
+            !owes_nothing(newest) && is_left(other, ended.ending) && !is_timed(ended.key)
+        }
+        None => false,
+    }
+}
+
+// whether a frame of the device has a multiplexer: a response to initiate, or an abort
+fn has_key(first: u8) -> bool
+    ensures { result ≡ has_key first }
+{
+    (0x40 <= first && first < 0xA0)
+        || first == 0xA0
+        || first == 0xA4
+        || first == 0xC0
+        || first == 0xC2
+        || first == 0xC4
+        || first == 0xC6
+}
+
+// whether a frame is one of these, of an entry that may take long
+fn is_slow_answer(frame: &Frame) -> bool
+    ensures { result ≡ is_slow_answer frame.now }
+{
+    has_key(byte_at(frame, 0)) && !is_timed(key_in(frame))
+}
+
+fn is_part(side: Side, what: What) -> bool
+    ensures { result ≡ is_part side what }
+{
+    matches!((side, what), (Side::Server, What::Part))
+}
+
+// whether a frame of the device isn't of the open transfer
+fn is_of_other(heard: &Heard, frame: &Frame) -> bool
+    ensures { result ≡ is_of_other heard.now.what heard.now.ended frame.now }
+{
+    match heard.what {
+        What::Part => names_other(&heard.ended, frame),
+        What::Segment { number: _ }
+        | What::OutOfSequence {
+            number: _,
+            awaited: _,
+        } => false,
+        _ => true,
+    }
+}
+
+// whether a frame answers an earlier request, which may take long
+fn is_late_answer(side: Side, heard: &Heard, frame: &Frame) -> bool
+    ensures { result ≡ is_late_answer side heard.now frame.now }
+{
+    match side {
+        Side::Server => is_slow_answer(frame) && is_of_other(heard, frame),
+        Side::Client => false,
+    }
+}
+
+// whether an initiate request is one of a download, by its command specifier
+fn asks_to_write(frame: &Frame) -> bool
+    ensures { result ≡ asks_to_write frame.now }
+{
+    let specifier = byte_at(frame, 0) / 32;
+    specifier == 1 || specifier == 6
+}
+
+// the initiate request that is not answered after a frame
+fn asked_after(what: What, micros: u64, frame: &Frame) -> Option<Asked>
+    ensures { result ≡ asked_after what micros frame.now }
+{
+    match what {
+        What::Initiate => Some(Asked {
+            key: key_in(frame),
+            micros,
+            writes: asks_to_write(frame),
+        }),
+        _ => None,
+    }
+}
+
+// Whether a transfer that a frame ended was no block transfer, and both ends know its end. An abort
+// of another entry answers an earlier request.
+fn both_know_its_end(ended: &Ended, frame: &Frame) -> bool
+    ensures { result ≡ both_know_its_end ended.now frame.now }
+{
+    if let Protocol::Block = ended.protocol {
+        return false;
+    }
+    match ended.ending {
+        Ending::Done { crc: _ } => true,
+        Ending::Aborted {
+            by: Side::Server,
+            code: _,
+        } => key_in(frame) == ended.key,
+        _ => false,
+    }
+}
+
+fn ends_in_doubt(ended: &Option<Ended>, frame: &Frame) -> bool
+    ensures { result ≡ ends_in_doubt ended.now frame.now }
+{
+    match ended {
+        Some(ended) => !both_know_its_end(ended, frame),
+        None => false,
+    }
+}
+
+// whether a frame of the device goes on with the open transfer
+fn continues(what: What) -> bool
+    ensures { result ≡ continues what }
+{
+    matches!(what, What::Part | What::Segment { number: _ })
+}
+
+fn is_initiate(what: What) -> bool
+    ensures { result ≡ is_initiate what }
+{
+    matches!(what, What::Initiate)
+}
+
+// whose frame the newest one is; none of a transfer that isn't judged, since its request came while an earlier one could be answered
+fn newest_heard(certain: bool, side: Side, what: What, newest: Option<Newest>) -> Option<Newest>
+    ensures { result ≡ newest_heard certain side what newest }
+{
+    if is_initiate(what) && !certain {
+        None
+    } else {
+        newest_after(side, what, newest)
+    }
+}
+
+// whether after a frame an earlier request may still be answered
+fn leaves_request_open(side: Side, heard: &Heard, frame: &Frame) -> bool
+    ensures { result ≡ leaves_request_open side heard.now frame.now }
+{
+    let odd = match side {
+        Side::Server => !continues(heard.what),
+        Side::Client => !(is_initiate(heard.what) || continues(heard.what)),
+    };
+    odd || ends_in_doubt(&heard.ended, frame)
+}
+
+// whether no earlier request can be answered at a stamp
+#[tactic(auto, unfolding(crate::specs::Dialogues::is_certain))]
+fn is_certain(answer: u32, started: u64, slow: Left, doubted: Option<u64>, micros: u64) -> bool
+    ensures { result ≡ is_certain answer started slow doubted micros }
+{
+    if slow.is_awaited(micros) || !is_past(started, answer, micros) {
+        return false;
+    }
+    match doubted {
+        Some(doubted) => is_past(doubted, answer, micros),
+        None => true,
+    }
+}
+
+// Whether a frame answers a request that came when none but those that may take long could be
+// answered. A server takes requests in turn, so those are answered no more. It may refuse one
+// before its turn.
+fn answers_in_turn(
+    answer: u32,
+    started: u64,
+    doubted: Option<u64>,
+    frame: &Frame,
+    asked: Asked,
+) -> bool
+    ensures { result ≡ answers_in_turn answer started doubted frame.now asked }
+{
+    is_timed(asked.key)
+        && key_in(frame) == asked.key
+        && byte_at(frame, 0) / 32 != 4
+        && is_certain(answer, started, Left::new(), doubted, asked.micros)
+}
+
+impl Dialogue {
+    /// Nothing was heard.
+    pub fn new() -> Dialogue
+        ensures { result ≡ nothing_asked }
+    {
+        Dialogue {
+            channel: Channel::new(),
+            asked: None,
+            doubted: None,
+            slow: Left::new(),
+            newest: None,
+        }
+    }
+
+    /// Whether no earlier request can be answered any more: the recording shows all that came
+    /// within the time that an answer may take, nothing of it leaves a doubt, and no answer that may
+    /// take long is awaited.
+    pub fn is_certain(&self, answer: u32, started: u64, micros: u64) -> bool
+        ensures { result ≡ is_certain answer started self.now.slow self.now.doubted micros }
+    {
+        is_certain(answer, started, self.slow, self.doubted, micros)
+    }
+
+    // Whether a frame answers, in its turn, a request that came when none but those that may take
+    // long could be answered.
+    fn is_in_turn(&self, answer: u32, started: u64, side: Side, what: What, frame: &Frame) -> bool
+        ensures { result ≡ is_in_turn answer started self.now side what frame.now }
+    {
+        match self.asked {
+            Some(asked) => {
+                is_part(side, what) && answers_in_turn(answer, started, self.doubted, frame, asked)
+            }
+            None => false,
+        }
+    }
+
+    /// Whether no request before the one that is asked could still be answered when that came: a
+    /// server that still awaits the segments of a block download takes another request as one of
+    /// them.
+    fn owes(&self, answer: u32, started: u64) -> bool
+        ensures { result ≡ owes answer started self.now }
+    {
+        match self.asked {
+            Some(asked) => self.is_certain(answer, started, asked.micros),
+            None => false,
+        }
+    }
+
+    /// Takes a frame of the channel by an end. `answer`: how long an answer may take, in ms;
+    /// `started`: the stamp at which the recording began.
+    #[tactic(auto, unfolding(crate::specs::Dialogues::exchange_in, crate::specs::Dialogues::dialogue_heard))]
+    pub fn hear(
+        &mut self,
+        answer: u32,
+        started: u64,
+        micros: u64,
+        side: Side,
+        frame: &Frame,
+    ) -> Exchange
+        ensures exchange { result ≡ exchange_in answer started self.old micros side frame.now }
+        ensures next { self.new ≡ dialogue_heard answer started self.old micros side frame.now }
+    {
+        let owed = self.owes(answer, started);
+        let known = self.is_certain(answer, started, micros);
+        let asked = self.asked;
+        let heard = self.channel.take(micros, side, frame);
+        let breach = breach_at(self.newest, side, &heard, frame);
+        let late = is_late_answer(side, &heard, frame);
+        let turns = self.is_in_turn(answer, started, side, heard.what, frame);
+        let other = names_other(&heard.ended, frame);
+        let leaves = leaves_slow(other, self.newest, &heard.ended);
+        self.slow = self.slow.after_answer(late, turns).after(leaves, micros);
+        self.asked = asked_after(heard.what, micros, frame);
+        if leaves_request_open(side, &heard, frame) {
+            self.doubted = Some(micros);
+        }
+        let judged = self.is_certain(answer, started, micros);
+        self.newest = newest_heard(judged, side, heard.what, self.newest);
+        Exchange {
+            heard,
+            asked,
+            owed,
+            certain: known && !late,
+            breach,
+        }
+    }
+
+    /// The request wasn't answered in time, and may be answered later.
+    pub fn give_up(&mut self, micros: u64)
+        ensures { self.new ≡ given_up self.old micros }
+    {
+        self.asked = None;
+        self.doubted = Some(micros);
+        self.newest = None;
+    }
+
+    /// The device is reset, booted up, or an error frame came: nothing is open any more. Where
+    /// something was, it may be answered all the same.
+    pub fn interrupt(&mut self, micros: u64)
+        ensures { self.new ≡ interrupted self.old micros }
+    {
+        let ended = self.channel.boot_up(micros);
+        if ended.is_some() {
+            self.doubted = Some(micros);
+        }
+        let leaves = leaves_slow(false, self.newest, &ended);
+        self.slow = self.slow.after(leaves, micros);
+        self.asked = None;
+        self.newest = None;
+    }
+}

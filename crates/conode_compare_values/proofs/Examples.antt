@@ -1,0 +1,174 @@
+-- What of a transfer's end differs from the data sheet and what doesn't, on both sides of each edge, computed from the definitions.
+use Rattle.std.proofs.Common.{◌≡◌, ℕ, true, false, List, [], ◌∷◌, map, Option, Some, None, refl}
+use Rattle.std.specs.Prelude.{ℤ, pos, neg_ℤ}
+use Rattle.co_profile.specs.declared.access.Access.{Access}
+use Rattle.co_profile.specs.declared.access.Access.TheVariants.{Ro, Wo, Rw, Constant}
+use Rattle.co_sheet.specs.Content.{Row}
+use Rattle.co_sheet.specs.Limits.{Default, absent, number, node_id}
+use Rattle.co_value.specs.declared.data_type.DataType.{DataType}
+use Rattle.co_value.specs.declared.data_type.DataType.TheVariants.{Boolean, Integer16, Integer24, Integer64, Unsigned8, Unsigned16, Unsigned40, VisibleString}
+use Rattle.co_value.specs.declared.key.Key.{Key}
+use Rattle.conode_compare_values.specs.declared.mismatch.Mismatch.{Mismatch}
+use Rattle.conode_compare_values.specs.declared.mismatch.Mismatch.TheVariants.{ValueLength, ValueConst, ReadRefused, Written, AboveLimit, BelowLimit}
+use Rattle.conode_compare_values.specs.SheetValues.{binds, refused_mismatch, upload_mismatch, written_mismatch}
+
+abbrev key : ℕ → ℕ → Key
+key index sub = record { index = index; sub = sub }
+
+-- ---- values
+
+abbrev row : ℕ → ℕ → DataType → Access → Default → Row
+row index sub data_type access default = record {
+  key = record { index = index; sub = sub };
+  data_type = data_type;
+  access = access;
+  low = None;
+  high = None;
+  default = default;
+  mappable = false;
+  name = None;
+  line = 1;
+}
+
+same_const : upload_mismatch 5 (row 0x2000 0 Unsigned16 Constant (number (pos 258))) true (2 ∷ 1 ∷ []) ≡ None
+unfolding upload_mismatch
+same_const = refl
+
+other_const : upload_mismatch 5 (row 0x2000 0 Unsigned16 Constant (number (pos 258))) true (3 ∷ 1 ∷ []) ≡ Some (ValueConst (key 0x2000 0) 259 258)
+unfolding upload_mismatch
+other_const = refl
+
+-- without its size the first bytes count
+no_size : upload_mismatch 5 (row 0x2000 0 Unsigned16 Constant (number (pos 258))) false (2 ∷ 1 ∷ 9 ∷ 9 ∷ []) ≡ None
+unfolding upload_mismatch
+no_size = refl
+
+other_length : upload_mismatch 5 (row 0x2000 0 Unsigned16 Rw absent) true (2 ∷ 1 ∷ 0 ∷ 0 ∷ []) ≡ Some (ValueLength (key 0x2000 0) 4 2)
+unfolding upload_mismatch
+other_length = refl
+
+wide : upload_mismatch 5 (row 0x2000 0 Unsigned40 Rw absent) false (1 ∷ 0 ∷ 0 ∷ 0 ∷ []) ≡ Some (ValueLength (key 0x2000 0) 4 5)
+unfolding upload_mismatch
+wide = refl
+
+text : upload_mismatch 5 (row 0x1008 0 VisibleString Constant absent) true (65 ∷ []) ≡ None
+unfolding upload_mismatch
+text = refl
+
+not_const : upload_mismatch 5 (row 0x2000 0 Unsigned8 Rw (number (pos 1))) true (2 ∷ []) ≡ None
+unfolding upload_mismatch
+not_const = refl
+
+node_added : upload_mismatch 5 (row 0x2000 0 Unsigned8 Constant (node_id 1)) true (6 ∷ []) ≡ None
+unfolding upload_mismatch
+node_added = refl
+
+device_type : upload_mismatch 5 (row 0x1000 0 Unsigned8 Ro (number (pos 1))) true (2 ∷ []) ≡ Some (ValueConst (key 0x1000 0) 2 1)
+unfolding upload_mismatch
+device_type = refl
+
+product : upload_mismatch 5 (row 0x1018 2 Unsigned8 Ro (number (pos 1))) true (2 ∷ []) ≡ Some (ValueConst (key 0x1018 2) 2 1)
+unfolding upload_mismatch
+product = refl
+
+revision : upload_mismatch 5 (row 0x1018 3 Unsigned8 Constant (number (pos 1))) true (2 ∷ []) ≡ None
+unfolding upload_mismatch
+revision = refl
+
+-- ---- refusals
+
+refused : refused_mismatch false (row 0x2000 0 Unsigned8 Ro absent) (record { 0 = 0x06020000 }) ≡ Some (ReadRefused (key 0x2000 0) (record { 0 = 0x06020000 }))
+refused = refl
+
+refused_sub : refused_mismatch false (row 0x2000 1 Unsigned8 Ro absent) (record { 0 = 0x06020000 }) ≡ None
+refused_sub = refl
+
+write_only_sub : refused_mismatch false (row 0x2000 1 Unsigned8 Rw absent) (record { 0 = 0x06010001 }) ≡ Some (ReadRefused (key 0x2000 1) (record { 0 = 0x06010001 }))
+write_only_sub = refl
+
+is_write_only : refused_mismatch false (row 0x2000 1 Unsigned8 Wo absent) (record { 0 = 0x06010001 }) ≡ None
+is_write_only = refl
+
+for_now : refused_mismatch false (row 0x2000 0 Unsigned8 Ro absent) (record { 0 = 0x08000022 }) ≡ None
+for_now = refl
+
+of_modules : refused_mismatch true (row 0x2000 0 Unsigned8 Ro absent) (record { 0 = 0x06020000 }) ≡ None
+of_modules = refl
+
+written : written_mismatch (row 0x2000 0 Unsigned8 Ro absent) (1 ∷ []) ≡ Some (Written (key 0x2000 0))
+written = refl
+
+writeable : written_mismatch (row 0x2000 0 Unsigned8 Rw absent) (1 ∷ []) ≡ None
+writeable = refl
+
+-- ---- limits
+
+abbrev limited : ℕ → DataType → Option ℤ → Option ℤ → Row
+limited index data_type low high = record (row index 0 data_type Rw absent) { low = low; high = high }
+
+abbrev signed : List ℕ → Option Mismatch
+signed bytes = written_mismatch (limited 0x2010 Integer16 (Some (neg_ℤ (pos 100))) (Some (pos 100))) bytes
+
+-- 100 and 101, -100 and -101
+limits : map signed ((0x64 ∷ 0 ∷ []) ∷ (0x65 ∷ 0 ∷ []) ∷ (0x9C ∷ 0xFF ∷ []) ∷ (0x9B ∷ 0xFF ∷ []) ∷ [])
+    ≡ None ∷ Some (AboveLimit (key 0x2010 0)) ∷ None ∷ Some (BelowLimit (key 0x2010 0)) ∷ []
+limits = refl
+
+-- unsigned: 60000 and 60001; 10 and 9
+abbrev unsigned : List ℕ → Option Mismatch
+unsigned bytes = written_mismatch (limited 0x2000 Unsigned16 (Some (pos 10)) (Some (pos 60000))) bytes
+
+unsigned_limits : map unsigned ((0x60 ∷ 0xEA ∷ []) ∷ (0x61 ∷ 0xEA ∷ []) ∷ (10 ∷ 0 ∷ []) ∷ (9 ∷ 0 ∷ []) ∷ [])
+    ≡ None ∷ Some (AboveLimit (key 0x2000 0)) ∷ None ∷ Some (BelowLimit (key 0x2000 0)) ∷ []
+unsigned_limits = refl
+
+one_limit : written_mismatch (limited 0x2000 Unsigned8 None (Some (pos 100))) (0 ∷ []) ≡ None
+one_limit = refl
+
+other_limit : written_mismatch (limited 0x2000 Unsigned8 (Some (pos 1)) None) (0xFF ∷ []) ≡ None
+other_limit = refl
+
+-- another number of bytes than the type has
+other_bytes : written_mismatch (limited 0x2000 Unsigned16 None (Some (pos 1))) (0xFF ∷ []) ≡ None
+other_bytes = refl
+
+more_bytes : written_mismatch (limited 0x2000 Unsigned8 None (Some (pos 1))) (0xFF ∷ 0 ∷ 0 ∷ 0 ∷ []) ≡ None
+more_bytes = refl
+
+-- -1 and -2 of 24 and of 64 bits, which aren't expedited
+three_bytes : map (λ low. written_mismatch (limited 0x2000 Integer24 (Some (neg_ℤ (pos 1))) (Some (pos 1))) (low ∷ 0xFF ∷ 0xFF ∷ [])) (0xFF ∷ 0xFE ∷ []) ≡ None ∷ Some (BelowLimit (key 0x2000 0)) ∷ []
+three_bytes = refl
+
+eight_bytes : map (λ low. written_mismatch (limited 0x2000 Integer64 (Some (neg_ℤ (pos 1))) (Some (pos 1))) (low ∷ 0xFF ∷ 0xFF ∷ 0xFF ∷ 0xFF ∷ 0xFF ∷ 0xFF ∷ 0xFF ∷ [])) (0xFF ∷ 0xFE ∷ []) ≡ None ∷ Some (BelowLimit (key 0x2000 0)) ∷ []
+eight_bytes = refl
+
+-- below 2000h CiA 301 says which values there are, as bit 31 of a COB-ID
+of_cia301 : written_mismatch (limited 0x1FFF Unsigned16 None (Some (pos 1))) (0xFF ∷ 0 ∷ []) ≡ None
+of_cia301 = refl
+
+-- HighLimit=0xFFFF of an INTEGER16 is -1, and may be meant as none; so may a LowLimit
+sole_high : map (λ limit. binds None (Some limit)) (pos 0 ∷ neg_ℤ (pos 1) ∷ []) ≡ true ∷ false ∷ []
+sole_high = refl
+
+sole_low : map (λ limit. binds (Some limit) None) (pos 0 ∷ neg_ℤ (pos 1) ∷ []) ≡ true ∷ false ∷ []
+sole_low = refl
+
+-- from 5 to 5, and from 5 to 4
+two_limits : map (λ high. binds (Some (pos 5)) (Some high)) (pos 5 ∷ pos 4 ∷ []) ≡ true ∷ false ∷ []
+two_limits = refl
+
+negative_limits : binds (Some (neg_ℤ (pos 5))) (Some (neg_ℤ (pos 1))) ≡ true
+negative_limits = refl
+
+no_limits : binds None None ≡ false
+no_limits = refl
+
+meant_as_none : written_mismatch (limited 0x2011 Integer16 None (Some (neg_ℤ (pos 1)))) (5 ∷ 0 ∷ []) ≡ None
+meant_as_none = refl
+
+-- one bit of eight
+boolean : written_mismatch (limited 0x2010 Boolean None (Some (pos 1))) (0xFF ∷ []) ≡ None
+boolean = refl
+
+read_only_limits : written_mismatch (record (row 0x2000 0 Unsigned8 Ro absent) { high = Some (pos 1) }) (0xFF ∷ []) ≡ Some (Written (key 0x2000 0))
+read_only_limits = refl

@@ -1,0 +1,9 @@
+//! Where the end of an SDO transfer differs from what the data sheet has of its entry: the length
+//! and the value of a number, who may read and write it, its limits.
+#![tactic(auto)]
+
+mod mismatch;
+mod values;
+
+pub use mismatch::Mismatch;
+pub use values::mismatch_at;

@@ -1,0 +1,24 @@
+//! The kinds of differences.
+
+use co_frame::AbortCode;
+use co_value::Key;
+
+/// A difference between the end of a transfer and the data sheet.
+#[derive(Clone, Copy)]
+pub enum Mismatch {
+    /// `value-length`: an upload of this entry has so many bytes, and its type has so many.
+    ValueLength(Key, u8, u8),
+    /// `value-const`: an upload of this entry gives the first number, and the data sheet has the
+    /// second.
+    ValueConst(Key, u64, u64),
+    /// `access-read`: an upload of this entry, which the data sheet has as readable, is refused
+    /// with this code.
+    ReadRefused(Key, AbortCode),
+    /// `access-write`: a download to this entry, which the data sheet has as read only, is
+    /// acknowledged.
+    Written(Key),
+    /// `access-limits`: a download to this entry above its HighLimit is acknowledged.
+    AboveLimit(Key),
+    /// `access-limits`: one below its LowLimit is.
+    BelowLimit(Key),
+}

@@ -1,0 +1,263 @@
+//! The end of a transfer, compared with the row of its entry in the data sheet.
+
+ghost use Rattle.std.specs.Prelude.{◌≡◌, ◌≤◌, true, map, length};
+ghost use Rattle.std.specs.List.{AllPairs};
+ghost use Rattle.co_sheet.specs.SheetViews.{row_view};
+ghost use Rattle.co_value.specs.Keys.{is_key_before};
+ghost use Rattle.conode_compare_values.specs.SheetValues.{
+  beyond_mismatch,
+  binds,
+  constant_mismatch,
+  denies,
+  has_limits,
+  held_number,
+  is_above,
+  is_below,
+  is_boolean,
+  is_held,
+  is_readable,
+  is_read_only,
+  limit_mismatch,
+  mismatch_at,
+  refused_mismatch,
+  row_mismatch,
+  shown_number,
+  upload_mismatch,
+  value_mismatch,
+  written_mismatch,
+};
+
+use crate::mismatch::Mismatch;
+use co_frame::AbortCode;
+use co_profile::{Access, DEVICE_TYPE};
+use co_sheet::EntryRow;
+use co_value::{DataType, Key, from_bytes, unsigned_of};
+use conode_compare_pdos::number_of;
+use conode_decode::row_at;
+use conode_explain_transfers::{Direction, Ended, Ending, Protocol, Side};
+
+// the identity object (CiA 301, 7.5.2.21)
+const IDENTITY: u16 = 0x1018;
+
+fn is_read_only(access: Access) -> bool
+    ensures { result ≡ is_read_only access }
+{
+    matches!(access, Access::Ro | Access::Constant)
+}
+
+fn is_readable(access: Access) -> bool
+    ensures { result ≡ is_readable access }
+{
+    !matches!(access, Access::Wo)
+}
+
+// whether the value of an entry is compared with the data sheet
+fn is_held(row: &EntryRow<'_>) -> bool
+    ensures { result ≡ is_held (row_view row.now) }
+{
+    if row.key.index == IDENTITY {
+        return row.key.sub == 1 || row.key.sub == 2;
+    }
+    row.key.index == DEVICE_TYPE || matches!(row.access, Access::Constant)
+}
+
+// the number in the data sheet, if values are compared with it
+fn held_number(node: u8, row: &EntryRow<'_>) -> Option<u64>
+    ensures { result ≡ held_number node (row_view row.now) }
+{
+    if is_held(row) {
+        number_of(node, row.default)
+    } else {
+        None
+    }
+}
+
+// the number that the first bytes are
+fn shown_number(width: usize, bytes: &[u8]) -> Option<u64>
+    ensures { result ≡ shown_number width bytes.now }
+{
+    if width <= 4 && width <= bytes.len() {
+        Some(unsigned_of(&bytes[..width]))
+    } else {
+        None
+    }
+}
+
+// the difference of a value that was uploaded
+fn constant_mismatch(key: Key, shown: Option<u64>, held: Option<u64>) -> Option<Mismatch>
+    ensures { result ≡ constant_mismatch key shown held }
+{
+    match (shown, held) {
+        (Some(shown), Some(held)) if shown != held => Some(Mismatch::ValueConst(key, shown, held)),
+        _ => None,
+    }
+}
+
+// The difference of an expedited upload, with its size or without. One of a number has as many
+// bytes as its type.
+#[tactic(auto, unfolding(crate::specs::SheetValues::upload_mismatch))]
+fn upload_mismatch(node: u8, row: &EntryRow<'_>, indicated: bool, bytes: &[u8]) -> Option<Mismatch>
+    requires { length bytes.now ≤ 64 }
+    ensures { result ≡ upload_mismatch node (row_view row.now) indicated bytes.now }
+{
+    let width = row.data_type.width()?;
+    if width > 4 || (indicated && width != bytes.len()) {
+        return Some(Mismatch::ValueLength(row.key, bytes.len() as u8, width as u8));
+    }
+    constant_mismatch(row.key, shown_number(width, bytes), held_number(node, row))
+}
+
+// A code that says that the entry can't be read at all. A sub-index may be missing where the number
+// of them varies; sub-index 0 is always there.
+fn denies(key: Key, code: AbortCode) -> bool
+    ensures { result ≡ denies key code.0 }
+{
+    code == AbortCode::WRITE_ONLY
+        || (key.sub == 0
+            && (code == AbortCode::OBJECT_MISSING || code == AbortCode::SUB_INDEX_MISSING))
+}
+
+// the difference of an upload that is refused; modules decide which entries a modular device has
+fn refused_mismatch(modular: bool, row: &EntryRow<'_>, code: AbortCode) -> Option<Mismatch>
+    ensures { result ≡ refused_mismatch modular (row_view row.now) code }
+{
+    if !modular && denies(row.key, code) && is_readable(row.access) {
+        Some(Mismatch::ReadRefused(row.key, code))
+    } else {
+        None
+    }
+}
+
+// whether limits can be meant: a sole one isn't below 0, and two leave a number
+fn binds(low: Option<i128>, high: Option<i128>) -> bool
+    ensures { result ≡ binds low high }
+{
+    match (low, high) {
+        (Some(low), Some(high)) => low <= high,
+        (Some(limit), None) | (None, Some(limit)) => 0 <= limit,
+        (None, None) => false,
+    }
+}
+
+fn is_boolean(data_type: DataType) -> bool
+    ensures { result ≡ is_boolean data_type }
+{
+    matches!(data_type, DataType::Boolean)
+}
+
+// whether the limits of an entry are the data sheet's alone, and can be meant
+fn has_limits(row: &EntryRow<'_>) -> bool
+    ensures { result ≡ has_limits (row_view row.now) }
+{
+    row.key.index >= 0x2000 && !is_boolean(row.data_type) && binds(row.low, row.high)
+}
+
+fn is_above(limit: Option<i128>, value: i128) -> bool
+    ensures { result ≡ is_above limit value }
+{
+    match limit {
+        Some(limit) => limit < value,
+        None => false,
+    }
+}
+
+fn is_below(limit: Option<i128>, value: i128) -> bool
+    ensures { result ≡ is_below limit value }
+{
+    match limit {
+        Some(limit) => value < limit,
+        None => false,
+    }
+}
+
+// the difference of a number that was downloaded
+fn limit_mismatch(row: &EntryRow<'_>, value: i128) -> Option<Mismatch>
+    ensures { result ≡ limit_mismatch (row_view row.now) value }
+{
+    if is_above(row.high, value) {
+        Some(Mismatch::AboveLimit(row.key))
+    } else if is_below(row.low, value) {
+        Some(Mismatch::BelowLimit(row.key))
+    } else {
+        None
+    }
+}
+
+// the difference of bytes that were downloaded, where they are a number
+fn beyond_mismatch(row: &EntryRow<'_>, bytes: &[u8]) -> Option<Mismatch>
+    ensures { result ≡ beyond_mismatch (row_view row.now) bytes.now }
+{
+    if !has_limits(row) {
+        return None;
+    }
+    match from_bytes(row.data_type, bytes) {
+        Ok(value) => limit_mismatch(row, value),
+        Err(_) => None,
+    }
+}
+
+// the difference of a download that is done
+fn written_mismatch(row: &EntryRow<'_>, bytes: &[u8]) -> Option<Mismatch>
+    ensures { result ≡ written_mismatch (row_view row.now) bytes.now }
+{
+    if is_read_only(row.access) {
+        Some(Mismatch::Written(row.key))
+    } else {
+        beyond_mismatch(row, bytes)
+    }
+}
+
+// the difference of an upload that is done
+fn value_mismatch(node: u8, row: &EntryRow<'_>, indicated: bool, ended: &Ended) -> Option<Mismatch>
+    ensures { result ≡ value_mismatch node (row_view row.now) indicated ended.now }
+{
+    match ended.protocol {
+        Protocol::Expedited => upload_mismatch(node, row, indicated, ended.first.as_slice()),
+        _ => None,
+    }
+}
+
+// the difference of the end of a transfer of an entry
+#[tactic(auto, unfolding(crate::specs::SheetValues::row_mismatch))]
+fn row_mismatch(
+    node: u8,
+    modular: bool,
+    row: &EntryRow<'_>,
+    indicated: bool,
+    ended: &Ended,
+) -> Option<Mismatch>
+    ensures { result ≡ row_mismatch node modular (row_view row.now) indicated ended.now }
+{
+    match (ended.direction, ended.ending) {
+        (Direction::Upload, Ending::Done { crc: _ }) => value_mismatch(node, row, indicated, ended),
+        (Direction::Download, Ending::Done { crc: _ }) => {
+            written_mismatch(row, ended.first.as_slice())
+        }
+        (
+            Direction::Upload,
+            Ending::Aborted {
+                by: Side::Server,
+                code,
+            },
+        ) => refused_mismatch(modular, row, code),
+        _ => None,
+    }
+}
+
+/// The difference of the end of a transfer of the device with a node-ID, by its data sheet, whose
+/// entries are in increasing key. `modular`: modules decide which entries it has. `indicated`: an
+/// upload has the number of its bytes.
+#[tactic(auto, unfolding(crate::specs::SheetValues::mismatch_at))]
+pub fn mismatch_at(
+    node: u8,
+    modular: bool,
+    rows: &[EntryRow<'_>],
+    indicated: bool,
+    ended: &Ended,
+) -> Option<Mismatch>
+    requires { AllPairs (λ e f. is_key_before e.key f.key ≡ true) rows.now }
+    ensures { result ≡ mismatch_at node modular (map row_view rows.now) indicated ended.now }
+{
+    let row = row_at(rows, ended.key)?;
+    row_mismatch(node, modular, row, indicated, ended)
+}
