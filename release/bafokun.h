@@ -1,8 +1,9 @@
 /*
  * Bafokun: a CANopen device node (CiA 301 v4.2) from an EDS (CiA 306), for C programs.
  *
- * The program owns the bus, the clock and the values. It gives the node each CAN frame that is received, a tick for each
- * millisecond, and what the application does; the node gives the frames that are to be sent, in order.
+ * The program owns the bus, the clock and the values. It passes the node each received CAN frame, a
+ * tick each millisecond, and the events of the application; the node returns the frames to be sent,
+ * in order.
  *
  *     bafokun_node node = BAFOKUN_EMPTY;
  *     if (!bafokun_build(&node, eds, sizeof eds - 1, 5, &config, &fault)) ...
@@ -10,21 +11,22 @@
  *     count = bafokun_tick(&node, frames, BAFOKUN_MOST_FRAMES);     each ms
  *     count = bafokun_take(&node, &frame, frames, BAFOKUN_MOST_FRAMES);
  *
- * For Linux with glibc, on every x86-64 processor and on 64-bit ARM. Link with libbafokun.a or libbafokun.so alone; it calls malloc,
- * realloc and free of the program.
+ * For Linux with glibc, on every x86-64 processor and on 64-bit ARM. Link with libbafokun.a or
+ * libbafokun.so alone; it calls malloc, realloc and free of the program.
  *
- * What holds of every call:
- * - No pointer is NULL, also where the count beside it is 0. An array has as many elements as its count says.
- * - What a call writes (node, frames, bytes, length, fault, abort_code, elapsed, entry, number, text) is apart from all else that
- *   the call is given.
+ * Rules for every call:
+ * - No pointer is NULL, even if its count is 0. An array has as many elements as its count states.
+ * - What a call writes (node, frames, bytes, length, fault, abort_code, elapsed, entry, events,
+ *   number, text) overlaps no other argument.
  * - A node is in one call at a time, and no call comes from a signal handler.
- * - A node begins as BAFOKUN_EMPTY and only the calls below write it. It may be moved, not copied. While it is empty, calls
- *   do nothing and give 0, bafokun_idle BAFOKUN_FOREVER.
- * - What is passed stays the caller's; nothing that is passed is kept after the call, the text of the EDS included.
- * - bafokun_build asks for memory, bafokun_free gives it back, and no other call does either.
+ * - A node begins as BAFOKUN_EMPTY, and only the calls below write it. It may be moved, not copied.
+ *   While it is empty, calls do nothing and return 0 or false; bafokun_idle returns BAFOKUN_FOREVER,
+ *   and bafokun_ticks sets elapsed.
+ * - Arguments stay the caller's; none is used after the call, the text of the EDS included.
+ * - Only bafokun_build allocates memory. It and bafokun_free free the memory of a device.
  * - malloc aligns blocks to 16 bytes, and malloc, realloc and free belong together.
- * Numbers are in the byte order of the machine; the bytes of an entry and of a frame are in that of CANopen, least
- * significant byte first.
+ * Numbers are in the byte order of the machine; the bytes of an entry and of a frame are in that of
+ * CANopen, least significant byte first.
  */
 #ifndef BAFOKUN_H
 #define BAFOKUN_H
@@ -37,9 +39,9 @@
 extern "C" {
 #endif
 
-#define BAFOKUN_VERSION "0.10.0"
+#define BAFOKUN_VERSION "0.11.0"
 #define BAFOKUN_VERSION_MAJOR 0
-#define BAFOKUN_VERSION_MINOR 10
+#define BAFOKUN_VERSION_MINOR 11
 #define BAFOKUN_VERSION_PATCH 0
 
 /* No input gives more frames: an array of so many has room for all. */
@@ -104,6 +106,24 @@ typedef struct bafokun_entry_info {
 #define BAFOKUN_RWW 5
 #define BAFOKUN_CONST 6
 
+/*
+ * What happened to a device since the program asked: 1 is yes, 0 is no. 390 bytes, no padding. The
+ * arrays are by node-ID, of the other nodes whose heartbeat 1016h monitors.
+ */
+typedef struct bafokun_events {
+    uint8_t reset_node;          /* the NMT service reset node: each entry has its default again */
+    uint8_t reset_communication; /* the NMT service reset communication: those of 1000h to 1FFFh have */
+    uint8_t state;               /* the last NMT state that was entered: BAFOKUN_STOPPED, _OPERATIONAL or
+                                    _PRE_OPERATIONAL, which a reset enters too; 0 if none was */
+    uint8_t sync;                /* a SYNC was received, and the device wasn't stopped */
+    uint8_t rpdo;                /* a frame of an active RPDO was received, and the device was operational. If the
+                                    RPDO is synchronous, its data take effect at the next SYNC */
+    uint8_t heartbeat;           /* a heartbeat was lost or is back */
+    uint8_t lost[128];           /* the heartbeat of this node was lost */
+    uint8_t back[128];           /* a heartbeat of this node was received, the first after a loss */
+    uint8_t silent[128];         /* now: the heartbeat of this node is lost. This isn't forgotten */
+} bafokun_events;
+
 /* What bafokun_idle gives where nothing is ever due. */
 #define BAFOKUN_FOREVER UINT32_MAX
 
@@ -124,114 +144,134 @@ typedef struct bafokun_entry_info {
 #define BAFOKUN_REFUSED 2
 
 /*
- * Builds the device of an EDS, a text of so many bytes, at a node-ID, 1 to 127. It begins in state pre-operational. A
- * device that the place had is given back first. True: there is a device. False: there is none, and fault says why.
+ * Builds the device of an EDS, a text of text_length bytes, at a node-ID, 1 to 127, in state
+ * pre-operational. A device that the place had is freed first. Returns whether there is a device;
+ * if not, fault is the reason, and the place is empty.
  */
 bool bafokun_build(bafokun_node *node, const char *text, size_t text_length, uint8_t node_id,
                    const bafokun_config *config, bafokun_fault *fault);
 
-/* Gives the device back, with its memory. The place is empty then and can be filled again. */
+/* Frees the device and its memory. The place is then empty, and can be filled again. */
 void bafokun_free(bafokun_node *node);
 
 /*
- * Inputs. Each puts the frames that the device then sends into frames, as many as there is room for, in the order in which
- * they are to be sent, and gives how many they are: at most BAFOKUN_MOST_FRAMES. Where there was no room for all,
- * bafokun_sent gives the others, until the next input.
+ * Inputs. Each puts the frames that the device then sends into frames, as many as there is room
+ * for, in the order in which they are to be sent. It returns how many there are, at most
+ * BAFOKUN_MOST_FRAMES. If there is no room for all, bafokun_sent returns the others, until the next
+ * input.
  */
 
-/* The boot-up: one frame, to be sent once after the build. */
+/* The boot-up (CiA 301, 7.2.8.3.3): one frame, to be sent once after the build. */
 size_t bafokun_boot(bafokun_node *node, bafokun_frame *frames, size_t room);
 
-/* A frame was received. One with an identifier above 7FFh or more than 8 bytes is passed over. */
+/*
+ * A frame was received. A frame with an identifier above 7FFh, or with more than 8 bytes, is
+ * ignored.
+ */
 size_t bafokun_take(bafokun_node *node, const bafokun_frame *frame, bafokun_frame *frames, size_t room);
 
 /* 1 ms elapsed. */
 size_t bafokun_tick(bafokun_node *node, bafokun_frame *frames, size_t room);
 
 /*
- * Many ms elapsed, at most so many, as where a program wakes up late, or slept for as long as bafokun_idle says: the ticks end
- * with the first one that sends frames, so that these are sent before the next. elapsed is how many there were: all, where none
- * sends any.
+ * Several ms elapsed, up to most: for a program that wakes up late, or slept for as long as
+ * bafokun_idle returned. The ticks end with the first that sends frames, so that these are sent
+ * before the next tick. elapsed is how many elapsed: all, if none sends frames.
  *
  *     for (; late > 0; late -= elapsed)
  *         send(frames, bafokun_ticks(&node, late, &elapsed, frames, BAFOKUN_MOST_FRAMES));
  *
- * Of an empty node all elapse, and nothing happens.
+ * For an empty node all elapse, and nothing happens.
  */
 size_t bafokun_ticks(bafokun_node *node, uint32_t most, uint32_t *elapsed, bafokun_frame *frames, size_t room);
 
-/* The application writes an entry, also one that a client may only read: all its bytes, as many as its type has. */
+/*
+ * The application writes an entry, even if SDO clients may only read it: all its bytes, as many as
+ * its type has. bafokun_answer returns whether it was done.
+ */
 size_t bafokun_write(bafokun_node *node, uint16_t index, uint8_t sub_index, const uint8_t *bytes, size_t length,
                      bafokun_frame *frames, size_t room);
 
-/* An event on a TPDO: 0 is the one of 1800h. */
+/* An event of a TPDO: number 0 is that of 1800h. */
 size_t bafokun_event(bafokun_node *node, uint16_t tpdo, bafokun_frame *frames, size_t room);
 
-/* The value of an entry changed: an event on each active TPDO that maps it. */
+/* The value of an entry changed: an event of each active TPDO that maps it. */
 size_t bafokun_changed(bafokun_node *node, uint16_t index, uint8_t sub_index, bafokun_frame *frames, size_t room);
 
 /*
- * An error: its emergency error code, other than 0, the bits that it sets in the error register (1001h) besides bit 0,
- * and five bytes of the manufacturer's (CiA 301, 7.2.7).
+ * An error is raised: its emergency error code, other than 0, the bits that it sets in the error
+ * register (1001h) besides bit 0, and five manufacturer-specific bytes (CiA 301, 7.2.7). Code 0 is
+ * refused.
  */
 size_t bafokun_raise(bafokun_node *node, uint16_t code, uint8_t bits, const uint8_t manufacturer[5],
                      bafokun_frame *frames, size_t room);
 
-/* Errors have ended: these bits of the error register are cleared. */
+/* Errors are gone: these bits of the error register are cleared. */
 size_t bafokun_clear(bafokun_node *node, uint8_t bits, bafokun_frame *frames, size_t room);
 
 /*
- * The CAN controller changed: BAFOKUN_BUS_PASSIVE raises the error 8120h, BAFOKUN_BUS_RECOVERED 8140h, each with bit 4 of the
- * error register, communication error; BAFOKUN_BUS_ACTIVE clears that bit, and bit 0 where no other is left. BAFOKUN_BUS_OFF
- * changes the NMT state by 1029:01, as a lost heartbeat does: 0, or no such entry, leaves operational for pre-operational, 2
- * stops, every other value does nothing. Of another number nothing happens. So after bus-off come
- * BAFOKUN_BUS_RECOVERED and BAFOKUN_BUS_ACTIVE. An error that is raised again sends its emergency again: call this at a change
- * alone.
+ * The CAN controller changed. BAFOKUN_BUS_PASSIVE raises error 8120h, BAFOKUN_BUS_RECOVERED 8140h,
+ * each with bit 4 of the error register, communication error. BAFOKUN_BUS_ACTIVE clears that bit,
+ * and bit 0 if no other is left. BAFOKUN_BUS_OFF changes the NMT state by 1029:01, as a lost
+ * heartbeat does: 0, or a missing entry, leaves operational for pre-operational, 2 enters stopped,
+ * any other value changes nothing. Any other number of a change does nothing.
+ *
+ * After bus-off come BAFOKUN_BUS_RECOVERED and BAFOKUN_BUS_ACTIVE. Call this only at a change: an
+ * error that is raised again sends its emergency again.
  */
 size_t bafokun_bus(bafokun_node *node, uint8_t change, bafokun_frame *frames, size_t room);
 
-/* The frames that the last input gave, from number from on, 0 the first: put and counted as by an input. */
+/*
+ * The frames of the last input, starting with number from (0 is the first): put and counted as by
+ * an input.
+ */
 size_t bafokun_sent(bafokun_node *node, size_t from, bafokun_frame *frames, size_t room);
 
-/* Questions: none changes the device. */
+/* Questions: none changes the state of the device. */
 
 /*
- * Whether there is an entry. If so its bytes are put into bytes, as many as there is room for, and length is how many they
- * are. If not, nothing is written.
+ * Gets the bytes of an entry: as many as there is room for are put into bytes, and length is how
+ * many the entry has. Returns whether there is such an entry; if not, nothing is written.
  */
 bool bafokun_value(bafokun_node *node, uint16_t index, uint8_t sub_index, uint8_t *bytes, size_t room, size_t *length);
 
 /*
- * Entries by their number: from 0 on, by increasing index and sub-index. A number stays that of its entry until the device is given
- * back.
+ * Entries by their number: from 0 on, by increasing index and sub-index. An entry keeps its number
+ * until the device is freed.
  *
  *     for (number = 0; bafokun_entry(&node, number, &entry); number++)
  *         ...
  */
 
-/* Whether there is an entry with this number. If so it is put into entry. If not, nothing is written. */
+/* Gets the entry with this number. Returns whether there is one; if not, nothing is written. */
 bool bafokun_entry(bafokun_node *node, size_t number, bafokun_entry_info *entry);
 
 /*
- * The name of an entry, its ParameterName: put into text with a 0 after it, and cut where there is less room; with room 0 nothing is
- * written. The result is how long the whole name is, without the 0: 0 where it has none, or where there is no such entry.
+ * Gets the name of an entry, its ParameterName: put into text with a 0 after it, and truncated if
+ * there is less room; with room 0 nothing is written. Returns the length of the whole name without
+ * the 0: 0 if it has none, or if there is no such entry.
  */
 size_t bafokun_entry_name(bafokun_node *node, size_t number, char *text, size_t room);
 
-/* Whether there is an entry of this index and sub-index. If so its number is put into number. If not, nothing is written. */
+/*
+ * Gets the number of the entry with this index and sub-index. Returns whether there is one; if not,
+ * nothing is written.
+ */
 bool bafokun_find(bafokun_node *node, uint16_t index, uint8_t sub_index, size_t *number);
 
 /*
- * Whether an entry, by its number from one on, has other bytes than those that the program knows: those that its last bafokun_write
- * set, or those that the entry had when this call last gave it; after the build it knows none. If so the number of the first such entry
- * is put into number, and the program knows its bytes. If not, nothing is written, and nothing else is changed either way.
+ * Gets the first entry, starting with number from, whose bytes differ from those that the program
+ * knows: those that its last bafokun_write set, or those at the last result of this call for the
+ * entry. After the build the program knows none. Returns whether there is such an entry. If so, its
+ * number is put into number, and the program knows its bytes then; if not, nothing is written.
  *
  *     for (number = 0; bafokun_next_changed(&node, number, &number); number++)
  *         ...
  *
- * So this loop comes first to each entry that has bytes, and later, once, to each entry that SDO clients, RPDOs, a reset or an error
- * gave other bytes since it last came to it, whatever was set in between. An entry that was set to the bytes that it had isn't among
- * them: a program that takes an entry for a command sets it back, by bafokun_write, when the command is done.
+ * At first this loop visits each entry that has bytes. Later it visits once each entry whose bytes
+ * SDO clients, RPDOs, a reset or an error have changed since its last visit, whatever was set in
+ * between. An entry that was set to the bytes that it had isn't among them. So a program that uses
+ * an entry as a command sets it back, by bafokun_write, when the command is done.
  */
 bool bafokun_next_changed(bafokun_node *node, size_t from, size_t *number);
 
@@ -242,9 +282,10 @@ uint8_t bafokun_node_id(bafokun_node *node);
 uint8_t bafokun_state(bafokun_node *node);
 
 /*
- * For at least so many ms the device sends nothing, and neither an entry nor its NMT state changes, if nothing is received:
- * BAFOKUN_FOREVER if it never does, and for an empty node. So a program may wait for a frame until one ms more has elapsed,
- * and give the ms then at once, by bafokun_ticks. Any input may change it, so it is asked again after each.
+ * During this many ms the device sends nothing, and its entries and its NMT state stay the same, if
+ * it gets no other input: a lower bound, which any input may change. BAFOKUN_FOREVER: no timer runs,
+ * so nothing becomes due however long nothing is received; also for an empty node. A program may wait
+ * for a frame until one ms more has elapsed, and then pass these ms at once, by bafokun_ticks.
  *
  *     idle = bafokun_idle(&node);
  *     poll(&bus, 1, idle < INT_MAX ? (int)idle + 1 : -1);
@@ -252,26 +293,45 @@ uint8_t bafokun_state(bafokun_node *node);
 uint32_t bafokun_idle(bafokun_node *node);
 
 /*
- * The answer to the last input: BAFOKUN_NO_EVENT where it was none of bafokun_write, _event, _changed, _raise, _clear and _bus,
- * else BAFOKUN_DONE, or BAFOKUN_REFUSED and the SDO abort code. A refused event changes nothing. abort_code is 0 otherwise.
+ * Gets what happened to the device since the last result of this call, or since the build: what the
+ * inputs did. Returns whether anything happened. If so, it is put into events, and is then forgotten,
+ * but for silent; if not, nothing is written.
+ *
+ *     if (bafokun_happened(&node, &events) && (events.reset_node || events.reset_communication))
+ *         write the measurements anew
+ */
+bool bafokun_happened(bafokun_node *node, bafokun_events *events);
+
+/*
+ * The answer to the last input: BAFOKUN_DONE, or BAFOKUN_REFUSED with the SDO abort code in
+ * abort_code, which is 0 otherwise; a refused event changes nothing. BAFOKUN_NO_EVENT if the last
+ * input was no event of the application, but a frame, a tick, or a BAFOKUN_BUS_OFF that had an
+ * effect; the other changes of bafokun_bus are events.
  */
 uint8_t bafokun_answer(bafokun_node *node, uint32_t *abort_code);
 
-/* How many bytes are held for the transfer of an SDO channel: at most 889 more than the entry has room for. */
+/*
+ * How many bytes are held for the transfer of an SDO channel: at most the capacity of the
+ * transferred entry plus 889. 0 if there is no such channel.
+ */
 size_t bafokun_held(bafokun_node *node, uint8_t channel);
 
 /*
- * Words for people, in English, which need no node. They are put into text with a 0 after them, and are cut where there is less
- * room; with room 0 nothing is written. The result is how long all words are, without the 0: less than 128.
+ * Texts for users, in English, without a node. A text is put into text with a 0 after it, and
+ * truncated if there is less room; with room 0 nothing is written. The result is the length of the
+ * whole text without the 0: less than 128.
  */
 
-/* What is wrong, of a fault as bafokun_build has written it; no words for BAFOKUN_FAULT_NONE. */
+/* The meaning of a fault that bafokun_build has written; empty for BAFOKUN_FAULT_NONE. */
 size_t bafokun_fault_text(const bafokun_fault *fault, char *text, size_t room);
 
-/* And how it is fixed. */
+/* How to fix such a fault. */
 size_t bafokun_fault_fix(const bafokun_fault *fault, char *text, size_t room);
 
-/* What an SDO abort code means (CiA 301, 7.2.4.3.17); no words for a code that the standard doesn't have. */
+/*
+ * The meaning of an SDO abort code (CiA 301, 7.2.4.3.17); empty for a code that the standard
+ * doesn't have.
+ */
 size_t bafokun_abort_text(uint32_t code, char *text, size_t room);
 
 #ifdef __cplusplus
