@@ -89,7 +89,7 @@ back = refl
 heard : with_seen (seen.Heartbeat 3) none ≡ none
 heard = refl
 
--- what is told is forgotten, but for the silence of node 2
+-- the events of an answer are forgotten, but for the silence of node 2
 told : told_of both_lost ≡ Some both_lost
 told = refl
 

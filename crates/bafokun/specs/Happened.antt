@@ -92,15 +92,15 @@ is_any e =
 abbrev pub forgotten : Events → Events
 forgotten e = record no_events { silent = e.silent }
 
--- what the application is told: nothing, if nothing happened
+-- what the application gets: nothing, if nothing happened
 abbrev pub told_of : Events → Option Events
 told_of e = if is_any e then Some e else None
 
--- what is left when it was told
+-- what is left after the answer
 abbrev pub left_of : Events → Events
 left_of e = if is_any e then forgotten e else e
 
--- C is told what happened; if nothing did, nothing changes
+-- C gets what happened; if nothing did, nothing changes
 abbrev pub IsTold : Option Events → Events → Events → Bool → Type 0
 IsTold None before after any = (after ≡ before) × (any ≡ false)
 IsTold (Some e) before after any = (after ≡ e) × (any ≡ true)
