@@ -5,6 +5,7 @@ pub mod EmergencyLaws
 mod Examples
 pub mod Failed
 mod FailureExamples
+pub mod Fours
 pub mod Grouped
 pub mod Loaded
 pub mod NodeEvents

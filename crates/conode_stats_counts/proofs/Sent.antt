@@ -16,7 +16,7 @@ abbrev pub CountsAll : Wire → List ℕ → Type 0
 CountsAll wire bits = (wire_after wire bits).bits ≡ wire.bits + (length bits + stuffed_from wire.last wire.run bits)
 
 -- a bit more, by its tests
-abbrev stepped : Bool → Bool → Wire → ℕ → Wire
+abbrev pub stepped : Bool → Bool → Wire → ℕ → Wire
 stepped same four wire bit =
     if same
     then (if four
