@@ -306,13 +306,10 @@ impl Node {
     }
 
     /// During this many ms the device sends nothing, and its entries, its NMT state and the bytes
-    /// held by SDO channels stay the same, if it gets no other input: a lower bound. 4294967295: they
-    /// stay so however long it gets none.
+    /// held by SDO channels stay the same, if it gets no other input: a lower bound.
     pub fn idle(&self) -> u32
-        ensures quiet { (k : Constants) (before : Inputs) → Stands k self.now before →
+        ensures { (k : Constants) (before : Inputs) → Stands k self.now before →
             IsQuietFor k before result }
-        ensures forever { (k : Constants) (before : Inputs) → Stands k self.now before →
-            result ≡ 4294967295 → (n : ℕ) → IsQuietFor k before n }
     {
         self.device.idle()
     }
