@@ -1,5 +1,6 @@
 pub mod Changes
 pub mod Counting
+pub mod Distinct
 mod EmergencyExamples
 pub mod EmergencyLaws
 mod Examples

@@ -1,5 +1,6 @@
 pub mod Bits
 pub mod Buses
+pub mod DistinctRows
 pub mod Emergencies
 pub mod Failures
 pub mod Gaps

@@ -11,6 +11,7 @@ mod load;
 mod node;
 mod nodes;
 mod row;
+mod rows;
 mod sign;
 mod size;
 mod state;
