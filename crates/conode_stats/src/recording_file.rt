@@ -5,13 +5,14 @@ ghost use Rattle.std.specs.Process.{exit_status};
 
 use crate::bit_rate::{bit_rate_in, rate_of};
 use crate::recording::{Recording, count};
+use crate::sheet_time::sheet_time;
 use co_sheet::read;
 use co_text::decimal_in;
 use conode_io::{
     CmdFault, cannot_read, faulty_sheet, file_text, flushed, hand_over, no_text, stopped,
 };
 use conode_logs::Form;
-use conode_stats_text::{Page, put_page, set_page};
+use conode_stats_text::{Page, SheetTime, put_page, set_page};
 use json::Writer;
 use std::alloc::{AllocError, Global};
 use std::fs;
@@ -26,7 +27,7 @@ const STANDARD_INPUT: &str = "-";
 #[derive(Clone, Copy)]
 pub struct StatsWords<'a> {
     /// The path of a data sheet, perhaps after its node-ID, as `5=sensor.dcf`. Its bit rate counts
-    /// if none is given.
+    /// if none is given, and its producer heartbeat time.
     pub sheet: Option<&'a str>,
     /// The bit rate, 1,000 to 1,000,000 bit/s, if one is given: `500k`, `1M`, `125000`.
     pub bit_rate: Option<&'a str>,
@@ -38,8 +39,9 @@ pub struct StatsWords<'a> {
 
 // how a recording is counted
 #[derive(Clone, Copy)]
-struct Settings {
+struct Settings<'a> {
     bit_rate: Option<u32>,
+    sheets: &'a [SheetTime<'a>],
     json: bool,
     log: Form,
 }
@@ -66,13 +68,14 @@ fn page_json(alloc: Global, page: &Page<'_>) -> Result<Vec<u8>, AllocError> {
 fn write_page<O: Write>(
     alloc: Global,
     recording: &Recording,
-    settings: &Settings,
+    settings: &Settings<'_>,
     out: &mut O,
 ) -> Result<(), CmdFault>
     requires { IfSome settings.now.bit_rate (λ rate. rate ≤ 1000000) }
 {
     let page = Page {
         counts: &recording.counts,
+        sheets: settings.sheets,
         bad: recording.bad,
         bit_rate: settings.bit_rate,
     };
@@ -88,7 +91,7 @@ fn write_page<O: Write>(
 fn stats<R: Read, O: Write, E: Write>(
     alloc: Global,
     input: &mut R,
-    settings: &Settings,
+    settings: &Settings<'_>,
     out: &mut O,
     err: &mut E,
 ) -> Result<u64, CmdFault>
@@ -103,7 +106,7 @@ fn stats<R: Read, O: Write, E: Write>(
 fn stats_input<R: Read, O: Write, E: Write>(
     alloc: Global,
     input: &mut R,
-    settings: &Settings,
+    settings: &Settings<'_>,
     out: &mut O,
     err: &mut E,
 ) -> ExitCode
@@ -122,7 +125,7 @@ fn stats_input<R: Read, O: Write, E: Write>(
 fn stats_path<R: Files + AllocGlobal + Input, O: Write, E: Write>(
     rt: &R,
     path: &str,
-    settings: &Settings,
+    settings: &Settings<'_>,
     out: &mut O,
     err: &mut E,
 ) -> ExitCode
@@ -138,41 +141,45 @@ fn stats_path<R: Files + AllocGlobal + Input, O: Write, E: Write>(
     }
 }
 
-// the path of a sheet, without the node-ID before it
-fn path_of(word: &str) -> &str {
+// the node-ID before the path of a sheet, if there is one, and the path
+fn node_and_path(word: &str) -> (Option<u8>, &str) {
     match word.split_once('=') {
         Some((front, path)) => match decimal_in(front.as_bytes(), 1, 127) {
-            Some(_) => path,
-            None => word,
+            Some(node) => (u8::try_from(node).ok(), path),
+            None => (None, word),
         },
-        None => word,
+        None => (None, word),
     }
 }
 
-// the page with the bit rate of a sheet's text, if none is given; the text has to be a sheet
+// the page with what the text of a node's sheet has; the text has to be a sheet
 fn stats_with<R: Files + AllocGlobal + Input, O: Write, E: Write>(
     rt: &R,
     path: &str,
+    node: Option<u8>,
     text: &[u8],
-    settings: Settings,
+    settings: Settings<'_>,
     out: &mut O,
     err: &mut E,
 ) -> ExitCode
     requires { IfSome settings.bit_rate (λ rate. rate ≤ 1000000) }
     ensures { (exit_status result ≡ 0) ⊎ (exit_status result ≡ 1) }
 {
-    if let Err(fault) = read(rt.alloc(), text) {
-        return faulty_sheet(fault, out);
-    }
+    let sheet = match read(rt.alloc(), text) {
+        Ok(sheet) => sheet,
+        Err(fault) => return faulty_sheet(fault, out),
+    };
     let bit_rate = match settings.bit_rate {
         Some(rate) => Some(rate),
         None => bit_rate_in(text),
     };
-    let settings = Settings {
-        bit_rate,
-        json: settings.json,
-        log: settings.log,
+    let mut settings = settings;
+    settings.bit_rate = bit_rate;
+    let Some(time) = sheet_time(&sheet, node) else {
+        return stats_path(rt, path, &settings, out, err);
     };
+    let times = [time];
+    settings.sheets = &times;
     stats_path(rt, path, &settings, out, err)
 }
 
@@ -181,7 +188,7 @@ fn stats_in<R: Files + AllocGlobal + Input, O: Write, E: Write>(
     rt: &R,
     path: &str,
     sheet: Option<&str>,
-    settings: Settings,
+    settings: Settings<'_>,
     out: &mut O,
     err: &mut E,
 ) -> ExitCode
@@ -191,9 +198,9 @@ fn stats_in<R: Files + AllocGlobal + Input, O: Write, E: Write>(
     let Some(word) = sheet else {
         return stats_path(rt, path, &settings, out, err);
     };
-    let sheet = path_of(word);
+    let (node, sheet) = node_and_path(word);
     match file_text(rt, sheet) {
-        Ok(text) => stats_with(rt, path, text.as_slice(), settings, out, err),
+        Ok(text) => stats_with(rt, path, node, text.as_slice(), settings, out, err),
         Err(fault) => no_text(fault, sheet, out, err),
     }
 }
@@ -231,6 +238,7 @@ pub fn stats_file<R: Files + AllocGlobal + Input, O: Write, E: Write>(
     };
     let settings = Settings {
         bit_rate,
+        sheets: &[],
         json: words.json,
         log: words.log,
     };

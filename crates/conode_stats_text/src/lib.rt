@@ -8,9 +8,10 @@ mod figures;
 mod lines;
 mod node_tokens;
 mod nodes;
+mod pace;
 mod page;
 mod tokens;
 mod wrong;
 
-pub use page::{Page, set_page};
+pub use page::{Page, SheetTime, set_page};
 pub use tokens::put_page;

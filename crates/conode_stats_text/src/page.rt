@@ -5,17 +5,30 @@ ghost use Rattle.std.specs.Prelude.{◌≤◌, IfSome};
 use crate::cells::push_name;
 use crate::failures::{push_emergency, push_failure, push_open};
 use crate::lines::{push_bus, push_load, push_row};
-use crate::nodes::{push_node_in, push_restarts};
+use crate::nodes::{is_shown, push_node_in, push_restarts};
 use crate::wrong::{push_count, push_wrong_in};
 use co_text::push_decimal;
 use conode_stats_counts::{Bus, Counts, FailureRow, Row};
 use std::alloc::{AllocError, Global};
+
+/// The producer heartbeat time, 1017:00, of a data sheet.
+#[derive(Clone, Copy)]
+pub struct SheetTime<'a> {
+    /// The interface that the sheet is for; `None`: each.
+    pub interface: Option<&'a [u8]>,
+    /// The node that it is for, 1 to 127; `None`: each.
+    pub node: Option<u8>,
+    /// The time in ms; 0 is for no heartbeats.
+    pub time: u16,
+}
 
 /// The contents of the page.
 #[derive(Drop)]
 pub struct Page<'a> {
     /// The counts of the recording.
     pub counts: &'a Counts,
+    /// The producer heartbeat times that data sheets have. The first one for a node counts.
+    pub sheets: &'a [SheetTime<'a>],
     /// How many lines of the recording are bad.
     pub bad: u64,
     /// The bit rate in bit/s, at most 1,000,000, if it is known.
@@ -28,7 +41,7 @@ const HEAD: &str =
 
 /// The columns of nodes.
 const NODE_HEAD: &str =
-    "interface            node     boot-ups    restarts    boot-up s  pre-operational s  operational s    stopped s    unknown s  at the end\n";
+    "interface            node     boot-ups    restarts    boot-up s  pre-operational s  operational s    stopped s    unknown s  longest answer ms  at the end\n";
 
 /// The words about SDO transfers without a line.
 const MORE_FAILURES: &str = "SDO transfers that failed with further nodes and codes";
@@ -121,17 +134,44 @@ fn push_emergencies_on(alloc: Global, text: &mut String, bus: &Bus) -> Result<()
     Ok(())
 }
 
+impl SheetTime<'_> {
+    // whether it is of a node on an interface
+    fn is_for(&self, interface: &[u8], node: u8) -> bool {
+        let is_there = match self.interface {
+            Some(name) => name == interface,
+            None => true,
+        };
+        let is_node = match self.node {
+            Some(own) => own == node,
+            None => true,
+        };
+        is_there && is_node && self.time != 0
+    }
+}
+
+// the producer heartbeat time of a node on an interface, in ms, if a sheet has it
+fn sheet_time(sheets: &[SheetTime<'_>], interface: &[u8], node: u8) -> Option<u16> {
+    for sheet in sheets {
+        if sheet.is_for(interface, node) {
+            return Some(sheet.time);
+        }
+    }
+    None
+}
+
 // the heartbeats that look wrong on a bus
 fn push_heartbeats_on(
-    alloc: Global,
     text: &mut String,
-    cell: &mut String,
+    sheets: &[SheetTime<'_>],
     bus: &Bus,
 ) -> Result<(), AllocError> {
     let end = bus.all().last;
-    let rows = sorted_rows(alloc, bus)?;
-    for row in &rows {
-        push_wrong_in(text, cell, bus.interface(), end, row)?;
+    for number in 1..128u8 {
+        if let Some(node) = bus.nodes().get(usize::from(number)) {
+            let time = sheet_time(sheets, bus.interface(), number);
+            let heartbeats = &node.heartbeats;
+            push_wrong_in(text, bus.interface(), end, time, u32::from(number), heartbeats)?;
+        }
     }
     Ok(())
 }
@@ -141,13 +181,14 @@ fn push_wrong_on(
     alloc: Global,
     text: &mut String,
     cell: &mut String,
+    sheets: &[SheetTime<'_>],
     bus: &Bus,
 ) -> Result<(), AllocError> {
     push_restarts_on(text, bus)?;
     push_failures_on(alloc, text, bus)?;
     push_open_on(text, bus)?;
     push_emergencies_on(alloc, text, bus)?;
-    push_heartbeats_on(alloc, text, cell, bus)?;
+    push_heartbeats_on(text, sheets, bus)?;
     cell.clear();
     push_name(cell, bus.interface())?;
     cell.push_str(": ")?;
@@ -169,7 +210,7 @@ fn push_all_wrong(
     text.push_str("What looks wrong\n")?;
     let before = text.len();
     for bus in page.counts.buses() {
-        push_wrong_on(alloc, text, cell, bus)?;
+        push_wrong_on(alloc, text, cell, page.sheets, bus)?;
     }
     push_count(text, "", "bad lines", page.bad)?;
     push_count(text, "", MORE_INTERFACES, page.counts.left_out())?;
@@ -201,9 +242,9 @@ fn push_front(text: &mut String, bus: &Bus, bit_rate: Option<u32>) -> Result<(),
     text.push_str("\n")
 }
 
-// whether a node sent a frame of error control
+// whether a node has a line
 fn has_nodes(bus: &Bus) -> bool {
-    bus.nodes().iter().any(|node| node.last.is_some())
+    bus.nodes().iter().any(|node| is_shown(node))
 }
 
 // the nodes of a bus, by node-ID
