@@ -1,6 +1,7 @@
 //! The producer heartbeat time of a data sheet.
 
 use co_sheet::{EntryRow, Preset, Sheet};
+use conode_sheet_words::SheetWord;
 use conode_stats_text::SheetTime;
 
 /// The index of the producer heartbeat time (CiA 301, 7.5.2.20).
@@ -25,16 +26,16 @@ fn time_in(sheet: &Sheet<'_>) -> Option<u16> {
 }
 
 /// The producer heartbeat time of a sheet, if it has one: ParameterValue, or else DefaultValue. It
-/// is for this node; if none is given for that of the sheet, a device configuration file; else for
-/// each.
-pub(crate) fn sheet_time(sheet: &Sheet<'_>, node: Option<u8>) -> Option<SheetTime<'static>> {
+/// is for the node and the interface that a word names; without a node for that of the sheet, a
+/// device configuration file; else for each.
+pub(crate) fn sheet_time<'a>(sheet: &Sheet<'_>, word: &SheetWord<'a>) -> Option<SheetTime<'a>> {
     let time = time_in(sheet)?;
-    let node = match node {
+    let node = match word.node {
         Some(node) => Some(node),
         None => sheet.node_id(),
     };
     Some(SheetTime {
-        interface: None,
+        interface: word.interface,
         node,
         time,
     })

@@ -27,7 +27,8 @@ pub struct SheetTime<'a> {
 pub struct Page<'a> {
     /// The counts of the recording.
     pub counts: &'a Counts,
-    /// The producer heartbeat times that data sheets have. The first one for a node counts.
+    /// The producer heartbeat times that data sheets have. For a node one for it comes before one
+    /// for each node, of those one for an interface, and of these the first.
     pub sheets: &'a [SheetTime<'a>],
     /// How many lines of the recording are bad.
     pub bad: u64,
@@ -135,8 +136,9 @@ fn push_emergencies_on(alloc: Global, text: &mut String, bus: &Bus) -> Result<()
 }
 
 impl SheetTime<'_> {
-    // whether it is of a node on an interface
-    fn is_for(&self, interface: &[u8], node: u8) -> bool {
+    // Whether it is of a node on an interface; and of these of one for a node, or for each, and of
+    // one for an interface, or for each.
+    fn is_for(&self, interface: &[u8], node: u8, kind: (bool, bool)) -> bool {
         let is_there = match self.interface {
             Some(name) => name == interface,
             None => true,
@@ -145,18 +147,33 @@ impl SheetTime<'_> {
             Some(own) => own == node,
             None => true,
         };
-        is_there && is_node && self.time != 0
+        let is_kind = (self.node.is_some(), self.interface.is_some()) == kind;
+        is_there && is_node && is_kind && self.time != 0
     }
 }
 
-// the producer heartbeat time of a node on an interface, in ms, if a sheet has it
-fn sheet_time(sheets: &[SheetTime<'_>], interface: &[u8], node: u8) -> Option<u16> {
+// the time of a node on an interface by the first sheet of a kind that has it
+fn time_by(
+    sheets: &[SheetTime<'_>],
+    interface: &[u8],
+    node: u8,
+    kind: (bool, bool),
+) -> Option<u16> {
     for sheet in sheets {
-        if sheet.is_for(interface, node) {
+        if sheet.is_for(interface, node, kind) {
             return Some(sheet.time);
         }
     }
     None
+}
+
+// The producer heartbeat time of a node on an interface, in ms, if a sheet has it: a sheet for one
+// node comes before one for each, and of those one for an interface.
+fn sheet_time(sheets: &[SheetTime<'_>], interface: &[u8], node: u8) -> Option<u16> {
+    time_by(sheets, interface, node, (true, true))
+        .or(time_by(sheets, interface, node, (true, false)))
+        .or(time_by(sheets, interface, node, (false, true)))
+        .or(time_by(sheets, interface, node, (false, false)))
 }
 
 // the heartbeats that look wrong on a bus
