@@ -5,5 +5,6 @@ pub mod Figures
 pub mod NodeLines
 pub mod NodeTokens
 pub mod Paces
+pub mod SheetTimes
 pub mod StatsLines
 pub mod StatsTokens

@@ -6,21 +6,11 @@ use crate::cells::push_name;
 use crate::failures::{push_emergency, push_failure, push_open};
 use crate::lines::{push_bus, push_load, push_row};
 use crate::nodes::{is_shown, push_node_in, push_restarts};
+use crate::sheet_times::{SheetTime, sheet_time};
 use crate::wrong::{push_count, push_wrong_in};
 use co_text::push_decimal;
 use conode_stats_counts::{Bus, Counts, FailureRow, Row};
 use std::alloc::{AllocError, Global};
-
-/// The producer heartbeat time, 1017:00, of a data sheet.
-#[derive(Clone, Copy)]
-pub struct SheetTime<'a> {
-    /// The interface that the sheet is for; `None`: each.
-    pub interface: Option<&'a [u8]>,
-    /// The node that it is for, 1 to 127; `None`: each.
-    pub node: Option<u8>,
-    /// The time in ms; 0 is for no heartbeats.
-    pub time: u16,
-}
 
 /// The contents of the page.
 #[derive(Drop)]
@@ -133,47 +123,6 @@ fn push_emergencies_on(alloc: Global, text: &mut String, bus: &Bus) -> Result<()
         push_emergency(text, bus.interface(), row)?;
     }
     Ok(())
-}
-
-impl SheetTime<'_> {
-    // Whether it is of a node on an interface; and of these of one for a node, or for each, and of
-    // one for an interface, or for each.
-    fn is_for(&self, interface: &[u8], node: u8, kind: (bool, bool)) -> bool {
-        let is_there = match self.interface {
-            Some(name) => name == interface,
-            None => true,
-        };
-        let is_node = match self.node {
-            Some(own) => own == node,
-            None => true,
-        };
-        let is_kind = (self.node.is_some(), self.interface.is_some()) == kind;
-        is_there && is_node && is_kind && self.time != 0
-    }
-}
-
-// the time of a node on an interface by the first sheet of a kind that has it
-fn time_by(
-    sheets: &[SheetTime<'_>],
-    interface: &[u8],
-    node: u8,
-    kind: (bool, bool),
-) -> Option<u16> {
-    for sheet in sheets {
-        if sheet.is_for(interface, node, kind) {
-            return Some(sheet.time);
-        }
-    }
-    None
-}
-
-// The producer heartbeat time of a node on an interface, in ms, if a sheet has it: a sheet for one
-// node comes before one for each, and of those one for an interface.
-fn sheet_time(sheets: &[SheetTime<'_>], interface: &[u8], node: u8) -> Option<u16> {
-    time_by(sheets, interface, node, (true, true))
-        .or(time_by(sheets, interface, node, (true, false)))
-        .or(time_by(sheets, interface, node, (false, true)))
-        .or(time_by(sheets, interface, node, (false, false)))
 }
 
 // the heartbeats that look wrong on a bus
