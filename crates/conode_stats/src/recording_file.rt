@@ -9,9 +9,7 @@ use crate::sheet_time::sheet_time;
 use co_sheet::{FaultKind, SheetFault, read};
 use conode_io::{CmdFault, cannot_read, flushed, hand_over, stopped};
 use conode_logs::Form;
-use conode_sheet_words::{
-    SheetText, SheetWord, bad_sheet, bad_sheet_word, sheet_words, texts_of,
-};
+use conode_sheet_words::{SheetText, SheetWord, bad_sheet, bad_sheet_word, sheet_words, texts_of};
 use conode_stats_text::{Page, SheetTime, put_page, set_page};
 use json::Writer;
 use std::alloc::{AllocError, Global};

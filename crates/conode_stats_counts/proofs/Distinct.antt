@@ -77,5 +77,7 @@ no_place id rows none = by_test (nat_lt (position_or_len (is_row id) rows) (leng
 
 pub push_keeps : (rows : List Row) (row : Row) → HaveDistinctIds rows → position (is_row row.can_id) rows ≡ None → HaveDistinctIds (rows ++ row ∷ [])
 push_keeps rows row have none =
-    record { distinct = subst AreDistinct (sym (map-append (λ r. r.can_id) rows (row ∷ [])))
-    (distinct_last (ids_of rows) row.can_id have.distinct (is_new rows row.can_id (no_place row.can_id rows none))) }
+    record {
+      distinct = subst AreDistinct (sym (map-append (λ r. r.can_id) rows (row ∷ [])))
+          (distinct_last (ids_of rows) row.can_id have.distinct (is_new rows row.can_id (no_place row.can_id rows none)));
+    }

@@ -121,8 +121,7 @@ impl Node {
     pub(crate) fn exchange(&mut self, frame: SdoFrame, micros: u64)
         ensures { self.new ≡ node_exchanged frame micros self.old }
     {
-        self.heartbeats
-            .write(frame.confirmed(self.pending), micros);
+        self.heartbeats.write(frame.confirmed(self.pending), micros);
         let time = frame.answer_time(self.pending, micros);
         self.longest_answer = longer(self.longest_answer, time);
         self.pending = frame.pending(micros);

@@ -1,6 +1,6 @@
 -- Which data sheet's producer heartbeat time is that of a node.
-use Rattle.std.specs.Prelude.{ℕ, ◌==◌, Bool, true, false, not, ◌&&◌, List, find, Option, Some, None, is_some, option_map, option_or}
-use Rattle.std.specs.Option.{option_copied}
+use Rattle.std.specs.Prelude.{ℕ, ◌==◌, Bool, true, false, not, ◌&&◌, List, find, Option, Some, None, is_some, option_map}
+use Rattle.std.specs.Option.{option_copied, option_or}
 use Rattle.std.specs.Str.{bytes_eq}
 use Rattle.conode_stats_text.specs.declared.sheet_times.SheetTime.{SheetTime}
 

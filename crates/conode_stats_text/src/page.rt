@@ -136,7 +136,14 @@ fn push_heartbeats_on(
         if let Some(node) = bus.nodes().get(usize::from(number)) {
             let time = sheet_time(sheets, bus.interface(), number);
             let heartbeats = &node.heartbeats;
-            push_wrong_in(text, bus.interface(), end, time, u32::from(number), heartbeats)?;
+            push_wrong_in(
+                text,
+                bus.interface(),
+                end,
+                time,
+                u32::from(number),
+                heartbeats,
+            )?;
         }
     }
     Ok(())

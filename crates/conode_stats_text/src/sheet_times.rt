@@ -66,9 +66,8 @@ fn time_by(
 ) -> Option<u16>
     ensures { result ≡ time_by of_node of_interface interface.now node sheets.now }
 {
-    let found = sheets
-        .iter()
-        .find(|sheet| sheet.is_kind(of_node, of_interface) && sheet.is_for(interface, node));
+    let found = sheets.iter().find(|sheet| sheet.is_kind(of_node, of_interface)
+        && sheet.is_for(interface, node));
     match found {
         Some(sheet) => Some(sheet.time),
         None => None,

@@ -113,7 +113,10 @@ fn push_late(
         ≡ string_bytes text.old ++ late_line interface.now node heartbeats.now) }
 {
     push_node(text, interface, node)?;
-    push_words(text, " heartbeats later than 1.5 times 1017h as downloaded: ")?;
+    push_words(
+        text,
+        " heartbeats later than 1.5 times 1017h as downloaded: ",
+    )?;
     push_decimal(text, heartbeats.late)?;
     push_words(text, ", up to ")?;
     push_thousandths(text, heartbeats.longest_late)?;
