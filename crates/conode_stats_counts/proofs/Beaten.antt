@@ -2,7 +2,7 @@
 use Rattle.std.proofs.Common.{ℕ, zero, suc, ◌+◌, ◌<◌, ◌≤◌, Bool, true, false, List, [], ◌∷◌, ◌++◌, ◌≡◌, ◌∙◌, Option, Some, None, length, take, reverse, set, refl, sym, ap, arith}
 use Rattle.std.specs.Prelude.{nat_lt, if◌then◌else◌}
 use Rattle.std.proofs.lemmas.Bool.Decides.{nat_tests}
-use Rattle.std.proofs.lemmas.List.{length-take-le}
+use Rattle.std.proofs.lemmas.List.{length-take-le, reverse-append}
 use Rattle.co_text.proofs.Tests.{by_test}
 use Rattle.conode_stats_counts.specs.declared.heartbeats.Heartbeats.{Heartbeats}
 use Rattle.conode_stats_counts.specs.declared.sdo_frame.SdoFrame.{SdoFrame}
@@ -25,7 +25,7 @@ added most gaps gap = if nat_lt (length gaps) most then gaps ++ gap ∷ [] else 
 taken_more : (xs : List ℕ) (gap n : ℕ) → added n (take n xs) gap ≡ take n (xs ++ gap ∷ [])
 taken_more [] gap zero = refl
 taken_more [] gap (suc zero) = refl
-taken_more [] gap (suc (suc n)) = refl
+taken_more [] gap (suc (suc n)) = let some : nat_lt 0 (suc (suc n)) ≡ true = grind (arith, nat_tests) in rw some refl
 taken_more (x ∷ xs) gap zero = refl
 taken_more (x ∷ xs) gap (suc n) =
     let rest = taken_more xs gap n in
@@ -38,7 +38,7 @@ taken_more (x ∷ xs) gap (suc n) =
     rw no (ap (λ (ys : List ℕ). x ∷ ys) it))
 
 first_more : (gaps : List ℕ) (gap : ℕ) → first_with gap (first_gaps gaps) ≡ first_gaps (gap ∷ gaps)
-first_more gaps gap = taken_more (reverse gaps) gap 32
+first_more gaps gap = taken_more (reverse gaps) gap 32 ∙ ap (λ (xs : List ℕ). take 32 xs) (sym (reverse-append (gap ∷ []) gaps))
 
 -- ---- all of it
 

@@ -1,5 +1,5 @@
 -- One event more of a node, as it is counted, is one event more by definition.
-use Rattle.std.proofs.Common.{ℕ, Bool, false, List, ◌∷◌, ◌≡◌, ◌+◌, ◌-◌, Option, Some, None, refl, ap, arith}
+use Rattle.std.proofs.Common.{ℕ, Bool, false, List, ◌∷◌, ◌≡◌, ◌∙◌, ◌+◌, ◌-◌, Option, Some, None, refl, ap, arith}
 use Rattle.std.specs.Prelude.{is_some, not, ◌&&◌, if◌then◌else◌}
 use Rattle.co_text.proofs.Tests.{by_test}
 use Rattle.conode_stats_counts.specs.declared.node.Node.{Node}

@@ -9,7 +9,7 @@ use std::marker::Model;
 const MOST_GAPS: usize = 32;
 
 /// The gaps that came first, in microseconds; at most 32.
-#[derive(Clone, Copy)]
+#[derive(Drop)]
 pub struct FirstGaps {
     gaps: [u64; 32],
     count: usize,

@@ -17,7 +17,7 @@ use crate::tally::counted;
 /// The heartbeats of a node (CiA 301, 7.2.8.3.2.1): how long each was awaited, in microseconds,
 /// since the frame of error control before it, or a download of the producer heartbeat time that
 /// came between them. No boot-up message is awaited. Counts saturate at 2^64 - 1.
-#[derive(Clone, Copy)]
+#[derive(Drop)]
 pub struct Heartbeats {
     /// The producer heartbeat time, 1017:00, in ms, if an expedited download set it since the last
     /// boot-up.

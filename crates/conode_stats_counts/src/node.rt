@@ -27,7 +27,7 @@ pub struct Shown {
 
 /// What a node shows by its frames of error control and the SDO frames on its default channel.
 /// Counts and sums saturate at 2^64 - 1.
-#[derive(Clone, Copy)]
+#[derive(Drop)]
 pub struct Node {
     /// Its newest frame of error control; `None` if there is none.
     pub last: Option<Shown>,

@@ -18,8 +18,11 @@ const MOST_NODES: usize = 128;
 pub(crate) fn new_nodes(alloc: Global) -> Result<Vec<Node>, AllocError>
     ensures { IfOk result (λ nodes. nodes.items ≡ nodes_of []) }
 {
-    let node = Node::new();
-    Ok(vec![in alloc; node; MOST_NODES]?)
+    let mut nodes = Vec::with_capacity(alloc, MOST_NODES)?;
+    for _number in 0..MOST_NODES {
+        nodes.push(Node::new())?;
+    }
+    Ok(nodes)
 }
 
 // notes a command to reset all nodes
