@@ -234,13 +234,13 @@ fn carry_out_task<O: Write, E: Write>(
         }
         Task::Stats {
             trace,
-            sheet,
+            sheets,
             bit_rate,
             lines_as,
             form,
         } => {
             let words = StatsWords {
-                sheet,
+                sheets: sheets.as_slice(),
                 bit_rate,
                 json: lines_as == LinesAs::Json,
                 log: recorded_form(form),

@@ -3,5 +3,4 @@ pub mod Explaining
 pub mod LogLemmas
 pub mod ServiceLemmas
 pub mod SheetExamples
-pub mod SheetWordLemmas
 pub mod WriteLemmas

@@ -5,7 +5,6 @@ ghost use Rattle.std.specs.Process.{exit_status};
 
 use crate::explained::explain;
 use crate::progress::{Layout, LineFormat};
-use crate::sheet_word::{SheetWord, SheetWordFault, sheet_words};
 use crate::sheets::{ReadSheet, known_sheets};
 use crate::writes::{Settings, write_header};
 use co_sheet::{FaultKind, GREATEST_SIZE, SheetFault, read};
@@ -13,8 +12,9 @@ use co_sheet_changes::Originals;
 use conode_explain_filter::{Filter, FilterFault, FilterWords};
 use conode_explain_signals::{Signal, SignalFault, first_missing};
 use conode_explain_text::StampForm;
-use conode_io::{CmdFault, cannot_read, faulty_sheet, file_text, flushed, no_text, stopped};
+use conode_io::{CmdFault, cannot_read, flushed, stopped};
 use conode_logs::Form;
+use conode_sheet_words::{SheetText, SheetWord, bad_sheet, bad_sheet_word, sheet_words, texts_of};
 use std::alloc::Global;
 use std::fs;
 use std::io::{Input, Read, Write};
@@ -126,13 +126,6 @@ fn explain_by<R: Files + AllocGlobal + Input, O: Write, E: Write>(
     }
 }
 
-// The text of a data sheet, and what its word names.
-#[derive(Drop)]
-struct SheetText<'a> {
-    word: SheetWord<'a>,
-    text: Vec<u8>,
-}
-
 // a data sheet, and its original data types
 fn sheet_in<'t>(alloc: Global, of: &'t SheetText<'_>) -> Result<ReadSheet<'t>, SheetFault> {
     let sheet = read(alloc, of.text.as_slice())?;
@@ -142,22 +135,6 @@ fn sheet_in<'t>(alloc: Global, of: &'t SheetText<'_>) -> Result<ReadSheet<'t>, S
         sheet,
         originals,
     })
-}
-
-// Says why a text is no data sheet, and of which file, where there are several. The status is 1.
-fn bad_sheet<O: Write, E: Write>(
-    fault: SheetFault,
-    path: &str,
-    several: bool,
-    out: &mut O,
-    err: &mut E,
-) -> ExitCode
-    ensures { exit_status result ≡ 1 }
-{
-    if several && fault.kind != FaultKind::Memory {
-        let _ = writeln!(err, "{path} has a fault");
-    }
-    faulty_sheet(fault, out)
 }
 
 // The data sheets of these texts. On an `Err` one is at fault, or memory ran out, and it is said.
@@ -185,30 +162,6 @@ fn sheets_in<'t, O: Write, E: Write>(
     Ok(sheets)
 }
 
-// The texts of the data sheets that words name. On an `Err` a file can't be read, or memory ran
-// out, and it is said.
-fn texts_of<'a, R: Files + AllocGlobal, O: Write, E: Write>(
-    rt: &R,
-    words: &[SheetWord<'a>],
-    out: &mut O,
-    err: &mut E,
-) -> Result<Vec<SheetText<'a>>, ExitCode>
-    ensures { IfErr result (λ status. exit_status status ≡ 1) }
-{
-    let mut texts = Vec::new(rt.alloc());
-    for word in words {
-        match file_text(rt, word.path) {
-            Ok(text) => {
-                if texts.push(SheetText { word: *word, text }).is_err() {
-                    return Err(stopped(CmdFault::Memory, out, err).status());
-                }
-            }
-            Err(fault) => return Err(no_text(fault, word.path, out, err)),
-        }
-    }
-    Ok(texts)
-}
-
 // explains the recording of a path by the data sheets that words name
 fn explain_named<R: Files + AllocGlobal + Input, O: Write, E: Write>(
     rt: &R,
@@ -227,23 +180,6 @@ fn explain_named<R: Files + AllocGlobal + Input, O: Write, E: Write>(
     match sheets_in(rt.alloc(), texts.as_slice(), out, err) {
         Ok(sheets) => explain_by(rt, path, sheets.as_slice(), form, out, err),
         Err(status) => status,
-    }
-}
-
-// says which word names no data sheet, and what it lacks
-fn bad_sheet_word<O: Write, E: Write>(
-    fault: SheetWordFault<'_>,
-    out: &mut O,
-    err: &mut E,
-) -> ExitCode
-    ensures { (exit_status result ≡ 1) ⊎ (exit_status result ≡ 2) }
-{
-    match fault {
-        SheetWordFault::Word(part, word) => {
-            let _ = writeln!(err, "--sheet: {word} has no {}", part.wanted());
-            ExitCode::from(2)
-        }
-        SheetWordFault::Memory => stopped(CmdFault::Memory, out, err).status(),
     }
 }
 

@@ -282,12 +282,12 @@ unfolding words_on_literals
 forms_of_logs = refl
 
 stats_of_a_recording : asked_after stats_command (codes "stats") (codes "t" ∷ [])
-    ≡ Some (stats (record { trace = codes "t"; sheet = None; bit_rate = None; lines_as = lines.Text; form = log_form.Auto }))
+    ≡ Some (stats (record { trace = codes "t"; sheets = []; bit_rate = None; lines_as = lines.Text; form = log_form.Auto }))
 unfolding words_on_literals
 stats_of_a_recording = refl
 
-stats_with_options : asked_after stats_command (codes "stats") (codes "--bitrate" ∷ codes "500k" ∷ codes "-" ∷ codes "--sheet=5=s" ∷ codes "--format=json" ∷ codes "--log" ∷ codes "asc" ∷ [])
-    ≡ Some (stats (record { trace = codes "-"; sheet = Some (codes "5=s"); bit_rate = Some (codes "500k"); lines_as = lines.Json; form = log_form.Asc }))
+stats_with_options : asked_after stats_command (codes "stats") (codes "--bitrate" ∷ codes "500k" ∷ codes "-" ∷ codes "--sheet=5=s" ∷ codes "--sheet" ∷ codes "can1:d" ∷ codes "--format=json" ∷ codes "--log" ∷ codes "asc" ∷ [])
+    ≡ Some (stats (record { trace = codes "-"; sheets = codes "5=s" ∷ codes "can1:d" ∷ []; bit_rate = Some (codes "500k"); lines_as = lines.Json; form = log_form.Asc }))
 unfolding words_on_literals
 stats_with_options = refl
 

@@ -146,11 +146,11 @@ unfoldable pub convert_command : App
 convert_command =
     with_rule (with_rule (new_app (codes "convert")) (wanted (codes "LOG"))) log_option
 
--- `stats TRACE [--sheet SHEET] [--bitrate RATE] [--format FORMAT] [--log FORM]`
+-- `stats TRACE [--sheet SHEET].. [--bitrate RATE] [--format FORMAT] [--log FORM]`
 unfoldable pub stats_command : App
 stats_command =
     with_rule (with_rule (with_rule (with_rule (with_rule (new_app (codes "stats")) (wanted (codes "TRACE")))
-    (valued (codes "sheet"))) (valued (codes "bitrate"))) (worded (codes "format") (codes "text"))) log_option
+    (repeated (codes "sheet"))) (valued (codes "bitrate"))) (worded (codes "format") (codes "text"))) log_option
 
 -- the most ms that an option takes
 abbrev pub most_ms : ℕ

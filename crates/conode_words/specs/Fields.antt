@@ -85,7 +85,7 @@ AsksFor name rows (explain a) =
 AsksFor name rows (convert a) =
     (name ≡ codes "convert") × IsWord (codes "LOG") rows a.log × IsChoice log_form_of (codes "log") rows a.form
 AsksFor name rows (stats a) =
-    (name ≡ codes "stats") × IsWord (codes "TRACE") rows a.trace × (a.sheet ≡ first_of (codes "sheet") rows)
+    (name ≡ codes "stats") × IsWord (codes "TRACE") rows a.trace × (a.sheets ≡ words_for (codes "sheet") rows)
     × (a.bit_rate ≡ first_of (codes "bitrate") rows) × IsChoice lines_as_of (codes "format") rows a.lines_as
     × IsChoice log_form_of (codes "log") rows a.form
 AsksFor name rows (compare a) =

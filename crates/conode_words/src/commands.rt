@@ -252,8 +252,8 @@ const STATS: [Word; 5] = [
     RECORDING,
     Word(
         "sheet",
-        Valued("SHEET"),
-        "A data sheet, for its Baudrate; 5=SHEET: of node 5",
+        Repeated("SHEET"),
+        "A data sheet; 5=SHEET: of node 5, can1:SHEET: of can1",
     ),
     Word(
         "bitrate",

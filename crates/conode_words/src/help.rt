@@ -286,7 +286,8 @@ pub const COUNTED: &str = "\
 Counts the frames of a recording and prints one page: what looks wrong, as
 restarts, silent nodes, failed SDO transfers and EMCY messages; the load; the
 states of each node; and the frames by interface and identifier, with their
-gaps. Of a sheet its Baudrate is taken. `-` as TRACE is standard input.
+gaps. Of a sheet its Baudrate and its producer heartbeat time are taken; it is
+named as for explain. `-` as TRACE is standard input.
 
   conode stats drive.log --bitrate 500k
 

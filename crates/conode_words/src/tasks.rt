@@ -234,8 +234,8 @@ pub enum Task<'a> {
     Stats {
         /// The recording's path, `-` for standard input.
         trace: &'a str,
-        /// The path of a data sheet, perhaps after its node-ID, as `5=sensor.eds`.
-        sheet: Option<&'a str>,
+        /// The words that name data sheets, as those of `explain`.
+        sheets: Vec<&'a str>,
         /// The word for the bit rate of the bus; `None`: it isn't given.
         bit_rate: Option<&'a str>,
         /// How the page is written.

@@ -2,7 +2,7 @@
 
 ghost use Rattle.std.specs.Prelude.{◌≡◌, ◌++◌, ◌∷◌, [], IfOk, IfErr, OnOk, Ok, Err, map};
 ghost use Rattle.std.specs.Option.{option_copied, option_map};
-ghost use Rattle.conode_explain.specs.SheetWords.{
+ghost use Rattle.conode_sheet_words.specs.SheetWords.{
   IsWrong,
   cut_at,
   first_cut,
@@ -23,9 +23,12 @@ use std::alloc::{AllocError, Global};
 
 /// The part of a word that is wrong.
 #[derive(Clone, Copy, PartialEq, Eq)]
-pub(crate) enum SheetPart {
+pub enum SheetPart {
+    /// What comes before the colon.
     Interface,
+    /// What comes before the equals sign.
     Node,
+    /// The path.
     Path,
 }
 
@@ -42,7 +45,7 @@ impl SheetPart {
 
 /// What is wrong with the words that name data sheets.
 #[derive(Clone, Copy)]
-pub(crate) enum SheetWordFault<'a> {
+pub enum SheetWordFault<'a> {
     /// A part of a word.
     Word(SheetPart, &'a str),
     /// Memory ran out.
@@ -51,7 +54,7 @@ pub(crate) enum SheetWordFault<'a> {
 
 impl<'a> From<AllocError> for SheetWordFault<'a> {
     ghost use Rattle.std.specs.Prelude.{◌≡◌};
-    ghost use Rattle.conode_explain.specs.declared.sheet_word.SheetWordFault.TheVariants.{Memory};
+    ghost use Rattle.conode_sheet_words.specs.declared.sheet_word.SheetWordFault.TheVariants.{Memory};
 
     ghost from_gives = { λ _ fault. fault ≡ Memory };
 
@@ -62,13 +65,13 @@ impl<'a> From<AllocError> for SheetWordFault<'a> {
 
 /// A data sheet as a word names it: `[INTERFACE:][NODE=]FILE`.
 #[derive(Clone, Copy)]
-pub(crate) struct SheetWord<'a> {
+pub struct SheetWord<'a> {
     /// The interface that it is for; `None`: each.
-    pub(crate) interface: Option<&'a [u8]>,
+    pub interface: Option<&'a [u8]>,
     /// The node that it is for, 1 to 127; `None`: the sheet's own, if it has one, else each.
-    pub(crate) node: Option<u8>,
+    pub node: Option<u8>,
     /// Its path.
-    pub(crate) path: &'a str,
+    pub path: &'a str,
 }
 
 fn at_colon(word: &str) -> Option<(&str, &str)>
@@ -218,7 +221,7 @@ fn add<'a>(found: &mut Vec<SheetWord<'a>>, word: SheetWord<'a>) -> Result<(), Al
 }
 
 /// What words name; on an `Err` a word that names no data sheet, or memory ran out.
-pub(crate) fn sheet_words<'a>(
+pub fn sheet_words<'a>(
     alloc: Global,
     words: &[&'a str],
 ) -> Result<Vec<SheetWord<'a>>, SheetWordFault<'a>>
