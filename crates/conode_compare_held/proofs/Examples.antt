@@ -7,6 +7,7 @@ use Rattle.co_sheet.specs.Limits.{absent}
 use Rattle.co_value.specs.declared.data_type.DataType.{DataType}
 use Rattle.co_value.specs.declared.data_type.DataType.TheVariants.{Boolean, Integer32, Unsigned16, Unsigned40, VisibleString}
 use Rattle.co_value.specs.declared.key.Key.{Key}
+use Rattle.co_value.specs.KeyTexts.{key_in}
 use Rattle.conode_compare_transfers.specs.declared.dialogue.Asked.{Asked}
 use Rattle.conode_explain_transfers.specs.declared.ended.Ended.{Ended}
 use Rattle.conode_explain_transfers.specs.declared.ended.Ending.{Ending}
@@ -46,42 +47,42 @@ long = record { key = record { index = 0x2004; sub = 0x0A }; width = 4 }
 
 -- "2000:00"
 one_key : held_in rows (50 ∷ 48 ∷ 48 ∷ 48 ∷ 58 ∷ 48 ∷ 48 ∷ []) ≡ Some (word ∷ [])
-unfolding held_of words_in
+unfolding held_of words_in key_in
 one_key = refl
 
 -- "2004:0a,2000:00"
 two_keys : held_in rows (50 ∷ 48 ∷ 48 ∷ 52 ∷ 58 ∷ 48 ∷ 97 ∷ 44 ∷ 50 ∷ 48 ∷ 48 ∷ 48 ∷ 58 ∷ 48 ∷ 48 ∷ []) ≡ Some (long ∷ word ∷ [])
-unfolding held_of words_in
+unfolding held_of words_in key_in
 two_keys = refl
 
 -- "", "2000:00," and "2000:0"
 no_key : held_in rows [] ≡ None
-unfolding held_of words_in
+unfolding held_of words_in key_in
 no_key = refl
 
 last_empty : held_in rows (50 ∷ 48 ∷ 48 ∷ 48 ∷ 58 ∷ 48 ∷ 48 ∷ 44 ∷ []) ≡ None
-unfolding held_of words_in
+unfolding held_of words_in key_in
 last_empty = refl
 
 short_key : held_in rows (50 ∷ 48 ∷ 48 ∷ 48 ∷ 58 ∷ 48 ∷ []) ≡ None
-unfolding held_of words_in
+unfolding held_of words_in key_in
 short_key = refl
 
 -- "2000:01" isn't in the sheet; a BOOLEAN, five bytes and a string
 missing : held_in rows (50 ∷ 48 ∷ 48 ∷ 48 ∷ 58 ∷ 48 ∷ 49 ∷ []) ≡ None
-unfolding held_of words_in
+unfolding held_of words_in key_in
 missing = refl
 
 one_bit : held_in rows (50 ∷ 48 ∷ 48 ∷ 49 ∷ 58 ∷ 48 ∷ 48 ∷ []) ≡ None
-unfolding held_of words_in
+unfolding held_of words_in key_in
 one_bit = refl
 
 five_bytes : held_in rows (50 ∷ 48 ∷ 48 ∷ 50 ∷ 58 ∷ 48 ∷ 48 ∷ []) ≡ None
-unfolding held_of words_in
+unfolding held_of words_in key_in
 five_bytes = refl
 
 string : held_in rows (50 ∷ 48 ∷ 48 ∷ 51 ∷ 58 ∷ 48 ∷ 48 ∷ []) ≡ None
-unfolding held_of words_in
+unfolding held_of words_in key_in
 string = refl
 
 -- ---- what is known, and what differs

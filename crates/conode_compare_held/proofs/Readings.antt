@@ -1,5 +1,5 @@
 -- The words of a text, one after the other.
-use Rattle.std.proofs.Common.{◌≡◌, ℕ, ◌==◌, ◌<◌, ◌+◌, ◌-◌, Bool, true, false, List, [], ◌∷◌, ◌++◌, length, drop, length-drop, Option, Some, None, IfSome, IfNone, Bor, is_some, refl, sym, ap, ◌∙◌, append_assoc, arith, ltb}
+use Rattle.std.proofs.Common.{◌≡◌, ℕ, ◌==◌, ◌<◌, ◌+◌, Bool, true, List, [], ◌∷◌, ◌++◌, length, length-drop, Option, Some, None, IfSome, IfNone, Bor, is_some, refl, sym, ap, ◌∙◌, append_assoc, arith, ltb}
 use Rattle.std.specs.List.{list_any, before_first, after_first, position_or_len}
 use Rattle.std.proofs.lemmas.Bool.Decides.{nat_tests}
 use Rattle.co_text.proofs.CutLemmas.{first_part, list_any-position, one_part}

@@ -103,7 +103,7 @@ fn entry_in(rows: &[EntryRow<'_>], word: &[u8]) -> Result<HeldEntry, HeldFault>
 }
 
 // the first word, and what is after its comma; `None` where it is one word
-#[tactic(auto, using(crate::proofs::Readings::one_if, crate::proofs::Readings::more_if, crate::proofs::Readings::shorter_if))]
+#[tactic(auto, using(crate::proofs::Readings::shorter_if))]
 fn first_word(text: &[u8]) -> Option<(&[u8], &[u8])>
     ensures one { IfNone result (words_in text.now ≡ text.now ∷ []) }
     ensures more { IfSome result (λ cut. words_in text.now ≡ cut.0.now ∷ words_in cut.1.now) }
@@ -123,7 +123,8 @@ impl HeldEntries {
     }
 
     fn add(&mut self, entry: HeldEntry) -> Result<(), HeldFault>
-        ensures { OnOk result (self.new.entries.items ≡ self.old.entries.items ++ entry ∷ []) }
+        ensures ok { OnOk result (self.new.entries.items ≡ self.old.entries.items ++ entry ∷ []) }
+        ensures err { IfErr result (λ fault. fault ≡ HeldFault.TooMany) }
     {
         if self.entries.is_full() {
             return Err(HeldFault::TooMany);
@@ -155,10 +156,13 @@ impl HeldEntries {
     pub(crate) fn entry(&self, key: Key) -> Option<HeldEntry>
         ensures { result ≡ entry_of self.now.entries.items key }
     {
-        match self.entries.iter().find(|entry| entry.key == key) {
-            Some(entry) => Some(*entry),
-            None => None,
+        let entries = self.entries.as_slice();
+        for entry in entries {
+            if entry.key == key {
+                return Some(*entry);
+            }
         }
+        None
     }
 
     /// The place of a key among those that are held.

@@ -147,9 +147,12 @@ impl Learned {
     pub fn number(&self, key: Key) -> Option<u64>
         ensures { result ≡ number_of self.now key }
     {
-        match self.shown.iter().find(|shown| shown.key == key) {
-            Some(shown) => Some(shown.number),
-            None => None,
+        let all = self.shown.as_slice();
+        for shown in all {
+            if shown.key == key {
+                return Some(shown.number);
+            }
         }
+        None
     }
 }
