@@ -252,6 +252,9 @@ fn carry_out_task<O: Write, E: Write>(
             trace,
             node,
             interface,
+            held,
+            choices,
+            learned,
             form,
             timing,
         } => {
@@ -265,7 +268,10 @@ fn carry_out_task<O: Write, E: Write>(
                 node,
                 limits,
                 interface,
+                held,
                 form: recorded_form(form),
+                choices,
+                learned,
             };
             compare_files(rt, sheet, trace, asked, out, err)
         }

@@ -1,4 +1,5 @@
 pub mod Compared
+pub mod Noted
 pub mod Taking
 pub mod Verdicts
 pub mod Views

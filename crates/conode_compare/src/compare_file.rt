@@ -9,10 +9,15 @@ ghost use Rattle.conode_compare.specs.Verdicts.{no_frame, verdict_status};
 use crate::compared::compare;
 use crate::comparing::Comparing;
 use crate::writes::Settings;
-use co_sheet::{Sheet, read};
+use co_sheet::{EntryRow, Sheet, read};
 use co_sheet_changes::Originals;
+use conode_compare_held::{HeldEntries, HeldFault};
+use conode_compare_notes::Learned;
+use conode_compare_pdos::number_of;
 use conode_compare_rules::{Limits, Subject, facts_of};
-use conode_compare_text::{Tally, set_summary};
+use conode_compare_text::{Tally, set_choices_summary, set_learned_line, set_summary};
+use conode_decode::shown_name;
+use conode_explain_values::ValueType;
 use conode_io::{
     CmdFault, cannot_read, faulty_sheet, file_text, flushed, hand_over, no_node_id, no_text,
     out_of_memory, stopped,
@@ -39,8 +44,15 @@ pub struct Asked<'s> {
     pub limits: Limits,
     /// The interface whose frames are compared; `None`: the only one that there is.
     pub interface: Option<&'s str>,
+    /// The keys of the entries that are held to what was written, with a comma between two; `None`:
+    /// none.
+    pub held: Option<&'s str>,
     /// In which form the log is.
     pub form: Form,
+    /// Whether choices have lines, and are counted in the last line.
+    pub choices: bool,
+    /// Whether the values of entries have lines after that.
+    pub learned: bool,
 }
 
 // whether no frame of the device came
@@ -73,29 +85,71 @@ fn say_why<E: Write>(node: u8, tally: Tally, several: bool, err: &mut E) {
     }
 }
 
-// writes the last line
+// writes the line that counts the frames, with the number of choices, if that is asked for
 fn write_summary<O: Write>(
-    alloc: Global,
-    node: u8,
-    tally: Tally,
+    text: &mut String,
+    settings: &Settings<'_, '_>,
+    comparing: &Comparing,
     out: &mut O,
 ) -> Result<(), CmdFault> {
-    let mut text = String::new(alloc);
-    set_summary(&mut text, node, tally)?;
+    let node = settings.subject.node;
+    let (tally, _) = comparing.ends();
+    if settings.choices {
+        set_choices_summary(text, node, tally, comparing.notes().choices)?;
+    } else {
+        set_summary(text, node, tally)?;
+    }
     hand_over(text.as_bytes(), out)
 }
 
-// what is known at the end, once its last line is written
+// writes the line of an entry, if the recording showed a number of it
+fn write_value<O: Write>(
+    text: &mut String,
+    settings: &Settings<'_, '_>,
+    row: &EntryRow<'_>,
+    learned: &Learned,
+    out: &mut O,
+) -> Result<(), CmdFault> {
+    let (Some(width), Some(number)) = (row.data_type.width(), learned.number(row.key)) else {
+        return Ok(());
+    };
+    if width > 4 {
+        return Ok(());
+    }
+    let value_type = ValueType::of(settings.originals.at(row.line), row.data_type);
+    let sheet = number_of(settings.subject.node, row.default);
+    let name = shown_name(row);
+    set_learned_line(text, name, row.key, value_type, width, number, sheet)?;
+    hand_over(text.as_bytes(), out)
+}
+
+// writes the lines of the entries of which the recording showed a number
+fn write_values<O: Write>(
+    text: &mut String,
+    settings: &Settings<'_, '_>,
+    learned: &Learned,
+    out: &mut O,
+) -> Result<(), CmdFault> {
+    for row in settings.rows {
+        write_value(text, settings, row, learned, out)?;
+    }
+    Ok(())
+}
+
+// what is known at the end, once its last lines are written
 fn summed<O: Write>(
     alloc: Global,
-    node: u8,
+    settings: &Settings<'_, '_>,
     outcome: Result<Comparing, CmdFault>,
     out: &mut O,
 ) -> Result<(Tally, bool), CmdFault> {
     let comparing = outcome?;
-    let (tally, several) = comparing.ends();
-    write_summary(alloc, node, tally, out)?;
-    Ok((tally, several))
+    let mut text = String::new(alloc);
+    write_summary(&mut text, settings, &comparing, out)?;
+    if settings.learned {
+        write_values(&mut text, settings, &comparing.notes().learned, out)?;
+    }
+    Ok(comparing.ends())
 }
 
 // compares an input
@@ -112,7 +166,7 @@ fn compare_input<R: Read, O: Write, E: Write>(
 {
     let outcome = compare(alloc, input, settings, form, out, err);
     let node = settings.subject.node;
-    let outcome = summed(alloc, node, outcome, out);
+    let outcome = summed(alloc, settings, outcome, out);
     match flushed(out, outcome) {
         Ok((tally, several)) => {
             say_why(node, tally, several, err);
@@ -149,6 +203,31 @@ fn compare_path<R: Files + AllocGlobal + Input, O: Write, E: Write>(
     }
 }
 
+// the entries that are held to what was written
+fn held_entries(rows: &[EntryRow<'_>], keys: Option<&str>) -> Result<HeldEntries, HeldFault>
+    requires { AllPairs (λ e f. is_key_before e.key f.key ≡ true) rows.now }
+{
+    match keys {
+        Some(keys) => HeldEntries::read(rows, keys.as_bytes()),
+        None => Ok(HeldEntries::none()),
+    }
+}
+
+// says on `err` what is wrong with the word that names them
+fn bad_keys<E: Write>(fault: HeldFault, err: &mut E) -> ExitCode
+    ensures { exit_status result ≡ 2 }
+{
+    let _ = match fault {
+        HeldFault::Word => writeln!(err, "--held: keys are wanted, as 2001:00,2010:00"),
+        HeldFault::Entry(key) => writeln!(
+            err,
+            "--held: the data sheet has no integer of up to four bytes at {key}"
+        ),
+        HeldFault::TooMany => writeln!(err, "--held: more than 64 keys"),
+    };
+    ExitCode::from(NOT_COMPARED)
+}
+
 // compares the recording of a path with a data sheet, whose entries have these original data types
 fn compare_sheet<R: Files + AllocGlobal + Input, O: Write, E: Write>(
     rt: &R,
@@ -165,11 +244,16 @@ fn compare_sheet<R: Files + AllocGlobal + Input, O: Write, E: Write>(
         return no_node_id(err);
     };
     let rows = sheet.entries();
+    let held = match held_entries(rows, asked.held) {
+        Ok(held) => held,
+        Err(fault) => return bad_keys(fault, err),
+    };
     let configured = sheet.node_id().is_some();
     let subject = Subject {
         node,
         limits: asked.limits,
         facts: facts_of(rows, node, configured),
+        held,
     };
     let interface = match asked.interface {
         Some(name) => Some(name.as_bytes()),
@@ -181,6 +265,8 @@ fn compare_sheet<R: Files + AllocGlobal + Input, O: Write, E: Write>(
         originals,
         recording,
         interface,
+        choices: asked.choices,
+        learned: asked.learned,
     };
     compare_path(rt, &settings, asked.form, out, err)
 }

@@ -18,12 +18,14 @@ ghost use Rattle.conode_compare.specs.Compared.{
 };
 ghost use Rattle.conode_compare.specs.Views.{comparison_view};
 
+use crate::notes::Notes;
 use crate::writes::{Settings, write_findings};
 use arrayvec::ArrayVec;
-use conode_compare_rules::{Findings, Progress, Subject, kind_of};
+use conode_compare_rules::{Findings, FrameKind, Progress, Subject, kind_of};
 use conode_compare_text::Tally;
 use conode_io::CmdFault;
 use conode_record::Record;
+use std::alloc::Global;
 use std::io::Write;
 
 /// How far a recording is compared.
@@ -35,6 +37,8 @@ pub struct Comparing {
     pub(crate) first: ArrayVec<u8, 15>,
     /// Whether frames came on another one, where none is named.
     pub(crate) several: bool,
+    /// What is noted beside differences.
+    pub(crate) notes: Notes,
 }
 
 // whether a frame is of the interface that is compared: the one that is named, else that of the
@@ -50,7 +54,7 @@ fn is_compared(interface: Option<&[u8]>, first: &[u8], name: &[u8]) -> bool
 
 impl Comparing {
     /// No frame came.
-    pub(crate) fn new(subject: &Subject) -> Comparing
+    pub(crate) fn new(alloc: Global, subject: &Subject) -> Comparing
         ensures { result ≡ nothing_compared subject.now }
     {
         Comparing {
@@ -58,6 +62,7 @@ impl Comparing {
             tally: Tally::new(),
             first: ArrayVec::new(),
             several: false,
+            notes: Notes::new(alloc),
         }
     }
 
@@ -67,6 +72,13 @@ impl Comparing {
         ensures { result ≡ (self.now.tally, self.now.several) }
     {
         (self.tally, self.several)
+    }
+
+    /// What is noted of the device beside differences.
+    pub fn notes(&self) -> &Notes
+        ensures { result.now ≡ self.now.notes }
+    {
+        &self.notes
     }
 
     // notes the interface of the first frame
@@ -89,19 +101,23 @@ impl Comparing {
         }
     }
 
-    // what is found at a frame of the interface
+    // what is found at a frame of the interface, by what it is to the device
     #[tactic(auto, unfolding(crate::specs::Compared::frame_taken))]
-    fn take(&mut self, settings: &Settings<'_, '_>, frame: &Record<'_>) -> Findings
+    fn take(
+        &mut self,
+        settings: &Settings<'_, '_>,
+        frame: &Record<'_>,
+        kind: &FrameKind,
+    ) -> Findings
         requires rows { AllPairs (λ e f. is_key_before e.key f.key ≡ true) settings.now.rows.now }
-        requires id { IsIdentifier frame.now.id }
         ensures found { result ≡ found_at
-            (comparison_view settings.now) self.old frame.now }
-        ensures next { self.new ≡ frame_taken (comparison_view settings.now) self.old frame.now }
+            (comparison_view settings.now) self.old frame.now kind.now }
+        ensures next { self.new
+            ≡ frame_taken (comparison_view settings.now) self.old frame.now kind.now }
     {
-        let kind = kind_of(settings.subject.node, frame.id, &frame.content);
         let found = self
             .progress
-            .take(&settings.subject, settings.rows, frame.micros, &kind);
+            .take(&settings.subject, settings.rows, frame.micros, kind);
         self.tally.count(found.verdict);
         self.note_first(frame.interface.bytes());
         found
@@ -130,7 +146,11 @@ impl Comparing {
             self.note_other(settings.interface);
             return Ok(());
         }
-        let found = self.take(settings, frame);
-        write_findings(text, settings, number, found, out)
+        let kind = kind_of(settings.subject.node, frame.id, &frame.content);
+        let found = self.take(settings, frame, &kind);
+        write_findings(text, settings, number, found, out)?;
+        let exchange = &self.progress.exchange;
+        self.notes
+            .take(text, settings, number, &kind, exchange, out)
     }
 }

@@ -5,9 +5,11 @@ mod compare_file;
 mod compared;
 mod comparing;
 mod line;
+mod notes;
 mod writes;
 
 pub use compare_file::{Asked, compare_files};
 pub use compared::compare;
 pub use comparing::Comparing;
+pub use notes::Notes;
 pub use writes::Settings;

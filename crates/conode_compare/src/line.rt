@@ -128,7 +128,7 @@ impl Lines {
         Lines {
             lines: BoundedLines::new(),
             log: Log { form, clock: 0 },
-            comparing: Comparing::new(&settings.subject),
+            comparing: Comparing::new(alloc, &settings.subject),
             text: String::new(alloc),
             frame: Vec::new(alloc),
         }

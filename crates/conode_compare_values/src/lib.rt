@@ -6,4 +6,4 @@ mod mismatch;
 mod values;
 
 pub use mismatch::Mismatch;
-pub use values::mismatch_at;
+pub use values::{mismatch_at, shown_number};

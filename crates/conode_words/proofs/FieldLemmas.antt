@@ -206,6 +206,9 @@ compare_fields rows a e =
       e1,
       refl,
       refl,
+      refl,
+      refl,
+      refl,
       chosen log_form_of (first_of (codes "log") rows) form e2,
       timing_fields rows timing e3,
     )))))
@@ -388,10 +391,10 @@ timing_is rows t h =
 
 compare_is : (rows : List Row) (a : AskedCompare) → AsksFor (codes "compare") rows (compare a) → asked_compare rows ≡ Some (compare a)
 unfolding asked_compare log_form_for
-compare_is rows a (name_is, sheet, trace, node, interface, f, t) =
+compare_is rows a (name_is, sheet, trace, node, interface, held, choices, learned, f, t) =
     let form = choice_is log_form_of (first_of (codes "log") rows) a.form f in
     let timing = timing_is rows a.timing t in
-    rw (sheet, trace, form, timing, ← node, ← interface) refl
+    rw (sheet, trace, form, timing, ← node, ← interface, ← held, ← choices, ← learned) refl
 
 pub only_asked : (name : Text) (rows : List Row) (a : Asked) → AsksFor name rows a → asked_in name rows ≡ Some a
 only_asked name rows (check a) h = ap (λ (n : Text). asked_in n rows) h.0 ∙ named_check rows ∙ check_is rows a (subst (λ (n : Text). AsksFor n rows (check a)) h.0 h)

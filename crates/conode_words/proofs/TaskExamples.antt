@@ -301,18 +301,24 @@ compare_with_a_sheet : asked_after compare_command (codes "compare") (codes "s" 
       trace = codes "t";
       node = None;
       interface = None;
+      held = None;
+      choices = false;
+      learned = false;
       form = log_form.Auto;
       timing = record { tolerance = 10; drift = 1; answer = 1000; boot = 10000 };
     }))
 unfolding words_on_literals
 compare_with_a_sheet = refl
 
-compare_with_options : asked_after compare_command (codes "compare") (codes "s" ∷ codes "--node=5" ∷ codes "t" ∷ codes "--interface" ∷ codes "can0" ∷ codes "--log=trc" ∷ codes "--tolerance" ∷ codes "0" ∷ codes "--drift=100" ∷ codes "--answer=4294967295" ∷ codes "--boot=1" ∷ [])
+compare_with_options : asked_after compare_command (codes "compare") (codes "s" ∷ codes "--node=5" ∷ codes "t" ∷ codes "--interface" ∷ codes "can0" ∷ codes "--log=trc" ∷ codes "--held=2001:00,2010:00" ∷ codes "--choices" ∷ codes "--learned" ∷ codes "--tolerance" ∷ codes "0" ∷ codes "--drift=100" ∷ codes "--answer=4294967295" ∷ codes "--boot=1" ∷ [])
     ≡ Some (compare (record {
       sheet = codes "s";
       trace = codes "t";
       node = Some 5;
       interface = Some (codes "can0");
+      held = Some (codes "2001:00,2010:00");
+      choices = true;
+      learned = true;
       form = log_form.Trc;
       timing = record { tolerance = 0; drift = 100; answer = 4294967295; boot = 1 };
     }))

@@ -90,5 +90,6 @@ AsksFor name rows (stats a) =
     × IsChoice log_form_of (codes "log") rows a.form
 AsksFor name rows (compare a) =
     (name ≡ codes "compare") × IsWord (codes "SHEET") rows a.sheet × IsWord (codes "TRACE") rows a.trace
-    × IsNode rows a.node × (a.interface ≡ first_of (codes "interface") rows)
+    × IsNode rows a.node × (a.interface ≡ first_of (codes "interface") rows) × (a.held ≡ first_of (codes "held") rows)
+    × (a.choices ≡ is_used (codes "choices") rows) × (a.learned ≡ is_used (codes "learned") rows)
     × IsChoice log_form_of (codes "log") rows a.form × GivesTiming rows a.timing

@@ -110,6 +110,9 @@ pub record AskedCompare : Type 0 where
   pub trace : Text
   pub node : Option ℕ
   pub interface : Option Text
+  pub held : Option Text
+  pub choices : Bool
+  pub learned : Bool
   pub form : LogForm
   pub timing : TimingWords
 
@@ -180,12 +183,15 @@ asked_by (Stats trace sheets bit_rate lines_as form) =
       lines_as = lines_as;
       form = form;
     })
-asked_by (Compare sheet trace node interface form timing) =
+asked_by (Compare sheet trace node interface held choices learned form timing) =
     compare (record {
       sheet = sheet.now;
       trace = trace.now;
       node = node;
       interface = option_copied interface;
+      held = option_copied held;
+      choices = choices;
+      learned = learned;
       form = form;
       timing = timing;
     })
@@ -353,6 +359,9 @@ asked_compare rows =
       trace = trace;
       node = number_for 8 (codes "node") rows;
       interface = first_of (codes "interface") rows;
+      held = first_of (codes "held") rows;
+      choices = is_used (codes "choices") rows;
+      learned = is_used (codes "learned") rows;
       form = form;
       timing = timing;
     }))

@@ -298,6 +298,9 @@ fn asked_compare<'a>(found: &ArgMatches<'a>) -> Option<Task<'a>>
         trace,
         node: number_u8(found, "node"),
         interface: word_for(found, "interface"),
+        held: word_for(found, "held"),
+        choices: is_used(found, "choices"),
+        learned: is_used(found, "learned"),
         form,
         timing,
     })

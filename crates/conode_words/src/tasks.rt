@@ -253,6 +253,12 @@ pub enum Task<'a> {
         node: Option<u8>,
         /// The interface that it is on; `None`: each.
         interface: Option<&'a str>,
+        /// The keys of the entries that are held to what was written; `None`: none.
+        held: Option<&'a str>,
+        /// Whether choices have lines.
+        choices: bool,
+        /// Whether the values of entries have lines.
+        learned: bool,
         /// In which form the recording is.
         form: LogForm,
         /// How far times may be off.
