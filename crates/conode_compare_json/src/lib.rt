@@ -1,0 +1,2 @@
+//! The documents of JSON and JUnit of a comparison.
+#![tactic(auto)]
