@@ -2,6 +2,7 @@
 //! may be there.
 
 ghost use Rattle.std.specs.Prelude.{◌≡◌, ◌++◌, map, OnOk};
+ghost use Rattle.std.specs.Option.{option_copied};
 ghost use Rattle.co_sheet.specs.SheetViews.{row_view};
 ghost use Rattle.conode_compare_json.specs.CoverageTokens.{
   abort_tokens,
@@ -9,6 +10,7 @@ ghost use Rattle.conode_compare_json.specs.CoverageTokens.{
   coverage_member,
   entries_member,
   entry_tokens,
+  name_member,
   served_tokens,
   services_member,
   states_member,
@@ -22,6 +24,20 @@ use conode_compare_report::{Coverage, Covered, Numbered, Served, States};
 use conode_json::JsonWriter;
 use std::alloc::{AllocError, Global};
 
+// the name of an entry, if it has one
+fn put_name(
+    alloc: Global,
+    writer: &mut JsonWriter,
+    name: Option<&[u8]>,
+) -> Result<(), AllocError>
+    ensures { OnOk result (writer.new ≡ writer.old ++ name_member (option_copied name)) }
+{
+    match name {
+        Some(name) => writer.put_bytes(alloc, "name", name),
+        None => Ok(()),
+    }
+}
+
 #[tactic(auto, unfolding(crate::specs::CoverageTokens::entry_tokens))]
 fn put_entry(
     alloc: Global,
@@ -32,8 +48,9 @@ fn put_entry(
     ensures { OnOk result (writer.new ≡ writer.old ++ entry_tokens (row_view row.now, covered)) }
 {
     writer.begin_object()?;
-    writer.put_text("entry", row.key.text().as_str())?;
-    writer.put_bytes(alloc, "name", row.name.unwrap_or(&[]))?;
+    writer.put_number(alloc, "index", i128::from(row.key.index))?;
+    writer.put_number(alloc, "subIndex", i128::from(row.key.sub))?;
+    put_name(alloc, writer, row.name)?;
     writer.put_flag("read", covered.read)?;
     writer.put_flag("written", covered.written)?;
     writer.put_flag("refused", covered.refused)?;
