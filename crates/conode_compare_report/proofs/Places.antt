@@ -42,6 +42,9 @@ module _ {X Y : Type 0} (view : X → Y) (p : Y → Bool) where
       let past : ltb (length (map view xs)) (length (map view xs)) ≡ false = grind (arith, nat_tests) in
       rw (counted, past) refl
 
+pub rows_counted : (rows : List EntryRow) → length (map row_view rows) ≡ length rows
+rows_counted rows = mapped_length row_view rows
+
 -- ---- among rows
 
 module _ (rows : List EntryRow) (increase : AllPairs (λ (e : EntryRow) (f : EntryRow). is_key_before e.key f.key ≡ true) rows) (key : Key) where

@@ -41,6 +41,7 @@ impl Model for ContextLine {
 
 /// The lines around a difference, among those that are kept: up to three before it, its own, and up
 /// to three after it.
+#[tactic(auto, using(crate::proofs::SpanLemmas::dropped_within))]
 pub(crate) fn around<'r>(context: &'r [ContextLine], noted: &Noted) -> &'r [ContextLine]
     ensures { result.now ≡ around context.now noted.now }
 {

@@ -1,7 +1,8 @@
 //! Which kinds of differences a frame could have shown, and how often each was found.
 
-ghost use Rattle.std.specs.Prelude.{◌≡◌, ◌≤◌, true, map, IfOk};
+ghost use Rattle.std.specs.Prelude.{◌≡◌, true, map, option_map, IfOk};
 ghost use Rattle.std.specs.List.{AllPairs};
+ghost use Rattle.std.specs.Option.{option_copied};
 ghost use Rattle.co_sheet.specs.SheetViews.{row_view};
 ghost use Rattle.co_value.specs.Keys.{is_key_before};
 ghost use Rattle.conode_compare_report.specs.Occasions.{

@@ -154,7 +154,7 @@ fn number_found(found: &Findings) -> u32
 impl Report {
     /// Of nothing so far: a comparison with the data sheet whose entries these are, in increasing
     /// key, of a device with this node-ID. `Err`: out of memory.
-    #[tactic(auto, unfolding(crate::specs::Reports::nothing_kept))]
+    #[tactic(auto, unfolding(crate::specs::Reports::nothing_kept), using(crate::proofs::Places::rows_counted))]
     pub fn new(alloc: Global, rows: &[EntryRow<'_>], node: u8) -> Result<Report, AllocError>
         requires { AllPairs (λ e f. is_key_before e.key f.key ≡ true) rows.now }
         ensures { IfOk result (λ report. report ≡ nothing_kept (map row_view rows.now) node) }
@@ -248,7 +248,8 @@ impl Report {
             (self.old.context ++ self.old.recent) self.old micros value_type finding) }
     {
         self.context.append(&mut self.recent)?;
-        let first = self.context.len() - self.lines.min(4).min(self.context.len() as u64) as usize;
+        let own = self.lines.min(4) as usize;
+        let first = self.context.len().saturating_sub(own);
         self.noted.push(Noted {
             line: self.lines,
             micros,
