@@ -51,7 +51,7 @@ past_less least next (x ∷ xs) le h = (omega (arith, h.0), past_less least next
 
 numbered_more : (first : ℕ) (lines : List (List ℕ)) (line : List ℕ) → numbered_from first (lines ++ line ∷ []) ≡ numbered_from first lines ++ line_of (length lines + first) line ∷ []
 unfolding numbered_from
-numbered_more first [] line = refl
+numbered_more first [] line = let same : first ≡ 0 + first = omega arith in ap (λ (n : ℕ). line_of n line ∷ []) same
 numbered_more first (l ∷ lines) line =
     ap (λ (more : List KeptLine). line_of first l ∷ more) (numbered_more (first + 1) lines line
     ∙ ap (λ (n : ℕ). numbered_from (first + 1) lines ++ line_of n line ∷ []) (omega arith))
@@ -63,10 +63,13 @@ numbered_length first (l ∷ lines) = ap suc (numbered_length (first + 1) lines)
 
 -- ---- the first part of a list
 
+one_more_than : (a b : ℕ) → a ≡ b → 1 + a ≡ suc b
+one_more_than a b h = omega (arith, h)
+
 counted : (most : ℕ) (xs ys : List KeptLine) → UpTo most xs → Past most ys → position_or_len (λ (l : KeptLine). nat_lt most l.number) (xs ++ ys) ≡ length xs
 counted most [] [] h k = refl
 counted most [] (y ∷ ys) h k = let is : ltb most y.number ≡ true = let p = k.0 in grind (arith, nat_tests) in rw is refl
-counted most (x ∷ xs) ys h k = let is : ltb most x.number ≡ false = let p = h.0 in grind (arith, nat_tests) in rw is (ap suc (counted most xs ys h.1 k))
+counted most (x ∷ xs) ys h k = let is : ltb most x.number ≡ false = let p = h.0 in grind (arith, nat_tests) in rw is (one_more_than (position_or_len (λ (l : KeptLine). nat_lt most l.number) (xs ++ ys)) (length xs) (counted most xs ys h.1 k))
 
 first_part : (most : ℕ) (xs ys : List KeptLine) → UpTo most xs → Past most ys
     → option_map_or (λ (count : ℕ). take count (xs ++ ys)) (position (λ (l : KeptLine). nat_lt most l.number) (xs ++ ys)) (xs ++ ys) ≡ xs
@@ -134,9 +137,9 @@ module _ (all context : List KeptLine) (bytes : List ℕ) where
   longer_near : (line : ℕ) → line ≤ length all → length all < line + 3 → drop (line - 4) (take (line + 3) all) ++ next ∷ [] ≡ drop (line - 4) (take (line + 3) (all ++ next ∷ []))
   longer_near line came lt =
       let now : take (line + 3) all ≡ all = take_all (line + 3) all (omega (arith, lt)) in
-      let then : take (line + 3) (all ++ next ∷ []) ≡ all ++ next ∷ [] = take_all (line + 3) (all ++ next ∷ []) (let more = one_longer in omega (arith, lt, more)) in
+      let whole : take (line + 3) (all ++ next ∷ []) ≡ all ++ next ∷ [] = take_all (line + 3) (all ++ next ∷ []) (let more = one_longer in omega (arith, lt, more)) in
       let cut : drop (line - 4) (all ++ next ∷ []) ≡ drop (line - 4) all ++ next ∷ [] = drop-append-le (line - 4) all (next ∷ []) (omega (arith, came)) in
-      ap (λ (l : List KeptLine). drop (line - 4) l ++ next ∷ []) now ∙ sym cut ∙ ap (drop (line - 4)) (sym then)
+      ap (λ (l : List KeptLine). drop (line - 4) l ++ next ∷ []) now ∙ sym cut ∙ ap (drop (line - 4)) (sym whole)
 
   -- it isn't kept
   around_passed : (noted : Noted) → noted.line + 3 ≤ length all → IsAround all context noted → IsAround (all ++ next ∷ []) context noted
@@ -237,7 +240,7 @@ min_next : (n : ℕ) (size : ℕ) → size ≡ min n 4 → nat_lt n 4 ≡ true �
 min_next n size is lt = let l : n < 4 = grind (arith, nat_tests) in omega (arith, is, l)
 
 min_full : (n : ℕ) (size : ℕ) → size ≡ min n 4 → nat_lt n 4 ≡ false → size ≡ 4
-min_full n size is no = let l : 4 ≤ n = grind (arith, nat_tests) in omega (arith, is, l)
+min_full n size is fails = let l : 4 ≤ n = grind (arith, nat_tests) in omega (arith, is, l)
 
 module _ (all context recent : List KeptLine) (noted : List Noted) (lines wanted : ℕ) (h : IsKept all context recent noted lines wanted) (bytes : List ℕ) where
   abbrev line : KeptLine
@@ -391,7 +394,7 @@ module _ (all context recent : List KeptLine) (noted : List Noted) (lines wanted
 
   found : (x : Noted) (later : ℕ) → x.line ≡ length all → x.first ≡ length (context ++ recent) - min (length all) 4 → later ≡ length all + 3
       → IsKept all (context ++ recent) [] (noted ++ x ∷ []) lines later
-  found x later here first then = record {
+  found x later here first until = record {
     older = h.older;
     middle = h.middle ++ recent;
     before = h.before;
@@ -402,9 +405,9 @@ module _ (all context recent : List KeptLine) (noted : List Noted) (lines wanted
     pending = tt;
     none = λ few. refl;
     counts = h.counts;
-    bound = omega (arith, then);
-    listed = all_around_both all (context ++ recent) later noted x (all_moved all context recent wanted later noted (let b = h.bound in omega (arith, b, then)) h.pending h.none h.listed)
-        (found_there x here first) (omega (arith, here, then));
+    bound = omega (arith, until);
+    listed = all_around_both all (context ++ recent) later noted x (all_moved all context recent wanted later noted (let b = h.bound in omega (arith, b, until)) h.pending h.none h.listed)
+        (found_there x here first) (omega (arith, here, until));
   }
 
 -- ---- all that happened

