@@ -1,4 +1,6 @@
 pub mod Compared
+pub mod Documents
+pub mod LastLines
 pub mod Noted
 pub mod Taking
 pub mod Verdicts

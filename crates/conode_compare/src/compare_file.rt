@@ -1,26 +1,27 @@
 //! The file of a recording, compared with the data sheet of a device.
 
-ghost use Rattle.std.specs.Prelude.{◌≡◌, ◌⊎◌, ◌≤◌, length, true};
+ghost use Rattle.std.specs.Prelude.{◌≡◌, ◌⊎◌, ◌≤◌, length, true, OnOk, IfSome};
 ghost use Rattle.std.specs.List.{AllPairs};
 ghost use Rattle.std.specs.Process.{exit_status};
 ghost use Rattle.co_value.specs.Keys.{is_key_before};
+ghost use Rattle.conode_io.specs.Written.{WritesLines};
+ghost use Rattle.conode_compare.specs.Documents.{end_lines, output};
+ghost use Rattle.conode_compare.specs.Views.{comparison_view};
 ghost use Rattle.conode_compare.specs.Verdicts.{no_frame, verdict_status};
 
 use crate::compared::compare;
 use crate::comparing::Comparing;
+use crate::document::{Format, Wanted, about_of, new_report, write_document};
+use crate::last_lines::write_last_lines;
 use crate::writes::Settings;
 use co_sheet::{EntryRow, Sheet, read};
 use co_sheet_changes::Originals;
 use conode_compare_held::{HeldEntries, HeldFault};
-use conode_compare_notes::Learned;
-use conode_compare_pdos::number_of;
 use conode_compare_rules::{Limits, Subject, facts_of};
-use conode_compare_text::{Tally, set_choices_summary, set_learned_line, set_summary};
-use conode_decode::shown_name;
-use conode_explain_values::ValueType;
+use conode_compare_text::Tally;
 use conode_io::{
-    CmdFault, cannot_read, faulty_sheet, file_text, flushed, hand_over, no_node_id, no_text,
-    out_of_memory, stopped,
+    CmdFault, cannot_read, faulty_sheet, file_text, flushed, no_node_id, no_text, out_of_memory,
+    stopped,
 };
 use conode_logs::Form;
 use std::alloc::Global;
@@ -53,6 +54,17 @@ pub struct Asked<'s> {
     pub choices: bool,
     /// Whether the values of entries have lines after that.
     pub learned: bool,
+    /// How the comparison is written.
+    pub format: Format,
+    /// The version of the program, for a document.
+    pub version: &'s str,
+}
+
+// the files that are compared
+#[derive(Clone, Copy)]
+struct Paths<'s> {
+    sheet: &'s str,
+    recording: &'s str,
 }
 
 // whether no frame of the device came
@@ -85,70 +97,48 @@ fn say_why<E: Write>(node: u8, tally: Tally, several: bool, err: &mut E) {
     }
 }
 
-// writes the line that counts the frames, with the number of choices, if that is asked for
-fn write_summary<O: Write>(
-    text: &mut String,
-    settings: &Settings<'_, '_>,
-    comparing: &Comparing,
-    out: &mut O,
-) -> Result<(), CmdFault> {
-    let node = settings.subject.node;
-    let (tally, _) = comparing.ends();
-    if settings.choices {
-        set_choices_summary(text, node, tally, comparing.notes().choices)?;
-    } else {
-        set_summary(text, node, tally)?;
-    }
-    hand_over(text.as_bytes(), out)
-}
-
-// writes the line of an entry, if the recording showed a number of it
-fn write_value<O: Write>(
-    text: &mut String,
-    settings: &Settings<'_, '_>,
-    row: &EntryRow<'_>,
-    learned: &Learned,
-    out: &mut O,
-) -> Result<(), CmdFault> {
-    let (Some(width), Some(number)) = (row.data_type.width(), learned.number(row.key)) else {
-        return Ok(());
-    };
-    if width > 4 {
-        return Ok(());
-    }
-    let value_type = ValueType::of(settings.originals.at(row.line), row.data_type);
-    let sheet = number_of(settings.subject.node, row.default);
-    let name = shown_name(row);
-    set_learned_line(text, name, row.key, value_type, width, number, sheet)?;
-    hand_over(text.as_bytes(), out)
-}
-
-// writes the lines of the entries of which the recording showed a number
-fn write_values<O: Write>(
-    text: &mut String,
-    settings: &Settings<'_, '_>,
-    learned: &Learned,
-    out: &mut O,
-) -> Result<(), CmdFault> {
-    for row in settings.rows {
-        write_value(text, settings, row, learned, out)?;
-    }
-    Ok(())
-}
-
-// what is known at the end, once its last lines are written
-fn summed<O: Write>(
+// writes the last lines, or the document
+#[tactic(auto, using(conode_io::proofs::WriteLemmas::line_alone))]
+fn write_end<O: Write>(
     alloc: Global,
     settings: &Settings<'_, '_>,
-    outcome: Result<Comparing, CmdFault>,
+    wanted: &Wanted<'_>,
+    comparing: &Comparing,
     out: &mut O,
-) -> Result<(Tally, bool), CmdFault> {
-    let comparing = outcome?;
-    let mut text = String::new(alloc);
-    write_summary(&mut text, settings, &comparing, out)?;
-    if settings.learned {
-        write_values(&mut text, settings, &comparing.notes().learned, out)?;
+) -> Result<(), CmdFault>
+    requires { AllPairs (λ e f. is_key_before e.key f.key ≡ true) settings.now.rows.now }
+    ensures { OnOk result (WritesLines (O.contents out.old) (O.contents out.new)
+        (end_lines wanted.now.format (comparison_view settings.now) wanted.now.version.now
+        wanted.now.sheet.now comparing.now comparing.now.report)) }
+{
+    match comparing.report() {
+        Some(report) => {
+            let about = about_of(settings, wanted, comparing);
+            write_document(alloc, wanted.format, &about, report, out)
+        }
+        None => write_last_lines(alloc, settings, comparing, out),
     }
+}
+
+// compares an input, and writes all of it; what is known at the end
+fn compare_and_write<R: Read, O: Write, E: Write>(
+    alloc: Global,
+    input: &mut R,
+    settings: &Settings<'_, '_>,
+    wanted: &Wanted<'_>,
+    form: Form,
+    out: &mut O,
+    err: &mut E,
+) -> Result<(Tally, bool), CmdFault>
+    requires { AllPairs (λ e f. is_key_before e.key f.key ≡ true) settings.now.rows.now }
+    ensures written { OnOk result (IfSome (R.remaining input.old) (λ text.
+        WritesLines (O.contents out.old) (O.contents out.new)
+        (output wanted.now.format (comparison_view settings.now)
+        wanted.now.version.now wanted.now.sheet.now form text))) }
+{
+    let report = new_report(alloc, settings, wanted.format)?;
+    let comparing = compare(alloc, input, settings, form, report, out, err)?;
+    write_end(alloc, settings, wanted, &comparing, out)?;
     Ok(comparing.ends())
 }
 
@@ -157,6 +147,7 @@ fn compare_input<R: Read, O: Write, E: Write>(
     alloc: Global,
     input: &mut R,
     settings: &Settings<'_, '_>,
+    wanted: &Wanted<'_>,
     form: Form,
     out: &mut O,
     err: &mut E,
@@ -164,12 +155,10 @@ fn compare_input<R: Read, O: Write, E: Write>(
     requires { AllPairs (λ e f. is_key_before e.key f.key ≡ true) settings.now.rows.now }
     ensures { exit_status result ≤ 2 }
 {
-    let outcome = compare(alloc, input, settings, form, out, err);
-    let node = settings.subject.node;
-    let outcome = summed(alloc, settings, outcome, out);
+    let outcome = compare_and_write(alloc, input, settings, wanted, form, out, err);
     match flushed(out, outcome) {
         Ok((tally, several)) => {
-            say_why(node, tally, several, err);
+            say_why(settings.subject.node, tally, several, err);
             ExitCode::from(verdict_status(tally, several))
         }
         Err(fault) => {
@@ -183,6 +172,7 @@ fn compare_input<R: Read, O: Write, E: Write>(
 fn compare_path<R: Files + AllocGlobal + Input, O: Write, E: Write>(
     rt: &R,
     settings: &Settings<'_, '_>,
+    wanted: &Wanted<'_>,
     form: Form,
     out: &mut O,
     err: &mut E,
@@ -192,10 +182,18 @@ fn compare_path<R: Files + AllocGlobal + Input, O: Write, E: Write>(
 {
     let path = settings.recording;
     if path == STANDARD_INPUT {
-        return compare_input(rt.alloc(), &mut rt.reader(), settings, form, out, err);
+        return compare_input(
+            rt.alloc(),
+            &mut rt.reader(),
+            settings,
+            wanted,
+            form,
+            out,
+            err,
+        );
     }
     match fs::open(rt, path) {
-        Ok(mut file) => compare_input(rt.alloc(), &mut file, settings, form, out, err),
+        Ok(mut file) => compare_input(rt.alloc(), &mut file, settings, wanted, form, out, err),
         Err(_) => {
             let _ = cannot_read(path, err);
             ExitCode::from(NOT_COMPARED)
@@ -233,7 +231,7 @@ fn compare_sheet<R: Files + AllocGlobal + Input, O: Write, E: Write>(
     rt: &R,
     sheet: &Sheet<'_>,
     originals: &Originals,
-    recording: &str,
+    paths: &Paths<'_>,
     asked: Asked<'_>,
     out: &mut O,
     err: &mut E,
@@ -263,12 +261,17 @@ fn compare_sheet<R: Files + AllocGlobal + Input, O: Write, E: Write>(
         subject,
         rows,
         originals,
-        recording,
+        recording: paths.recording,
         interface,
         choices: asked.choices,
         learned: asked.learned,
     };
-    compare_path(rt, &settings, asked.form, out, err)
+    let wanted = Wanted {
+        format: asked.format,
+        version: asked.version,
+        sheet: paths.sheet,
+    };
+    compare_path(rt, &settings, &wanted, asked.form, out, err)
 }
 
 // compares the recording of a path with the data sheet of a text
@@ -276,7 +279,7 @@ fn compare_text<R: Files + AllocGlobal + Input, O: Write, E: Write>(
     rt: &R,
     text: &[u8],
     sheet: &Sheet<'_>,
-    recording: &str,
+    paths: &Paths<'_>,
     asked: Asked<'_>,
     out: &mut O,
     err: &mut E,
@@ -285,7 +288,7 @@ fn compare_text<R: Files + AllocGlobal + Input, O: Write, E: Write>(
     ensures { exit_status result ≤ 2 }
 {
     match Originals::in_text(rt.alloc(), text) {
-        Ok(originals) => compare_sheet(rt, sheet, &originals, recording, asked, out, err),
+        Ok(originals) => compare_sheet(rt, sheet, &originals, paths, asked, out, err),
         Err(_) => {
             let _ = out_of_memory(out);
             ExitCode::from(NOT_COMPARED)
@@ -295,9 +298,10 @@ fn compare_text<R: Files + AllocGlobal + Input, O: Write, E: Write>(
 
 /// Compares the recording of a path, or of standard input where that is `-`, with the data sheet of
 /// a path: each difference has a line on `out`, and the last line counts the device's frames by
-/// verdict. The status is 0 where there is no difference, 1 where there is one, and 2 where nothing
-/// can be compared: a file that can't be read, a sheet with a fault, no node-ID, no frame of the
-/// node, frames of several interfaces and none of them named.
+/// verdict; or there is one document, by the format that is asked for. The status is 0 where there
+/// is no difference, 1 where there is one, and 2 where nothing can be compared: a file that can't be
+/// read, a sheet with a fault, no node-ID, no frame of the node, frames of several interfaces and
+/// none of them named.
 pub fn compare_files<R: Files + AllocGlobal + Input, O: Write, E: Write>(
     rt: &R,
     sheet: &str,
@@ -315,8 +319,9 @@ pub fn compare_files<R: Files + AllocGlobal + Input, O: Write, E: Write>(
             return ExitCode::from(NOT_COMPARED);
         }
     };
+    let paths = Paths { sheet, recording };
     match read(rt.alloc(), text.as_slice()) {
-        Ok(sheet) => compare_text(rt, text.as_slice(), &sheet, recording, asked, out, err),
+        Ok(sheet) => compare_text(rt, text.as_slice(), &sheet, &paths, asked, out, err),
         Err(fault) => {
             let _ = faulty_sheet(fault, out);
             ExitCode::from(NOT_COMPARED)

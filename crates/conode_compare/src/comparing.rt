@@ -1,31 +1,37 @@
 //! Frames of a recording, compared one after another.
 
-ghost use Rattle.std.specs.Prelude.{◌≡◌, ◌⊎◌, ◌≤◌, length, OnOk, IfErr, true};
+ghost use Rattle.std.specs.Prelude.{◌≡◌, ◌⊎◌, ◌≤◌, length, IfOk, OnOk, IfErr, option_map, true};
 ghost use Rattle.std.specs.List.{AllPairs};
 ghost use Rattle.std.specs.Option.{option_copied};
 ghost use Rattle.co_value.specs.Keys.{is_key_before};
 ghost use Rattle.conode_io.specs.Written.{WritesLines};
 ghost use Rattle.conode_record.specs.Grammar.{IsIdentifier};
+ghost use Rattle.conode_compare_rules.specs.Progresses.{findings_at, progress_with};
 ghost use Rattle.conode_compare.specs.Compared.{
+  bad_noted,
   first_with,
   found_at,
   frame_lines,
   frame_taken,
   frame_with,
   is_compared,
+  kind_noted,
+  line_noted,
   nothing_compared,
   other_seen,
 };
 ghost use Rattle.conode_compare.specs.Views.{comparison_view};
 
+use crate::kept::note_findings;
 use crate::notes::Notes;
 use crate::writes::{Settings, write_findings};
 use arrayvec::ArrayVec;
+use conode_compare_report::Report;
 use conode_compare_rules::{Findings, FrameKind, Progress, Subject, kind_of};
 use conode_compare_text::Tally;
 use conode_io::CmdFault;
 use conode_record::Record;
-use std::alloc::Global;
+use std::alloc::{AllocError, Global};
 use std::io::Write;
 
 /// How far a recording is compared.
@@ -39,6 +45,8 @@ pub struct Comparing {
     pub(crate) several: bool,
     /// What is noted beside differences.
     pub(crate) notes: Notes,
+    /// What is kept for a document, if one is wanted.
+    pub(crate) report: Option<Report>,
 }
 
 // whether a frame is of the interface that is compared: the one that is named, else that of the
@@ -52,10 +60,39 @@ fn is_compared(interface: Option<&[u8]>, first: &[u8], name: &[u8]) -> bool
     }
 }
 
+// what is found at a frame of this kind; it is kept for a document, if one is wanted
+fn take_kind(
+    progress: &mut Progress,
+    report: &mut Option<Report>,
+    settings: &Settings<'_, '_>,
+    micros: u64,
+    kind: &FrameKind,
+) -> Result<Findings, AllocError>
+    requires { AllPairs (λ e f. is_key_before e.key f.key ≡ true) settings.now.rows.now }
+    ensures found { IfOk result (λ found. found ≡ findings_at settings.now.subject
+        (comparison_view settings.now).rows progress.old micros kind.now) }
+    ensures progress { progress.new
+        ≡ progress_with settings.now.subject progress.old micros kind.now }
+    ensures report { OnOk result (report.new ≡ option_map
+        (kind_noted (comparison_view settings.now) progress.old micros kind.now) report.old) }
+{
+    match report {
+        Some(report) => {
+            let before = report.before(progress, kind);
+            let found = progress.take(&settings.subject, settings.rows, micros, kind);
+            let state = progress.state();
+            report.take_frame(settings.rows, micros, kind, &before, state, &found)?;
+            note_findings(report, settings, micros, &found)?;
+            Ok(found)
+        }
+        None => Ok(progress.take(&settings.subject, settings.rows, micros, kind)),
+    }
+}
+
 impl Comparing {
-    /// No frame came.
-    pub(crate) fn new(alloc: Global, subject: &Subject) -> Comparing
-        ensures { result ≡ nothing_compared subject.now }
+    /// No frame came; `report`: what is kept for a document, if one is wanted.
+    pub(crate) fn new(alloc: Global, subject: &Subject, report: Option<Report>) -> Comparing
+        ensures { result ≡ nothing_compared subject.now report }
     {
         Comparing {
             progress: Progress::new(subject),
@@ -63,6 +100,33 @@ impl Comparing {
             first: ArrayVec::new(),
             several: false,
             notes: Notes::new(alloc),
+            report,
+        }
+    }
+
+    /// What is kept for a document, if one is wanted.
+    pub fn report(&self) -> &Option<Report>
+        ensures { result.now ≡ self.now.report }
+    {
+        &self.report
+    }
+
+    /// A line comes, without its line feed.
+    pub(crate) fn note_line(&mut self, line: &[u8]) -> Result<(), AllocError>
+        ensures { OnOk result (self.new ≡ line_noted self.old line.now) }
+    {
+        if let Some(report) = &mut self.report {
+            report.take_line(line)?;
+        }
+        Ok(())
+    }
+
+    /// The newest line is bad.
+    pub(crate) fn note_bad_line(&mut self)
+        ensures { self.new ≡ bad_noted self.old }
+    {
+        if let Some(report) = &mut self.report {
+            report.note_bad_line();
         }
     }
 
@@ -108,22 +172,26 @@ impl Comparing {
         settings: &Settings<'_, '_>,
         frame: &Record<'_>,
         kind: &FrameKind,
-    ) -> Findings
+    ) -> Result<Findings, AllocError>
         requires rows { AllPairs (λ e f. is_key_before e.key f.key ≡ true) settings.now.rows.now }
-        ensures found { result ≡ found_at
-            (comparison_view settings.now) self.old frame.now kind.now }
-        ensures next { self.new
-            ≡ frame_taken (comparison_view settings.now) self.old frame.now kind.now }
+        ensures found { IfOk result (λ found. found ≡ found_at
+            (comparison_view settings.now) self.old frame.now kind.now) }
+        ensures next { OnOk result (self.new
+            ≡ frame_taken (comparison_view settings.now) self.old frame.now kind.now) }
     {
-        let found = self
-            .progress
-            .take(&settings.subject, settings.rows, frame.micros, kind);
+        let found = take_kind(
+            &mut self.progress,
+            &mut self.report,
+            settings,
+            frame.micros,
+            kind,
+        )?;
         self.tally.count(found.verdict);
         self.note_first(frame.interface.bytes());
-        found
+        Ok(found)
     }
 
-    /// Takes a frame, and writes the lines of what is found at it.
+    /// Takes a frame, and writes the lines of what is found at it, unless a document is wanted.
     pub(crate) fn take_frame<W: Write>(
         &mut self,
         text: &mut String,
@@ -146,8 +214,12 @@ impl Comparing {
             self.note_other(settings.interface);
             return Ok(());
         }
+        let is_documented = self.report.is_some();
         let kind = kind_of(settings.subject.node, frame.id, &frame.content);
-        let found = self.take(settings, frame, &kind);
+        let found = self.take(settings, frame, &kind)?;
+        if is_documented {
+            return Ok(());
+        }
         write_findings(text, settings, number, found, out)?;
         let exchange = &self.progress.exchange;
         self.notes

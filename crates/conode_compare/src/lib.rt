@@ -4,6 +4,9 @@
 mod compare_file;
 mod compared;
 mod comparing;
+mod document;
+mod kept;
+mod last_lines;
 mod line;
 mod notes;
 mod writes;
@@ -11,5 +14,6 @@ mod writes;
 pub use compare_file::{Asked, compare_files};
 pub use compared::compare;
 pub use comparing::Comparing;
+pub use document::Format;
 pub use notes::Notes;
 pub use writes::Settings;

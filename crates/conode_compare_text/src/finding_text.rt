@@ -189,9 +189,11 @@ fn push_mismatch(
     }
 }
 
-// what is different, where the values of the entry have this type
+/// Appends the name of the kind, and what is different: `heartbeat-late: ..`. The values of an
+/// entry are hexadecimal; in an original type they are as `explain` shows them. On an `Err` memory
+/// ran out, and a part of it may be there.
 #[tactic(auto, unfolding(crate::specs::FindingTexts::finding_text))]
-fn push_finding(
+pub fn push_finding(
     text: &mut String,
     value_type: ValueType,
     finding: Finding,

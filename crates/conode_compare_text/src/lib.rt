@@ -8,6 +8,6 @@ mod parts;
 mod tally;
 
 pub use choice_text::{set_choice_line, set_choices_summary};
-pub use finding_text::set_finding_line;
+pub use finding_text::{push_finding, set_finding_line};
 pub use learned_text::set_learned_line;
 pub use tally::{Tally, set_summary};

@@ -165,12 +165,12 @@ with_timing app =
     (numbered (codes "boot") 0 most_ms (codes "10000" ∷ []))
 
 -- `compare SHEET TRACE [--node N] [--interface NAME] [--held KEYS] [--choices] [--learned]
--- [--log FORM] [--tolerance MS] [--drift PERCENT] [--answer MS] [--boot MS]`
+-- [--log FORM] [--format FORMAT] [--tolerance MS] [--drift PERCENT] [--answer MS] [--boot MS]`
 unfoldable pub compare_command : App
 compare_command =
-    with_timing (with_rule (with_rule (with_rule (with_rule (with_rule (with_rule (with_rule (with_rule (new_app (codes "compare"))
+    with_timing (with_rule (with_rule (with_rule (with_rule (with_rule (with_rule (with_rule (with_rule (with_rule (new_app (codes "compare"))
     (wanted (codes "SHEET"))) (wanted (codes "TRACE"))) node_option) (valued (codes "interface"))) (valued (codes "held")))
-    (flag (codes "choices"))) (flag (codes "learned"))) log_option)
+    (flag (codes "choices"))) (flag (codes "learned"))) log_option) (worded (codes "format") (codes "text")))
 
 -- a command with `--version`
 abbrev pub versioned : App → App

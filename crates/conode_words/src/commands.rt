@@ -264,7 +264,7 @@ const STATS: [Word; 5] = [
     RECORDING_FORM,
 ];
 
-const COMPARE: [Word; 12] = [
+const COMPARE: [Word; 13] = [
     DEVICE_SHEET,
     RECORDING,
     Word(
@@ -285,6 +285,11 @@ const COMPARE: [Word; 12] = [
         "Lists the values of entries that are shown",
     ),
     RECORDING_FORM,
+    Word(
+        "format",
+        Worded("FORMAT", "text"),
+        "Form: text, json, junit or html",
+    ),
     Word(
         "tolerance",
         NumberedOr(MOST_MS, "10"),

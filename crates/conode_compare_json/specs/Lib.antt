@@ -1,0 +1,5 @@
+pub mod NotedTokens
+pub mod CoverageTokens
+pub mod JsonDocument
+pub mod JunitCases
+pub mod JunitDocument

@@ -1,0 +1,11 @@
+//! A comparison as one document: of JSON, and of JUnit.
+#![tactic(auto)]
+
+mod cases;
+mod coverage;
+mod document;
+mod junit;
+mod noted;
+
+pub use document::json_document;
+pub use junit::junit_document;

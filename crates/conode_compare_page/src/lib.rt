@@ -1,0 +1,2 @@
+//! The page in HTML of a comparison.
+#![tactic(auto)]

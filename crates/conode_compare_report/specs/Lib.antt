@@ -1,0 +1,13 @@
+pub mod Abouts
+pub mod Befores
+pub mod Contexts
+pub mod Counts
+pub mod Coverages
+pub mod Histories
+pub mod Kinds
+pub mod Occasions
+pub mod Outcomes
+pub mod Reports
+pub mod Services
+pub mod Spans
+pub mod Views

@@ -1,0 +1,26 @@
+//! What is kept of a comparison for a document at its end: the differences with the lines around
+//! them, how often each kind was found and could have been, what the recording covers, and the bus
+//! over time.
+#![tactic(auto)]
+
+mod about;
+mod before;
+mod counts;
+mod coverage;
+mod kind;
+mod lanes;
+mod noted;
+mod occasions;
+mod outcome;
+mod report;
+mod service;
+
+pub use about::About;
+pub use before::{Before, Role, Rpdos};
+pub use coverage::{Coverage, Covered, Numbered};
+pub use kind::{Counted, Kind};
+pub use lanes::{Bin, Lane, Lanes, States};
+pub use noted::{ContextLine, Noted};
+pub use outcome::Outcome;
+pub use report::Report;
+pub use service::{Served, Service};

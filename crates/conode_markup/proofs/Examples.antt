@@ -1,0 +1,81 @@
+-- What is escaped, evaluated, on both sides of each edge.
+use Rattle.std.proofs.Common.{◌≡◌, true, false, [], ◌∷◌, ◌++◌, refl}
+use Rattle.std.specs.Prelude.{codes}
+use Rattle.std.specs.Fmt.{digits}
+use Rattle.std.specs.List.{flat_map}
+use Rattle.std.specs.Str.{chars, is_utf8}
+use Rattle.co_text.specs.Printed.{digits_text}
+use Rattle.conode_lint_text.specs.Characters.{characters_of, windows_1252}
+use Rattle.conode_markup.specs.declared.pieces.Piece.TheVariants.{Markup, Text, Number, Seconds, Key, Code}
+use Rattle.conode_markup.specs.Escapes.{escaped, escaped_character, is_character_data, is_plain}
+use Rattle.conode_markup.specs.Pieces.{piece_markup, seconds_text}
+
+-- an element of markup in a name
+a_tag : escaped (codes "<b>'&\"") ≡ codes "&lt;b&gt;&#39;&amp;&quot;"
+unfolding escaped_character characters_of is_utf8 chars lib.Utf8.encode
+a_tag = refl
+
+-- their neighbours stand for themselves
+neighbours : escaped (codes "!#%(;=?~") ≡ codes "!#%(;=?~"
+unfolding escaped_character characters_of is_utf8 chars lib.Utf8.encode
+neighbours = refl
+
+-- a tab, a line feed, a carriage return, the last control characters of both kinds and a blank
+controls : flat_map escaped_character (9 ∷ 10 ∷ 13 ∷ 31 ∷ 32 ∷ 0x7F ∷ 0x9F ∷ []) ≡ codes "\\t\n\\x0D\\x1F \\x7F\\x9F"
+unfolding escaped_character digits_text lib.Utf8.encode
+controls = refl
+
+-- U+00A0, and the characters before and after the two that XML doesn't have
+past_controls : escaped_character 0xA0 ≡ 0xC2 ∷ 0xA0 ∷ []
+unfolding escaped_character lib.Utf8.encode
+past_controls = refl
+
+not_in_xml : flat_map escaped_character (0xFFFD ∷ 0xFFFE ∷ 0xFFFF ∷ 0x10000 ∷ [])
+    ≡ 0xEF ∷ 0xBF ∷ 0xBD ∷ 0xEF ∷ 0xBF ∷ 0xBD ∷ 0xEF ∷ 0xBF ∷ 0xBD ∷ 0xF0 ∷ 0x90 ∷ 0x80 ∷ 0x80 ∷ []
+unfolding escaped_character lib.Utf8.encode
+not_in_xml = refl
+
+-- `ü` in UTF-8, and as the byte FCh, which is no UTF-8
+in_utf8 : escaped (0xC3 ∷ 0xBC ∷ []) ≡ 0xC3 ∷ 0xBC ∷ []
+unfolding escaped_character characters_of is_utf8 chars lib.Utf8.encode
+in_utf8 = refl
+
+in_windows_1252 : escaped (0xFC ∷ []) ≡ 0xC3 ∷ 0xBC ∷ []
+unfolding escaped_character characters_of windows_1252 is_utf8 chars lib.Utf8.encode
+in_windows_1252 = refl
+
+-- ---- what is plain
+
+plain_text : is_character_data (codes "a\n&amp;&lt;&gt;&quot;&#39;;") ≡ true
+plain_text = refl
+
+bare_ampersand : is_character_data (codes "a & b") ≡ false
+bare_ampersand = refl
+
+other_reference : is_character_data (codes "&nbsp;") ≡ false
+other_reference = refl
+
+-- a reference that is cut off
+cut_reference : is_character_data (codes "&amp") ≡ false
+cut_reference = refl
+
+tags_and_quotes : is_character_data (codes "<") ∷ is_character_data (codes ">") ∷ is_character_data (codes "\"") ∷ is_character_data (codes "'") ∷ [] ≡ false ∷ false ∷ false ∷ false ∷ []
+tags_and_quotes = refl
+
+control_bytes : is_plain 9 ∷ is_plain 10 ∷ is_plain 11 ∷ is_plain 31 ∷ is_plain 32 ∷ [] ≡ false ∷ true ∷ false ∷ false ∷ true ∷ []
+control_bytes = refl
+
+-- ---- pieces
+
+seconds : seconds_text 12345678 ≡ codes "12.345678"
+unfolding seconds_text digits_text digits
+seconds = refl
+
+less_than_a_second : seconds_text 1000 ≡ codes "0.001000"
+unfolding seconds_text digits_text digits
+less_than_a_second = refl
+
+in_row : flat_map piece_markup (Number 5 ∷ Seconds 1 ∷ Key (record { index = 0x1018; sub = 1 }) ∷ Code 0x06020000 ∷ [])
+    ≡ codes "50.0000011018:0106020000"
+unfolding seconds_text digits_text digits
+in_row = refl
