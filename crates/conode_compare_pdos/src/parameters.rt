@@ -64,7 +64,7 @@ fn key_of(index: u16, sub: u8) -> Key
 }
 
 /// The identifier of 11 bits in a COB-ID that is valid.
-pub(crate) fn identifier_of(number: u64) -> Option<u16>
+pub fn identifier_of(number: u64) -> Option<u16>
     ensures { result ≡ identifier_of number }
 {
     if number < 0x8000_0000 && number / 0x2000_0000 % 2 == 0 {

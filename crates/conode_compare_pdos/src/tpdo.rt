@@ -48,7 +48,7 @@ pub struct Tpdo {
 const MOST_SYNCS: u8 = 2;
 
 /// Whether an identifier is known to be this one.
-pub(crate) fn is_id(own: Option<u16>, id: u16) -> bool
+pub fn is_id(own: Option<u16>, id: u16) -> bool
     ensures { result ≡ is_id own id }
 {
     match own {

@@ -1,2 +1,11 @@
+pub mod Abouts
+pub mod Befores
+pub mod Contexts
+pub mod Counts
+pub mod Coverages
 pub mod Kinds
+pub mod Occasions
+pub mod Reports
 pub mod Services
+pub mod Spans
+pub mod Views

@@ -204,7 +204,7 @@ impl Kind {
     }
 
     /// Its place in the table, from 0 on.
-    pub(crate) fn number(self) -> usize
+    pub fn number(self) -> usize
         ensures { result ≡ kind_number self }
     {
         match self {

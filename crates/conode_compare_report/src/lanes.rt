@@ -1,5 +1,30 @@
 //! The bus over time, in a bounded number of spans.
 
+ghost use Rattle.std.specs.Prelude.{◌≡◌, ◌++◌, OnOk, IfOk, length};
+ghost use Rattle.conode_compare_report.specs.Spans.{
+  bin_with,
+  begun_at,
+  both_bins,
+  doubled,
+  empty_bin,
+  filled,
+  in_lane,
+  joined,
+  lanes_with,
+  no_lanes,
+  no_states,
+  place_in,
+  placed_at,
+  states_of_both,
+  states_with,
+  summed,
+  widened,
+};
+
+use conode_compare_rules::NmtState;
+use std::alloc::{AllocError, Global};
+use std::marker::Model;
+
 /// In which NMT states the device is known to have been (CiA 301, 7.3.2.2).
 #[derive(Clone, Copy, Debug, PartialEq, Eq)]
 pub struct States {
@@ -7,6 +32,16 @@ pub struct States {
     pub pre_operational: bool,
     pub operational: bool,
     pub stopped: bool,
+}
+
+/// The lane of a frame.
+#[derive(Clone, Copy, Debug, PartialEq, Eq)]
+pub(crate) enum Lane {
+    Heartbeats,
+    Emergencies,
+    Transfers,
+    Tpdos,
+    Rpdos,
 }
 
 /// The frames in one span of time; each number is at most 2^32 - 1.
@@ -35,6 +70,243 @@ pub struct Lanes {
     pub begin: u64,
     /// How long each span is, in microseconds: 1,000 times a power of two.
     pub width: u64,
-    /// The spans, up to that of the newest frame: at most 2,000.
+    /// The spans, up to that of the newest frame: at most 2,000. A stamp before the first frame's
+    /// is in the first span.
     pub bins: Vec<Bin>,
+}
+
+impl Model for Lanes {
+    ghost use Rattle.conode_compare_report.specs.Spans.{LanesView};
+
+    ghost Value = { LanesView };
+
+    ghost view = { λ lanes. record {
+      begin = lanes.begin;
+      width = lanes.width;
+      bins = lanes.bins.items;
+    } };
+}
+
+/// How many spans there are at most.
+const MOST_BINS: u64 = 2_000;
+
+/// The first width, in microseconds.
+const FIRST_WIDTH: u64 = 1_000;
+
+/// How often the width is doubled for one frame at most: enough for every stamp.
+const MOST_STEPS: u8 = 64;
+
+impl States {
+    /// None is known.
+    pub(crate) fn none() -> States
+        ensures { result ≡ no_states }
+    {
+        States {
+            initialising: false,
+            pre_operational: false,
+            operational: false,
+            stopped: false,
+        }
+    }
+
+    /// A state is known.
+    pub(crate) fn note(&mut self, state: NmtState)
+        ensures { self.new ≡ states_with state self.old }
+    {
+        match state {
+            NmtState::Unknown => {}
+            NmtState::Initialising => self.initialising = true,
+            NmtState::PreOperational => self.pre_operational = true,
+            NmtState::Operational => self.operational = true,
+            NmtState::Stopped => self.stopped = true,
+        }
+    }
+
+    fn with(self, other: States) -> States
+        ensures { result ≡ states_of_both self other }
+    {
+        States {
+            initialising: self.initialising || other.initialising,
+            pre_operational: self.pre_operational || other.pre_operational,
+            operational: self.operational || other.operational,
+            stopped: self.stopped || other.stopped,
+        }
+    }
+}
+
+// a sum, up to 2^32 - 1
+fn summed(a: u32, b: u32) -> u32
+    ensures { result ≡ summed a b }
+{
+    a.saturating_add(b)
+}
+
+impl Bin {
+    fn empty() -> Bin
+        ensures { result ≡ empty_bin }
+    {
+        Bin {
+            states: States::none(),
+            heartbeats: 0,
+            emergencies: 0,
+            transfers: 0,
+            tpdos: 0,
+            rpdos: 0,
+            differences: 0,
+        }
+    }
+
+    // one frame more in a lane
+    fn count(&mut self, lane: Option<Lane>)
+        ensures { self.new ≡ in_lane lane self.old }
+    {
+        match lane {
+            Some(Lane::Heartbeats) => self.heartbeats = summed(self.heartbeats, 1),
+            Some(Lane::Emergencies) => self.emergencies = summed(self.emergencies, 1),
+            Some(Lane::Transfers) => self.transfers = summed(self.transfers, 1),
+            Some(Lane::Tpdos) => self.tpdos = summed(self.tpdos, 1),
+            Some(Lane::Rpdos) => self.rpdos = summed(self.rpdos, 1),
+            None => {}
+        }
+    }
+
+    // one frame more, after which a state is known
+    #[tactic(auto, unfolding(crate::specs::Spans::bin_with))]
+    fn add(&mut self, state: NmtState, lane: Option<Lane>, differences: u32)
+        ensures { self.new ≡ bin_with state lane differences self.old }
+    {
+        self.states.note(state);
+        self.differences = summed(self.differences, differences);
+        self.count(lane);
+    }
+
+    // two spans as one
+    #[tactic(auto, unfolding(crate::specs::Spans::both_bins))]
+    fn with(self, other: Bin) -> Bin
+        ensures { result ≡ both_bins self other }
+    {
+        Bin {
+            states: self.states.with(other.states),
+            heartbeats: summed(self.heartbeats, other.heartbeats),
+            emergencies: summed(self.emergencies, other.emergencies),
+            transfers: summed(self.transfers, other.transfers),
+            tpdos: summed(self.tpdos, other.tpdos),
+            rpdos: summed(self.rpdos, other.rpdos),
+            differences: summed(self.differences, other.differences),
+        }
+    }
+}
+
+// the span of a stamp so many microseconds after the begin
+fn place_in(width: u64, passed: u64) -> u64
+    ensures { result ≡ place_in width passed }
+{
+    if width == 0 { 0 } else { passed / width }
+}
+
+// each two neighbours as one
+fn joined(alloc: Global, bins: &[Bin]) -> Result<Vec<Bin>, AllocError>
+    ensures { IfOk result (λ halves. halves.items ≡ joined bins.now) }
+{
+    let mut halves = Vec::new(alloc);
+    let mut rest = bins;
+    while let [a, b, more @ ..] = rest {
+        halves.push(a.with(*b))?;
+        rest = more;
+    }
+    halves.extend_from_slice(rest)?;
+    Ok(halves)
+}
+
+impl Lanes {
+    /// Of no frame.
+    pub(crate) fn new(alloc: Global) -> Lanes
+        ensures { result ≡ no_lanes }
+    {
+        Lanes {
+            begin: 0,
+            width: FIRST_WIDTH,
+            bins: Vec::new(alloc),
+        }
+    }
+
+    // doubles the width
+    fn double(&mut self, alloc: Global) -> Result<(), AllocError>
+        ensures { OnOk result (self.new ≡ doubled self.old) }
+    {
+        self.bins = joined(alloc, self.bins.as_slice())?;
+        self.width = self.width.saturating_mul(2);
+        Ok(())
+    }
+
+    // makes the spans wide enough for a stamp so many microseconds after the begin
+    #[tactic(auto, unfolding(crate::specs::Spans::widened))]
+    fn widen(&mut self, alloc: Global, steps: u8, passed: u64) -> Result<(), AllocError>
+        ensures { OnOk result (self.new ≡ widened steps passed self.old) }
+    {
+        if steps == 0 || place_in(self.width, passed) < MOST_BINS {
+            return Ok(());
+        }
+        self.double(alloc)?;
+        self.widen(alloc, steps - 1, passed)
+    }
+
+    // they begin with the first frame
+    fn begin_at(&mut self, micros: u64)
+        ensures { self.new ≡ begun_at micros self.old }
+    {
+        if self.bins.is_empty() {
+            self.begin = micros;
+        }
+    }
+
+    // makes spans up to a place
+    fn fill(&mut self, place: usize) -> Result<(), AllocError>
+        requires { place < 2000 }
+        ensures { OnOk result (self.new ≡ record self.old { bins = filled place self.old.bins }) }
+    {
+        if self.bins.len() <= place {
+            self.bins.resize(place + 1, Bin::empty())?;
+        }
+        Ok(())
+    }
+
+    // counts a frame in its span
+    fn place(
+        &mut self,
+        micros: u64,
+        state: NmtState,
+        lane: Option<Lane>,
+        differences: u32,
+    ) -> Result<(), AllocError>
+        ensures { OnOk result (self.new
+            ≡ placed_at micros (bin_with state lane differences) self.old) }
+    {
+        let place = place_in(self.width, micros.saturating_sub(self.begin)).min(MOST_BINS - 1);
+        let place = place as usize;
+        self.fill(place)?;
+        if place < self.bins.len() {
+            self.bins[place].add(state, lane, differences);
+        }
+        Ok(())
+    }
+
+    /// Counts a frame with its stamp in microseconds, its lane, and the number of its differences.
+    /// `Err`: out of memory.
+    #[tactic(auto, unfolding(crate::specs::Spans::lanes_with))]
+    pub(crate) fn add(
+        &mut self,
+        alloc: Global,
+        micros: u64,
+        state: NmtState,
+        lane: Option<Lane>,
+        differences: u32,
+    ) -> Result<(), AllocError>
+        ensures { OnOk result (self.new
+            ≡ lanes_with micros (bin_with state lane differences) self.old) }
+    {
+        self.begin_at(micros);
+        self.widen(alloc, MOST_STEPS, micros.saturating_sub(self.begin))?;
+        self.place(micros, state, lane, differences)
+    }
 }

@@ -4,14 +4,18 @@
 #![tactic(auto)]
 
 mod about;
+mod before;
+mod counts;
 mod coverage;
 mod kind;
 mod lanes;
 mod noted;
+mod occasions;
 mod report;
 mod service;
 
 pub use about::About;
+pub use before::{Before, Role, Rpdos};
 pub use coverage::{Coverage, Covered, Numbered};
 pub use kind::{Counted, Kind};
 pub use lanes::{Bin, Lanes, States};

@@ -1,7 +1,11 @@
 //! Differences that are listed, and the lines of the recording around them.
 
+ghost use Rattle.std.specs.Prelude.{◌≡◌};
+ghost use Rattle.conode_compare_report.specs.Contexts.{around, greatest_around};
+
 use conode_compare_rules::Finding;
 use conode_explain_values::ValueType;
+use std::marker::Model;
 
 /// A difference that is listed.
 #[derive(Clone, Copy)]
@@ -23,6 +27,28 @@ pub struct Noted {
 pub struct ContextLine {
     /// Its number, from 1 on.
     pub number: u64,
-    /// Its bytes as recorded, without the line feed: at most 512, and none of a longer line.
+    /// Its bytes as recorded, without the line feed; none of a line of more than 512 bytes.
     pub bytes: Vec<u8>,
+}
+
+impl Model for ContextLine {
+    ghost use Rattle.conode_compare_report.specs.Contexts.{KeptLine};
+
+    ghost Value = { KeptLine };
+
+    ghost view = { λ line. record { number = line.number; bytes = line.bytes.items } };
+}
+
+/// The lines around a difference, among those that are kept: up to three before it, its own, and up
+/// to three after it.
+pub(crate) fn around<'r>(context: &'r [ContextLine], noted: &Noted) -> &'r [ContextLine]
+    ensures { result.now ≡ around context.now noted.now }
+{
+    let first = noted.first.min(context.len());
+    let rest = &context[first..];
+    let greatest = noted.line.saturating_add(3);
+    match rest.iter().position(|line| line.number > greatest) {
+        Some(count) => &rest[..count],
+        None => rest,
+    }
 }

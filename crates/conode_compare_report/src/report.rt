@@ -1,9 +1,40 @@
 //! What is kept of a comparison.
 
-use crate::coverage::Coverage;
-use crate::kind::Counted;
+ghost use Rattle.std.specs.Prelude.{◌≡◌, true, map, OnOk, IfOk};
+ghost use Rattle.std.specs.List.{AllPairs};
+ghost use Rattle.co_sheet.specs.SheetViews.{row_view};
+ghost use Rattle.co_value.specs.Keys.{is_key_before};
+ghost use Rattle.conode_compare_report.specs.Befores.{before_at};
+ghost use Rattle.conode_compare_report.specs.Contexts.{around};
+ghost use Rattle.conode_compare_report.specs.Reports.{
+  begin_with,
+  channel_after,
+  heard_of,
+  if_listed,
+  listed_in,
+  newest_with,
+  nothing_kept,
+  number_found,
+  one_of,
+  with_bad_line,
+  with_finding,
+  with_frame,
+  with_line,
+};
+
+use crate::before::{Before, Rpdos};
+use crate::coverage::{Coverage, ended_in};
+use crate::kind::{Counted, Kind};
 use crate::lanes::Lanes;
-use crate::noted::{ContextLine, Noted};
+use crate::noted::{ContextLine, Noted, around};
+use crate::occasions::{find, no_counts, pass_frame};
+use crate::service::lane_of;
+use co_sheet::EntryRow;
+use conode_compare_rules::{Finding, Findings, FrameKind, NmtState, Progress};
+use conode_explain_transfers::{Channel, Heard};
+use conode_explain_values::ValueType;
+use std::alloc::{AllocError, Global};
+use std::marker::Model;
 
 /// What is kept of a comparison for a document at its end, in bounded memory.
 #[derive(Drop)]
@@ -20,28 +51,238 @@ pub struct Report {
     pub coverage: Coverage,
     /// The bus over time.
     pub lanes: Lanes,
-    /// How many lines the recording has, and how many of these are bad.
+    /// How many lines the recording has.
     pub lines: u64,
+    /// How many of these are bad.
     pub bad_lines: u64,
-    /// The stamps of the first and of the newest frame that is compared, in microseconds.
+    /// The stamp of the first frame that is compared, in microseconds.
     pub begin: Option<u64>,
+    /// The stamp of the newest one.
     pub end: u64,
+    // the newest four lines that aren't kept so far
+    recent: Vec<ContextLine>,
+    // lines up to this number are kept at once
+    wanted: u64,
+    channel: Channel,
+    rpdos: Rpdos,
+}
+
+impl Model for Report {
+    ghost use Rattle.conode_compare_report.specs.Views.{Kept};
+
+    ghost Value = { Kept };
+
+    ghost view = { λ report. record {
+      kinds = report.kinds.items;
+      noted = report.noted.items;
+      unlisted = report.unlisted;
+      context = report.context.items;
+      coverage = report.coverage;
+      lanes = report.lanes;
+      lines = report.lines;
+      bad_lines = report.bad_lines;
+      begin = report.begin;
+      end = report.end;
+      recent = report.recent.items;
+      wanted = report.wanted;
+      channel = report.channel;
+      rpdos = report.rpdos;
+    } };
+}
+
+/// How many differences are listed.
+const MOST_LISTED: usize = 10_000;
+
+/// How many lines before a difference are kept, with its own.
+const MOST_RECENT: usize = 4;
+
+// adds a line after the newest four
+fn add_recent(
+    alloc: Global,
+    recent: &mut Vec<ContextLine>,
+    number: u64,
+    bytes: &[u8],
+) -> Result<(), AllocError>
+    ensures { OnOk result (recent.new.items
+        ≡ newest_with recent.old.items (record { number = number; bytes = bytes.now })) }
+{
+    if recent.len() < MOST_RECENT {
+        let bytes = Vec::from_slice(alloc, bytes)?;
+        recent.push(ContextLine { number, bytes })?;
+        return Ok(());
+    }
+    let mut line = recent.remove(0);
+    line.number = number;
+    line.bytes.clear();
+    line.bytes.extend_from_slice(bytes)?;
+    recent.push(line)?;
+    Ok(())
+}
+
+// a frame on the device's SDO channel; a boot-up ends what is open
+fn hear(channel: &mut Channel, micros: u64, kind: &FrameKind) -> Option<Heard>
+    ensures says { result ≡ heard_of channel.old micros kind.now }
+    ensures next { channel.new ≡ channel_after channel.old micros kind.now }
+{
+    match kind {
+        FrameKind::Sdo(side, frame) => Some(channel.take(micros, *side, frame)),
+        FrameKind::Control(0) => {
+            let _ = channel.boot_up(micros);
+            None
+        }
+        _ => None,
+    }
+}
+
+fn one_of(finding: Option<Finding>) -> u32
+    ensures { result ≡ one_of finding }
+{
+    match finding {
+        Some(_) => 1,
+        None => 0,
+    }
+}
+
+// how many differences are found at a frame
+fn number_found(found: &Findings) -> u32
+    ensures { result ≡ number_found found.now }
+{
+    one_of(found.boot) + one_of(found.heartbeat) + one_of(found.answer) + one_of(found.frame)
 }
 
 impl Report {
-    /// The lines around a difference that is listed: up to three before it, its own, and up to three
-    /// after it.
-    pub fn around(&self, noted: &Noted) -> &[ContextLine]
-        ensures { result.now ≡ around self.now.context.items noted.now }
+    /// Of nothing so far: a comparison with the data sheet whose entries these are, in increasing
+    /// key, of a device with this node-ID. `Err`: out of memory.
+    #[tactic(auto, unfolding(crate::specs::Reports::nothing_kept))]
+    pub fn new(alloc: Global, rows: &[EntryRow<'_>], node: u8) -> Result<Report, AllocError>
+        requires { AllPairs (λ e f. is_key_before e.key f.key ≡ true) rows.now }
+        ensures { IfOk result (λ report. report ≡ nothing_kept (map row_view rows.now) node) }
     {
-        let rest = match self.context.get(noted.first..) {
-            Some(rest) => rest,
-            None => &[],
-        };
-        let greatest = noted.line.saturating_add(3);
-        match rest.iter().position(|line| line.number > greatest) {
-            Some(count) => &rest[..count],
-            None => rest,
+        let kinds = no_counts(alloc)?;
+        let coverage = Coverage::new(alloc, rows.len())?;
+        Ok(Report {
+            kinds,
+            noted: Vec::new(alloc),
+            unlisted: 0,
+            context: Vec::new(alloc),
+            coverage,
+            lanes: Lanes::new(alloc),
+            lines: 0,
+            bad_lines: 0,
+            begin: None,
+            end: 0,
+            recent: Vec::new(alloc),
+            wanted: 0,
+            channel: Channel::new(),
+            rpdos: Rpdos::of(rows, node),
+        })
+    }
+
+    /// The next line of the recording, without its line feed. `Err`: out of memory.
+    #[tactic(auto, unfolding(crate::specs::Reports::with_line))]
+    pub fn take_line(&mut self, alloc: Global, bytes: &[u8]) -> Result<(), AllocError>
+        ensures { OnOk result (self.new ≡ with_line self.old bytes.now) }
+    {
+        self.lines = self.lines.saturating_add(1);
+        let number = self.lines;
+        if self.wanted < number {
+            return add_recent(alloc, &mut self.recent, number, bytes);
         }
+        let bytes = Vec::from_slice(alloc, bytes)?;
+        self.context.push(ContextLine { number, bytes })?;
+        Ok(())
+    }
+
+    /// The newest line is bad.
+    pub fn note_bad_line(&mut self)
+        ensures { self.new ≡ with_bad_line self.old }
+    {
+        self.bad_lines = self.bad_lines.saturating_add(1);
+    }
+
+    /// What is known of the device before a frame of this kind.
+    pub fn before(&self, progress: &Progress, kind: &FrameKind) -> Before
+        ensures { result ≡ before_at self.now.rpdos progress.now kind.now }
+    {
+        Before::at(&self.rpdos, progress, kind)
+    }
+
+    /// A frame of the newest line: its stamp in microseconds, its kind, what was known before it,
+    /// the state that is known after it, and what is found at it. `Err`: out of memory.
+    #[tactic(auto, unfolding(crate::specs::Reports::with_frame))]
+    pub fn take_frame(
+        &mut self,
+        alloc: Global,
+        rows: &[EntryRow<'_>],
+        micros: u64,
+        kind: &FrameKind,
+        before: &Before,
+        state: NmtState,
+        found: &Findings,
+    ) -> Result<(), AllocError>
+        requires { AllPairs (λ e f. is_key_before e.key f.key ≡ true) rows.now }
+        ensures { OnOk result (self.new ≡ with_frame
+            (map row_view rows.now) self.old micros kind.now before.now state found.now) }
+    {
+        let heard = hear(&mut self.channel, micros, kind);
+        pass_frame(&mut self.kinds, rows, kind, before, &heard, found.verdict);
+        self.coverage
+            .add(rows, kind, before.role, state, ended_in(&heard))?;
+        let lane = lane_of(kind, before.role);
+        self.lanes
+            .add(alloc, micros, state, lane, number_found(found))?;
+        self.begin = self.begin.or(Some(micros));
+        self.end = micros;
+        Ok(())
+    }
+
+    // lists a difference
+    fn list(
+        &mut self,
+        micros: u64,
+        value_type: ValueType,
+        finding: Finding,
+    ) -> Result<(), AllocError>
+        ensures { OnOk result (self.new ≡ listed_in
+            (self.old.context ++ self.old.recent) self.old micros value_type finding) }
+    {
+        self.context.append(&mut self.recent)?;
+        let first = self.context.len() - self.lines.min(4).min(self.context.len() as u64) as usize;
+        self.noted.push(Noted {
+            line: self.lines,
+            micros,
+            finding,
+            value_type,
+            first,
+        })?;
+        self.wanted = self.lines.saturating_add(3);
+        Ok(())
+    }
+
+    /// A difference that is found at the frame of the newest line, with the frame's stamp in
+    /// microseconds, and the data type in which its values are shown. `Err`: out of memory.
+    #[tactic(auto, unfolding(crate::specs::Reports::with_finding))]
+    pub fn take_finding(
+        &mut self,
+        micros: u64,
+        value_type: ValueType,
+        finding: Finding,
+    ) -> Result<(), AllocError>
+        ensures { OnOk result (self.new ≡ with_finding self.old micros value_type finding) }
+    {
+        find(&mut self.kinds, Kind::of(finding));
+        if self.noted.len() < MOST_LISTED {
+            return self.list(micros, value_type, finding);
+        }
+        self.unlisted = self.unlisted.saturating_add(1);
+        Ok(())
+    }
+
+    /// The lines around a difference that is listed: up to three before it, its own, and up to
+    /// three after it.
+    pub fn around(&self, noted: &Noted) -> &[ContextLine]
+        ensures { result.now ≡ around self.now.context noted.now }
+    {
+        around(self.context.as_slice(), noted)
     }
 }

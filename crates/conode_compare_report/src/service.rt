@@ -1,7 +1,32 @@
 //! The services of CiA 301 that a recording may have.
 
-ghost use Rattle.std.specs.Prelude.{◌≡◌};
+ghost use Rattle.std.specs.Prelude.{◌≡◌, IfOk};
+ghost use Rattle.std.specs.Option.{option_copied};
+ghost use Rattle.conode_compare_report.specs.Coverages.{
+  command_service,
+  control_service,
+  done_service,
+  ended_service,
+  lane_of,
+  no_services,
+  none_of,
+  role_lane,
+  role_service,
+  rpdo_service,
+  served_once_more,
+  service_of,
+  services_with,
+  tpdo_service,
+  transfer_service,
+};
 ghost use Rattle.conode_compare_report.specs.Services.{service_name, service_number};
+
+use crate::before::Role;
+use crate::lanes::Lane;
+use co_frame::NmtService;
+use conode_compare_rules::FrameKind;
+use conode_explain_transfers::{Direction, Ended, Ending, Protocol};
+use std::alloc::{AllocError, Global};
 
 /// A service of a device, or one that it takes.
 #[derive(Clone, Copy, Debug, PartialEq, Eq)]
@@ -106,5 +131,194 @@ impl Service {
             Service::Rpdo3 => 23,
             Service::Rpdo4 => 24,
         }
+    }
+}
+
+impl Served {
+    fn none_of(service: Service) -> Served
+        ensures { result ≡ none_of service }
+    {
+        Served { service, count: 0 }
+    }
+
+    fn add(&mut self)
+        ensures { self.new ≡ served_once_more self.old }
+    {
+        self.count = self.count.saturating_add(1);
+    }
+}
+
+/// Each service once.
+pub(crate) fn no_services(alloc: Global) -> Result<Vec<Served>, AllocError>
+    ensures { IfOk result (λ services. services.items ≡ no_services) }
+{
+    let services = [
+        Served::none_of(Service::Start),
+        Served::none_of(Service::Stop),
+        Served::none_of(Service::EnterPreOperational),
+        Served::none_of(Service::ResetNode),
+        Served::none_of(Service::ResetCommunication),
+        Served::none_of(Service::BootUp),
+        Served::none_of(Service::Heartbeat),
+        Served::none_of(Service::NodeGuarding),
+        Served::none_of(Service::Emergency),
+        Served::none_of(Service::Sync),
+        Served::none_of(Service::Time),
+        Served::none_of(Service::ExpeditedUpload),
+        Served::none_of(Service::SegmentedUpload),
+        Served::none_of(Service::BlockUpload),
+        Served::none_of(Service::ExpeditedDownload),
+        Served::none_of(Service::SegmentedDownload),
+        Served::none_of(Service::BlockDownload),
+        Served::none_of(Service::Tpdo1),
+        Served::none_of(Service::Tpdo2),
+        Served::none_of(Service::Tpdo3),
+        Served::none_of(Service::Tpdo4),
+        Served::none_of(Service::Rpdo1),
+        Served::none_of(Service::Rpdo2),
+        Served::none_of(Service::Rpdo3),
+        Served::none_of(Service::Rpdo4),
+    ];
+    Vec::from_array(alloc, services)
+}
+
+fn command_service(service: NmtService) -> Service
+    ensures { result ≡ command_service service }
+{
+    match service {
+        NmtService::Start => Service::Start,
+        NmtService::Stop => Service::Stop,
+        NmtService::EnterPreOperational => Service::EnterPreOperational,
+        NmtService::ResetNode => Service::ResetNode,
+        NmtService::ResetCommunication => Service::ResetCommunication,
+    }
+}
+
+// by a byte of error control: bit 7 is the toggle bit of node guarding
+fn control_service(byte: u8) -> Service
+    ensures { result ≡ control_service byte }
+{
+    if byte == 0 {
+        Service::BootUp
+    } else if byte < 0x80 {
+        Service::Heartbeat
+    } else {
+        Service::NodeGuarding
+    }
+}
+
+fn tpdo_service(number: u8) -> Service
+    ensures { result ≡ tpdo_service number }
+{
+    match number {
+        1 => Service::Tpdo1,
+        2 => Service::Tpdo2,
+        3 => Service::Tpdo3,
+        _ => Service::Tpdo4,
+    }
+}
+
+fn rpdo_service(number: u8) -> Service
+    ensures { result ≡ rpdo_service number }
+{
+    match number {
+        1 => Service::Rpdo1,
+        2 => Service::Rpdo2,
+        3 => Service::Rpdo3,
+        _ => Service::Rpdo4,
+    }
+}
+
+fn role_service(role: Role) -> Option<Service>
+    ensures { result ≡ role_service role }
+{
+    match role {
+        Role::Sync => Some(Service::Sync),
+        Role::Time => Some(Service::Time),
+        Role::Tpdo(number, _) => Some(tpdo_service(number)),
+        Role::Rpdo(number) => Some(rpdo_service(number)),
+        Role::Other => None,
+    }
+}
+
+// of a transfer that was confirmed
+fn transfer_service(direction: Direction, protocol: Protocol) -> Option<Service>
+    ensures { result ≡ transfer_service direction protocol }
+{
+    match (direction, protocol) {
+        (_, Protocol::Undecided) => None,
+        (Direction::Upload, Protocol::Expedited) => Some(Service::ExpeditedUpload),
+        (Direction::Upload, Protocol::Segmented) => Some(Service::SegmentedUpload),
+        (Direction::Upload, Protocol::Block) => Some(Service::BlockUpload),
+        (Direction::Download, Protocol::Expedited) => Some(Service::ExpeditedDownload),
+        (Direction::Download, Protocol::Segmented) => Some(Service::SegmentedDownload),
+        (Direction::Download, Protocol::Block) => Some(Service::BlockDownload),
+    }
+}
+
+fn ended_service(ended: Option<&Ended>) -> Option<Service>
+    ensures { result ≡ ended_service (option_copied ended) }
+{
+    let ended = ended?;
+    match ended.ending {
+        Ending::Done { crc: _ } => transfer_service(ended.direction, ended.protocol),
+        _ => None,
+    }
+}
+
+/// What a frame is of, with the transfer that ended with it.
+#[tactic(auto, unfolding(crate::specs::Coverages::service_of))]
+pub(crate) fn service_of(kind: &FrameKind, role: Role, ended: Option<&Ended>) -> Option<Service>
+    ensures { result ≡ service_of kind.now role (option_copied ended) }
+{
+    match kind {
+        FrameKind::Command(service) | FrameKind::CommandToAll(service) => {
+            Some(command_service(*service))
+        }
+        FrameKind::Guarding => Some(Service::NodeGuarding),
+        FrameKind::Control(byte) => Some(control_service(*byte)),
+        FrameKind::OddControl(_) => Some(Service::Heartbeat),
+        FrameKind::Emergency(_, _) | FrameKind::OddEmergency(_) => Some(Service::Emergency),
+        FrameKind::Process(_, _) => role_service(role),
+        FrameKind::Sdo(_, _) => ended_service(ended),
+        _ => None,
+    }
+}
+
+/// Counts a service, if a frame is of one.
+#[tactic(auto, unfolding(crate::specs::Coverages::services_with))]
+pub(crate) fn count_service(services: &mut [Served], service: Option<Service>)
+    ensures { services.new ≡ services_with service services.old }
+{
+    let Some(service) = service else {
+        return;
+    };
+    let place = service.number();
+    if place < services.len() {
+        services[place].add();
+    }
+}
+
+fn role_lane(role: Role) -> Option<Lane>
+    ensures { result ≡ role_lane role }
+{
+    match role {
+        Role::Tpdo(_, _) => Some(Lane::Tpdos),
+        Role::Rpdo(_) => Some(Lane::Rpdos),
+        _ => None,
+    }
+}
+
+/// In which lane a frame is.
+#[tactic(auto, unfolding(crate::specs::Coverages::lane_of))]
+pub(crate) fn lane_of(kind: &FrameKind, role: Role) -> Option<Lane>
+    ensures { result ≡ lane_of kind.now role }
+{
+    match kind {
+        FrameKind::Control(_) | FrameKind::OddControl(_) => Some(Lane::Heartbeats),
+        FrameKind::Emergency(_, _) | FrameKind::OddEmergency(_) => Some(Lane::Emergencies),
+        FrameKind::Sdo(_, _) => Some(Lane::Transfers),
+        FrameKind::Process(_, _) => role_lane(role),
+        _ => None,
     }
 }

@@ -8,6 +8,7 @@ mod entries;
 mod finding;
 mod heartbeats;
 mod kind;
+mod known;
 mod limits;
 mod nmt;
 mod progress;

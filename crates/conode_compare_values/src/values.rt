@@ -39,20 +39,22 @@ use conode_explain_transfers::{Direction, Ended, Ending, Protocol, Side};
 // the identity object (CiA 301, 7.5.2.21)
 const IDENTITY: u16 = 0x1018;
 
-fn is_read_only(access: Access) -> bool
+/// Whether an entry with this access is read only.
+pub fn is_read_only(access: Access) -> bool
     ensures { result ≡ is_read_only access }
 {
     matches!(access, Access::Ro | Access::Constant)
 }
 
-fn is_readable(access: Access) -> bool
+/// Whether an entry with this access can be read.
+pub fn is_readable(access: Access) -> bool
     ensures { result ≡ is_readable access }
 {
     !matches!(access, Access::Wo)
 }
 
-// whether the value of an entry is compared with the data sheet
-fn is_held(row: &EntryRow<'_>) -> bool
+/// Whether the value of an entry is compared with the data sheet.
+pub fn is_held(row: &EntryRow<'_>) -> bool
     ensures { result ≡ is_held (row_view row.now) }
 {
     if row.key.index == IDENTITY {
@@ -145,8 +147,8 @@ fn is_boolean(data_type: DataType) -> bool
     matches!(data_type, DataType::Boolean)
 }
 
-// whether the limits of an entry are the data sheet's alone, and can be meant
-fn has_limits(row: &EntryRow<'_>) -> bool
+/// Whether the limits of an entry are the data sheet's alone, and can be meant.
+pub fn has_limits(row: &EntryRow<'_>) -> bool
     ensures { result ≡ has_limits (row_view row.now) }
 {
     row.key.index >= 0x2000 && !is_boolean(row.data_type) && binds(row.low, row.high)

@@ -1,0 +1,50 @@
+//! Numbers that are counted in lists.
+
+ghost use Rattle.std.specs.Prelude.{◌≡◌, ◌<◌, OnOk, IfSome, length, position};
+ghost use Rattle.conode_compare_report.specs.Counts.{
+  is_number,
+  numbered_with,
+  one_more_of,
+};
+
+use crate::coverage::Numbered;
+use std::alloc::AllocError;
+
+// the place of a number
+fn place_of(numbers: &[Numbered], number: u32) -> Option<usize>
+    ensures place { result ≡ position (is_number number) numbers.now }
+    ensures within { IfSome result (λ place. place < length numbers.now) }
+{
+    numbers.iter().position(|counted| counted.number == number)
+}
+
+impl Numbered {
+    fn add(&mut self)
+        ensures { self.new ≡ one_more_of self.old }
+    {
+        self.count = self.count.saturating_add(1);
+    }
+}
+
+/// Counts a number. A new one is appended if fewer than `most` are there.
+#[tactic(auto, unfolding(crate::specs::Counts::numbered_with))]
+pub(crate) fn count_number(
+    numbers: &mut Vec<Numbered>,
+    most: usize,
+    number: u32,
+) -> Result<(), AllocError>
+    ensures { OnOk result (numbers.new.items ≡ numbered_with most number numbers.old.items) }
+{
+    match place_of(numbers.as_slice(), number) {
+        Some(place) => {
+            numbers[place].add();
+            Ok(())
+        }
+        None => {
+            if numbers.len() < most {
+                numbers.push(Numbered { number, count: 1 })?;
+            }
+            Ok(())
+        }
+    }
+}

@@ -1,0 +1,451 @@
+//! Which kinds of differences a frame could have shown, and how often each was found.
+
+ghost use Rattle.std.specs.Prelude.{◌≡◌, ◌≤◌, true, map, IfOk};
+ghost use Rattle.std.specs.List.{AllPairs};
+ghost use Rattle.co_sheet.specs.SheetViews.{row_view};
+ghost use Rattle.co_value.specs.Keys.{is_key_before};
+ghost use Rattle.conode_compare_report.specs.Occasions.{
+  answer_passed,
+  command_passed,
+  control_passed,
+  counts_found,
+  counts_passed,
+  download_passed,
+  emergency_passed,
+  ended_passed,
+  entry_of_upload,
+  found,
+  frame_passed,
+  has_key,
+  has_segment,
+  has_toggle,
+  if_ended_passed,
+  is_block,
+  is_booting,
+  is_by_event,
+  is_done,
+  is_expedited,
+  is_refused,
+  is_segment,
+  is_set,
+  is_stopped,
+  is_synchronous,
+  kind_passed,
+  no_counts,
+  none_of,
+  passed,
+  passes,
+  role_passed,
+  side_passed,
+  tpdo_passed,
+  upload_passed,
+  way_passed,
+};
+
+use crate::before::{Before, Role};
+use crate::kind::{Counted, Kind};
+use co_sheet::EntryRow;
+use conode_compare_pdos::Parameters;
+use conode_compare_rules::{FrameKind, NmtState, Verdict};
+use conode_compare_values::{has_limits, is_held, is_read_only, is_readable};
+use conode_decode::row_at;
+use conode_explain_transfers::{Direction, Ended, Ending, Heard, Protocol, Side, What};
+use std::alloc::{AllocError, Global};
+
+impl Counted {
+    fn none_of(kind: Kind) -> Counted
+        ensures { result ≡ none_of kind }
+    {
+        Counted {
+            kind,
+            found: 0,
+            occasions: 0,
+        }
+    }
+
+    fn pass(&mut self)
+        ensures { self.new ≡ passed self.old }
+    {
+        self.occasions = self.occasions.saturating_add(1);
+    }
+
+    fn find(&mut self)
+        ensures { self.new ≡ found self.old }
+    {
+        self.found = self.found.saturating_add(1);
+        self.occasions = self.occasions.saturating_add(1);
+    }
+}
+
+/// Each kind once, in the order of the table.
+pub(crate) fn no_counts(alloc: Global) -> Result<Vec<Counted>, AllocError>
+    ensures { IfOk result (λ counts. counts.items ≡ no_counts) }
+{
+    let counts = [
+        Counted::none_of(Kind::HeartbeatLate),
+        Counted::none_of(Kind::HeartbeatState),
+        Counted::none_of(Kind::HeartbeatLength),
+        Counted::none_of(Kind::PdoLength),
+        Counted::none_of(Kind::PdoState),
+        Counted::none_of(Kind::PdoSync),
+        Counted::none_of(Kind::PdoInhibit),
+        Counted::none_of(Kind::PdoLate),
+        Counted::none_of(Kind::BootMissing),
+        Counted::none_of(Kind::SecondSender),
+        Counted::none_of(Kind::EmergencyLength),
+        Counted::none_of(Kind::EmergencyState),
+        Counted::none_of(Kind::EmergencyRegister),
+        Counted::none_of(Kind::EmergencyInhibit),
+        Counted::none_of(Kind::NoAnswer),
+        Counted::none_of(Kind::AnswerKey),
+        Counted::none_of(Kind::AnswerForm),
+        Counted::none_of(Kind::AnswerToggle),
+        Counted::none_of(Kind::AnswerSize),
+        Counted::none_of(Kind::AnswerCrc),
+        Counted::none_of(Kind::AnswerState),
+        Counted::none_of(Kind::AbortKey),
+        Counted::none_of(Kind::ValueLength),
+        Counted::none_of(Kind::ValueConst),
+        Counted::none_of(Kind::AccessRead),
+        Counted::none_of(Kind::AccessWrite),
+        Counted::none_of(Kind::AccessLimits),
+    ];
+    Vec::from_array(alloc, counts)
+}
+
+// a frame could have shown a difference of this kind
+#[tactic(auto, unfolding(crate::specs::Occasions::counts_passed))]
+fn pass(counts: &mut [Counted], could: bool, kind: Kind)
+    ensures { counts.new ≡ counts_passed could kind counts.old }
+{
+    let place = kind.number();
+    if could && place < counts.len() {
+        counts[place].pass();
+    }
+}
+
+/// A difference of this kind was found.
+#[tactic(auto, unfolding(crate::specs::Occasions::counts_found))]
+pub(crate) fn find(counts: &mut [Counted], kind: Kind)
+    ensures { counts.new ≡ counts_found kind counts.old }
+{
+    let place = kind.number();
+    if place < counts.len() {
+        counts[place].find();
+    }
+}
+
+// a time that is known and isn't 0
+fn is_set(time: Option<u16>) -> bool
+    ensures { result ≡ is_set time }
+{
+    match time {
+        Some(time) => time != 0,
+        None => false,
+    }
+}
+
+fn is_booting(state: NmtState) -> bool
+    ensures { result ≡ is_booting state }
+{
+    matches!(state, NmtState::Initialising)
+}
+
+fn is_stopped(state: NmtState) -> bool
+    ensures { result ≡ is_stopped state }
+{
+    matches!(state, NmtState::Stopped)
+}
+
+// a boot-up, or a heartbeat
+#[tactic(auto, unfolding(crate::specs::Occasions::control_passed))]
+fn pass_control(counts: &mut [Counted], before: &Before, byte: u8)
+    ensures { counts.new ≡ control_passed before.now byte counts.old }
+{
+    let is_boot_up = byte == 0;
+    pass(counts, true, Kind::HeartbeatLength);
+    pass(counts, !is_boot_up, Kind::HeartbeatState);
+    pass(
+        counts,
+        !is_boot_up && is_set(before.entries.period),
+        Kind::HeartbeatLate,
+    );
+    pass(counts, is_boot_up, Kind::SecondSender);
+    pass(
+        counts,
+        is_boot_up && is_booting(before.state),
+        Kind::BootMissing,
+    );
+}
+
+#[tactic(auto, unfolding(crate::specs::Occasions::emergency_passed))]
+fn pass_emergency(counts: &mut [Counted], before: &Before)
+    ensures { counts.new ≡ emergency_passed before.now counts.old }
+{
+    pass(counts, true, Kind::EmergencyLength);
+    pass(counts, true, Kind::EmergencyState);
+    pass(counts, true, Kind::EmergencyRegister);
+    pass(
+        counts,
+        is_set(before.entries.inhibit),
+        Kind::EmergencyInhibit,
+    );
+}
+
+// sent after a SYNC
+fn is_synchronous(kind: Option<u8>) -> bool
+    ensures { result ≡ is_synchronous kind }
+{
+    match kind {
+        Some(kind) => kind <= 240,
+        None => false,
+    }
+}
+
+// sent by an event
+fn is_by_event(kind: Option<u8>) -> bool
+    ensures { result ≡ is_by_event kind }
+{
+    match kind {
+        Some(kind) => 254 <= kind,
+        None => false,
+    }
+}
+
+#[tactic(auto, unfolding(crate::specs::Occasions::tpdo_passed))]
+fn pass_tpdo(counts: &mut [Counted], parameters: Parameters)
+    ensures { counts.new ≡ tpdo_passed parameters counts.old }
+{
+    let by_event = is_by_event(parameters.kind);
+    pass(counts, parameters.length.is_some(), Kind::PdoLength);
+    pass(counts, true, Kind::PdoState);
+    pass(counts, is_synchronous(parameters.kind), Kind::PdoSync);
+    pass(
+        counts,
+        by_event && is_set(parameters.inhibit),
+        Kind::PdoInhibit,
+    );
+    pass(counts, by_event && is_set(parameters.timer), Kind::PdoLate);
+}
+
+fn pass_role(counts: &mut [Counted], role: Role)
+    ensures { counts.new ≡ role_passed role counts.old }
+{
+    if let Role::Tpdo(_, parameters) = role {
+        pass_tpdo(counts, parameters);
+    }
+}
+
+// a segment of a sub-block, which has no command
+fn is_segment(what: What) -> bool
+    ensures { result ≡ is_segment what }
+{
+    match what {
+        What::Segment { number: _ } => true,
+        What::OutOfSequence {
+            number: _,
+            awaited: _,
+        } => true,
+        _ => false,
+    }
+}
+
+fn has_segment(heard: &Option<Heard>) -> bool
+    ensures { result ≡ has_segment heard.now }
+{
+    match heard {
+        Some(heard) => is_segment(heard.what),
+        None => false,
+    }
+}
+
+// whether an answer with this command has a multiplexer
+fn has_key(command: u8) -> bool
+    ensures { result ≡ has_key command }
+{
+    (0x40 <= command && command < 0x80)
+        || command == 0xA0
+        || command == 0xA4
+        || command == 0xC0
+        || command == 0xC2
+        || command == 0xC4
+        || command == 0xC6
+}
+
+// an answer with a command
+#[tactic(auto, unfolding(crate::specs::Occasions::command_passed))]
+fn pass_command(counts: &mut [Counted], command: u8)
+    ensures { counts.new ≡ command_passed command counts.old }
+{
+    pass(counts, command < 0x40, Kind::AnswerToggle);
+    pass(counts, has_key(command), Kind::AnswerKey);
+    pass(counts, command == 0x80, Kind::AbortKey);
+}
+
+#[tactic(auto, unfolding(crate::specs::Occasions::answer_passed))]
+fn pass_answer(counts: &mut [Counted], in_sub_block: bool, command: u8)
+    ensures { counts.new ≡ answer_passed in_sub_block command counts.old }
+{
+    if !in_sub_block {
+        pass_command(counts, command);
+    }
+    pass(counts, true, Kind::NoAnswer);
+    pass(counts, true, Kind::SecondSender);
+    pass(counts, true, Kind::AnswerForm);
+}
+
+fn first_byte(bytes: &[u8]) -> u8
+    ensures { result ≡ first_byte bytes.now }
+{
+    match bytes {
+        [byte, ..] => *byte,
+        _ => 0,
+    }
+}
+
+fn pass_side(
+    counts: &mut [Counted],
+    side: Side,
+    before: &Before,
+    heard: &Option<Heard>,
+    bytes: &[u8],
+)
+    ensures { counts.new ≡ side_passed side before.now heard.now bytes.now counts.old }
+{
+    match side {
+        Side::Client => pass(counts, is_stopped(before.state), Kind::AnswerState),
+        Side::Server => pass_answer(counts, has_segment(heard), first_byte(bytes)),
+    }
+}
+
+fn is_done(ending: Ending) -> bool
+    ensures { result ≡ is_done ending }
+{
+    matches!(ending, Ending::Done { crc: _ })
+}
+
+// whether the device aborted the transfer
+fn is_refused(ending: Ending) -> bool
+    ensures { result ≡ is_refused ending }
+{
+    match ending {
+        Ending::Aborted {
+            by: Side::Server,
+            code: _,
+        } => true,
+        _ => false,
+    }
+}
+
+fn is_expedited(protocol: Protocol) -> bool
+    ensures { result ≡ is_expedited protocol }
+{
+    matches!(protocol, Protocol::Expedited)
+}
+
+fn is_block(protocol: Protocol) -> bool
+    ensures { result ≡ is_block protocol }
+{
+    matches!(protocol, Protocol::Block)
+}
+
+// an upload of an entry
+fn pass_entry(counts: &mut [Counted], row: Option<&EntryRow<'_>>, done: bool, expedited: bool)
+    ensures { counts.new
+        ≡ entry_of_upload (option_map row_view (option_copied row)) done expedited counts.old }
+{
+    if let Some(row) = row {
+        pass(counts, done && expedited, Kind::ValueLength);
+        pass(counts, done && expedited && is_held(row), Kind::ValueConst);
+        pass(counts, is_readable(row.access), Kind::AccessRead);
+    }
+}
+
+#[tactic(auto, unfolding(crate::specs::Occasions::upload_passed))]
+fn pass_upload(counts: &mut [Counted], row: Option<&EntryRow<'_>>, done: bool, protocol: Protocol)
+    ensures { counts.new
+        ≡ upload_passed (option_map row_view (option_copied row)) done protocol counts.old }
+{
+    let expedited = is_expedited(protocol);
+    pass_entry(counts, row, done, expedited);
+    pass(counts, done && !expedited, Kind::AnswerSize);
+    pass(counts, done && is_block(protocol), Kind::AnswerCrc);
+}
+
+fn pass_download(counts: &mut [Counted], row: Option<&EntryRow<'_>>)
+    ensures { counts.new ≡ download_passed (option_map row_view (option_copied row)) counts.old }
+{
+    if let Some(row) = row {
+        pass(counts, is_read_only(row.access), Kind::AccessWrite);
+        pass(counts, has_limits(row), Kind::AccessLimits);
+    }
+}
+
+// a transfer that was confirmed, or refused by the device
+#[tactic(auto, unfolding(crate::specs::Occasions::ended_passed))]
+fn pass_ended(counts: &mut [Counted], rows: &[EntryRow<'_>], ended: &Ended)
+    requires { AllPairs (λ e f. is_key_before e.key f.key ≡ true) rows.now }
+    ensures { counts.new ≡ ended_passed (map row_view rows.now) ended.now counts.old }
+{
+    let done = is_done(ended.ending);
+    if !done && !is_refused(ended.ending) {
+        return;
+    }
+    let row = row_at(rows, ended.key);
+    match ended.direction {
+        Direction::Upload => pass_upload(counts, row, done, ended.protocol),
+        Direction::Download => pass_download(counts, row),
+    }
+}
+
+fn pass_kind(counts: &mut [Counted], kind: &FrameKind, before: &Before, heard: &Option<Heard>)
+    ensures { counts.new ≡ kind_passed kind.now before.now heard.now counts.old }
+{
+    match kind {
+        FrameKind::Control(byte) => pass_control(counts, before, *byte),
+        FrameKind::Emergency(_, _) => pass_emergency(counts, before),
+        FrameKind::Process(_, _) => pass_role(counts, before.role),
+        FrameKind::Sdo(side, frame) => pass_side(counts, *side, before, heard, frame.bytes()),
+        _ => {}
+    }
+}
+
+// a frame that shows no difference, and isn't unjudged
+fn passes(verdict: Option<Verdict>) -> bool
+    ensures { result ≡ passes verdict }
+{
+    match verdict {
+        Some(Verdict::Different) | Some(Verdict::Unjudged) => false,
+        Some(Verdict::Prescribed) | None => true,
+    }
+}
+
+/// Counts the kinds that a frame could have shown. What ended with it is in `heard`.
+#[tactic(auto, unfolding(crate::specs::Occasions::frame_passed))]
+pub(crate) fn pass_frame(
+    counts: &mut [Counted],
+    rows: &[EntryRow<'_>],
+    kind: &FrameKind,
+    before: &Before,
+    heard: &Option<Heard>,
+    verdict: Option<Verdict>,
+)
+    requires { AllPairs (λ e f. is_key_before e.key f.key ≡ true) rows.now }
+    ensures { counts.new
+        ≡ frame_passed (map row_view rows.now) kind.now before.now heard.now verdict counts.old }
+{
+    if !passes(verdict) {
+        return;
+    }
+    pass_kind(counts, kind, before, heard);
+    if let Some(
+        Heard {
+            what: _,
+            of: _,
+            ended: Some(ended),
+        },
+    ) = heard
+    {
+        pass_ended(counts, rows, ended);
+    }
+}
