@@ -1,0 +1,6 @@
+pub mod Outcomes
+pub mod NotedTokens
+pub mod CoverageTokens
+pub mod JsonDocument
+pub mod JunitCases
+pub mod JunitDocument

@@ -1,2 +1,12 @@
-//! The documents of JSON and JUnit of a comparison.
+//! A comparison as one document: of JSON, and of JUnit.
 #![tactic(auto)]
+
+mod cases;
+mod coverage;
+mod document;
+mod junit;
+mod noted;
+mod outcome;
+
+pub use document::json_document;
+pub use junit::junit_document;

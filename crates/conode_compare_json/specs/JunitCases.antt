@@ -1,0 +1,60 @@
+-- The test cases of JUnit: one a kind of difference.
+use Rattle.std.specs.Prelude.{ℕ, ◌-◌, ◌==◌, nat_lt, Bool, if◌then◌else◌, List, [], ◌++◌, length, min, take, filter, codes, decimal}
+use Rattle.std.specs.List.{flat_map}
+use Rattle.conode_compare_text.specs.FindingTexts.{finding_line}
+use Rattle.conode_compare_report.specs.declared.kind.Counted.{Counted}
+use Rattle.conode_compare_report.specs.declared.kind.Kind.{Kind}
+use Rattle.conode_compare_report.specs.declared.noted.Noted.{Noted}
+use Rattle.conode_compare_report.specs.Kinds.{kind_name, kind_number, kind_of, kind_rule}
+use Rattle.conode_markup.specs.Escapes.{escaped}
+use Rattle.conode_compare_json.specs.declared.outcome.Outcome.{Outcome}
+use Rattle.conode_compare_json.specs.declared.outcome.Outcome.TheVariants.{NoDifference, Differences, NoFrame, SeveralInterfaces}
+
+abbrev pub is_of_kind : Kind → Noted → Bool
+is_of_kind kind noted = kind_number (kind_of noted.finding) == kind_number kind
+
+-- the line of a difference, as the text has it
+unfoldable pub line_markup : List ℕ → Noted → List ℕ
+line_markup recording noted = escaped (finding_line recording noted.line noted.value_type noted.finding)
+
+-- how many differences have no line
+abbrev pub more_markup : ℕ → List ℕ
+more_markup count = if count == 0 then [] else codes "and " ++ decimal count ++ codes " more\n"
+
+-- the lines of the first hundred differences of a kind, and how many more were found
+unfoldable pub lines_markup : List ℕ → ℕ → List Noted → List ℕ
+lines_markup recording found own =
+    flat_map (line_markup recording) (take 100 own) ++ more_markup (found - min (length own) 100)
+
+unfoldable pub case_begin : List ℕ → List ℕ
+case_begin name = codes "<testcase classname=\"conode.compare\" name=\"" ++ name ++ codes "\""
+
+abbrev pub differences_word : ℕ → List ℕ
+differences_word count = if count == 1 then codes " difference: " else codes " differences: "
+
+-- how many differences were found, what is prescribed, and their lines
+unfoldable pub failed_markup : List ℕ → Counted → List Noted → List ℕ
+failed_markup recording counted noted =
+    codes "><failure type=\"" ++ kind_name counted.kind ++ codes "\" message=\"" ++ decimal counted.found
+    ++ differences_word counted.found ++ escaped (kind_rule counted.kind) ++ codes "\">"
+    ++ lines_markup recording counted.found (filter (is_of_kind counted.kind) noted)
+    ++ codes "</failure></testcase>\n"
+
+-- a test case: failed if a difference was found, skipped if there was no occasion for one
+unfoldable pub case_markup : List ℕ → List Noted → Counted → List ℕ
+case_markup recording noted counted =
+    case_begin (kind_name counted.kind)
+    ++ (if nat_lt 0 counted.found then failed_markup recording counted noted
+    else (if counted.occasions == 0 then codes "><skipped message=\"no occasion in this recording\"/></testcase>\n"
+    else codes "/>\n"))
+
+-- one more test case, with an error, if nothing could be compared
+unfoldable pub outcome_case : ℕ → Outcome → List ℕ
+outcome_case node NoDifference = []
+outcome_case node Differences = []
+outcome_case node NoFrame =
+    case_begin (codes "compared") ++ codes "><error type=\"not-compared\" message=\"no frame of node " ++ decimal node
+    ++ codes "\"/></testcase>\n"
+outcome_case node SeveralInterfaces =
+    case_begin (codes "compared")
+    ++ codes "><error type=\"not-compared\" message=\"several interfaces: name one with --interface\"/></testcase>\n"

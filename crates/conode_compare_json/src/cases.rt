@@ -1,0 +1,228 @@
+//! The test cases of JUnit. Each function with a text appends to it. `Err`: out of memory; a part of it
+//! may be there.
+
+ghost use Rattle.std.specs.Prelude.{◌≡◌, ◌++◌, filter, IfOk, OnOk, string_bytes};
+ghost use Rattle.std.specs.List.{flat_map};
+ghost use Rattle.conode_compare_json.specs.Outcomes.{outcome_of};
+ghost use Rattle.conode_compare_json.specs.JunitCases.{
+  case_begin,
+  case_markup,
+  differences_word,
+  failed_markup,
+  is_of_kind,
+  line_markup,
+  lines_markup,
+  more_markup,
+  outcome_case,
+};
+
+use crate::outcome::Outcome;
+use conode_compare_report::{About, Counted, Kind, Noted};
+use conode_compare_text::set_finding_line;
+use conode_markup::{Piece, push_pieces};
+use std::alloc::{AllocError, Global};
+
+/// How many differences of a kind have a line.
+const MOST_LINES: usize = 100;
+
+fn is_of_kind(kind: Kind, noted: &Noted) -> bool
+    ensures { result ≡ is_of_kind kind noted.now }
+{
+    Kind::of(noted.finding).number() == kind.number()
+}
+
+// the differences of a kind
+fn of_kind(alloc: Global, kind: Kind, noted: &[Noted]) -> Result<Vec<Noted>, AllocError>
+    ensures { IfOk result (λ own. own.items ≡ filter (is_of_kind kind) noted.now) }
+{
+    let mut own = Vec::new(alloc);
+    for one in noted {
+        if is_of_kind(kind, one) {
+            own.push(*one)?;
+        }
+    }
+    Ok(own)
+}
+
+#[tactic(auto, unfolding(crate::specs::JunitCases::line_markup))]
+fn push_line(
+    alloc: Global,
+    text: &mut String,
+    recording: &str,
+    noted: &Noted,
+) -> Result<(), AllocError>
+    ensures { OnOk result (string_bytes text.new
+        ≡ string_bytes text.old ++ line_markup recording.now noted.now) }
+{
+    let mut line = String::new(alloc);
+    set_finding_line(
+        &mut line,
+        recording,
+        noted.line,
+        noted.value_type,
+        noted.finding,
+    )?;
+    push_pieces(alloc, text, &[Piece::Text(line.as_bytes())])
+}
+
+fn push_lines(
+    alloc: Global,
+    text: &mut String,
+    recording: &str,
+    noted: &[Noted],
+) -> Result<(), AllocError>
+    ensures { OnOk result (string_bytes text.new
+        ≡ string_bytes text.old ++ flat_map (line_markup recording.now) noted.now) }
+{
+    for one in noted {
+        push_line(alloc, text, recording, one)?;
+    }
+    Ok(())
+}
+
+// how many differences have no line
+fn push_more(alloc: Global, text: &mut String, count: u64) -> Result<(), AllocError>
+    ensures { OnOk result (string_bytes text.new ≡ string_bytes text.old ++ more_markup count) }
+{
+    if count == 0 {
+        return Ok(());
+    }
+    push_pieces(
+        alloc,
+        text,
+        &[
+            Piece::Markup("and "),
+            Piece::Number(count),
+            Piece::Markup(" more\n"),
+        ],
+    )
+}
+
+// the first lines of the differences of a kind, of which so many were found
+#[tactic(auto, unfolding(crate::specs::JunitCases::lines_markup))]
+fn push_first_lines(
+    alloc: Global,
+    text: &mut String,
+    recording: &str,
+    found: u64,
+    own: &[Noted],
+) -> Result<(), AllocError>
+    ensures { OnOk result (string_bytes text.new
+        ≡ string_bytes text.old ++ lines_markup recording.now found own.now) }
+{
+    let count = own.len().min(MOST_LINES);
+    push_lines(alloc, text, recording, &own[..count])?;
+    push_more(alloc, text, found.saturating_sub(count as u64))
+}
+
+// the beginning of a test case, without the end of its tag
+#[tactic(auto, unfolding(crate::specs::JunitCases::case_begin))]
+fn push_begin(alloc: Global, text: &mut String, name: &str) -> Result<(), AllocError>
+    ensures { OnOk result (string_bytes text.new ≡ string_bytes text.old ++ case_begin name.now) }
+{
+    push_pieces(
+        alloc,
+        text,
+        &[
+            Piece::Markup("<testcase classname=\"conode.compare\" name=\""),
+            Piece::Markup(name),
+            Piece::Markup("\""),
+        ],
+    )
+}
+
+fn differences_word(count: u64) -> &'static str
+    ensures { result.now ≡ differences_word count }
+{
+    if count == 1 {
+        " difference: "
+    } else {
+        " differences: "
+    }
+}
+
+// what a failed test case has
+#[tactic(auto, unfolding(crate::specs::JunitCases::failed_markup))]
+fn push_failed(
+    alloc: Global,
+    text: &mut String,
+    recording: &str,
+    counted: Counted,
+    noted: &[Noted],
+) -> Result<(), AllocError>
+    ensures { OnOk result (string_bytes text.new
+        ≡ string_bytes text.old ++ failed_markup recording.now counted noted.now) }
+{
+    let own = of_kind(alloc, counted.kind, noted)?;
+    push_pieces(
+        alloc,
+        text,
+        &[
+            Piece::Markup("><failure type=\""),
+            Piece::Markup(counted.kind.name()),
+            Piece::Markup("\" message=\""),
+            Piece::Number(counted.found),
+            Piece::Markup(differences_word(counted.found)),
+            Piece::Text(counted.kind.rule().as_bytes()),
+            Piece::Markup("\">"),
+        ],
+    )?;
+    push_first_lines(alloc, text, recording, counted.found, own.as_slice())?;
+    text.push_str("</failure></testcase>\n")
+}
+
+/// The test case of a kind: failed with its differences, skipped if there was no occasion for one.
+#[tactic(auto, unfolding(crate::specs::JunitCases::case_markup))]
+pub(crate) fn push_case(
+    alloc: Global,
+    text: &mut String,
+    recording: &str,
+    counted: Counted,
+    noted: &[Noted],
+) -> Result<(), AllocError>
+    ensures { OnOk result (string_bytes text.new
+        ≡ string_bytes text.old ++ case_markup recording.now noted.now counted) }
+{
+    push_begin(alloc, text, counted.kind.name())?;
+    if counted.found > 0 {
+        push_failed(alloc, text, recording, counted, noted)
+    } else if counted.occasions == 0 {
+        text.push_str("><skipped message=\"no occasion in this recording\"/></testcase>\n")
+    } else {
+        text.push_str("/>\n")
+    }
+}
+
+/// The test case of a comparison that couldn't be made; nothing if it was.
+#[tactic(auto, unfolding(crate::specs::JunitCases::outcome_case, crate::specs::JunitCases::case_begin))]
+pub(crate) fn push_outcome(
+    alloc: Global,
+    text: &mut String,
+    about: &About<'_, '_>,
+) -> Result<(), AllocError>
+    ensures { OnOk result (string_bytes text.new
+        ≡ string_bytes text.old ++ outcome_case about.now.node (outcome_of about.now)) }
+{
+    match Outcome::of(about) {
+        Outcome::NoDifference | Outcome::Differences => Ok(()),
+        Outcome::NoFrame => push_pieces(
+            alloc,
+            text,
+            &[
+                Piece::Markup("<testcase classname=\"conode.compare\" name=\"compared\""),
+                Piece::Markup("><error type=\"not-compared\" message=\"no frame of node "),
+                Piece::Number(u64::from(about.node)),
+                Piece::Markup("\"/></testcase>\n"),
+            ],
+        ),
+        Outcome::SeveralInterfaces => push_pieces(
+            alloc,
+            text,
+            &[
+                Piece::Markup("<testcase classname=\"conode.compare\" name=\"compared\""),
+                Piece::Markup("><error type=\"not-compared\" message=\"several interfaces: "),
+                Piece::Markup("name one with --interface\"/></testcase>\n"),
+            ],
+        ),
+    }
+}

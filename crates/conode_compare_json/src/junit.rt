@@ -1,0 +1,182 @@
+//! The document of JUnit. Each function with a text appends to it. `Err`: out of memory; a part of it
+//! may be there.
+
+ghost use Rattle.std.specs.Prelude.{◌≡◌, ◌++◌, count_by, IfOk, OnOk, string_bytes};
+ghost use Rattle.std.specs.List.{flat_map};
+ghost use Rattle.conode_compare_json.specs.JunitCases.{case_markup};
+ghost use Rattle.conode_compare_json.specs.JunitDocument.{
+  error_count,
+  is_failed,
+  is_skipped,
+  junit_document,
+  properties_markup,
+  span_of,
+  suite_begin,
+};
+
+use crate::cases::{push_case, push_outcome};
+use crate::outcome::Outcome;
+use conode_compare_report::{About, Counted, Noted, Report};
+use conode_markup::{Piece, push_pieces};
+use std::alloc::{AllocError, Global};
+
+fn is_failed(counted: &Counted) -> bool
+    ensures { result ≡ is_failed counted.now }
+{
+    counted.found > 0
+}
+
+fn is_skipped(counted: &Counted) -> bool
+    ensures { result ≡ is_skipped counted.now }
+{
+    counted.found == 0 && counted.occasions == 0
+}
+
+// how many test cases are failed, and how many are skipped
+fn counts_of(kinds: &[Counted]) -> (usize, usize)
+    ensures failed { result.0 ≡ count_by is_failed kinds.now }
+    ensures skipped { result.1 ≡ count_by is_skipped kinds.now }
+{
+    let mut failed = 0;
+    let mut skipped = 0;
+    for counted in kinds {
+        if is_failed(counted) {
+            failed += 1;
+        }
+        if is_skipped(counted) {
+            skipped += 1;
+        }
+    }
+    (failed, skipped)
+}
+
+// how many test cases have an error: one if nothing could be compared
+fn error_count(outcome: Outcome) -> usize
+    ensures { result ≡ error_count outcome }
+{
+    match outcome {
+        Outcome::NoDifference | Outcome::Differences => 0,
+        Outcome::NoFrame | Outcome::SeveralInterfaces => 1,
+    }
+}
+
+// the microseconds from the first frame to the newest
+fn span_of(report: &Report) -> u64
+    ensures { result ≡ span_of report.now }
+{
+    match report.begin {
+        Some(begin) => report.end.saturating_sub(begin),
+        None => 0,
+    }
+}
+
+// the tag that begins the test cases, with their numbers
+#[tactic(auto, unfolding(crate::specs::JunitDocument::suite_begin))]
+fn push_suite(
+    alloc: Global,
+    text: &mut String,
+    about: &About<'_, '_>,
+    report: &Report,
+) -> Result<(), AllocError>
+    ensures { OnOk result (string_bytes text.new
+        ≡ string_bytes text.old ++ suite_begin about.now report.now) }
+{
+    let errors = error_count(Outcome::of(about));
+    let (failed, skipped) = counts_of(report.kinds.as_slice());
+    push_pieces(
+        alloc,
+        text,
+        &[
+            Piece::Markup("<testsuite name=\""),
+            Piece::Text(about.recording.as_bytes()),
+            Piece::Markup("\" tests=\""),
+            Piece::Number((report.kinds.len() + errors) as u64),
+            Piece::Markup("\" failures=\""),
+            Piece::Number(failed as u64),
+            Piece::Markup("\" errors=\""),
+            Piece::Number(errors as u64),
+            Piece::Markup("\" skipped=\""),
+            Piece::Number(skipped as u64),
+            Piece::Markup("\" time=\""),
+            Piece::Seconds(span_of(report)),
+            Piece::Markup("\">\n"),
+        ],
+    )
+}
+
+// what was compared
+#[tactic(auto, unfolding(crate::specs::JunitDocument::properties_markup))]
+fn push_properties(
+    alloc: Global,
+    text: &mut String,
+    about: &About<'_, '_>,
+) -> Result<(), AllocError>
+    ensures { OnOk result (string_bytes text.new
+        ≡ string_bytes text.old ++ properties_markup about.now) }
+{
+    push_pieces(
+        alloc,
+        text,
+        &[
+            Piece::Markup("<properties>\n<property name=\"version\" value=\""),
+            Piece::Text(about.version.as_bytes()),
+            Piece::Markup("\"/>\n<property name=\"sheet\" value=\""),
+            Piece::Text(about.sheet.as_bytes()),
+            Piece::Markup("\"/>\n<property name=\"recording\" value=\""),
+            Piece::Text(about.recording.as_bytes()),
+            Piece::Markup("\"/>\n<property name=\"node\" value=\""),
+            Piece::Number(u64::from(about.node)),
+            Piece::Markup("\"/>\n</properties>\n"),
+        ],
+    )
+}
+
+fn push_cases(
+    alloc: Global,
+    text: &mut String,
+    recording: &str,
+    noted: &[Noted],
+    kinds: &[Counted],
+) -> Result<(), AllocError>
+    ensures { OnOk result (string_bytes text.new ≡ string_bytes text.old
+        ++ flat_map (case_markup recording.now noted.now) kinds.now) }
+{
+    for counted in kinds {
+        push_case(alloc, text, recording, *counted, noted)?;
+    }
+    Ok(())
+}
+
+#[tactic(auto, unfolding(crate::specs::JunitDocument::junit_document))]
+fn push_document(
+    alloc: Global,
+    text: &mut String,
+    about: &About<'_, '_>,
+    report: &Report,
+) -> Result<(), AllocError>
+    ensures { OnOk result (string_bytes text.new
+        ≡ string_bytes text.old ++ junit_document about.now report.now) }
+{
+    let noted = report.noted.as_slice();
+    let kinds = report.kinds.as_slice();
+    text.push_str("<?xml version=\"1.0\" encoding=\"UTF-8\"?>\n<testsuites>\n")?;
+    push_suite(alloc, text, about, report)?;
+    push_properties(alloc, text, about)?;
+    push_cases(alloc, text, about.recording, noted, kinds)?;
+    push_outcome(alloc, text, about)?;
+    text.push_str("</testsuite>\n</testsuites>\n")
+}
+
+/// The comparison as a document of JUnit: a test case a kind of difference, with the recording's span
+/// in seconds as its time. `Err`: out of memory.
+pub fn junit_document(
+    alloc: Global,
+    about: &About<'_, '_>,
+    report: &Report,
+) -> Result<String, AllocError>
+    ensures { IfOk result (λ text. string_bytes text ≡ junit_document about.now report.now) }
+{
+    let mut text = String::new(alloc);
+    push_document(alloc, &mut text, about, report)?;
+    Ok(text)
+}

@@ -1,0 +1,54 @@
+//! How a comparison ended.
+
+ghost use Rattle.std.specs.Prelude.{◌≡◌};
+ghost use Rattle.conode_compare_json.specs.Outcomes.{of_tally, outcome_name, outcome_of};
+
+use conode_compare_report::About;
+use conode_compare_text::Tally;
+
+/// How a comparison ended.
+#[derive(Clone, Copy)]
+pub(crate) enum Outcome {
+    NoDifference,
+    Differences,
+    /// Nothing was compared: no frame of the device came.
+    NoFrame,
+    /// Frames of several interfaces came, and none was named.
+    SeveralInterfaces,
+}
+
+fn of_tally(tally: Tally) -> Outcome
+    ensures { result ≡ of_tally tally }
+{
+    if tally.different > 0 {
+        Outcome::Differences
+    } else if tally.prescribed == 0 && tally.unjudged == 0 {
+        Outcome::NoFrame
+    } else {
+        Outcome::NoDifference
+    }
+}
+
+impl Outcome {
+    /// How a comparison ended.
+    pub(crate) fn of(about: &About<'_, '_>) -> Outcome
+        ensures { result ≡ outcome_of about.now }
+    {
+        if about.several {
+            Outcome::SeveralInterfaces
+        } else {
+            of_tally(about.tally)
+        }
+    }
+
+    /// Its name.
+    pub(crate) fn name(self) -> &'static str
+        ensures { result.now ≡ outcome_name self }
+    {
+        match self {
+            Outcome::NoDifference => "no difference",
+            Outcome::Differences => "differences",
+            Outcome::NoFrame | Outcome::SeveralInterfaces => "not compared",
+        }
+    }
+}
