@@ -1,11 +1,10 @@
 -- What the recording tested, and what it didn't.
 use Rattle.std.specs.Prelude.{ℕ, ◌==◌, Bool, true, false, not, ◌||◌, if◌then◌else◌, List, [], ◌∷◌, ◌++◌, filter, length, codes, decimal, Option, Some, None}
 use Rattle.std.specs.List.{flat_map, get_or}
-use Rattle.std.specs.Option.{option_copied, option_map_or}
 use Rattle.co_text.specs.Printed.{digits_text}
 use Rattle.co_value.specs.KeyTexts.{key_text}
-use Rattle.co_sheet_rows.specs.declared.entry.EntryRow.{EntryRow}
-use Rattle.conode_compare_report.specs.declared.about.About.{About}
+use Rattle.co_sheet.specs.Content.{Row}
+use Rattle.conode_compare_report.specs.Abouts.{Described}
 use Rattle.conode_compare_report.specs.Coverages.{CoverageView}
 use Rattle.conode_compare_report.specs.declared.coverage.Covered.{Covered}
 use Rattle.conode_compare_report.specs.declared.coverage.Numbered.{Numbered}
@@ -66,25 +65,30 @@ covered_at entries at = get_or entries at no_transfer
 abbrev pub transferred_count : List Covered → ℕ
 transferred_count entries = length (filter is_transferred entries)
 
--- an entry with its name
-unfoldable pub entry_text : EntryRow → List ℕ
-entry_text row = codes "<li><code>" ++ key_text row.key ++ codes "</code>" ++ escaped (option_map_or (λ name. name) (option_copied row.name) [])
+-- a name, empty where there is none
+abbrev pub name_of : Option (List ℕ) → List ℕ
+name_of None = []
+name_of (Some name) = name
 
-unfoldable pub transferred_text : Covered → EntryRow → List ℕ
+-- an entry with its name
+unfoldable pub entry_text : Row → List ℕ
+entry_text row = codes "<li><code>" ++ key_text row.key ++ codes "</code>" ++ escaped (name_of row.name)
+
+unfoldable pub transferred_text : Covered → Row → List ℕ
 transferred_text covered row = entry_text row ++ codes "<b>" ++ transfers_text covered ++ codes "</b></li>\n"
 
-unfoldable pub other_text : EntryRow → List ℕ
+unfoldable pub other_text : Row → List ℕ
 other_text row = entry_text row ++ codes "</li>\n"
 
 -- an entry in the list of those that were transferred, and in that of the others
-abbrev pub transferred_item : List Covered → ℕ → EntryRow → List ℕ
+abbrev pub transferred_item : List Covered → ℕ → Row → List ℕ
 transferred_item entries at row =
     if is_transferred (covered_at entries at) then transferred_text (covered_at entries at) row else []
 
-abbrev pub other_item : List Covered → ℕ → EntryRow → List ℕ
+abbrev pub other_item : List Covered → ℕ → Row → List ℕ
 other_item entries at row = if is_transferred (covered_at entries at) then [] else other_text row
 
-unfoldable pub entries_text : List EntryRow → List Covered → List ℕ
+unfoldable pub entries_text : List Row → List Covered → List ℕ
 entries_text rows entries =
     codes "<h3>Entries that were transferred by SDO: " ++ decimal (transferred_count entries) ++ codes " of " ++ decimal (length rows)
     ++ codes "</h3>\n<ul>\n" ++ indexed (transferred_item entries) 0 rows
@@ -132,7 +136,7 @@ numbers_text coverage =
     ++ codes "<h3>SDO abort codes</h3>\n" ++ any_aborts coverage.aborts
 
 -- what the recording tested
-unfoldable pub coverage : About → Kept → List ℕ
+unfoldable pub coverage : Described → Kept → List ℕ
 coverage about report =
-    codes "<section>\n<h2>What this recording tested</h2>\n" ++ kinds_table report.kinds ++ entries_text about.rows.now report.coverage.entries
+    codes "<section>\n<h2>What this recording tested</h2>\n" ++ kinds_table report.kinds ++ entries_text about.rows report.coverage.entries
     ++ services_text report.coverage.services ++ states_text report.coverage.states ++ numbers_text report.coverage ++ codes "</section>\n"

@@ -8,6 +8,7 @@ use Rattle.conode_compare_report.specs.Contexts.{KeptLine, around}
 use Rattle.conode_compare_report.specs.Kinds.{kind_name, kind_of, kind_rule}
 use Rattle.conode_markup.specs.Escapes.{escaped}
 use Rattle.conode_markup.specs.Pieces.{seconds_text}
+use Rattle.conode_compare_page.specs.declared.differences.TheConstants.{OPENING}
 use Rattle.conode_compare_page.specs.Indexed.{indexed}
 
 -- what differs, without the name of its kind
@@ -15,14 +16,14 @@ abbrev pub said : Noted → List ℕ
 said noted =
     drop (length (kind_name (kind_of noted.finding)) + 2) (finding_text noted.value_type noted.finding)
 
--- a line of the recording, marked if it is that of the difference
+-- a line of the recording, with its number
 unfoldable pub numbered_line : KeptLine → List ℕ
-numbered_line line = decimal line.number ++ codes ": " ++ escaped line.bytes
+numbered_line line = decimal line.number ++ codes ": " ++ escaped line.bytes ++ codes "\n"
 
+-- marked, if it is that of the difference
 abbrev pub context_line : ℕ → KeptLine → List ℕ
 context_line number line =
-    if line.number == number then codes "<mark>" ++ numbered_line line ++ codes "</mark>"
-    else numbered_line line ++ codes "\n"
+    if line.number == number then codes "<mark>" ++ numbered_line line ++ codes "</mark>" else numbered_line line
 
 -- the row of a difference: its line, its time since the first frame, what differs, and what is prescribed
 unfoldable pub difference_row : Kept → ℕ → Noted → List ℕ
@@ -46,8 +47,7 @@ unlisted_text count =
 
 unfoldable pub difference_table : Kept → List ℕ
 difference_table report =
-    codes "<table class=\"differences\">\n<thead><tr><th class=\"n\">Line</th><th class=\"n\">Seconds</th><th>Difference</th><th>Prescribed</th></tr></thead>\n"
-    ++ indexed (difference report) 0 report.noted ++ codes "</table>\n" ++ unlisted_text report.unlisted
+    OPENING.now ++ indexed (difference report) 0 report.noted ++ codes "</table>\n" ++ unlisted_text report.unlisted
 
 -- the table, if there is a difference
 abbrev pub any_differences : Kept → List ℕ

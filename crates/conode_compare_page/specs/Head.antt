@@ -1,7 +1,7 @@
 -- The beginning of the page: how the comparison ended.
 use Rattle.std.specs.Prelude.{ℕ, ◌+◌, ◌-◌, ◌^◌, ◌==◌, min, Bool, ◌&&◌, ◌||◌, if◌then◌else◌, List, [], ◌++◌, length, codes, decimal}
 use Rattle.conode_compare_text.specs.declared.tally.Tally.{Tally}
-use Rattle.conode_compare_report.specs.declared.about.About.{About}
+use Rattle.conode_compare_report.specs.Abouts.{Described}
 use Rattle.conode_compare_report.specs.Views.{Kept}
 use Rattle.conode_markup.specs.Escapes.{escaped}
 use Rattle.conode_compare_page.specs.declared.head.Outcome.{Outcome}
@@ -18,7 +18,7 @@ abbrev pub difference_count : Kept → ℕ
 difference_count report = min (length report.noted + report.unlisted) (2 ^ 64 - 1)
 
 -- how the comparison ended
-abbrev pub outcome_of : About → Kept → Outcome
+abbrev pub outcome_of : Described → Kept → Outcome
 outcome_of about report =
     if about.several || no_frame about.tally then NotCompared
     else if about.tally.different == 0 then Same else Different (difference_count report)
@@ -39,16 +39,16 @@ outcome_class Same = codes "good"
 outcome_class (Different count) = codes "bad"
 
 -- why nothing was compared
-abbrev pub reason : About → List ℕ
+abbrev pub reason : Described → List ℕ
 reason about =
     if about.several
     then codes "<p>There are frames of several interfaces: name one with <code>--interface</code>.</p>\n"
     else if no_frame about.tally then codes "<p>The recording has no frame of this node.</p>\n" else []
 
 -- up to the page's body
-unfoldable pub head : About → Kept → List ℕ
+unfoldable pub head : Described → Kept → List ℕ
 head about report =
-    OPENING.now ++ headline (outcome_of about report) ++ codes ": " ++ escaped about.recording.now
+    OPENING.now ++ headline (outcome_of about report) ++ codes ": " ++ escaped about.recording
     ++ codes "</title>\n<style>\n" ++ STYLE.now ++ codes "</style>\n</head>\n<body>\n"
 
 -- how many frames of the device have which verdict
@@ -59,9 +59,9 @@ counts tally =
     ++ codes "</dd></div>\n<div><dt>unjudged</dt><dd>" ++ decimal tally.unjudged ++ codes "</dd></div>\n</dl>\n"
 
 -- how the comparison ended, of what
-unfoldable pub verdict : About → Kept → List ℕ
+unfoldable pub verdict : Described → Kept → List ℕ
 verdict about report =
     codes "<header class=\"" ++ outcome_class (outcome_of about report) ++ codes "\">\n<h1>" ++ headline (outcome_of about report)
-    ++ codes "</h1>\n<p>Node " ++ decimal about.node ++ codes " in <code>" ++ escaped about.recording.now
-    ++ codes "</code>, against its data sheet <code>" ++ escaped about.sheet.now ++ codes "</code> and CiA 301</p>\n"
+    ++ codes "</h1>\n<p>Node " ++ decimal about.node ++ codes " in <code>" ++ escaped about.recording
+    ++ codes "</code>, against its data sheet <code>" ++ escaped about.sheet ++ codes "</code> and CiA 301</p>\n"
     ++ reason about ++ counts about.tally ++ codes "</header>\n"

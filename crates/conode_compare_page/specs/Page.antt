@@ -1,6 +1,6 @@
 -- The page.
 use Rattle.std.specs.Prelude.{ℕ, List, ◌++◌, codes}
-use Rattle.conode_compare_report.specs.declared.about.About.{About}
+use Rattle.conode_compare_report.specs.Abouts.{Described}
 use Rattle.conode_compare_report.specs.Views.{Kept}
 use Rattle.conode_compare_page.specs.Coverage.{coverage}
 use Rattle.conode_compare_page.specs.Device.{device, foot}
@@ -9,7 +9,7 @@ use Rattle.conode_compare_page.specs.Head.{head, verdict}
 use Rattle.conode_compare_page.specs.Picture.{picture}
 
 -- one document of HTML that is XML too: the verdict first, how it was made last
-unfoldable pub page : About → Kept → List ℕ
+unfoldable pub page : Described → Kept → List ℕ
 page about report =
     head about report ++ verdict about report ++ device about report ++ differences report ++ picture report
     ++ coverage about report ++ foot about

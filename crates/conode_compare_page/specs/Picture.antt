@@ -1,5 +1,5 @@
 -- The bus over time, in lanes: a picture (SVG) for each, all in the same scale, one unit a span of time.
-use Rattle.std.specs.Prelude.{ℕ, ◌+◌, ◌-◌, ◌*◌, ◌/◌, ◌^◌, ◌==◌, nat_le, min, Bool, ◌||◌, if◌then◌else◌, List, [], ◌∷◌, ◌++◌, length, codes, decimal}
+use Rattle.std.specs.Prelude.{ℕ, ◌+◌, ◌-◌, ◌*◌, ◌/◌, ◌^◌, ◌==◌, nat_le, min, Bool, ◌&&◌, ◌||◌, if◌then◌else◌, List, [], ◌∷◌, ◌++◌, length, codes, decimal}
 use Rattle.conode_compare_report.specs.declared.lanes.Bin.{Bin}
 use Rattle.conode_compare_report.specs.Spans.{LanesView}
 use Rattle.conode_compare_report.specs.declared.lanes.States.{States}
@@ -7,8 +7,8 @@ use Rattle.conode_compare_report.specs.declared.noted.Noted.{Noted}
 use Rattle.conode_compare_report.specs.Views.{Kept}
 use Rattle.conode_compare_report.specs.Kinds.{kind_name, kind_of}
 use Rattle.conode_markup.specs.Pieces.{seconds_text}
-use Rattle.conode_compare_page.specs.declared.lane.Lane.{Lane}
-use Rattle.conode_compare_page.specs.declared.lane.Lane.TheVariants.{Heartbeats, Emergencies, Transfers, Tpdos, Rpdos}
+use Rattle.conode_compare_report.specs.declared.lanes.Lane.{Lane}
+use Rattle.conode_compare_report.specs.declared.lanes.Lane.TheVariants.{Heartbeats, Emergencies, Transfers, Tpdos, Rpdos}
 use Rattle.conode_compare_page.specs.declared.states.Shown.{Shown}
 use Rattle.conode_compare_page.specs.declared.states.Shown.TheVariants.{Nothing, Initialising, PreOperational, Operational, Stopped, Several}
 use Rattle.conode_compare_page.specs.declared.picture.TheConstants.{LEGEND}
@@ -75,6 +75,24 @@ shown_of states =
     else if states.operational then (if states.stopped then Several else Operational)
     else if states.stopped then Stopped else Nothing
 
+-- no frame of the device came in a span, so its state goes on
+abbrev pub is_quiet : Bin → Bool
+is_quiet bin =
+    bin.heartbeats == 0 && bin.emergencies == 0 && bin.transfers == 0 && bin.tpdos == 0 && bin.rpdos == 0
+
+-- of several states it isn't known which goes on
+abbrev pub going_on : Shown → Shown
+going_on Several = Nothing
+going_on shown = shown
+
+-- what a span shows after one that showed this
+abbrev pub shown_after : Shown → Bin → Shown → Shown
+shown_after shown bin Nothing = if is_quiet bin then going_on shown else Nothing
+shown_after shown bin own = own
+
+abbrev pub next_shown : Shown → Bin → Shown
+next_shown shown bin = shown_after shown bin (shown_of bin.states)
+
 -- where the top of a state is, from the top of the lane: each has its own
 abbrev pub state_top : Shown → ℕ
 state_top Nothing = 100
@@ -105,8 +123,8 @@ any_area shown from to = if state_top shown == 100 then [] else state_area shown
 abbrev pub areas : Shown → ℕ → ℕ → List Bin → List ℕ
 areas shown from at [] = any_area shown from at
 areas shown from at (bin ∷ rest) =
-    if state_top (shown_of bin.states) == state_top shown then areas shown from (at + 1) rest
-    else any_area shown from at ++ areas (shown_of bin.states) at (at + 1) rest
+    if state_top (next_shown shown bin) == state_top shown then areas shown from (at + 1) rest
+    else any_area shown from at ++ areas (next_shown shown bin) at (at + 1) rest
 
 unfoldable pub states_lane : List Bin → List ℕ
 states_lane bins = lane_begin (codes "NMT state") (length bins) ++ areas Nothing 0 0 bins ++ lane_end

@@ -3,6 +3,7 @@
 
 ghost use Rattle.std.specs.Prelude.{◌≡◌, ◌++◌, OnOk, string_bytes};
 ghost use Rattle.std.specs.List.{flat_map};
+ghost use Rattle.conode_compare_report.specs.Abouts.{about_view};
 ghost use Rattle.conode_compare_page.specs.Coverage.{
   abort_item,
   any_aborts,
@@ -204,7 +205,7 @@ pub(crate) fn push_coverage(
     report: &Report,
 ) -> Result<(), AllocError>
     ensures { OnOk result (string_bytes text.new
-        ≡ string_bytes text.old ++ coverage about.now report.now) }
+        ≡ string_bytes text.old ++ coverage (about_view about.now) report.now) }
 {
     text.push_str("<section>\n<h2>What this recording tested</h2>\n")?;
     push_kinds(alloc, text, report.kinds.as_slice())?;

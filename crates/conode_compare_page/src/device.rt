@@ -3,6 +3,7 @@
 
 ghost use Rattle.std.specs.Prelude.{◌≡◌, ◌++◌, OnOk, string_bytes};
 ghost use Rattle.std.specs.Option.{option_copied};
+ghost use Rattle.conode_compare_report.specs.Abouts.{about_view};
 ghost use Rattle.conode_compare_page.specs.Device.{
   device,
   foot,
@@ -18,6 +19,12 @@ use conode_compare_report::{About, Report};
 use conode_compare_rules::Limits;
 use conode_markup::{Piece, push_pieces};
 use std::alloc::{AllocError, Global};
+
+/// The page from its last word on.
+const CLOSING: &str = "</code>. Its page docs/COMPARE.md says what each kind of difference is, \
+    and what is unjudged.</footer>\n\
+    </body>\n\
+    </html>\n";
 
 fn push_identity_value(
     alloc: Global,
@@ -46,7 +53,8 @@ fn push_identity(
     text: &mut String,
     about: &About<'_, '_>,
 ) -> Result<(), AllocError>
-    ensures { OnOk result (string_bytes text.new ≡ string_bytes text.old ++ identity about.now) }
+    ensures { OnOk result (string_bytes text.new
+        ≡ string_bytes text.old ++ identity (about_view about.now)) }
 {
     text.push_str("<dt>Vendor-ID</dt><dd>")?;
     push_identity_value(alloc, text, about.vendor)?;
@@ -107,7 +115,7 @@ fn push_recording(
     report: &Report,
 ) -> Result<(), AllocError>
     ensures { OnOk result (string_bytes text.new
-        ≡ string_bytes text.old ++ recording_rows about.now report.now) }
+        ≡ string_bytes text.old ++ recording_rows (about_view about.now) report.now) }
 {
     push_pieces(
         alloc,
@@ -139,7 +147,7 @@ pub(crate) fn push_device(
     report: &Report,
 ) -> Result<(), AllocError>
     ensures { OnOk result (string_bytes text.new
-        ≡ string_bytes text.old ++ device about.now report.now) }
+        ≡ string_bytes text.old ++ device (about_view about.now) report.now) }
 {
     text.push_str("<section>\n<h2>Device</h2>\n<dl>\n")?;
     push_identity(alloc, text, about)?;
@@ -177,7 +185,8 @@ pub(crate) fn push_foot(
     text: &mut String,
     about: &About<'_, '_>,
 ) -> Result<(), AllocError>
-    ensures { OnOk result (string_bytes text.new ≡ string_bytes text.old ++ foot about.now) }
+    ensures { OnOk result (string_bytes text.new
+        ≡ string_bytes text.old ++ foot (about_view about.now)) }
 {
     push_pieces(
         alloc,
@@ -189,7 +198,5 @@ pub(crate) fn push_foot(
         ],
     )?;
     push_limits(alloc, text, about.limits)?;
-    text.push_str(
-        "</code>. Its page docs/COMPARE.md says what each kind of difference is, and what is unjudged.</footer>\n</body>\n</html>\n",
-    )
+    text.push_str(CLOSING)
 }

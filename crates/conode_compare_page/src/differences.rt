@@ -21,6 +21,11 @@ use conode_compare_text::push_finding;
 use conode_markup::{Piece, push_pieces};
 use std::alloc::{AllocError, Global};
 
+/// The table up to its rows.
+const OPENING: &str = "<table class=\"differences\">\n\
+    <thead><tr><th class=\"n\">Line</th><th class=\"n\">Seconds</th>\
+    <th>Difference</th><th>Prescribed</th></tr></thead>\n";
+
 // appends what differs, without the name of its kind
 fn push_said(alloc: Global, text: &mut String, noted: &Noted) -> Result<(), AllocError>
     ensures { OnOk result (string_bytes text.new ≡ string_bytes text.old ++ said noted.now) }
@@ -47,6 +52,7 @@ fn push_numbered(alloc: Global, text: &mut String, line: &ContextLine) -> Result
             Piece::Number(line.number),
             Piece::Markup(": "),
             Piece::Text(line.bytes.as_slice()),
+            Piece::Markup("\n"),
         ],
     )
 }
@@ -66,8 +72,7 @@ fn push_context_line(
         push_numbered(alloc, text, line)?;
         text.push_str("</mark>")
     } else {
-        push_numbered(alloc, text, line)?;
-        text.push_str("\n")
+        push_numbered(alloc, text, line)
     }
 }
 
@@ -142,12 +147,17 @@ fn push_difference(
     text.push_str("</pre></td></tr>\n</tbody>\n")
 }
 
-fn push_rows(alloc: Global, text: &mut String, report: &Report) -> Result<(), AllocError>
+fn push_rows(
+    alloc: Global,
+    text: &mut String,
+    report: &Report,
+    noted: &[Noted],
+) -> Result<(), AllocError>
     ensures { OnOk result (string_bytes text.new
-        ≡ string_bytes text.old ++ indexed (difference report.now) 0 report.now.noted) }
+        ≡ string_bytes text.old ++ indexed (difference report.now) 0 noted.now) }
 {
-    for (at, noted) in report.noted.iter().enumerate() {
-        push_difference(alloc, text, report, at, noted)?;
+    for (at, one) in noted.iter().enumerate() {
+        push_difference(alloc, text, report, at, one)?;
     }
     Ok(())
 }
@@ -174,10 +184,8 @@ fn push_table(alloc: Global, text: &mut String, report: &Report) -> Result<(), A
     ensures { OnOk result (string_bytes text.new
         ≡ string_bytes text.old ++ difference_table report.now) }
 {
-    text.push_str(
-        "<table class=\"differences\">\n<thead><tr><th class=\"n\">Line</th><th class=\"n\">Seconds</th><th>Difference</th><th>Prescribed</th></tr></thead>\n",
-    )?;
-    push_rows(alloc, text, report)?;
+    text.push_str(OPENING)?;
+    push_rows(alloc, text, report, report.noted.as_slice())?;
     text.push_str("</table>\n")?;
     push_unlisted(alloc, text, report.unlisted)
 }

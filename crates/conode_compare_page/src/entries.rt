@@ -1,7 +1,8 @@
 //! Which entries of the data sheet a recording transfers. Each function appends a text. `Err`: out of
 //! memory; a part of it may be there.
 
-ghost use Rattle.std.specs.Prelude.{◌≡◌, ◌++◌, OnOk, filter, length, string_bytes};
+ghost use Rattle.std.specs.Prelude.{◌≡◌, ◌++◌, OnOk, map, string_bytes};
+ghost use Rattle.co_sheet.specs.SheetViews.{row_view};
 ghost use Rattle.conode_compare_page.specs.Coverage.{
   covered_at,
   entries_text,
@@ -17,7 +18,7 @@ ghost use Rattle.conode_compare_page.specs.Coverage.{
 ghost use Rattle.conode_compare_page.specs.Indexed.{indexed};
 
 use co_sheet::EntryRow;
-use conode_compare_report::{About, Covered};
+use conode_compare_report::Covered;
 use conode_markup::{Piece, push_pieces};
 use std::alloc::{AllocError, Global};
 
@@ -83,7 +84,8 @@ fn transferred_count(entries: &[Covered]) -> usize
 
 #[tactic(auto, unfolding(crate::specs::Coverage::entry_text))]
 fn push_entry(alloc: Global, text: &mut String, row: &EntryRow<'_>) -> Result<(), AllocError>
-    ensures { OnOk result (string_bytes text.new ≡ string_bytes text.old ++ entry_text row.now) }
+    ensures { OnOk result (string_bytes text.new
+        ≡ string_bytes text.old ++ entry_text (row_view row.now)) }
 {
     let name = match row.name {
         Some(name) => name,
@@ -109,7 +111,7 @@ fn push_transferred(
     row: &EntryRow<'_>,
 ) -> Result<(), AllocError>
     ensures { OnOk result (string_bytes text.new
-        ≡ string_bytes text.old ++ transferred_text covered row.now) }
+        ≡ string_bytes text.old ++ transferred_text covered (row_view row.now)) }
 {
     push_entry(alloc, text, row)?;
     push_pieces(
@@ -125,7 +127,8 @@ fn push_transferred(
 
 #[tactic(auto, unfolding(crate::specs::Coverage::other_text))]
 fn push_other(alloc: Global, text: &mut String, row: &EntryRow<'_>) -> Result<(), AllocError>
-    ensures { OnOk result (string_bytes text.new ≡ string_bytes text.old ++ other_text row.now) }
+    ensures { OnOk result (string_bytes text.new
+        ≡ string_bytes text.old ++ other_text (row_view row.now)) }
 {
     push_entry(alloc, text, row)?;
     text.push_str("</li>\n")
@@ -139,7 +142,7 @@ fn push_transferred_item(
     row: &EntryRow<'_>,
 ) -> Result<(), AllocError>
     ensures { OnOk result (string_bytes text.new
-        ≡ string_bytes text.old ++ transferred_item entries.now at row.now) }
+        ≡ string_bytes text.old ++ transferred_item entries.now at (row_view row.now)) }
 {
     let covered = covered_at(entries, at);
     if is_transferred(covered) {
@@ -157,7 +160,7 @@ fn push_other_item(
     row: &EntryRow<'_>,
 ) -> Result<(), AllocError>
     ensures { OnOk result (string_bytes text.new
-        ≡ string_bytes text.old ++ other_item entries.now at row.now) }
+        ≡ string_bytes text.old ++ other_item entries.now at (row_view row.now)) }
 {
     if is_transferred(covered_at(entries, at)) {
         Ok(())
@@ -173,7 +176,7 @@ fn push_all_transferred(
     rows: &[EntryRow<'_>],
 ) -> Result<(), AllocError>
     ensures { OnOk result (string_bytes text.new
-        ≡ string_bytes text.old ++ indexed (transferred_item entries.now) 0 rows.now) }
+        ≡ string_bytes text.old ++ indexed (transferred_item entries.now) 0 (map row_view rows.now)) }
 {
     for (at, row) in rows.iter().enumerate() {
         push_transferred_item(alloc, text, entries, at, row)?;
@@ -188,7 +191,7 @@ fn push_all_others(
     rows: &[EntryRow<'_>],
 ) -> Result<(), AllocError>
     ensures { OnOk result (string_bytes text.new
-        ≡ string_bytes text.old ++ indexed (other_item entries.now) 0 rows.now) }
+        ≡ string_bytes text.old ++ indexed (other_item entries.now) 0 (map row_view rows.now)) }
 {
     for (at, row) in rows.iter().enumerate() {
         push_other_item(alloc, text, entries, at, row)?;
@@ -205,7 +208,7 @@ pub(crate) fn push_entries(
     entries: &[Covered],
 ) -> Result<(), AllocError>
     ensures { OnOk result (string_bytes text.new
-        ≡ string_bytes text.old ++ entries_text rows.now entries.now) }
+        ≡ string_bytes text.old ++ entries_text (map row_view rows.now) entries.now) }
 {
     push_pieces(
         alloc,

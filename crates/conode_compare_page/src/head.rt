@@ -2,6 +2,7 @@
 //! memory; a part of it may be there.
 
 ghost use Rattle.std.specs.Prelude.{◌≡◌, ◌++◌, OnOk, string_bytes};
+ghost use Rattle.conode_compare_report.specs.Abouts.{about_view};
 ghost use Rattle.conode_compare_page.specs.Head.{
   counts,
   difference_count,
@@ -51,7 +52,7 @@ fn difference_count(report: &Report) -> u64
 
 /// How the comparison ended.
 pub(crate) fn outcome_of(about: &About<'_, '_>, report: &Report) -> Outcome
-    ensures { result ≡ outcome_of about.now report.now }
+    ensures { result ≡ outcome_of (about_view about.now) report.now }
 {
     if about.several || no_frame(about.tally) {
         Outcome::NotCompared
@@ -89,7 +90,7 @@ fn outcome_class(outcome: Outcome) -> &'static str
 
 // why nothing was compared, if so
 fn reason(about: &About<'_, '_>) -> &'static str
-    ensures { result.now ≡ reason about.now }
+    ensures { result.now ≡ reason (about_view about.now) }
 {
     if about.several {
         "<p>There are frames of several interfaces: name one with <code>--interface</code>.</p>\n"
@@ -109,7 +110,7 @@ pub(crate) fn push_head(
     report: &Report,
 ) -> Result<(), AllocError>
     ensures { OnOk result (string_bytes text.new
-        ≡ string_bytes text.old ++ head about.now report.now) }
+        ≡ string_bytes text.old ++ head (about_view about.now) report.now) }
 {
     text.push_str(OPENING)?;
     push_headline(alloc, text, outcome_of(about, report))?;
@@ -157,7 +158,7 @@ pub(crate) fn push_verdict(
     report: &Report,
 ) -> Result<(), AllocError>
     ensures { OnOk result (string_bytes text.new
-        ≡ string_bytes text.old ++ verdict about.now report.now) }
+        ≡ string_bytes text.old ++ verdict (about_view about.now) report.now) }
 {
     let outcome = outcome_of(about, report);
     push_pieces(

@@ -14,19 +14,9 @@ ghost use Rattle.conode_compare_page.specs.Picture.{
   top_of,
 };
 
-use conode_compare_report::Bin;
+use conode_compare_report::{Bin, Lane};
 use conode_markup::{Piece, push_pieces};
 use std::alloc::{AllocError, Global};
-
-/// Which frames a lane shows.
-#[derive(Clone, Copy)]
-pub(crate) enum Lane {
-    Heartbeats,
-    Emergencies,
-    Transfers,
-    Tpdos,
-    Rpdos,
-}
 
 fn lane_name(lane: Lane) -> &'static str
     ensures { result.now ≡ lane_name lane }

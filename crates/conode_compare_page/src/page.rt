@@ -1,6 +1,7 @@
 //! The page.
 
 ghost use Rattle.std.specs.Prelude.{◌≡◌, IfOk, string_bytes};
+ghost use Rattle.conode_compare_report.specs.Abouts.{about_view};
 ghost use Rattle.conode_compare_page.specs.Page.{page};
 
 use crate::coverage::push_coverage;
@@ -20,7 +21,7 @@ pub fn page(
     about: &About<'_, '_>,
     report: &Report,
 ) -> Result<String, AllocError>
-    ensures { IfOk result (λ text. string_bytes text ≡ page about.now report.now) }
+    ensures { IfOk result (λ text. string_bytes text ≡ page (about_view about.now) report.now) }
 {
     let mut text = String::new(alloc);
     push_head(alloc, &mut text, about, report)?;

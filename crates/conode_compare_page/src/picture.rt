@@ -18,9 +18,9 @@ ghost use Rattle.conode_compare_page.specs.Picture.{
   span_of,
 };
 
-use crate::lane::{Lane, begin_lane, push_frames};
+use crate::lane::{begin_lane, push_frames};
 use crate::states::push_states;
-use conode_compare_report::{Bin, Kind, Lanes, Noted, Report};
+use conode_compare_report::{Bin, Kind, Lane, Lanes, Noted, Report};
 use conode_markup::{Piece, push_pieces};
 use std::alloc::{AllocError, Global};
 
@@ -182,7 +182,8 @@ fn push_legend(text: &mut String) -> Result<(), AllocError>
 
 #[tactic(auto, unfolding(crate::specs::Picture::frame_lanes))]
 fn push_frame_lanes(alloc: Global, text: &mut String, bins: &[Bin]) -> Result<(), AllocError>
-    ensures { OnOk result (string_bytes text.new ≡ string_bytes text.old ++ frame_lanes bins.now) }
+    ensures { OnOk result
+        (string_bytes text.new ≡ string_bytes text.old ++ frame_lanes bins.now) }
 {
     push_frames(alloc, text, bins, Lane::Heartbeats)?;
     push_frames(alloc, text, bins, Lane::Emergencies)?;

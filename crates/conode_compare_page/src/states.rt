@@ -5,6 +5,9 @@ ghost use Rattle.std.specs.Prelude.{◌≡◌, ◌++◌, OnOk, string_bytes};
 ghost use Rattle.conode_compare_page.specs.Picture.{
   any_area,
   areas,
+  going_on,
+  is_quiet,
+  next_shown,
   shown_of,
   state_area,
   state_class,
@@ -53,6 +56,42 @@ fn shown_of(states: States) -> Shown
         Shown::Stopped
     } else {
         Shown::Nothing
+    }
+}
+
+// whether no frame of the device came in a span
+fn is_quiet(bin: &Bin) -> bool
+    ensures { result ≡ is_quiet bin.now }
+{
+    bin.heartbeats == 0
+        && bin.emergencies == 0
+        && bin.transfers == 0
+        && bin.tpdos == 0
+        && bin.rpdos == 0
+}
+
+fn going_on(shown: Shown) -> Shown
+    ensures { result ≡ going_on shown }
+{
+    match shown {
+        Shown::Several => Shown::Nothing,
+        shown => shown,
+    }
+}
+
+// what a span shows after one that showed this: without a frame of the device its state goes on
+fn next_shown(shown: Shown, bin: &Bin) -> Shown
+    ensures { result ≡ next_shown shown bin.now }
+{
+    match shown_of(bin.states) {
+        Shown::Nothing => {
+            if is_quiet(bin) {
+                going_on(shown)
+            } else {
+                Shown::Nothing
+            }
+        }
+        own => own,
     }
 }
 
@@ -138,7 +177,7 @@ fn push_areas(alloc: Global, text: &mut String, bins: &[Bin]) -> Result<(), Allo
     let mut shown = Shown::Nothing;
     let mut from = 0;
     for (at, bin) in bins.iter().enumerate() {
-        let next = shown_of(bin.states);
+        let next = next_shown(shown, bin);
         if state_top(next) != state_top(shown) {
             push_any_area(alloc, text, shown, from, at)?;
             shown = next;
@@ -155,7 +194,8 @@ pub(crate) fn push_states(
     text: &mut String,
     bins: &[Bin],
 ) -> Result<(), AllocError>
-    ensures { OnOk result (string_bytes text.new ≡ string_bytes text.old ++ states_lane bins.now) }
+    ensures { OnOk result
+        (string_bytes text.new ≡ string_bytes text.old ++ states_lane bins.now) }
 {
     begin_lane(alloc, text, "NMT state", bins.len())?;
     push_areas(alloc, text, bins)?;

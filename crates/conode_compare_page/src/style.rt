@@ -43,7 +43,7 @@ pub(crate) const STYLE: &str = "\
     .open h1 { color: var(--open); }\n\
     .bad h1 { color: var(--bad); }\n\
     .good h1 { color: var(--good); }\n\
-    header p { margin: .5rem 0 0; color: var(--soft); font-size: 1.0625rem; }\n\
+    header p { margin: .5rem 0 0; max-width: none; color: var(--soft); font-size: 1.0625rem; }\n\
     dl { display: grid; grid-template-columns: max-content 1fr; gap: .25rem 1.5rem; margin: 0; }\n\
     dt { color: var(--soft); }\n\
     dd { margin: 0; }\n\
