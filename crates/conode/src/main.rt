@@ -8,7 +8,7 @@ use co_dict_build::Limits;
 use co_node::Config;
 use conode_adapt::{AdaptWords, LeadingZeros as ZerosRead, adapt_file};
 use conode_check::check_file;
-use conode_compare::{Asked, compare_files};
+use conode_compare::{Asked, Format as ComparedFormat, compare_files};
 use conode_compare_rules::Limits as CompareLimits;
 use conode_convert::{Form as RecordedForm, convert_file};
 use conode_decode::decode_files;
@@ -22,7 +22,7 @@ use conode_show::{Form as ShownForm, Format as ShownFormat, show_file};
 use conode_stats::{StatsWords, stats_file};
 use conode_words::{
     Colours, DeviceWords, DictionaryWords, Format, LeadingZeros, LinesAs, LintWords, LogForm,
-    OnlyWords, ShownAs, Stamps, Task, VERSION, task,
+    OnlyWords, ReportAs, ShownAs, Stamps, Task, VERSION, task,
 };
 use std::io::{BufWriter, IsTerminal, Write};
 use std::process::ExitCode;
@@ -81,6 +81,16 @@ fn line_format(lines_as: LinesAs) -> LineFormat {
     match lines_as {
         LinesAs::Text => LineFormat::Text,
         LinesAs::Json => LineFormat::Json,
+    }
+}
+
+/// How a comparison is written.
+fn compared_format(report_as: ReportAs) -> ComparedFormat {
+    match report_as {
+        ReportAs::Text => ComparedFormat::Text,
+        ReportAs::Json => ComparedFormat::Json,
+        ReportAs::JUnit => ComparedFormat::JUnit,
+        ReportAs::Html => ComparedFormat::Html,
     }
 }
 
@@ -253,6 +263,7 @@ fn carry_out_task<O: Write, E: Write>(
             node,
             interface,
             form,
+            report_as,
             timing,
         } => {
             let limits = CompareLimits {
@@ -266,6 +277,8 @@ fn carry_out_task<O: Write, E: Write>(
                 limits,
                 interface,
                 form: recorded_form(form),
+                format: compared_format(report_as),
+                version: version(),
             };
             compare_files(rt, sheet, trace, asked, out, err)
         }

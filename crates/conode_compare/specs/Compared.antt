@@ -1,6 +1,6 @@
 -- What is written of a recording that is compared: a line for each difference, in order; and what
 -- is known of it at its end.
-use Rattle.std.specs.Prelude.{ℕ, ◌+◌, ◌==◌, Bool, true, false, nat_lt, ◌||◌, if◌then◌else◌, List, [], ◌∷◌, ◌++◌, length, Option, Some, None, is_none}
+use Rattle.std.specs.Prelude.{ℕ, ◌+◌, ◌==◌, Bool, true, false, nat_lt, ◌&&◌, ◌||◌, if◌then◌else◌, List, [], ◌∷◌, ◌++◌, length, Option, Some, None, is_none, is_some, option_map}
 use Rattle.std.specs.Option.{option_map_or}
 use Rattle.std.specs.Str.{bytes_eq}
 use Rattle.std.specs.Str.Lines.{lines}
@@ -26,10 +26,15 @@ use Rattle.conode_compare_rules.specs.declared.finding.Finding.TheVariants.{Valu
 use Rattle.conode_compare_values.specs.declared.mismatch.Mismatch.TheVariants.{ValueConst}
 use Rattle.conode_compare_rules.specs.declared.limits.Subject.{Subject}
 use Rattle.conode_compare_rules.specs.declared.verdict.Findings.{Findings}
+use Rattle.conode_compare_rules.specs.declared.kind.FrameKind.{FrameKind}
+use Rattle.conode_compare_rules.specs.declared.progress.Progress.{Progress}
 use Rattle.conode_compare_rules.specs.FrameKinds.{kind_of}
 use Rattle.conode_compare_rules.specs.Progresses.{before_recording, findings_at, progress_with}
 use Rattle.conode_compare_text.specs.FindingTexts.{finding_line}
 use Rattle.conode_compare_text.specs.Tallies.{no_frames, tally_with}
+use Rattle.conode_compare_report.specs.Befores.{before_at}
+use Rattle.conode_compare_report.specs.Reports.{with_bad_line, with_finding, with_frame, with_line}
+use Rattle.conode_compare_report.specs.Views.{Kept}
 use Rattle.conode_compare.specs.declared.comparing.Comparing.{Comparing}
 
 -- what is compared: a device, the entries of its data sheet, the codes of their original data types
@@ -60,11 +65,40 @@ unfoldable pub findings_lines : Comparison → ℕ → Findings → List (List �
 findings_lines c number found =
     listed c number found.boot ++ (listed c number found.heartbeat ++ (listed c number found.answer ++ listed c number found.frame))
 
+-- ---- what is kept for a document
+
+-- a difference, if there is one
+abbrev pub if_noted : Comparison → ℕ → Option Finding → Kept → Kept
+if_noted c micros None kept = kept
+if_noted c micros (Some finding) kept = with_finding kept micros (shown_type c finding) finding
+
+-- what is found at a frame with this stamp
+unfoldable pub findings_noted : Comparison → ℕ → Findings → Kept → Kept
+findings_noted c micros found kept =
+    if_noted c micros found.frame (if_noted c micros found.answer (if_noted c micros found.heartbeat (if_noted c micros found.boot kept)))
+
+-- a frame with what is found at it, by what the recording shows before it
+abbrev pub frame_noted : Comparison → Progress → ℕ → FrameKind → Kept → Kept
+frame_noted c progress micros kind kept =
+    with_frame c.rows kept micros kind (before_at kept.rpdos progress kind) (progress_with c.subject progress micros kind).nmt.state
+    (findings_at c.subject c.rows progress micros kind)
+
+-- and its differences
+abbrev pub kind_noted : Comparison → Progress → ℕ → FrameKind → Kept → Kept
+kind_noted c progress micros kind kept =
+    findings_noted c micros (findings_at c.subject c.rows progress micros kind) (frame_noted c progress micros kind kept)
+
 -- ---- frames
 
--- no frame came
-abbrev pub nothing_compared : Subject → Comparing
-nothing_compared subject = record { progress = before_recording subject; tally = no_frames; first = record { items = [] }; several = false }
+-- no frame came; a document is wanted where something is kept for it
+abbrev pub nothing_compared : Subject → Option Kept → Comparing
+nothing_compared subject report = record {
+  progress = before_recording subject;
+  tally = no_frames;
+  first = record { items = [] };
+  several = false;
+  report = report;
+}
 
 -- a frame of the interface that is compared: the one that is named, else that of the first frame
 abbrev pub is_first : List ℕ → Bool
@@ -76,9 +110,11 @@ is_compared interface first name = option_map_or (λ wanted. bytes_eq wanted nam
 abbrev pub found_at : Comparison → Comparing → Record → Findings
 found_at c so_far frame = findings_at c.subject c.rows so_far.progress frame.micros (kind_of c.subject.node frame.id frame.content)
 
+-- no line is written where a document is wanted
 abbrev pub frame_lines : Comparison → ℕ → Comparing → Record → List (List ℕ)
 frame_lines c number so_far frame =
-    if is_compared c.interface so_far.first.items frame.interface then findings_lines c number (found_at c so_far frame) else []
+    if is_compared c.interface so_far.first.items frame.interface && is_none so_far.report
+    then findings_lines c number (found_at c so_far frame) else []
 
 abbrev pub first_with : ArrayVec ℕ → List ℕ → ArrayVec ℕ
 first_with first name = if is_first first.items then record { items = name } else first
@@ -89,6 +125,7 @@ frame_taken c so_far frame = record {
   tally = tally_with so_far.tally (found_at c so_far frame).verdict;
   first = first_with so_far.first frame.interface;
   several = so_far.several;
+  report = option_map (kind_noted c so_far.progress frame.micros (kind_of c.subject.node frame.id frame.content)) so_far.report;
 }
 
 -- where none is named, there is another one
@@ -100,6 +137,17 @@ frame_with c so_far frame =
     if is_compared c.interface so_far.first.items frame.interface then frame_taken c so_far frame else other_seen c.interface so_far
 
 -- ---- lines of the recording
+
+-- what is kept of a line, and of a bad one
+abbrev pub line_noted : Comparing → List ℕ → Comparing
+line_noted so_far line = record so_far { report = option_map (λ kept. with_line kept line) so_far.report }
+
+abbrev pub bad_noted : Comparing → Comparing
+bad_noted so_far = record so_far { report = option_map with_bad_line so_far.report }
+
+-- nothing but its number is kept of a line of more than 512 bytes
+abbrev pub long_noted : Comparing → Comparing
+long_noted so_far = bad_noted (line_noted so_far [])
 
 -- how far a recording is compared
 pub record SoFar : Type 0 where
@@ -114,37 +162,42 @@ said_lines c number so_far None = []
 abbrev pub said_with : Comparison → Comparing → Option RecordLine → Comparing
 said_with c so_far (Some (Frame frame)) = frame_with c so_far frame
 said_with c so_far (Some Skipped) = so_far
-said_with c so_far None = so_far
+said_with c so_far None = bad_noted so_far
 
 -- one of more than 512 bytes says nothing
 abbrev pub line_lines : Comparison → ℕ → SoFar → List ℕ → List (List ℕ)
 line_lines c number so_far line =
-    if nat_lt 512 (length line) then [] else said_lines c number so_far.comparing (line_at so_far.log line)
+    if nat_lt 512 (length line) then [] else said_lines c number (line_noted so_far.comparing line) (line_at so_far.log line)
 
 abbrev pub line_with : Comparison → SoFar → List ℕ → SoFar
 line_with c so_far line =
-    if nat_lt 512 (length line) then so_far
-    else record { log = (says so_far.log line).0; comparing = said_with c so_far.comparing (line_at so_far.log line) }
+    if nat_lt 512 (length line) then record so_far { comparing = long_noted so_far.comparing }
+    else record { log = (says so_far.log line).0; comparing = said_with c (line_noted so_far.comparing line) (line_at so_far.log line) }
 
--- Lines from this number on. The last line counts only where it has its line feed: whoever stops a
--- recording cuts it off there.
+-- The last line counts only where it has its line feed, since whoever stops a recording cuts it off
+-- there; one that is too long is bad either way.
+abbrev pub counts : Bool → List ℕ → Bool
+counts closed line = closed || nat_lt 512 (length line)
+
+-- lines from this number on
 unfoldable pub compared_from : Comparison → Bool → ℕ → SoFar → List (List ℕ) → List (List ℕ)
 compared_from c closed number so_far [] = []
-compared_from c closed number so_far (line ∷ []) = if closed then line_lines c number so_far line else []
+compared_from c closed number so_far (line ∷ []) = if counts closed line then line_lines c number so_far line else []
 compared_from c closed number so_far (line ∷ next ∷ more) =
     line_lines c number so_far line ++ compared_from c closed (number + 1) (line_with c so_far line) (next ∷ more)
 
 unfoldable pub so_far_after : Comparison → Bool → SoFar → List (List ℕ) → SoFar
 so_far_after c closed so_far [] = so_far
-so_far_after c closed so_far (line ∷ []) = if closed then line_with c so_far line else so_far
+so_far_after c closed so_far (line ∷ []) = if counts closed line then line_with c so_far line else so_far
 so_far_after c closed so_far (line ∷ next ∷ more) = so_far_after c closed (line_with c so_far line) (next ∷ more)
 
-abbrev pub at_first : Comparison → Form → SoFar
-at_first c form = record { log = at_start form; comparing = nothing_compared c.subject }
+abbrev pub at_first : Comparison → Form → Option Kept → SoFar
+at_first c form report = record { log = at_start form; comparing = nothing_compared c.subject report }
 
--- a recording compared: its lines of differences, and what is known at its end
-abbrev pub compared : Comparison → Form → List ℕ → List (List ℕ)
-compared c form text = compared_from c (is_closed text) 1 (at_first c form) (lines text)
+-- a recording compared: its lines of differences, none where a document is wanted; and what is known
+-- at its end, with what is kept for the document
+abbrev pub compared : Comparison → Form → Option Kept → List ℕ → List (List ℕ)
+compared c form report text = compared_from c (is_closed text) 1 (at_first c form report) (lines text)
 
-abbrev pub comparing_after : Comparison → Form → List ℕ → Comparing
-comparing_after c form text = (so_far_after c (is_closed text) (at_first c form) (lines text)).comparing
+abbrev pub comparing_after : Comparison → Form → Option Kept → List ℕ → Comparing
+comparing_after c form report text = (so_far_after c (is_closed text) (at_first c form report) (lines text)).comparing

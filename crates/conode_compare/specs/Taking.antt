@@ -6,6 +6,7 @@ use Rattle.co_bounded_lines.specs.Held.{Held, to_come}
 use Rattle.co_stream.specs.Readings.{Gave}
 use Rattle.conode_io.specs.Written.{WritesLines}
 use Rattle.conode_logs.specs.declared.log.Form.{Form}
+use Rattle.conode_compare_report.specs.Views.{Kept}
 use Rattle.conode_compare.specs.declared.comparing.Comparing.{Comparing}
 use Rattle.conode_compare.specs.Compared.{Comparison, SoFar, compared, compared_from, comparing_after, so_far_after}
 
@@ -27,5 +28,6 @@ pub record Takes (c : Comparison) (held holds : Held) (before after : Option (Li
       (λ had has. Gives c (to_come held had) (to_come holds has) number next first last written)
 
 -- all of a text is compared, and this is known at its end
-abbrev pub Compares : Comparison → Form → Option (List ℕ) → Option (List ℕ) → Comparing → List ℕ → Type 0
-Compares c form old new comparing text = WritesLines old new (compared c form text) × (comparing ≡ comparing_after c form text)
+abbrev pub Compares : Comparison → Form → Option Kept → Option (List ℕ) → Option (List ℕ) → Comparing → List ℕ → Type 0
+Compares c form report old new comparing text =
+    WritesLines old new (compared c form report text) × (comparing ≡ comparing_after c form report text)

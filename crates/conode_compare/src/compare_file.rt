@@ -8,6 +8,7 @@ ghost use Rattle.conode_compare.specs.Verdicts.{no_frame, verdict_status};
 
 use crate::compared::compare;
 use crate::comparing::Comparing;
+use crate::document::{Format, Wanted, about_of, new_report, write_document};
 use crate::writes::Settings;
 use co_sheet::{Sheet, read};
 use co_sheet_changes::Originals;
@@ -41,6 +42,16 @@ pub struct Asked<'s> {
     pub interface: Option<&'s str>,
     /// In which form the log is.
     pub form: Form,
+    /// How the comparison is written.
+    pub format: Format,
+    /// The version of the program, for a document.
+    pub version: &'s str,
+}
+
+// the files that are compared
+struct Paths<'s> {
+    sheet: &'s str,
+    recording: &'s str,
 }
 
 // whether no frame of the device came
@@ -85,16 +96,28 @@ fn write_summary<O: Write>(
     hand_over(text.as_bytes(), out)
 }
 
-// what is known at the end, once its last line is written
-fn summed<O: Write>(
+// compares an input, and writes the last line or the document; what is known then
+fn compare_and_write<R: Read, O: Write, E: Write>(
     alloc: Global,
-    node: u8,
-    outcome: Result<Comparing, CmdFault>,
+    input: &mut R,
+    settings: &Settings<'_, '_>,
+    wanted: &Wanted<'_>,
+    form: Form,
     out: &mut O,
-) -> Result<(Tally, bool), CmdFault> {
-    let comparing = outcome?;
+    err: &mut E,
+) -> Result<(Tally, bool), CmdFault>
+    requires { AllPairs (λ e f. is_key_before e.key f.key ≡ true) settings.now.rows.now }
+{
+    let report = new_report(alloc, settings, wanted.format)?;
+    let comparing = compare(alloc, input, settings, form, report, out, err)?;
     let (tally, several) = comparing.ends();
-    write_summary(alloc, node, tally, out)?;
+    match comparing.report() {
+        Some(report) => {
+            let about = about_of(settings, wanted, &comparing);
+            write_document(alloc, wanted.format, &about, report, out)?;
+        }
+        None => write_summary(alloc, settings.subject.node, tally, out)?,
+    }
     Ok((tally, several))
 }
 
@@ -103,6 +126,7 @@ fn compare_input<R: Read, O: Write, E: Write>(
     alloc: Global,
     input: &mut R,
     settings: &Settings<'_, '_>,
+    wanted: &Wanted<'_>,
     form: Form,
     out: &mut O,
     err: &mut E,
@@ -110,12 +134,10 @@ fn compare_input<R: Read, O: Write, E: Write>(
     requires { AllPairs (λ e f. is_key_before e.key f.key ≡ true) settings.now.rows.now }
     ensures { exit_status result ≤ 2 }
 {
-    let outcome = compare(alloc, input, settings, form, out, err);
-    let node = settings.subject.node;
-    let outcome = summed(alloc, node, outcome, out);
+    let outcome = compare_and_write(alloc, input, settings, wanted, form, out, err);
     match flushed(out, outcome) {
         Ok((tally, several)) => {
-            say_why(node, tally, several, err);
+            say_why(settings.subject.node, tally, several, err);
             ExitCode::from(verdict_status(tally, several))
         }
         Err(fault) => {
@@ -129,6 +151,7 @@ fn compare_input<R: Read, O: Write, E: Write>(
 fn compare_path<R: Files + AllocGlobal + Input, O: Write, E: Write>(
     rt: &R,
     settings: &Settings<'_, '_>,
+    wanted: &Wanted<'_>,
     form: Form,
     out: &mut O,
     err: &mut E,
@@ -138,10 +161,18 @@ fn compare_path<R: Files + AllocGlobal + Input, O: Write, E: Write>(
 {
     let path = settings.recording;
     if path == STANDARD_INPUT {
-        return compare_input(rt.alloc(), &mut rt.reader(), settings, form, out, err);
+        return compare_input(
+            rt.alloc(),
+            &mut rt.reader(),
+            settings,
+            wanted,
+            form,
+            out,
+            err,
+        );
     }
     match fs::open(rt, path) {
-        Ok(mut file) => compare_input(rt.alloc(), &mut file, settings, form, out, err),
+        Ok(mut file) => compare_input(rt.alloc(), &mut file, settings, wanted, form, out, err),
         Err(_) => {
             let _ = cannot_read(path, err);
             ExitCode::from(NOT_COMPARED)
@@ -154,7 +185,7 @@ fn compare_sheet<R: Files + AllocGlobal + Input, O: Write, E: Write>(
     rt: &R,
     sheet: &Sheet<'_>,
     originals: &Originals,
-    recording: &str,
+    paths: &Paths<'_>,
     asked: Asked<'_>,
     out: &mut O,
     err: &mut E,
@@ -179,10 +210,15 @@ fn compare_sheet<R: Files + AllocGlobal + Input, O: Write, E: Write>(
         subject,
         rows,
         originals,
-        recording,
+        recording: paths.recording,
         interface,
     };
-    compare_path(rt, &settings, asked.form, out, err)
+    let wanted = Wanted {
+        format: asked.format,
+        version: asked.version,
+        sheet: paths.sheet,
+    };
+    compare_path(rt, &settings, &wanted, asked.form, out, err)
 }
 
 // compares the recording of a path with the data sheet of a text
@@ -190,7 +226,7 @@ fn compare_text<R: Files + AllocGlobal + Input, O: Write, E: Write>(
     rt: &R,
     text: &[u8],
     sheet: &Sheet<'_>,
-    recording: &str,
+    paths: &Paths<'_>,
     asked: Asked<'_>,
     out: &mut O,
     err: &mut E,
@@ -199,7 +235,7 @@ fn compare_text<R: Files + AllocGlobal + Input, O: Write, E: Write>(
     ensures { exit_status result ≤ 2 }
 {
     match Originals::in_text(rt.alloc(), text) {
-        Ok(originals) => compare_sheet(rt, sheet, &originals, recording, asked, out, err),
+        Ok(originals) => compare_sheet(rt, sheet, &originals, paths, asked, out, err),
         Err(_) => {
             let _ = out_of_memory(out);
             ExitCode::from(NOT_COMPARED)
@@ -209,7 +245,7 @@ fn compare_text<R: Files + AllocGlobal + Input, O: Write, E: Write>(
 
 /// Compares the recording of a path, or of standard input where that is `-`, with the data sheet of
 /// a path: each difference has a line on `out`, and the last line counts the device's frames by
-/// verdict. The status is 0 where there is no difference, 1 where there is one, and 2 where nothing
+/// verdict; or there is one document, by the format that is asked for. The status is 0 where there is no difference, 1 where there is one, and 2 where nothing
 /// can be compared: a file that can't be read, a sheet with a fault, no node-ID, no frame of the
 /// node, frames of several interfaces and none of them named.
 pub fn compare_files<R: Files + AllocGlobal + Input, O: Write, E: Write>(
@@ -229,8 +265,9 @@ pub fn compare_files<R: Files + AllocGlobal + Input, O: Write, E: Write>(
             return ExitCode::from(NOT_COMPARED);
         }
     };
+    let paths = Paths { sheet, recording };
     match read(rt.alloc(), text.as_slice()) {
-        Ok(sheet) => compare_text(rt, text.as_slice(), &sheet, recording, asked, out, err),
+        Ok(sheet) => compare_text(rt, text.as_slice(), &sheet, &paths, asked, out, err),
         Err(fault) => {
             let _ = faulty_sheet(fault, out);
             ExitCode::from(NOT_COMPARED)

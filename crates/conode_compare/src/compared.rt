@@ -10,6 +10,7 @@ ghost use Rattle.conode_compare.specs.Views.{comparison_view};
 use crate::comparing::Comparing;
 use crate::line::Lines;
 use crate::writes::Settings;
+use conode_compare_report::Report;
 use conode_io::CmdFault;
 use conode_logs::Form;
 use std::alloc::Global;
@@ -17,7 +18,8 @@ use std::io::{Read, Write};
 
 /// Compares a log of the form that is given, or that its first lines show, line by line and in
 /// constant memory: for each difference a line is written on `out`. A bad line, or one of more than
-/// 512 bytes, is named on `err`, and the rest goes on. Returns what is known at the end.
+/// 512 bytes, is named on `err`, and the rest goes on. Returns what is known at the end. Where
+/// something is kept for a document, `report`, no line is written, and what is returned has it.
 ///
 /// `out` is flushed before each read, and not while a whole line is held.
 ///
@@ -28,21 +30,22 @@ pub fn compare<R: Read, W: Write, E: Write>(
     reader: &mut R,
     settings: &Settings<'_, '_>,
     form: Form,
+    report: Option<Report>,
     out: &mut W,
     err: &mut E,
 ) -> Result<Comparing, CmdFault>
     requires { AllPairs (λ e f. is_key_before e.key f.key ≡ true) settings.now.rows.now }
     // The lines of all differences are written, and this is known at the end.
     ensures known { IfOk result (λ comparing. IfSome (R.remaining reader.old)
-        (Compares (comparison_view settings.now) form
+        (Compares (comparison_view settings.now) form report
         (W.contents out.old) (W.contents out.new) comparing)) }
     // For every reader: it gave some text, and this holds for that text.
     ensures any_reader { IfOk result (λ comparing.
         GaveText (R.remaining reader.old) (R.remaining reader.new)
-        (Compares (comparison_view settings.now) form
+        (Compares (comparison_view settings.now) form report
         (W.contents out.old) (W.contents out.new) comparing)) }
 {
-    let mut lines = Lines::new(alloc, settings, form);
+    let mut lines = Lines::new(alloc, settings, form, report);
     for number in 1..u64::MAX {
         lines.let_out(out)?;
         match lines.take_line(reader, settings, number, out, err)? {

@@ -1,29 +1,36 @@
 //! Frames of a recording, compared one after another.
 
-ghost use Rattle.std.specs.Prelude.{◌≡◌, ◌⊎◌, ◌≤◌, length, OnOk, IfErr, true};
+ghost use Rattle.std.specs.Prelude.{◌≡◌, ◌⊎◌, ◌≤◌, length, IfOk, OnOk, IfErr, option_map, true};
 ghost use Rattle.std.specs.List.{AllPairs};
 ghost use Rattle.std.specs.Option.{option_copied};
 ghost use Rattle.co_value.specs.Keys.{is_key_before};
 ghost use Rattle.conode_io.specs.Written.{WritesLines};
 ghost use Rattle.conode_record.specs.Grammar.{IsIdentifier};
+ghost use Rattle.conode_compare_rules.specs.Progresses.{findings_at, progress_with};
 ghost use Rattle.conode_compare.specs.Compared.{
+  bad_noted,
   first_with,
   found_at,
   frame_lines,
   frame_taken,
   frame_with,
   is_compared,
+  kind_noted,
+  line_noted,
   nothing_compared,
   other_seen,
 };
 ghost use Rattle.conode_compare.specs.Views.{comparison_view};
 
+use crate::notes::note_findings;
 use crate::writes::{Settings, write_findings};
 use arrayvec::ArrayVec;
-use conode_compare_rules::{Findings, Progress, Subject, kind_of};
+use conode_compare_report::Report;
+use conode_compare_rules::{Findings, FrameKind, Progress, Subject, kind_of};
 use conode_compare_text::Tally;
 use conode_io::CmdFault;
 use conode_record::Record;
+use std::alloc::AllocError;
 use std::io::Write;
 
 /// How far a recording is compared.
@@ -35,6 +42,8 @@ pub struct Comparing {
     pub(crate) first: ArrayVec<u8, 15>,
     /// Whether frames came on another one, where none is named.
     pub(crate) several: bool,
+    /// What is kept for a document, if one is wanted.
+    pub(crate) report: Option<Report>,
 }
 
 // whether a frame is of the interface that is compared: the one that is named, else that of the
@@ -48,16 +57,72 @@ fn is_compared(interface: Option<&[u8]>, first: &[u8], name: &[u8]) -> bool
     }
 }
 
+// what is found at a frame of this kind; it is kept for a document, if one is wanted
+fn take_kind(
+    progress: &mut Progress,
+    report: &mut Option<Report>,
+    settings: &Settings<'_, '_>,
+    micros: u64,
+    kind: &FrameKind,
+) -> Result<Findings, AllocError>
+    requires { AllPairs (λ e f. is_key_before e.key f.key ≡ true) settings.now.rows.now }
+    ensures found { IfOk result (λ found. found ≡ findings_at settings.now.subject
+        (comparison_view settings.now).rows progress.old micros kind.now) }
+    ensures progress { progress.new
+        ≡ progress_with settings.now.subject progress.old micros kind.now }
+    ensures report { OnOk result (report.new ≡ option_map
+        (kind_noted (comparison_view settings.now) progress.old micros kind.now) report.old) }
+{
+    match report {
+        Some(report) => {
+            let before = report.before(progress, kind);
+            let found = progress.take(&settings.subject, settings.rows, micros, kind);
+            let state = progress.state();
+            report.take_frame(settings.rows, micros, kind, &before, state, &found)?;
+            note_findings(report, settings, micros, &found)?;
+            Ok(found)
+        }
+        None => Ok(progress.take(&settings.subject, settings.rows, micros, kind)),
+    }
+}
+
 impl Comparing {
-    /// No frame came.
-    pub(crate) fn new(subject: &Subject) -> Comparing
-        ensures { result ≡ nothing_compared subject.now }
+    /// No frame came; `report`: what is kept for a document, if one is wanted.
+    pub(crate) fn new(subject: &Subject, report: Option<Report>) -> Comparing
+        ensures { result ≡ nothing_compared subject.now report }
     {
         Comparing {
             progress: Progress::new(subject),
             tally: Tally::new(),
             first: ArrayVec::new(),
             several: false,
+            report,
+        }
+    }
+
+    /// What is kept for a document, if one is wanted.
+    pub fn report(&self) -> &Option<Report>
+        ensures { result.now ≡ self.now.report }
+    {
+        &self.report
+    }
+
+    /// A line comes, without its line feed.
+    pub(crate) fn note_line(&mut self, line: &[u8]) -> Result<(), AllocError>
+        ensures { OnOk result (self.new ≡ line_noted self.old line.now) }
+    {
+        if let Some(report) = &mut self.report {
+            report.take_line(line)?;
+        }
+        Ok(())
+    }
+
+    /// The newest line is bad.
+    pub(crate) fn note_bad_line(&mut self)
+        ensures { self.new ≡ bad_noted self.old }
+    {
+        if let Some(report) = &mut self.report {
+            report.note_bad_line();
         }
     }
 
@@ -91,23 +156,33 @@ impl Comparing {
 
     // what is found at a frame of the interface
     #[tactic(auto, unfolding(crate::specs::Compared::frame_taken))]
-    fn take(&mut self, settings: &Settings<'_, '_>, frame: &Record<'_>) -> Findings
+    fn take(
+        &mut self,
+        settings: &Settings<'_, '_>,
+        frame: &Record<'_>,
+    ) -> Result<Findings, AllocError>
         requires rows { AllPairs (λ e f. is_key_before e.key f.key ≡ true) settings.now.rows.now }
         requires id { IsIdentifier frame.now.id }
-        ensures found { result ≡ found_at
-            (comparison_view settings.now) self.old frame.now }
-        ensures next { self.new ≡ frame_taken (comparison_view settings.now) self.old frame.now }
+        ensures found { IfOk result (λ found. found ≡ found_at
+            (comparison_view settings.now) self.old frame.now) }
+        ensures next { OnOk result
+            (self.new ≡ frame_taken (comparison_view settings.now) self.old frame.now) }
     {
         let kind = kind_of(settings.subject.node, frame.id, &frame.content);
-        let found = self
-            .progress
-            .take(&settings.subject, settings.rows, frame.micros, &kind);
+        let micros = frame.micros;
+        let found = take_kind(
+            &mut self.progress,
+            &mut self.report,
+            settings,
+            micros,
+            &kind,
+        )?;
         self.tally.count(found.verdict);
         self.note_first(frame.interface.bytes());
-        found
+        Ok(found)
     }
 
-    /// Takes a frame, and writes the lines of what is found at it.
+    /// Takes a frame, and writes the lines of what is found at it, unless a document is wanted.
     pub(crate) fn take_frame<W: Write>(
         &mut self,
         text: &mut String,
@@ -130,7 +205,11 @@ impl Comparing {
             self.note_other(settings.interface);
             return Ok(());
         }
-        let found = self.take(settings, frame);
+        let is_documented = self.report.is_some();
+        let found = self.take(settings, frame)?;
+        if is_documented {
+            return Ok(());
+        }
         write_findings(text, settings, number, found, out)
     }
 }

@@ -4,10 +4,13 @@
 mod compare_file;
 mod compared;
 mod comparing;
+mod document;
 mod line;
+mod notes;
 mod writes;
 
 pub use compare_file::{Asked, compare_files};
 pub use compared::compare;
 pub use comparing::Comparing;
+pub use document::Format;
 pub use writes::Settings;

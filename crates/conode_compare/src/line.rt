@@ -18,6 +18,7 @@ ghost use Rattle.conode_compare.specs.Views.{comparison_view};
 use crate::comparing::Comparing;
 use crate::writes::Settings;
 use co_bounded_lines::{BoundedLines, Found, ReadFault};
+use conode_compare_report::Report;
 use conode_convert::add_frame;
 use conode_io::{CmdFault, flush};
 use conode_log_parts::LogLine;
@@ -75,6 +76,7 @@ fn take_record<W: Write, E: Write>(
         Ok(RecordLine::Frame(frame)) => comparing.take_frame(text, settings, number, &frame, out),
         Err(_) => {
             name_bad_line(number, "is no line of a recording", err);
+            comparing.note_bad_line();
             Ok(())
         }
     }
@@ -113,22 +115,28 @@ fn take_log_line<W: Write, E: Write>(
         }
         Err(bad) => {
             name_bad_line(number, bad.words(), err);
+            comparing.note_bad_line();
             Ok(())
         }
     }
 }
 
 impl Lines {
-    /// No line was taken.
-    pub(crate) fn new(alloc: Global, settings: &Settings<'_, '_>, form: Form) -> Lines
+    /// No line was taken; `report`: what is kept for a document, if one is wanted.
+    pub(crate) fn new(
+        alloc: Global,
+        settings: &Settings<'_, '_>,
+        form: Form,
+        report: Option<Report>,
+    ) -> Lines
         ensures lines { result.lines ≡ nothing_held }
         ensures log { result.log ≡ at_start form }
-        ensures comparing { result.comparing ≡ nothing_compared settings.now.subject }
+        ensures comparing { result.comparing ≡ nothing_compared settings.now.subject report }
     {
         Lines {
             lines: BoundedLines::new(),
             log: Log { form, clock: 0 },
-            comparing: Comparing::new(&settings.subject),
+            comparing: Comparing::new(&settings.subject, report),
             text: String::new(alloc),
             frame: Vec::new(alloc),
         }
@@ -172,10 +180,13 @@ impl Lines {
             Ok(Found::End) => Ok(None),
             Ok(Found::TooLong) => {
                 name_bad_line(number, TOO_LONG, err);
+                self.comparing.note_line(&[])?;
+                self.comparing.note_bad_line();
                 Ok(Some(()))
             }
             Ok(Found::Line) => {
                 let line = self.lines.line();
+                self.comparing.note_line(line)?;
                 take_log_line(
                     &mut self.comparing,
                     &mut self.log,

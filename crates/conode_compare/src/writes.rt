@@ -44,8 +44,8 @@ fn type_at(settings: &Settings<'_, '_>, key: Key) -> ValueType
     }
 }
 
-// the data type in which the values of a difference are shown
-fn shown_type(settings: &Settings<'_, '_>, finding: Finding) -> ValueType
+/// The data type in which the values of a difference are shown.
+pub(crate) fn shown_type(settings: &Settings<'_, '_>, finding: Finding) -> ValueType
     requires { AllPairs (λ e f. is_key_before e.key f.key ≡ true) settings.now.rows.now }
     ensures { result ≡ shown_type (comparison_view settings.now) finding }
 {

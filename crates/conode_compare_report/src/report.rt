@@ -65,6 +65,7 @@ pub struct Report {
     wanted: u64,
     channel: Channel,
     rpdos: Rpdos,
+    alloc: Global,
 }
 
 impl Model for Report {
@@ -175,20 +176,21 @@ impl Report {
             wanted: 0,
             channel: Channel::new(),
             rpdos: Rpdos::of(rows, node),
+            alloc,
         })
     }
 
     /// The next line of the recording, without its line feed. `Err`: out of memory.
     #[tactic(auto, unfolding(crate::specs::Reports::with_line))]
-    pub fn take_line(&mut self, alloc: Global, bytes: &[u8]) -> Result<(), AllocError>
+    pub fn take_line(&mut self, bytes: &[u8]) -> Result<(), AllocError>
         ensures { OnOk result (self.new ≡ with_line self.old bytes.now) }
     {
         self.lines = self.lines.saturating_add(1);
         let number = self.lines;
         if self.wanted < number {
-            return add_recent(alloc, &mut self.recent, number, bytes);
+            return add_recent(self.alloc, &mut self.recent, number, bytes);
         }
-        let bytes = Vec::from_slice(alloc, bytes)?;
+        let bytes = Vec::from_slice(self.alloc, bytes)?;
         self.context.push(ContextLine { number, bytes })?;
         Ok(())
     }
@@ -212,7 +214,6 @@ impl Report {
     #[tactic(auto, unfolding(crate::specs::Reports::with_frame))]
     pub fn take_frame(
         &mut self,
-        alloc: Global,
         rows: &[EntryRow<'_>],
         micros: u64,
         kind: &FrameKind,
@@ -230,7 +231,7 @@ impl Report {
             .add(rows, kind, before.role, state, ended_in(&heard))?;
         let lane = lane_of(kind, before.role);
         self.lanes
-            .add(alloc, micros, state, lane, number_found(found))?;
+            .add(self.alloc, micros, state, lane, number_found(found))?;
         self.begin = self.begin.or(Some(micros));
         self.end = micros;
         Ok(())

@@ -11,7 +11,7 @@ use Rattle.conode_words.specs.declared.tasks.DictionaryWords.{DictionaryWords}
 use Rattle.conode_words.specs.declared.tasks.Task.{Task}
 use Rattle.conode_words.specs.declared.tasks.TimingWords.{TimingWords}
 use Rattle.conode_words.specs.Fields.{AsksFor, GivesDevice, GivesDictionary, GivesTiming}
-use Rattle.conode_words.specs.Choices.{colours_for, colours_of, format_for, format_of, lines_as_for, lines_as_of, log_form_for, log_form_of, mode_for, mode_of, shown_as, shown_for, stamps_for, stamps_of, zeros_for, zeros_of}
+use Rattle.conode_words.specs.Choices.{colours_for, colours_of, format_for, format_of, lines_as_for, lines_as_of, log_form_for, log_form_of, mode_for, mode_of, report_as_for, report_as_of, shown_as, shown_for, stamps_for, stamps_of, zeros_for, zeros_of}
 use Rattle.conode_words.specs.Tasks.{Asked, AskedAdapt, AskedCheck, AskedCompare, AskedConvert, AskedDecode, AskedExplain, AskedLint, AskedLoop, AskedReplay, AskedShow, AskedStats, adapt, asked_adapt, asked_by, asked_check, asked_compare, asked_convert, asked_decode, asked_device, asked_dictionary, asked_explain, asked_explain_of, asked_in, asked_lint, asked_lint_of, asked_loop, asked_of, asked_other, asked_replay, asked_show, asked_stats, asked_timing, check, compare, convert, decode, explain, lint, loop_back, number_for, number_of_bits, replay, show, stats}
 
 -- a value that is made of another
@@ -194,12 +194,13 @@ timing_fields rows t e =
     })))))
 
 compare_fields : (rows : List Row) (a : Asked) → asked_compare rows ≡ Some a → AsksFor (codes "compare") rows a
-unfolding asked_compare log_form_for
+unfolding asked_compare log_form_for report_as_for
 compare_fields rows a e =
     option_and_then_some _ (first_of (codes "SHEET") rows) a e (λ sheet e0 f0.
     option_and_then_some _ (first_of (codes "TRACE") rows) a f0 (λ trace e1 f1.
     option_and_then_some _ (log_form_for rows) a f1 (λ form e2 f2.
-    mapped _ (asked_timing rows) a f2 (λ timing e3 is.
+    option_and_then_some _ (report_as_for rows) a f2 (λ report_as e3 f3.
+    mapped _ (asked_timing rows) a f3 (λ timing e4 is.
     subst (AsksFor (codes "compare") rows) is (
       refl,
       e0,
@@ -207,8 +208,9 @@ compare_fields rows a e =
       refl,
       refl,
       chosen log_form_of (first_of (codes "log") rows) form e2,
-      timing_fields rows timing e3,
-    )))))
+      chosen report_as_of (first_of (codes "format") rows) report_as e3,
+      timing_fields rows timing e4,
+    ))))))
 
 at_name : (name known : Text) (rows : List Row) (a : Asked) → bytes_eq name known ≡ true → AsksFor known rows a → AsksFor name rows a
 at_name name known rows a same h = subst (λ (n : Text). AsksFor n rows a) (sym (named name known same)) h
@@ -387,11 +389,12 @@ timing_is rows t h =
     rw (tolerance, drift, answer, boot) refl
 
 compare_is : (rows : List Row) (a : AskedCompare) → AsksFor (codes "compare") rows (compare a) → asked_compare rows ≡ Some (compare a)
-unfolding asked_compare log_form_for
-compare_is rows a (name_is, sheet, trace, node, interface, f, t) =
+unfolding asked_compare log_form_for report_as_for
+compare_is rows a (name_is, sheet, trace, node, interface, f, r, t) =
     let form = choice_is log_form_of (first_of (codes "log") rows) a.form f in
+    let report_as = choice_is report_as_of (first_of (codes "format") rows) a.report_as r in
     let timing = timing_is rows a.timing t in
-    rw (sheet, trace, form, timing, ← node, ← interface) refl
+    rw (sheet, trace, form, report_as, timing, ← node, ← interface) refl
 
 pub only_asked : (name : Text) (rows : List Row) (a : Asked) → AsksFor name rows a → asked_in name rows ≡ Some a
 only_asked name rows (check a) h = ap (λ (n : Text). asked_in n rows) h.0 ∙ named_check rows ∙ check_is rows a (subst (λ (n : Text). AsksFor n rows (check a)) h.0 h)

@@ -9,6 +9,7 @@ use Rattle.co_sdo_client.specs.declared.mode.Mode.TheVariants.{Plain, Segmented,
 use Rattle.conode_words.specs.declared.tasks.DeviceWords.{DeviceWords}
 use Rattle.conode_words.specs.declared.tasks.DictionaryWords.{DictionaryWords}
 use Rattle.conode_words.specs.declared.tasks.LinesAs.TheVariants as lines
+use Rattle.conode_words.specs.declared.tasks.ReportAs.TheVariants as report_form
 use Rattle.conode_words.specs.declared.tasks.LogForm.TheVariants as log_form
 use Rattle.conode_words.specs.declared.tasks.ShownAs.TheVariants.{Columns, Markdown}
 use Rattle.conode_words.specs.declared.tasks.ShownAs.TheVariants as shown_form
@@ -17,7 +18,7 @@ use Rattle.conode_words.specs.declared.tasks.Stamps.TheVariants.{Relative, Absol
 use Rattle.conode_words.specs.declared.tasks.Colours.TheVariants.{Auto, Always, Never}
 use Rattle.conode_words.specs.declared.tasks.Format.TheVariants.{Json, Sarif, Text as AsText}
 use Rattle.conode_words.specs.Commands.{adapt_command, check_command, compare_command, conode_command, convert_command, decode_command, domains_option, explain_command, lint_command, loop_command, node_option, replay_command, show_command, stats_command, strings_option, time_option}
-use Rattle.conode_words.specs.Choices.{colours_of, format_of, lines_as_of, log_form_of, mode_of, shown_as, stamps_of, zeros_of}
+use Rattle.conode_words.specs.Choices.{colours_of, format_of, lines_as_of, log_form_of, mode_of, report_as_of, shown_as, stamps_of, zeros_of}
 use Rattle.conode_words.specs.Tasks.{AskedLines, Asked, check, lint, decode, replay, loop_back, show, adapt, explain, convert, stats, compare, asked_in, asked_of, word_fault}
 use Rattle.conode_words.proofs.OnLiterals.{words_on_literals}
 
@@ -302,18 +303,20 @@ compare_with_a_sheet : asked_after compare_command (codes "compare") (codes "s" 
       node = None;
       interface = None;
       form = log_form.Auto;
+      report_as = report_form.Text;
       timing = record { tolerance = 10; drift = 1; answer = 1000; boot = 10000 };
     }))
 unfolding words_on_literals
 compare_with_a_sheet = refl
 
-compare_with_options : asked_after compare_command (codes "compare") (codes "s" ∷ codes "--node=5" ∷ codes "t" ∷ codes "--interface" ∷ codes "can0" ∷ codes "--log=trc" ∷ codes "--tolerance" ∷ codes "0" ∷ codes "--drift=100" ∷ codes "--answer=4294967295" ∷ codes "--boot=1" ∷ [])
+compare_with_options : asked_after compare_command (codes "compare") (codes "s" ∷ codes "--node=5" ∷ codes "t" ∷ codes "--interface" ∷ codes "can0" ∷ codes "--log=trc" ∷ codes "--format=html" ∷ codes "--tolerance" ∷ codes "0" ∷ codes "--drift=100" ∷ codes "--answer=4294967295" ∷ codes "--boot=1" ∷ [])
     ≡ Some (compare (record {
       sheet = codes "s";
       trace = codes "t";
       node = Some 5;
       interface = Some (codes "can0");
       form = log_form.Trc;
+      report_as = report_form.Html;
       timing = record { tolerance = 0; drift = 100; answer = 4294967295; boot = 1 };
     }))
 unfolding words_on_literals
@@ -322,6 +325,11 @@ compare_with_options = refl
 compare_with_too_much_drift : fault_of compare_command (codes "compare" ∷ codes "s" ∷ codes "t" ∷ codes "--drift=101" ∷ []) ≡ kind.ValueValidation ∷ []
 unfolding words_on_literals
 compare_with_too_much_drift = refl
+
+formats_of_compare : map report_as_of (codes "text" ∷ codes "json" ∷ codes "junit" ∷ codes "html" ∷ codes "xml" ∷ codes "" ∷ [])
+    ≡ Some report_form.Text ∷ Some report_form.Json ∷ Some report_form.JUnit ∷ Some report_form.Html ∷ None ∷ None ∷ []
+unfolding words_on_literals
+formats_of_compare = refl
 
 -- ---- the program's command
 

@@ -15,6 +15,8 @@ use Rattle.conode_words.specs.declared.tasks.LinesAs.{LinesAs}
 use Rattle.conode_words.specs.declared.tasks.LinesAs.TheVariants as lines
 use Rattle.conode_words.specs.declared.tasks.LogForm.{LogForm}
 use Rattle.conode_words.specs.declared.tasks.LogForm.TheVariants as log_form
+use Rattle.conode_words.specs.declared.tasks.ReportAs.{ReportAs}
+use Rattle.conode_words.specs.declared.tasks.ReportAs.TheVariants as report_form
 use Rattle.conode_words.specs.declared.tasks.ShownAs.{ShownAs}
 use Rattle.conode_words.specs.declared.tasks.ShownAs.TheVariants as shown_form
 use Rattle.conode_words.specs.declared.tasks.Stamps.{Stamps}
@@ -79,6 +81,15 @@ lines_as_of = choice_named ((codes "text", lines.Text) ∷ (codes "json", lines.
 
 unfoldable pub lines_as_for : List Row → Option LinesAs
 lines_as_for rows = option_and_then lines_as_of (first_of (codes "format") rows)
+
+-- how a comparison is written
+unfoldable pub report_as_of : Text → Option ReportAs
+report_as_of =
+    choice_named ((codes "text", report_form.Text) ∷ (codes "json", report_form.Json) ∷ (codes "junit", report_form.JUnit)
+    ∷ (codes "html", report_form.Html) ∷ [])
+
+unfoldable pub report_as_for : List Row → Option ReportAs
+report_as_for rows = option_and_then report_as_of (first_of (codes "format") rows)
 
 -- the form of a log
 unfoldable pub log_form_of : Text → Option LogForm

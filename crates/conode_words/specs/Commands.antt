@@ -164,12 +164,12 @@ with_timing app =
     (numbered (codes "drift") 0 100 (codes "1" ∷ []))) (numbered (codes "answer") 0 most_ms (codes "1000" ∷ [])))
     (numbered (codes "boot") 0 most_ms (codes "10000" ∷ []))
 
--- `compare SHEET TRACE [--node N] [--interface NAME] [--log FORM] [--tolerance MS]
--- [--drift PERCENT] [--answer MS] [--boot MS]`
+-- `compare SHEET TRACE [--node N] [--interface NAME] [--log FORM] [--format FORMAT]
+-- [--tolerance MS] [--drift PERCENT] [--answer MS] [--boot MS]`
 unfoldable pub compare_command : App
 compare_command =
-    with_timing (with_rule (with_rule (with_rule (with_rule (with_rule (new_app (codes "compare")) (wanted (codes "SHEET")))
-    (wanted (codes "TRACE"))) node_option) (valued (codes "interface"))) log_option)
+    with_timing (with_rule (with_rule (with_rule (with_rule (with_rule (with_rule (new_app (codes "compare")) (wanted (codes "SHEET")))
+    (wanted (codes "TRACE"))) node_option) (valued (codes "interface"))) log_option) (worded (codes "format") (codes "text")))
 
 -- a command with `--version`
 abbrev pub versioned : App → App

@@ -4,7 +4,7 @@ use Rattle.clap.specs.Words.{Row, Text, first_of}
 use Rattle.conode_words.specs.declared.tasks.DeviceWords.{DeviceWords}
 use Rattle.conode_words.specs.declared.tasks.DictionaryWords.{DictionaryWords}
 use Rattle.conode_words.specs.declared.tasks.TimingWords.{TimingWords}
-use Rattle.conode_words.specs.Choices.{colours_of, format_of, lines_as_of, log_form_of, mode_of, shown_as, stamps_of, zeros_of}
+use Rattle.conode_words.specs.Choices.{colours_of, format_of, lines_as_of, log_form_of, mode_of, report_as_of, shown_as, stamps_of, zeros_of}
 use Rattle.conode_words.specs.Tasks.{Asked, check, lint, decode, replay, loop_back, show, adapt, explain, convert, stats, compare, asked_lines, is_used, number_for, number_of_bits, words_for}
 
 -- a word, or the value of an option, is this one
@@ -91,4 +91,4 @@ AsksFor name rows (stats a) =
 AsksFor name rows (compare a) =
     (name ≡ codes "compare") × IsWord (codes "SHEET") rows a.sheet × IsWord (codes "TRACE") rows a.trace
     × IsNode rows a.node × (a.interface ≡ first_of (codes "interface") rows)
-    × IsChoice log_form_of (codes "log") rows a.form × GivesTiming rows a.timing
+    × IsChoice log_form_of (codes "log") rows a.form × IsChoice report_as_of (codes "format") rows a.report_as × GivesTiming rows a.timing

@@ -8,7 +8,7 @@ use Rattle.clap.specs.Kinds.{Kinds, or_else}
 use Rattle.clap.specs.Words.{Row, Text, all_of, fault_of, first_of, subcommand_of}
 use Rattle.clap.specs.declared.error.kind.ErrorKind.TheVariants.{InvalidValue}
 use Rattle.co_sdo_client.specs.declared.mode.Mode.{Mode}
-use Rattle.conode_words.specs.Choices.{colours_for, format_for, lines_as_for, log_form_for, mode_for, shown_for, stamps_for, zeros_for}
+use Rattle.conode_words.specs.Choices.{colours_for, format_for, lines_as_for, log_form_for, mode_for, report_as_for, shown_for, stamps_for, zeros_for}
 use Rattle.conode_words.specs.Commands.{conode_command}
 use Rattle.conode_words.specs.declared.tasks.DeviceWords.{DeviceWords}
 use Rattle.conode_words.specs.declared.tasks.DictionaryWords.{DictionaryWords}
@@ -19,6 +19,7 @@ use Rattle.conode_words.specs.declared.tasks.Task.TheVariants.{Check, Lint, Deco
 use Rattle.conode_words.specs.declared.tasks.LeadingZeros.{LeadingZeros}
 use Rattle.conode_words.specs.declared.tasks.LinesAs.{LinesAs}
 use Rattle.conode_words.specs.declared.tasks.OnlyWords.{OnlyWords}
+use Rattle.conode_words.specs.declared.tasks.ReportAs.{ReportAs}
 use Rattle.conode_words.specs.declared.tasks.Stamps.{Stamps}
 use Rattle.conode_words.specs.declared.tasks.TimingWords.{TimingWords}
 use Rattle.conode_words.specs.declared.tasks.LogForm.{LogForm}
@@ -111,6 +112,7 @@ pub record AskedCompare : Type 0 where
   pub node : Option ℕ
   pub interface : Option Text
   pub form : LogForm
+  pub report_as : ReportAs
   pub timing : TimingWords
 
 -- what the words ask for
@@ -180,13 +182,14 @@ asked_by (Stats trace sheet bit_rate lines_as form) =
       lines_as = lines_as;
       form = form;
     })
-asked_by (Compare sheet trace node interface form timing) =
+asked_by (Compare sheet trace node interface form report_as timing) =
     compare (record {
       sheet = sheet.now;
       trace = trace.now;
       node = node;
       interface = option_copied interface;
       form = form;
+      report_as = report_as;
       timing = timing;
     })
 
@@ -344,16 +347,17 @@ asked_timing rows =
 -- what the matches of `compare` ask for
 unfoldable pub asked_compare : List Row → Option Asked
 asked_compare rows =
-    option_and_then (λ sheet. option_and_then (λ trace. option_and_then (λ form. option_map (λ timing.
+    option_and_then (λ sheet. option_and_then (λ trace. option_and_then (λ form. option_and_then (λ report_as. option_map (λ timing.
     compare (record {
       sheet = sheet;
       trace = trace;
       node = number_for 8 (codes "node") rows;
       interface = first_of (codes "interface") rows;
       form = form;
+      report_as = report_as;
       timing = timing;
     }))
-    (asked_timing rows)) (log_form_for rows)) (first_of (codes "TRACE") rows)) (first_of (codes "SHEET") rows)
+    (asked_timing rows)) (report_as_for rows)) (log_form_for rows)) (first_of (codes "TRACE") rows)) (first_of (codes "SHEET") rows)
 
 -- what the matches of a subcommand other than `lint` and `explain` ask for
 unfoldable pub asked_other : Text → List Row → Option Asked
@@ -390,8 +394,12 @@ is_other_stats rows = is_none (lines_as_for rows) || is_none (log_form_for rows)
 unfoldable pub is_other_explain : List Row → Bool
 is_other_explain rows = is_none (stamps_for rows) || is_other_stats rows
 
+-- the same for `compare`: its format, the log's form
+unfoldable pub is_other_compare : List Row → Bool
+is_other_compare rows = is_none (report_as_for rows) || is_none (log_form_for rows)
+
 -- the same for each subcommand: also the mode of `loop`, the form of `show`, the leading zeros of
--- `adapt`, and the log's form of `convert` and `compare`
+-- `adapt`, and the log's form of `convert`
 unfoldable pub is_other : Text → List Row → Bool
 is_other name rows =
     if bytes_eq name (codes "loop") then is_none (mode_for rows)
@@ -401,7 +409,7 @@ is_other name rows =
     else (if bytes_eq name (codes "explain") then is_other_explain rows
     else (if bytes_eq name (codes "stats") then is_other_stats rows
     else (if bytes_eq name (codes "convert") then is_none (log_form_for rows)
-    else (if bytes_eq name (codes "compare") then is_none (log_form_for rows) else false)))))))
+    else (if bytes_eq name (codes "compare") then is_other_compare rows else false)))))))
 
 unfoldable pub has_other_word : Option (Text × List Row) → Bool
 has_other_word matches = option_map_or (λ m. is_other m.0 m.1) matches false

@@ -27,7 +27,8 @@ ghost use Rattle.conode_words.specs.Tasks.{
 };
 
 use crate::choices::{
-    colours_for, format_for, lines_as_for, log_form_for, mode_for, shown_for, stamps_for, zeros_for,
+    colours_for, format_for, lines_as_for, log_form_for, mode_for, report_as_for, shown_for,
+    stamps_for, zeros_for,
 };
 use crate::found::{is, is_used, number_u8, number_u16, number_u32, word_for, words_for};
 use crate::tasks::{DeviceWords, DictionaryWords, LintWords, OnlyWords, Task, TimingWords};
@@ -279,6 +280,7 @@ fn asked_compare<'a>(found: &ArgMatches<'a>) -> Option<Task<'a>>
     let sheet = word_for(found, "SHEET")?;
     let trace = word_for(found, "TRACE")?;
     let form = log_form_for(found)?;
+    let report_as = report_as_for(found)?;
     let timing = timing_words(found)?;
     Some(Task::Compare {
         sheet,
@@ -286,6 +288,7 @@ fn asked_compare<'a>(found: &ArgMatches<'a>) -> Option<Task<'a>>
         node: number_u8(found, "node"),
         interface: word_for(found, "interface"),
         form,
+        report_as,
         timing,
     })
 }

@@ -10,6 +10,7 @@ ghost use Rattle.conode_words.specs.Choices.{
   lines_as_for,
   log_form_for,
   mode_for,
+  report_as_for,
   shown_for,
   stamps_for,
   zeros_for,
@@ -17,7 +18,7 @@ ghost use Rattle.conode_words.specs.Choices.{
 };
 
 use crate::found::{is, word_for};
-use crate::tasks::{Colours, Format, LeadingZeros, LinesAs, LogForm, ShownAs, Stamps};
+use crate::tasks::{Colours, Format, LeadingZeros, LinesAs, LogForm, ReportAs, ShownAs, Stamps};
 use clap::ArgMatches;
 use co_sdo_client::Mode;
 
@@ -176,6 +177,23 @@ pub(crate) fn log_form_for(found: &ArgMatches<'_>) -> Option<LogForm>
             ("screen-delta", LogForm::ScreenDelta),
             ("trc", LogForm::Trc),
             ("asc", LogForm::Asc),
+        ],
+    )
+}
+
+/// How `compare` writes what it finds.
+#[tactic(auto, unfolding(crate::specs::Choices::report_as_for, crate::specs::Choices::report_as_of))]
+pub(crate) fn report_as_for(found: &ArgMatches<'_>) -> Option<ReportAs>
+    ensures { result ≡ report_as_for (rows_of (found_of found.now)) }
+{
+    choice_for(
+        found,
+        "format",
+        &[
+            ("text", ReportAs::Text),
+            ("json", ReportAs::Json),
+            ("junit", ReportAs::JUnit),
+            ("html", ReportAs::Html),
         ],
     )
 }

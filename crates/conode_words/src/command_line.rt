@@ -9,6 +9,7 @@ ghost use Rattle.conode_words.specs.Tasks.{
   asked_of,
   has_other_word,
   is_other,
+  is_other_compare,
   is_other_explain,
   is_other_lint,
   is_other_stats,
@@ -18,7 +19,8 @@ ghost use Rattle.conode_words.specs.Tasks.{
 
 use crate::asked::asked_in;
 use crate::choices::{
-    colours_for, format_for, lines_as_for, log_form_for, mode_for, shown_for, stamps_for, zeros_for,
+    colours_for, format_for, lines_as_for, log_form_for, mode_for, report_as_for, shown_for,
+    stamps_for, zeros_for,
 };
 use crate::commands::conode_command;
 use crate::found::is;
@@ -61,6 +63,15 @@ fn other_explain(found: &ArgMatches<'_>) -> Option<&'static str>
     said_if(stamps_for(found).is_none(), help::STAMPS).or(other_stats(found))
 }
 
+// the same for the words of `compare`
+#[tactic(auto, unfolding(crate::specs::Tasks::is_other_compare))]
+fn other_compare(found: &ArgMatches<'_>) -> Option<&'static str>
+    ensures { is_some result ≡ is_other_compare (rows_of (found_of found.now)) }
+{
+    let report_as = said_if(report_as_for(found).is_none(), help::REPORTS_AS);
+    report_as.or(said_if(log_form_for(found).is_none(), help::LOG_FORMS))
+}
+
 // the same for the words of this subcommand
 #[tactic(auto, unfolding(crate::specs::Tasks::is_other))]
 fn other_of(name: &str, found: &ArgMatches<'_>) -> Option<&'static str>
@@ -81,7 +92,7 @@ fn other_of(name: &str, found: &ArgMatches<'_>) -> Option<&'static str>
     } else if is(name, "convert") {
         said_if(log_form_for(found).is_none(), help::LOG_FORMS)
     } else if is(name, "compare") {
-        said_if(log_form_for(found).is_none(), help::LOG_FORMS)
+        other_compare(found)
     } else {
         None
     }

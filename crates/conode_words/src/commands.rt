@@ -264,7 +264,7 @@ const STATS: [Word; 5] = [
     RECORDING_FORM,
 ];
 
-const COMPARE: [Word; 9] = [
+const COMPARE: [Word; 10] = [
     DEVICE_SHEET,
     RECORDING,
     Word(
@@ -274,6 +274,11 @@ const COMPARE: [Word; 9] = [
     ),
     Word("interface", Valued("NAME"), "The device's interface"),
     RECORDING_FORM,
+    Word(
+        "format",
+        Worded("FORMAT", "text"),
+        "Form: text, json, junit or html",
+    ),
     Word(
         "tolerance",
         NumberedOr(MOST_MS, "10"),

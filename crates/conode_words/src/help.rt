@@ -297,6 +297,9 @@ Status: 0 if all lines are good, or only the last line is bad and has no line
 feed; 1 if a line is bad or the recording can't be read; 2 if the command line
 is wrong.";
 
+/// The message about an unknown format of `compare`.
+pub const REPORTS_AS: &str = "invalid value for '--format <FORMAT>': text, json, junit or html";
+
 /// What `compare` prints.
 pub const COMPARED: &str = "\
 Compares a recorded device with what CiA 301 prescribes for its data sheet, and
@@ -306,6 +309,10 @@ deviate by --tolerance plus --drift; --answer and --boot limit the wait for an
 answer or a boot-up.
 
   conode compare sensor.eds drive.log --node 5
+
+--format json writes one document in place of the lines, junit one for build
+servers, and html a page, with the lines around each difference, what the
+recording covers, and a picture of the bus over time.
 
 Status: 0 if nothing differs, 1 if something does, 2 if nothing can be compared
 or the command line is wrong.";

@@ -92,6 +92,19 @@ pub enum LinesAs {
     Json,
 }
 
+/// How `compare` writes what it finds.
+#[derive(Clone, Copy, Debug, PartialEq, Eq)]
+pub enum ReportAs {
+    /// A line for each difference.
+    Text,
+    /// As one document of JSON.
+    Json,
+    /// As a document of JUnit, for build servers.
+    JUnit,
+    /// As one page of HTML.
+    Html,
+}
+
 /// How `lint` writes what it finds.
 #[derive(Clone, Copy, Debug, PartialEq, Eq)]
 pub enum Format {
@@ -255,6 +268,8 @@ pub enum Task<'a> {
         interface: Option<&'a str>,
         /// In which form the recording is.
         form: LogForm,
+        /// How it writes what it finds.
+        report_as: ReportAs,
         /// How far times may be off.
         timing: TimingWords,
     },

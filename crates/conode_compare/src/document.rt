@@ -1,0 +1,124 @@
+//! The document of a comparison.
+
+ghost use Rattle.std.specs.Prelude.{◌≡◌, IfOk, true};
+ghost use Rattle.std.specs.List.{AllPairs};
+ghost use Rattle.co_value.specs.Keys.{is_key_before};
+
+use crate::comparing::Comparing;
+use crate::writes::Settings;
+use co_sheet::EntryRow;
+use co_value::Key;
+use conode_compare_json::{json_document, junit_document};
+use conode_compare_page::page;
+use conode_compare_pdos::preset_at;
+use conode_compare_report::{About, Report};
+use conode_io::{CmdFault, hand_over};
+use std::alloc::{AllocError, Global};
+use std::io::Write;
+
+/// How a comparison is written.
+#[derive(Clone, Copy, Debug, PartialEq, Eq)]
+pub enum Format {
+    /// A line for each difference, while the recording is read, and a last line that counts.
+    Text,
+    /// One document of JSON.
+    Json,
+    /// A document of JUnit, with a test case for each kind of difference.
+    JUnit,
+    /// One page of HTML.
+    Html,
+}
+
+/// How a comparison is written, and what a document says of it.
+#[derive(Clone, Copy)]
+pub(crate) struct Wanted<'s> {
+    pub(crate) format: Format,
+    /// The version of the program.
+    pub(crate) version: &'s str,
+    /// The path of the data sheet.
+    pub(crate) sheet: &'s str,
+}
+
+/// The index of the identity object (CiA 301, 7.5.2.21).
+const IDENTITY: u16 = 0x1018;
+
+/// What is kept for a document, if one is wanted. `Err`: out of memory.
+pub(crate) fn new_report(
+    alloc: Global,
+    settings: &Settings<'_, '_>,
+    format: Format,
+) -> Result<Option<Report>, AllocError>
+    requires { AllPairs (λ e f. is_key_before e.key f.key ≡ true) settings.now.rows.now }
+{
+    match format {
+        Format::Text => Ok(None),
+        Format::Json | Format::JUnit | Format::Html => {
+            let report = Report::new(alloc, settings.rows, settings.subject.node)?;
+            Ok(Some(report))
+        }
+    }
+}
+
+// the number of the identity object at a sub-index, by the data sheet
+fn identity(rows: &[EntryRow<'_>], node: u8, sub: u8) -> Option<u64>
+    requires { AllPairs (λ e f. is_key_before e.key f.key ≡ true) rows.now }
+{
+    let key = Key {
+        index: IDENTITY,
+        sub,
+    };
+    preset_at(rows, node, key)
+}
+
+/// What a document says of a comparison that ended.
+pub(crate) fn about_of<'s, 'a>(
+    settings: &Settings<'s, 'a>,
+    wanted: &Wanted<'s>,
+    comparing: &Comparing,
+) -> About<'s, 'a>
+    requires { AllPairs (λ e f. is_key_before e.key f.key ≡ true) settings.now.rows.now }
+{
+    let (tally, several) = comparing.ends();
+    let node = settings.subject.node;
+    About {
+        version: wanted.version,
+        sheet: wanted.sheet,
+        recording: settings.recording,
+        interface: settings.interface,
+        node,
+        limits: settings.subject.limits,
+        rows: settings.rows,
+        vendor: identity(settings.rows, node, 1),
+        product: identity(settings.rows, node, 2),
+        revision: identity(settings.rows, node, 3),
+        tally,
+        several,
+    }
+}
+
+/// Writes the document in a format; `Text` has none.
+///
+/// * `Write`: `out` failed. `Memory`: memory ran out.
+pub(crate) fn write_document<O: Write>(
+    alloc: Global,
+    format: Format,
+    about: &About<'_, '_>,
+    report: &Report,
+    out: &mut O,
+) -> Result<(), CmdFault> {
+    match format {
+        Format::Text => Ok(()),
+        Format::Json => {
+            let text = json_document(alloc, about, report)?;
+            hand_over(text.as_slice(), out)
+        }
+        Format::JUnit => {
+            let text = junit_document(alloc, about, report)?;
+            hand_over(text.as_bytes(), out)
+        }
+        Format::Html => {
+            let text = page(alloc, about, report)?;
+            hand_over(text.as_bytes(), out)
+        }
+    }
+}
