@@ -7,7 +7,7 @@ use Rattle.co_text.specs.Printed.{digits_text}
 use Rattle.co_sheet.specs.Content.{Row}
 use Rattle.conode_lint_text.specs.JsonForm.{utf8_of}
 use Rattle.conode_json.specs.Members.{array_begin, flag_member, number_member, object_begin, text_member}
-use Rattle.conode_compare_report.specs.declared.coverage.Coverage.{Coverage}
+use Rattle.conode_compare_report.specs.Coverages.{CoverageView}
 use Rattle.conode_compare_report.specs.declared.coverage.Covered.{Covered}
 use Rattle.conode_compare_report.specs.declared.coverage.Numbered.{Numbered}
 use Rattle.conode_compare_report.specs.declared.lanes.States.{States}
@@ -68,8 +68,8 @@ abort_tokens numbered =
 unfoldable pub aborts_member : List Numbered → List Token
 aborts_member aborts = array_begin (codes "abortCodes") ++ flat_map abort_tokens aborts ++ end_array ∷ []
 
-unfoldable pub coverage_member : List Row → Coverage → List Token
+unfoldable pub coverage_member : List Row → CoverageView → List Token
 coverage_member rows coverage =
-    object_begin (codes "coverage") ++ entries_member rows coverage.entries.items
-    ++ services_member coverage.services.items ++ states_member coverage.states
-    ++ types_member coverage.types.items ++ aborts_member coverage.aborts.items ++ end_object ∷ []
+    object_begin (codes "coverage") ++ entries_member rows coverage.entries
+    ++ services_member coverage.services ++ states_member coverage.states
+    ++ types_member coverage.types ++ aborts_member coverage.aborts ++ end_object ∷ []

@@ -1,13 +1,12 @@
 -- A comparison as one document of JSON, in tokens (RFC 8259). Stamps are in microseconds.
-use Rattle.std.specs.Prelude.{ℕ, List, [], ◌∷◌, ◌++◌, map, pos, codes, option_map}
+use Rattle.std.specs.Prelude.{ℕ, List, [], ◌∷◌, ◌++◌, pos, codes, option_map}
 use Rattle.std.specs.List.{flat_map}
 use Rattle.json.specs.Token.{Token, begin_object, end_object, end_array}
 use Rattle.json.specs.Print.{print}
-use Rattle.co_sheet.specs.SheetViews.{row_view}
 use Rattle.conode_json.specs.Members.{array_begin, number_if, number_member, object_begin, text_member}
 use Rattle.conode_compare_rules.specs.declared.limits.Limits.{Limits}
 use Rattle.conode_compare_text.specs.declared.tally.Tally.{Tally}
-use Rattle.conode_compare_report.specs.declared.about.About.{About}
+use Rattle.conode_compare_report.specs.Abouts.{Described}
 use Rattle.conode_compare_report.specs.declared.kind.Counted.{Counted}
 use Rattle.conode_compare_report.specs.Kinds.{kind_name, kind_rule}
 use Rattle.conode_compare_report.specs.Views.{Kept}
@@ -16,7 +15,7 @@ use Rattle.conode_compare_json.specs.NotedTokens.{findings_member}
 use Rattle.conode_compare_json.specs.Outcomes.{outcome_name, outcome_of}
 
 -- the node-ID, and the identity of the sheet, 1018h, as far as it has one
-unfoldable pub device_member : About → List Token
+unfoldable pub device_member : Described → List Token
 device_member about =
     object_begin (codes "device") ++ number_member (codes "node") (pos about.node)
     ++ number_if (codes "vendorId") (option_map pos about.vendor)
@@ -38,10 +37,10 @@ frames_member tally =
     ++ number_member (codes "unjudged") (pos tally.unjudged) ++ end_object ∷ []
 
 -- what was compared, how, and how it ended
-unfoldable pub head_members : About → List Token
+unfoldable pub head_members : Described → List Token
 head_members about =
-    number_member (codes "version") (pos 1) ++ text_member (codes "program") about.version.now
-    ++ text_member (codes "sheet") about.sheet.now ++ text_member (codes "recording") about.recording.now
+    number_member (codes "version") (pos 1) ++ text_member (codes "program") about.version
+    ++ text_member (codes "sheet") about.sheet ++ text_member (codes "recording") about.recording
     ++ device_member about ++ limits_member about.limits
     ++ text_member (codes "verdict") (outcome_name (outcome_of about)) ++ frames_member about.tally
 
@@ -50,7 +49,8 @@ head_members about =
 unfoldable pub recording_members : Kept → List Token
 recording_members report =
     number_member (codes "lines") (pos report.lines) ++ number_member (codes "badLines") (pos report.bad_lines)
-    ++ number_if (codes "begin") (option_map pos report.begin) ++ number_if (codes "end") (option_map (λ begin. pos report.end) report.begin)
+    ++ number_if (codes "begin") (option_map pos report.begin)
+    ++ number_if (codes "end") (option_map (λ begin. pos report.end) report.begin)
     ++ number_member (codes "unlisted") (pos report.unlisted)
 
 -- a kind of difference: how often it was found, and how often it could have been
@@ -64,13 +64,13 @@ kind_tokens counted =
 unfoldable pub kinds_member : List Counted → List Token
 kinds_member kinds = array_begin (codes "kinds") ++ flat_map kind_tokens kinds ++ end_array ∷ []
 
-unfoldable pub document_tokens : About → Kept → List Token
+unfoldable pub document_tokens : Described → Kept → List Token
 document_tokens about report =
     begin_object
     ∷ (head_members about ++ recording_members report ++ findings_member report.context report.noted
-    ++ kinds_member report.kinds ++ coverage_member (map row_view about.rows.now) report.coverage
+    ++ kinds_member report.kinds ++ coverage_member about.rows report.coverage
     ++ end_object ∷ [])
 
 -- the text of the tokens, and a line feed
-unfoldable pub json_document : About → Kept → List ℕ
+unfoldable pub json_document : Described → Kept → List ℕ
 json_document about report = print (document_tokens about report) ++ 10 ∷ []

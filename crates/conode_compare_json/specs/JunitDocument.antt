@@ -2,7 +2,7 @@
 use Rattle.std.specs.Prelude.{ℕ, ◌+◌, ◌-◌, ◌==◌, ◌^◌, nat_lt, Bool, ◌&&◌, List, ◌++◌, length, min, codes, decimal, count_by}
 use Rattle.std.specs.List.{flat_map}
 use Rattle.std.specs.Option.{option_map_or}
-use Rattle.conode_compare_report.specs.declared.about.About.{About}
+use Rattle.conode_compare_report.specs.Abouts.{Described}
 use Rattle.conode_compare_report.specs.declared.kind.Counted.{Counted}
 use Rattle.conode_compare_report.specs.Views.{Kept}
 use Rattle.conode_markup.specs.Escapes.{escaped}
@@ -29,10 +29,10 @@ abbrev pub span_of : Kept → ℕ
 span_of report = option_map_or (λ begin. report.end - begin) report.begin 0
 
 -- the tag that begins the test cases: the recording, their numbers, and how many seconds it has
-unfoldable pub suite_begin : About → Kept → List ℕ
+unfoldable pub suite_begin : Described → Kept → List ℕ
 suite_begin about report =
     let errors = error_count (outcome_of about) in
-    codes "<testsuite name=\"" ++ escaped about.recording.now
+    codes "<testsuite name=\"" ++ escaped about.recording
     ++ codes "\" tests=\"" ++ decimal (length report.kinds + errors)
     ++ codes "\" failures=\"" ++ decimal (count_by is_failed report.kinds)
     ++ codes "\" errors=\"" ++ decimal errors
@@ -40,16 +40,16 @@ suite_begin about report =
     ++ codes "\" time=\"" ++ seconds_text (span_of report) ++ codes "\">\n"
 
 -- what was compared, and the version of the program
-unfoldable pub properties_markup : About → List ℕ
+unfoldable pub properties_markup : Described → List ℕ
 properties_markup about =
-    codes "<properties>\n<property name=\"version\" value=\"" ++ escaped about.version.now
-    ++ codes "\"/>\n<property name=\"sheet\" value=\"" ++ escaped about.sheet.now
-    ++ codes "\"/>\n<property name=\"recording\" value=\"" ++ escaped about.recording.now
+    codes "<properties>\n<property name=\"version\" value=\"" ++ escaped about.version
+    ++ codes "\"/>\n<property name=\"sheet\" value=\"" ++ escaped about.sheet
+    ++ codes "\"/>\n<property name=\"recording\" value=\"" ++ escaped about.recording
     ++ codes "\"/>\n<property name=\"node\" value=\"" ++ decimal about.node
     ++ codes "\"/>\n</properties>\n"
 
-unfoldable pub junit_document : About → Kept → List ℕ
+unfoldable pub junit_document : Described → Kept → List ℕ
 junit_document about report =
     codes "<?xml version=\"1.0\" encoding=\"UTF-8\"?>\n<testsuites>\n" ++ suite_begin about report
-    ++ properties_markup about ++ flat_map (case_markup about.recording.now report.noted) report.kinds
+    ++ properties_markup about ++ flat_map (case_markup about.recording report.noted) report.kinds
     ++ outcome_case about.node (outcome_of about) ++ codes "</testsuite>\n</testsuites>\n"

@@ -5,24 +5,23 @@ use Rattle.json.specs.Token.{Token, begin_object, end_object, end_array}
 use Rattle.conode_lint_text.specs.JsonForm.{utf8_of}
 use Rattle.conode_json.specs.Members.{array_begin, number_member, text_member}
 use Rattle.conode_compare_text.specs.FindingTexts.{finding_text}
-use Rattle.conode_compare_report.specs.declared.noted.ContextLine.{ContextLine}
 use Rattle.conode_compare_report.specs.declared.noted.Noted.{Noted}
-use Rattle.conode_compare_report.specs.Contexts.{around}
+use Rattle.conode_compare_report.specs.Contexts.{KeptLine, around}
 use Rattle.conode_compare_report.specs.Kinds.{kind_name, kind_of, kind_rule}
 
 -- a line of the recording
-unfoldable pub context_tokens : ContextLine → List Token
+unfoldable pub context_tokens : KeptLine → List Token
 context_tokens line =
     begin_object
-    ∷ (number_member (codes "line") (pos line.number) ++ text_member (codes "text") (utf8_of line.bytes.items)
+    ∷ (number_member (codes "line") (pos line.number) ++ text_member (codes "text") (utf8_of line.bytes)
     ++ end_object ∷ [])
 
 -- the lines around a difference
-unfoldable pub context_member : List ContextLine → List Token
+unfoldable pub context_member : List KeptLine → List Token
 context_member lines = array_begin (codes "context") ++ flat_map context_tokens lines ++ end_array ∷ []
 
 -- where and when, and what was found
-unfoldable pub noted_tokens : List ContextLine → Noted → List Token
+unfoldable pub noted_tokens : List KeptLine → Noted → List Token
 noted_tokens context noted =
     begin_object
     ∷ (number_member (codes "line") (pos noted.line) ++ number_member (codes "stamp") (pos noted.micros)
@@ -31,6 +30,6 @@ noted_tokens context noted =
     ++ text_member (codes "rule") (kind_rule (kind_of noted.finding))
     ++ context_member (around context noted) ++ end_object ∷ [])
 
-unfoldable pub findings_member : List ContextLine → List Noted → List Token
+unfoldable pub findings_member : List KeptLine → List Noted → List Token
 findings_member context noted =
     array_begin (codes "findings") ++ flat_map (noted_tokens context) noted ++ end_array ∷ []

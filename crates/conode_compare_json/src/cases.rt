@@ -3,6 +3,7 @@
 
 ghost use Rattle.std.specs.Prelude.{◌≡◌, ◌++◌, filter, IfOk, OnOk, string_bytes};
 ghost use Rattle.std.specs.List.{flat_map};
+ghost use Rattle.conode_compare_report.specs.Abouts.{about_view};
 ghost use Rattle.conode_compare_json.specs.Outcomes.{outcome_of};
 ghost use Rattle.conode_compare_json.specs.JunitCases.{
   case_begin,
@@ -201,7 +202,7 @@ pub(crate) fn push_outcome(
     about: &About<'_, '_>,
 ) -> Result<(), AllocError>
     ensures { OnOk result (string_bytes text.new
-        ≡ string_bytes text.old ++ outcome_case about.now.node (outcome_of about.now)) }
+        ≡ string_bytes text.old ++ outcome_case about.now.node (outcome_of (about_view about.now))) }
 {
     match Outcome::of(about) {
         Outcome::NoDifference | Outcome::Differences => Ok(()),

@@ -2,6 +2,7 @@
 //! some tokens may be there.
 
 ghost use Rattle.std.specs.Prelude.{◌≡◌, ◌++◌, option_map, pos, IfOk, OnOk};
+ghost use Rattle.conode_compare_report.specs.Abouts.{about_view};
 ghost use Rattle.conode_compare_json.specs.JsonDocument.{
   device_member,
   document_tokens,
@@ -39,7 +40,7 @@ fn put_device(
     writer: &mut JsonWriter,
     about: &About<'_, '_>,
 ) -> Result<(), AllocError>
-    ensures { OnOk result (writer.new ≡ writer.old ++ device_member about.now) }
+    ensures { OnOk result (writer.new ≡ writer.old ++ device_member (about_view about.now)) }
 {
     writer.begin_object_of("device")?;
     writer.put_number(alloc, "node", i128::from(about.node))?;
@@ -79,7 +80,7 @@ fn put_head(
     writer: &mut JsonWriter,
     about: &About<'_, '_>,
 ) -> Result<(), AllocError>
-    ensures { OnOk result (writer.new ≡ writer.old ++ head_members about.now) }
+    ensures { OnOk result (writer.new ≡ writer.old ++ head_members (about_view about.now)) }
 {
     writer.put_number(alloc, "version", VERSION)?;
     writer.put_text("program", about.version)?;
@@ -92,11 +93,11 @@ fn put_head(
 }
 
 // the stamp of the last frame, if there is one
-fn end_of(report: &Report) -> Option<u64>
-    ensures { result ≡ option_map (λ begin. report.now.end) report.now.begin }
+fn end_of(report: &Report) -> Option<i128>
+    ensures { result ≡ option_map (λ begin. pos report.now.end) report.now.begin }
 {
     let _begin = report.begin?;
-    Some(report.end)
+    Some(i128::from(report.end))
 }
 
 // the lines of the recording, and the stamps of its first and its last frame
@@ -111,7 +112,7 @@ fn put_recording(
     writer.put_number(alloc, "lines", i128::from(report.lines))?;
     writer.put_number(alloc, "badLines", i128::from(report.bad_lines))?;
     writer.put_number_if(alloc, "begin", number_of(report.begin))?;
-    writer.put_number_if(alloc, "end", number_of(end_of(report)))?;
+    writer.put_number_if(alloc, "end", end_of(report))?;
     writer.put_number(alloc, "unlisted", i128::from(report.unlisted))
 }
 
@@ -149,7 +150,8 @@ fn put_document(
     about: &About<'_, '_>,
     report: &Report,
 ) -> Result<(), AllocError>
-    ensures { OnOk result (writer.new ≡ writer.old ++ document_tokens about.now report.now) }
+    ensures { OnOk result (writer.new
+        ≡ writer.old ++ document_tokens (about_view about.now) report.now) }
 {
     writer.begin_object()?;
     put_head(alloc, writer, about)?;
@@ -167,7 +169,7 @@ pub fn json_document(
     about: &About<'_, '_>,
     report: &Report,
 ) -> Result<Vec<u8>, AllocError>
-    ensures { IfOk result (λ text. text.items ≡ json_document about.now report.now) }
+    ensures { IfOk result (λ text. text.items ≡ json_document (about_view about.now) report.now) }
 {
     let mut writer = JsonWriter::new(alloc);
     put_document(alloc, &mut writer, about, report)?;

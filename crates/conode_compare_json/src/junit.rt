@@ -3,6 +3,7 @@
 
 ghost use Rattle.std.specs.Prelude.{◌≡◌, ◌++◌, count_by, IfOk, OnOk, string_bytes};
 ghost use Rattle.std.specs.List.{flat_map};
+ghost use Rattle.conode_compare_report.specs.Abouts.{about_view};
 ghost use Rattle.conode_compare_json.specs.JunitCases.{case_markup};
 ghost use Rattle.conode_compare_json.specs.JunitDocument.{
   error_count,
@@ -79,7 +80,7 @@ fn push_suite(
     report: &Report,
 ) -> Result<(), AllocError>
     ensures { OnOk result (string_bytes text.new
-        ≡ string_bytes text.old ++ suite_begin about.now report.now) }
+        ≡ string_bytes text.old ++ suite_begin (about_view about.now) report.now) }
 {
     let errors = error_count(Outcome::of(about));
     let (failed, skipped) = counts_of(report.kinds.as_slice());
@@ -112,7 +113,7 @@ fn push_properties(
     about: &About<'_, '_>,
 ) -> Result<(), AllocError>
     ensures { OnOk result (string_bytes text.new
-        ≡ string_bytes text.old ++ properties_markup about.now) }
+        ≡ string_bytes text.old ++ properties_markup (about_view about.now)) }
 {
     push_pieces(
         alloc,
@@ -155,7 +156,7 @@ fn push_document(
     report: &Report,
 ) -> Result<(), AllocError>
     ensures { OnOk result (string_bytes text.new
-        ≡ string_bytes text.old ++ junit_document about.now report.now) }
+        ≡ string_bytes text.old ++ junit_document (about_view about.now) report.now) }
 {
     let noted = report.noted.as_slice();
     let kinds = report.kinds.as_slice();
@@ -174,7 +175,8 @@ pub fn junit_document(
     about: &About<'_, '_>,
     report: &Report,
 ) -> Result<String, AllocError>
-    ensures { IfOk result (λ text. string_bytes text ≡ junit_document about.now report.now) }
+    ensures { IfOk result
+        (λ text. string_bytes text ≡ junit_document (about_view about.now) report.now) }
 {
     let mut text = String::new(alloc);
     push_document(alloc, &mut text, about, report)?;

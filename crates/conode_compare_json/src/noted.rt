@@ -63,7 +63,7 @@ fn put_noted(
     noted: &Noted,
 ) -> Result<(), AllocError>
     ensures { OnOk result
-        (writer.new ≡ writer.old ++ noted_tokens report.now.context.items noted.now) }
+        (writer.new ≡ writer.old ++ noted_tokens report.now.context noted.now) }
 {
     let kind = Kind::of(noted.finding);
     let text = text_of(alloc, noted)?;
@@ -85,7 +85,7 @@ pub(crate) fn put_findings(
     report: &Report,
 ) -> Result<(), AllocError>
     ensures { OnOk result (writer.new
-        ≡ writer.old ++ findings_member report.now.context.items report.now.noted.items) }
+        ≡ writer.old ++ findings_member report.now.context report.now.noted) }
 {
     writer.begin_array_of("findings")?;
     for noted in &report.noted {

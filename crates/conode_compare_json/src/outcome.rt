@@ -1,6 +1,7 @@
 //! How a comparison ended.
 
 ghost use Rattle.std.specs.Prelude.{◌≡◌};
+ghost use Rattle.conode_compare_report.specs.Abouts.{about_view};
 ghost use Rattle.conode_compare_json.specs.Outcomes.{of_tally, outcome_name, outcome_of};
 
 use conode_compare_report::About;
@@ -32,7 +33,7 @@ fn of_tally(tally: Tally) -> Outcome
 impl Outcome {
     /// How a comparison ended.
     pub(crate) fn of(about: &About<'_, '_>) -> Outcome
-        ensures { result ≡ outcome_of about.now }
+        ensures { result ≡ outcome_of (about_view about.now) }
     {
         if about.several {
             Outcome::SeveralInterfaces

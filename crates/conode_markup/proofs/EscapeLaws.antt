@@ -1,15 +1,15 @@
 -- What is escaped is plain text in markup.
-use Rattle.std.proofs.Common.{◌≡◌, ℕ, ◌+◌, ◌/◌, ◌%◌, ◌<◌, ◌≤◌, ◌⊎◌, Bool, true, false, List, [], ◌∷◌, ◌++◌, Option, Some, None, refl, sym, arith, inl, inr, append_assoc, mod-lt}
+use Rattle.std.proofs.Common.{◌≡◌, ℕ, ◌+◌, ◌/◌, ◌%◌, ◌<◌, ◌≤◌, ◌⊎◌, Bool, true, false, List, [], ◌∷◌, ◌++◌, Option, Some, None, refl, arith, inl, inr}
 use Rattle.std.specs.Prelude.{◌==◌, ◌&&◌, ◌||◌, not, nat_le, nat_lt, codes}
 use Rattle.std.specs.Char.{encode_utf8, is_control}
 use Rattle.std.specs.List.{flat_map}
 use Rattle.std.specs.Option.{option_map_or}
-use Rattle.std.proofs.lemmas.Bool.{and_from, and_parts, cases_Bool, cases_lt, cond_both, eqb-false, eqb-true, le-leb, ne_eqb, not_from_false, or_cases, or_left, or_right}
+use Rattle.std.proofs.lemmas.Bool.{and_from, and_parts, cases_Bool, cases_lt, cond_both, eqb-true, ltb-false, ltb-true, or_cases, or_left, or_right}
 use Rattle.std.proofs.lemmas.Bool.Decides.{nat_tests}
 use Rattle.std.proofs.lemmas.Str.{encode_ascii}
 use Rattle.co_text.specs.Printed.{digits_text, printed_digit}
 use Rattle.conode_lint_text.specs.Characters.{characters_of}
-use Rattle.conode_markup.specs.Escapes.{escaped, escaped_character, is_character_data, is_plain, replacement, shown}
+use Rattle.conode_markup.specs.Escapes.{escaped, escaped_character, is_character_data, is_plain, shown}
 
 -- ---- plain bytes
 
@@ -47,11 +47,56 @@ after_plain (x ∷ xs) ys plain data_ =
 -- the bytes of a character past ASCII
 high_bytes : (c : ℕ) → 128 ≤ c → are_plain (encode_utf8 c) ≡ true
 unfolding lib.Utf8.encode
-high_bytes c high = ?
+high_bytes c high =
+    cond_both (nat_lt c 128) _ _ (λ l. are_plain l ≡ true) (λ e. absurd (omega (arith, ltb-true c 128 e)))
+    (λ _. cond_both (nat_lt c 2048) _ _ (λ l. are_plain l ≡ true) (λ _. and_from _ _ (letter_byte _ (omega arith)) (and_from _ _ (letter_byte _ (omega arith)) refl))
+    (λ _. cond_both (nat_lt c 65536) _ _ (λ l. are_plain l ≡ true)
+    (λ _. and_from _ _ (letter_byte _ (omega arith)) (and_from _ _ (letter_byte _ (omega arith)) (and_from _ _ (letter_byte _ (omega arith)) refl)))
+    (λ _. and_from _ _ (letter_byte _ (omega arith)) (and_from _ _ (letter_byte _ (omega arith)) (and_from _ _ (letter_byte _ (omega arith)) (and_from _ _ (letter_byte _ (omega arith)) refl))))))
 
 -- a digit of a control character
 digit_is_plain : (d : ℕ) → d < 16 → is_plain (printed_digit d) ≡ true
-digit_is_plain d small = cond_both (nat_lt d 10) (48 + d) (55 + d) (λ b. is_plain b ≡ true) (λ e. digit_byte (48 + d) (omega arith) (grind (arith, nat_tests, e))) (λ e. letter_byte (55 + d) (grind (arith, nat_tests, e)))
+digit_is_plain d small =
+    cond_both (nat_lt d 10) (48 + d) (55 + d) (λ b. is_plain b ≡ true) (λ e. digit_byte (48 + d) (omega arith) (omega (arith, ltb-true d 10 e)))
+    (λ e. letter_byte (55 + d) (omega (arith, ltb-false d 10 e)))
+
+past_controls : (c : ℕ) → not (is_control c) ≡ true → nat_le 32 c ≡ true
+past_controls c h = grind (arith, nat_tests)
+
+text_byte : (c : ℕ) → ((c == 10) || not (is_control c)) ≡ true → ((c == 10) || nat_le 32 c) ≡ true
+text_byte c h = elim (or_cases (c == 10) (not (is_control c)) h) [
+  | inl feed ↦ or_left (c == 10) _ feed
+  | inr other ↦ or_right (c == 10) _ (past_controls c other)
+]
+
+-- a character that is shown as itself, or as `\x1B`
+shown_plain : (c : ℕ) → (c == 34) ≡ false → (c == 38) ≡ false → (c == 39) ≡ false → (c == 60) ≡ false → (c == 62) ≡ false → are_plain (shown c) ≡ true
+unfolding digits_text
+shown_plain c a b d e f =
+    cond_both ((c == 10) || not (is_control c)) _ _ (λ l. are_plain l ≡ true)
+    (λ text. elim (cases_lt c 128) [
+      | inl small ↦ rw (encode_ascii c small) (and_from _ _ (plain_byte c (text_byte c text) a b d e f) refl)
+      | inr high ↦ high_bytes c high
+    ])
+    (λ _. and_from _ _ (digit_is_plain (c / 16 % 16) (omega arith)) (and_from _ _ (digit_is_plain (c % 16) (omega arith)) refl))
+
+-- a character before text
+character_is_data : (c : ℕ) (ys : List ℕ) → is_character_data ys ≡ true → is_character_data (escaped_character c ++ ys) ≡ true
+unfolding escaped_character lib.Utf8.encode
+character_is_data c ys data_ =
+    let Goal = λ (o : Option (List ℕ)). is_character_data (option_map_or (λ text. text) o (shown c) ++ ys) ≡ true in
+    cond_both (c == 38) _ _ Goal (λ _. data_)
+    (λ b. cond_both (c == 60) _ _ Goal (λ _. data_)
+    (λ e. cond_both (c == 62) _ _ Goal (λ _. data_)
+    (λ f. cond_both (c == 34) _ _ Goal (λ _. data_)
+    (λ a. cond_both (c == 39) _ _ Goal (λ _. data_)
+    (λ d. cond_both (c == 9) _ _ Goal (λ _. data_)
+    (λ _. cond_both ((c == 0xFFFE) || (c == 0xFFFF)) _ _ Goal (λ _. data_)
+    (λ _. after_plain (shown c) ys (shown_plain c a b d e f) data_)))))))
+
+characters_are_data : (cs : List ℕ) → is_character_data (flat_map escaped_character cs) ≡ true
+characters_are_data [] = refl
+characters_are_data (c ∷ cs) = character_is_data c (flat_map escaped_character cs) (characters_are_data cs)
 
 pub escaped_plain : (bytes : List ℕ) → is_character_data (escaped bytes) ≡ true
-escaped_plain bytes = ?
+escaped_plain bytes = characters_are_data (characters_of bytes)
