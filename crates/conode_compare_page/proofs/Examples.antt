@@ -21,24 +21,21 @@ use Rattle.conode_explain_values.specs.declared.value_type.ValueType.TheVariants
 use Rattle.conode_lint_text.specs.Characters.{characters_of}
 use Rattle.conode_markup.specs.Escapes.{escaped_character}
 use Rattle.conode_markup.specs.Pieces.{seconds_text}
-use Rattle.conode_compare_page.specs.declared.head.Outcome.TheVariants.{NotCompared, Same, Different}
+use Rattle.conode_compare_report.specs.declared.outcome.Outcome.TheVariants.{NoDifference, Differences, NoFrame, SeveralInterfaces}
 use Rattle.conode_compare_page.specs.declared.states.Shown.TheVariants.{Nothing, Initialising, PreOperational, Operational, Stopped, Several}
 use Rattle.conode_compare_page.specs.Coverage.{any_types, class_of, count_or, found_text, is_transferred, state_item, transferred_count, transfers_text, type_item}
 use Rattle.conode_compare_page.specs.Device.{identity_value, interface_row}
 use Rattle.conode_compare_page.specs.Differences.{context_line, numbered_line, said, unlisted_text}
-use Rattle.conode_compare_page.specs.Head.{headline, no_frame}
+use Rattle.conode_compare_page.specs.Head.{headline}
 use Rattle.conode_compare_page.specs.Indexed.{indexed}
 use Rattle.conode_compare_page.specs.Picture.{across, areas, axis_text, corner, difference_mark, is_quiet, line_at, next_shown, outline, quarter_of, shown_of, span_of, state_area, top_of}
 
 -- ---- the verdict
 
-headlines : headline NotCompared ∷ headline Same ∷ headline (Different 1) ∷ headline (Different 2) ∷ []
-    ≡ codes "Not compared" ∷ codes "No difference" ∷ codes "1 difference" ∷ codes "2 differences" ∷ []
+headlines : headline NoDifference 0 ∷ headline Differences 1 ∷ headline Differences 2 ∷ headline NoFrame 0 ∷ headline SeveralInterfaces 3 ∷ []
+    ≡ codes "No difference" ∷ codes "1 difference" ∷ codes "2 differences" ∷ codes "Not compared" ∷ codes "Not compared" ∷ []
 unfolding digits
 headlines = refl
-
-no_frames : no_frame (record { prescribed = 0; different = 0; unjudged = 0 }) ∷ no_frame (record { prescribed = 0; different = 0; unjudged = 1 }) ∷ [] ≡ true ∷ false ∷ []
-no_frames = refl
 
 -- ---- the device
 

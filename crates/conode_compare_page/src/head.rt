@@ -4,19 +4,18 @@
 ghost use Rattle.std.specs.Prelude.{◌≡◌, ◌++◌, OnOk, string_bytes};
 ghost use Rattle.conode_compare_report.specs.Abouts.{about_view};
 ghost use Rattle.conode_compare_page.specs.Head.{
+  count_text,
   counts,
   difference_count,
   head,
   headline,
-  no_frame,
   outcome_class,
-  outcome_of,
   reason,
   verdict,
 };
 
 use crate::style::STYLE;
-use conode_compare_report::{About, Report};
+use conode_compare_report::{About, Outcome, Report};
 use conode_compare_text::Tally;
 use conode_markup::{Piece, push_pieces};
 use std::alloc::{AllocError, Global};
@@ -29,52 +28,40 @@ const OPENING: &str = "<!DOCTYPE html>\n\
     <meta name=\"viewport\" content=\"width=device-width, initial-scale=1\"/>\n\
     <title>";
 
-/// How a comparison ended.
-#[derive(Clone, Copy)]
-pub(crate) enum Outcome {
-    NotCompared,
-    Same,
-    /// With so many differences.
-    Different(u64),
-}
-
-fn no_frame(tally: Tally) -> bool
-    ensures { result ≡ no_frame tally }
-{
-    tally.prescribed == 0 && tally.different == 0 && tally.unjudged == 0
-}
-
 fn difference_count(report: &Report) -> u64
     ensures { result ≡ difference_count report.now }
 {
     (report.noted.len() as u64).saturating_add(report.unlisted)
 }
 
-/// How the comparison ended.
-pub(crate) fn outcome_of(about: &About<'_, '_>, report: &Report) -> Outcome
-    ensures { result ≡ outcome_of (about_view about.now) report.now }
+fn push_count(alloc: Global, text: &mut String, count: u64) -> Result<(), AllocError>
+    ensures { OnOk result (string_bytes text.new ≡ string_bytes text.old ++ count_text count) }
 {
-    if about.several || no_frame(about.tally) {
-        Outcome::NotCompared
-    } else if about.tally.different == 0 {
-        Outcome::Same
+    if count == 1 {
+        text.push_str("1 difference")
     } else {
-        Outcome::Different(difference_count(report))
-    }
-}
-
-fn push_headline(alloc: Global, text: &mut String, outcome: Outcome) -> Result<(), AllocError>
-    ensures { OnOk result (string_bytes text.new ≡ string_bytes text.old ++ headline outcome) }
-{
-    match outcome {
-        Outcome::NotCompared => text.push_str("Not compared"),
-        Outcome::Same => text.push_str("No difference"),
-        Outcome::Different(1) => text.push_str("1 difference"),
-        Outcome::Different(count) => push_pieces(
+        push_pieces(
             alloc,
             text,
             &[Piece::Number(count), Piece::Markup(" differences")],
-        ),
+        )
+    }
+}
+
+// how the comparison ended, with so many differences
+fn push_headline(
+    alloc: Global,
+    text: &mut String,
+    outcome: Outcome,
+    count: u64,
+) -> Result<(), AllocError>
+    ensures { OnOk result
+        (string_bytes text.new ≡ string_bytes text.old ++ headline outcome count) }
+{
+    match outcome {
+        Outcome::NoDifference => text.push_str("No difference"),
+        Outcome::Differences => push_count(alloc, text, count),
+        Outcome::NoFrame | Outcome::SeveralInterfaces => text.push_str("Not compared"),
     }
 }
 
@@ -82,22 +69,22 @@ fn outcome_class(outcome: Outcome) -> &'static str
     ensures { result.now ≡ outcome_class outcome }
 {
     match outcome {
-        Outcome::NotCompared => "open",
-        Outcome::Same => "good",
-        Outcome::Different(_) => "bad",
+        Outcome::NoDifference => "good",
+        Outcome::Differences => "bad",
+        Outcome::NoFrame | Outcome::SeveralInterfaces => "open",
     }
 }
 
 // why nothing was compared, if so
-fn reason(about: &About<'_, '_>) -> &'static str
-    ensures { result.now ≡ reason (about_view about.now) }
+fn reason(outcome: Outcome) -> &'static str
+    ensures { result.now ≡ reason outcome }
 {
-    if about.several {
-        "<p>There are frames of several interfaces: name one with <code>--interface</code>.</p>\n"
-    } else if no_frame(about.tally) {
-        "<p>The recording has no frame of this node.</p>\n"
-    } else {
-        ""
+    match outcome {
+        Outcome::NoDifference | Outcome::Differences => "",
+        Outcome::NoFrame => "<p>The recording has no frame of this node.</p>\n",
+        Outcome::SeveralInterfaces => {
+            "<p>There are frames of several interfaces: name one with <code>--interface</code>.</p>\n"
+        }
     }
 }
 
@@ -113,7 +100,7 @@ pub(crate) fn push_head(
         ≡ string_bytes text.old ++ head (about_view about.now) report.now) }
 {
     text.push_str(OPENING)?;
-    push_headline(alloc, text, outcome_of(about, report))?;
+    push_headline(alloc, text, Outcome::of(about), difference_count(report))?;
     push_pieces(
         alloc,
         text,
@@ -160,7 +147,7 @@ pub(crate) fn push_verdict(
     ensures { OnOk result (string_bytes text.new
         ≡ string_bytes text.old ++ verdict (about_view about.now) report.now) }
 {
-    let outcome = outcome_of(about, report);
+    let outcome = Outcome::of(about);
     push_pieces(
         alloc,
         text,
@@ -170,7 +157,7 @@ pub(crate) fn push_verdict(
             Piece::Markup("\">\n<h1>"),
         ],
     )?;
-    push_headline(alloc, text, outcome)?;
+    push_headline(alloc, text, outcome, difference_count(report))?;
     push_pieces(
         alloc,
         text,
@@ -182,7 +169,7 @@ pub(crate) fn push_verdict(
             Piece::Markup("</code>, against its data sheet <code>"),
             Piece::Text(about.sheet.as_bytes()),
             Piece::Markup("</code> and CiA 301</p>\n"),
-            Piece::Markup(reason(about)),
+            Piece::Markup(reason(outcome)),
         ],
     )?;
     push_counts(alloc, text, about.tally)?;
