@@ -136,7 +136,7 @@ numbers_text coverage =
     ++ codes "<h3>SDO abort codes</h3>\n" ++ any_aborts coverage.aborts
 
 -- what the recording tested
-unfoldable pub coverage : Described → Kept → List ℕ
-coverage about report =
+unfoldable pub tested : Described → Kept → List ℕ
+tested about report =
     codes "<section>\n<h2>What this recording tested</h2>\n" ++ kinds_table report.kinds ++ entries_text about.rows report.coverage.entries
     ++ services_text report.coverage.services ++ states_text report.coverage.states ++ numbers_text report.coverage ++ codes "</section>\n"

@@ -35,9 +35,9 @@ outcome_class SeveralInterfaces = codes "open"
 abbrev pub reason : Outcome → List ℕ
 reason NoDifference = []
 reason Differences = []
-reason NoFrame = codes "<p>The recording has no frame of this node.</p>\n"
+reason NoFrame = codes "<p>It has no frame of this node.</p>\n"
 reason SeveralInterfaces =
-    codes "<p>There are frames of several interfaces: name one with <code>--interface</code>.</p>\n"
+    codes "<p>It has frames of several interfaces: name one with <code>--interface</code>.</p>\n"
 
 -- up to the page's body
 unfoldable pub head : Described → Kept → List ℕ

@@ -2,7 +2,7 @@
 use Rattle.std.specs.Prelude.{ℕ, List, ◌++◌, codes}
 use Rattle.conode_compare_report.specs.Abouts.{Described}
 use Rattle.conode_compare_report.specs.Views.{Kept}
-use Rattle.conode_compare_page.specs.Coverage.{coverage}
+use Rattle.conode_compare_page.specs.Coverage.{tested}
 use Rattle.conode_compare_page.specs.Device.{device, foot}
 use Rattle.conode_compare_page.specs.Differences.{differences}
 use Rattle.conode_compare_page.specs.Head.{head, verdict}
@@ -12,4 +12,4 @@ use Rattle.conode_compare_page.specs.Picture.{picture}
 unfoldable pub page : Described → Kept → List ℕ
 page about report =
     head about report ++ verdict about report ++ device about report ++ differences report ++ picture report
-    ++ coverage about report ++ foot about
+    ++ tested about report ++ foot about

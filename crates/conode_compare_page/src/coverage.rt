@@ -1,5 +1,5 @@
-//! What a recording tested, and what it didn't. Each function appends a text. `Err`: out of memory; a
-//! part of it may be there.
+//! What a recording tested, and what it didn't. Each function appends a text. `Err`: out of memory;
+//! a part of it may be there.
 
 ghost use Rattle.std.specs.Prelude.{◌≡◌, ◌++◌, OnOk, string_bytes};
 ghost use Rattle.std.specs.List.{flat_map};
@@ -8,12 +8,12 @@ ghost use Rattle.conode_compare_page.specs.Coverage.{
   abort_item,
   any_aborts,
   any_types,
-  coverage,
   numbers_text,
   service_item,
   services_text,
   state_item,
   states_text,
+  tested,
   type_item,
 };
 
@@ -197,7 +197,7 @@ fn push_numbers(alloc: Global, text: &mut String, coverage: &Coverage) -> Result
 }
 
 /// Appends what the recording tested.
-#[tactic(auto, unfolding(crate::specs::Coverage::coverage))]
+#[tactic(auto, unfolding(crate::specs::Coverage::tested))]
 pub(crate) fn push_coverage(
     alloc: Global,
     text: &mut String,
@@ -205,7 +205,7 @@ pub(crate) fn push_coverage(
     report: &Report,
 ) -> Result<(), AllocError>
     ensures { OnOk result (string_bytes text.new
-        ≡ string_bytes text.old ++ coverage (about_view about.now) report.now) }
+        ≡ string_bytes text.old ++ tested (about_view about.now) report.now) }
 {
     text.push_str("<section>\n<h2>What this recording tested</h2>\n")?;
     push_kinds(alloc, text, report.kinds.as_slice())?;

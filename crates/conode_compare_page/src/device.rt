@@ -1,5 +1,5 @@
-//! What was compared, and how the page was made. Each function appends a text. `Err`: out of memory;
-//! a part of it may be there.
+//! What was compared, and how the page was made. Each function appends a text. `Err`: out of
+//! memory; a part of it may be there.
 
 ghost use Rattle.std.specs.Prelude.{◌≡◌, ◌++◌, OnOk, string_bytes};
 ghost use Rattle.std.specs.Option.{option_copied};
@@ -48,11 +48,7 @@ fn push_identity_value(
 }
 
 #[tactic(auto, unfolding(crate::specs::Device::identity))]
-fn push_identity(
-    alloc: Global,
-    text: &mut String,
-    about: &About<'_, '_>,
-) -> Result<(), AllocError>
+fn push_identity(alloc: Global, text: &mut String, about: &About<'_, '_>) -> Result<(), AllocError>
     ensures { OnOk result (string_bytes text.new
         ≡ string_bytes text.old ++ identity (about_view about.now)) }
 {

@@ -1,5 +1,5 @@
-//! Which entries of the data sheet a recording transfers. Each function appends a text. `Err`: out of
-//! memory; a part of it may be there.
+//! Which entries of the data sheet a recording transfers. Each function appends a text. `Err`: out
+//! of memory; a part of it may be there.
 
 ghost use Rattle.std.specs.Prelude.{◌≡◌, ◌++◌, OnOk, map, string_bytes};
 ghost use Rattle.co_sheet.specs.SheetViews.{row_view};
@@ -175,8 +175,8 @@ fn push_all_transferred(
     entries: &[Covered],
     rows: &[EntryRow<'_>],
 ) -> Result<(), AllocError>
-    ensures { OnOk result (string_bytes text.new
-        ≡ string_bytes text.old ++ indexed (transferred_item entries.now) 0 (map row_view rows.now)) }
+    ensures { OnOk result (string_bytes text.new ≡ string_bytes text.old
+        ++ indexed (transferred_item entries.now) 0 (map row_view rows.now)) }
 {
     for (at, row) in rows.iter().enumerate() {
         push_transferred_item(alloc, text, entries, at, row)?;

@@ -81,9 +81,9 @@ fn reason(outcome: Outcome) -> &'static str
 {
     match outcome {
         Outcome::NoDifference | Outcome::Differences => "",
-        Outcome::NoFrame => "<p>The recording has no frame of this node.</p>\n",
+        Outcome::NoFrame => "<p>It has no frame of this node.</p>\n",
         Outcome::SeveralInterfaces => {
-            "<p>There are frames of several interfaces: name one with <code>--interface</code>.</p>\n"
+            "<p>It has frames of several interfaces: name one with <code>--interface</code>.</p>\n"
         }
     }
 }
@@ -123,9 +123,7 @@ fn push_counts(alloc: Global, text: &mut String, tally: Tally) -> Result<(), All
         alloc,
         text,
         &[
-            Piece::Markup(
-                "<dl class=\"counts\">\n<div><dt>frames as prescribed</dt><dd>",
-            ),
+            Piece::Markup("<dl class=\"counts\">\n<div><dt>frames as prescribed</dt><dd>"),
             Piece::Number(tally.prescribed),
             Piece::Markup("</dd></div>\n<div><dt>with a difference</dt><dd>"),
             Piece::Number(tally.different),

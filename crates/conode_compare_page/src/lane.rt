@@ -1,5 +1,5 @@
-//! Lanes whose height is how many frames came. Each function appends a text. `Err`: out of memory; a
-//! part of it may be there.
+//! Lanes whose height is how many frames came. Each function appends a text. `Err`: out of memory;
+//! a part of it may be there.
 
 ghost use Rattle.std.specs.Prelude.{◌≡◌, ◌++◌, OnOk, string_bytes};
 ghost use Rattle.conode_compare_page.specs.Picture.{

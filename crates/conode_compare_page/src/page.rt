@@ -12,15 +12,11 @@ use crate::picture::push_picture;
 use conode_compare_report::{About, Report};
 use std::alloc::{AllocError, Global};
 
-/// A comparison as one page of HTML, which is XML too: the verdict, the device, the differences, the
-/// bus over time, what the recording tested, how the page was made. It has no script and needs no
-/// other file. `Err`: out of memory.
+/// A comparison as one page of HTML, which is XML too: the verdict, the device, the differences,
+/// the bus over time, what the recording tested, how the page was made. It has no script and needs
+/// no other file. `Err`: out of memory.
 #[tactic(auto, unfolding(crate::specs::Page::page))]
-pub fn page(
-    alloc: Global,
-    about: &About<'_, '_>,
-    report: &Report,
-) -> Result<String, AllocError>
+pub fn page(alloc: Global, about: &About<'_, '_>, report: &Report) -> Result<String, AllocError>
     ensures { IfOk result (λ text. string_bytes text ≡ page (about_view about.now) report.now) }
 {
     let mut text = String::new(alloc);

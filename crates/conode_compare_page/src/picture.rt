@@ -1,5 +1,5 @@
-//! The bus over time, in lanes. Each function appends a text. `Err`: out of memory; a part of it may
-//! be there.
+//! The bus over time, in lanes. Each function appends a text. `Err`: out of memory; a part of it
+//! may be there.
 
 ghost use Rattle.std.specs.Prelude.{◌≡◌, ◌++◌, ◌*◌, ◌≤◌, ◌^◌, OnOk, string_bytes};
 ghost use Rattle.conode_compare_page.specs.Indexed.{indexed};

@@ -189,11 +189,7 @@ fn push_areas(alloc: Global, text: &mut String, bins: &[Bin]) -> Result<(), Allo
 
 /// Appends the lane.
 #[tactic(auto, unfolding(crate::specs::Picture::states_lane))]
-pub(crate) fn push_states(
-    alloc: Global,
-    text: &mut String,
-    bins: &[Bin],
-) -> Result<(), AllocError>
+pub(crate) fn push_states(alloc: Global, text: &mut String, bins: &[Bin]) -> Result<(), AllocError>
     ensures { OnOk result
         (string_bytes text.new ≡ string_bytes text.old ++ states_lane bins.now) }
 {
