@@ -23,7 +23,8 @@ use Rattle.conode_logs.specs.declared.log.Form.{Form}
 use Rattle.conode_logs.specs.declared.log.Log.{Log}
 use Rattle.conode_logs.specs.Logs.{says}
 use Rattle.conode_compare.specs.declared.comparing.Comparing.{Comparing}
-use Rattle.conode_compare.specs.Compared.{Comparison, SoFar, at_first, compared, compared_from, comparing_after, line_lines, line_with, said_lines, said_with, so_far_after}
+use Rattle.conode_compare.specs.Compared.{Comparison, SoFar, at_first, compared, compared_from, comparing_after, line_lines, line_noted, line_with, long_noted, said_lines, said_with, so_far_after}
+use Rattle.conode_compare_report.specs.Views.{Kept}
 use Rattle.conode_compare.specs.Taking.{Compares, Gives, Takes}
 
 -- a text that has no line is empty
@@ -65,38 +66,42 @@ module _ (c : Comparison) where
   unfolding so_far_after
   nothing_after closed so_far = refl
 
-  cut_off : (number : ℕ) (so_far : SoFar) (line : List ℕ) → compared_from c false number so_far (line ∷ []) ≡ []
+  cut_off : (number : ℕ) (so_far : SoFar) (line : List ℕ) → length line ≤ 512 → compared_from c false number so_far (line ∷ []) ≡ []
   unfolding compared_from
-  cut_off number so_far line = refl
+  cut_off number so_far line few = let short : ltb 512 (length line) ≡ false = grind (arith, nat_tests) in rw short refl
 
-  cut_off_after : (so_far : SoFar) (line : List ℕ) → so_far_after c false so_far (line ∷ []) ≡ so_far
+  cut_off_after : (so_far : SoFar) (line : List ℕ) → length line ≤ 512 → so_far_after c false so_far (line ∷ []) ≡ so_far
   unfolding so_far_after
-  cut_off_after so_far line = refl
+  cut_off_after so_far line few = let short : ltb 512 (length line) ≡ false = grind (arith, nat_tests) in rw short refl
 
-  -- a line that says nothing, at the end
-  silent : (closed : Bool) (number : ℕ) (so_far : SoFar) (line : List ℕ) → line_lines c number so_far line ≡ [] → compared_from c closed number so_far (line ∷ []) ≡ []
-  unfolding compared_from
-  silent true number so_far line none = none
-  silent false number so_far line none = refl
-
-  silent_after : (closed : Bool) (so_far : SoFar) (line : List ℕ) → line_with c so_far line ≡ so_far → so_far_after c closed so_far (line ∷ []) ≡ so_far
-  unfolding so_far_after
-  silent_after true so_far line same = same
-  silent_after false so_far line same = refl
+  -- a line that is too long
+  with_long : SoFar → SoFar
+  with_long so_far = record so_far { comparing = long_noted so_far.comparing }
 
   short_lines : (number : ℕ) (so_far : SoFar) (line : List ℕ) → length line ≤ 512
-      → line_lines c number so_far line ≡ said_lines c number so_far.comparing (line_at so_far.log line)
+      → line_lines c number so_far line ≡ said_lines c number (line_noted so_far.comparing line) (line_at so_far.log line)
   short_lines number so_far line few = let short : ltb 512 (length line) ≡ false = grind (arith, nat_tests) in rw short refl
 
   short_with : (so_far : SoFar) (line : List ℕ) → length line ≤ 512
-      → line_with c so_far line ≡ record { log = (says so_far.log line).0; comparing = said_with c so_far.comparing (line_at so_far.log line) }
+      → line_with c so_far line ≡ record { log = (says so_far.log line).0; comparing = said_with c (line_noted so_far.comparing line) (line_at so_far.log line) }
   short_with so_far line few = let short : ltb 512 (length line) ≡ false = grind (arith, nat_tests) in rw short refl
 
   long_lines : (number : ℕ) (so_far : SoFar) (line : List ℕ) → 512 < length line → line_lines c number so_far line ≡ []
   long_lines number so_far line many = let long : ltb 512 (length line) ≡ true = grind (arith, nat_tests) in rw long refl
 
-  long_with : (so_far : SoFar) (line : List ℕ) → 512 < length line → line_with c so_far line ≡ so_far
+  long_with : (so_far : SoFar) (line : List ℕ) → 512 < length line → line_with c so_far line ≡ with_long so_far
   long_with so_far line many = let long : ltb 512 (length line) ≡ true = grind (arith, nat_tests) in rw long refl
+
+  -- at the end
+  long_last : (closed : Bool) (number : ℕ) (so_far : SoFar) (line : List ℕ) → 512 < length line → compared_from c closed number so_far (line ∷ []) ≡ []
+  unfolding compared_from
+  long_last true number so_far line many = long_lines number so_far line many
+  long_last false number so_far line many = let long : ltb 512 (length line) ≡ true = grind (arith, nat_tests) in rw long (long_lines number so_far line many)
+
+  long_after : (closed : Bool) (so_far : SoFar) (line : List ℕ) → 512 < length line → so_far_after c closed so_far (line ∷ []) ≡ with_long so_far
+  unfolding so_far_after
+  long_after true so_far line many = long_with so_far line many
+  long_after false so_far line many = let long : ltb 512 (length line) ≡ true = grind (arith, nat_tests) in rw long (long_with so_far line many)
 
   -- ---- what bytes give
 
@@ -129,48 +134,48 @@ module _ (c : Comparison) where
 
     -- one of at most 512 bytes
     gives_short : (old new : Option (List ℕ)) → GivesLine old new line → length line ≤ 512 → ClosesAlike old new
-        → Gives c old new number (number + 1) so_far (record { log = (says so_far.log line).0; comparing = said_with c so_far.comparing (line_at so_far.log line) }) (said_lines c number so_far.comparing (line_at so_far.log line))
+        → Gives c old new number (number + 1) so_far (record { log = (says so_far.log line).0; comparing = said_with c (line_noted so_far.comparing line) (line_at so_far.log line) }) (said_lines c number (line_noted so_far.comparing line) (line_at so_far.log line))
     gives_short old new gives few alike =
-        subst (λ (ls : List (List ℕ)). Gives c old new number (number + 1) so_far (record { log = (says so_far.log line).0; comparing = said_with c so_far.comparing (line_at so_far.log line) }) ls) (short_lines number so_far line few)
+        subst (λ (ls : List (List ℕ)). Gives c old new number (number + 1) so_far (record { log = (says so_far.log line).0; comparing = said_with c (line_noted so_far.comparing line) (line_at so_far.log line) }) ls) (short_lines number so_far line few)
         (subst (λ (s : SoFar). Gives c old new number (number + 1) so_far s (line_lines c number so_far line)) (short_with so_far line few) (gives_one old new gives alike))
 
     -- the last one, without it
-    gives_last : (old new : Option (List ℕ)) → GivesLine old new line → IfSome old (λ bytes. has_line_feed bytes ≡ false) → Gives c old new number (number + 1) so_far so_far []
-    gives_last None new gives none = tt
-    gives_last (Some xs) None gives none = absurd gives
-    gives_last (Some []) (Some ys) gives none = absurd cc
-    gives_last (Some (byte ∷ bytes)) (Some ys) gives none =
+    gives_last : (old new : Option (List ℕ)) → GivesLine old new line → length line ≤ 512 → IfSome old (λ bytes. has_line_feed bytes ≡ false) → Gives c old new number (number + 1) so_far so_far []
+    gives_last None new gives few none = tt
+    gives_last (Some xs) None gives few none = absurd gives
+    gives_last (Some []) (Some ys) gives few none = absurd cc
+    gives_last (Some (byte ∷ bytes)) (Some ys) gives few none =
         let last : lines (byte ∷ bytes) ≡ (byte ∷ bytes) ∷ [] = lines-last (byte ∷ bytes) none (omega arith) in
         let left : lines ys ≡ [] = cc in
         let here : lines (byte ∷ bytes) ≡ line ∷ [] = gives ∙ ap (λ (more : List (List ℕ)). line ∷ more) left in (
-          ap₂ (λ (closed : Bool) (ls : List (List ℕ)). compared_from c closed number so_far ls) (open_end byte bytes none) here ∙ cut_off number so_far line
+          ap₂ (λ (closed : Bool) (ls : List (List ℕ)). compared_from c closed number so_far ls) (open_end byte bytes none) here ∙ cut_off number so_far line few
               ∙ sym (no_lines (is_closed ys) (number + 1) so_far) ∙ ap (compared_from c (is_closed ys) (number + 1) so_far) (sym left),
-          ap₂ (λ (closed : Bool) (ls : List (List ℕ)). so_far_after c closed so_far ls) (open_end byte bytes none) here ∙ cut_off_after so_far line
+          ap₂ (λ (closed : Bool) (ls : List (List ℕ)). so_far_after c closed so_far ls) (open_end byte bytes none) here ∙ cut_off_after so_far line few
               ∙ sym (nothing_after (is_closed ys) so_far) ∙ ap (so_far_after c (is_closed ys) so_far) (sym left),
         )
 
     -- one that is too long
-    gives_long : (old new : Option (List ℕ)) → GivesLine old new line → 512 < length line → IsAtEnd new ⊎ ClosesAlike old new → Gives c old new number (number + 1) so_far so_far []
+    gives_long : (old new : Option (List ℕ)) → GivesLine old new line → 512 < length line → IsAtEnd new ⊎ ClosesAlike old new → Gives c old new number (number + 1) so_far (with_long so_far) []
     gives_long None new gives many ends = tt
     gives_long (Some xs) None gives many ends = absurd gives
     gives_long (Some xs) (Some ys) gives many (inl empty) =
         let here : lines xs ≡ line ∷ [] = gives ∙ ap (λ (left : List ℕ). line ∷ lines left) empty in (
-          ap (compared_from c (is_closed xs) number so_far) here ∙ silent (is_closed xs) number so_far line (long_lines number so_far line many)
-              ∙ sym (no_lines (is_closed ys) (number + 1) so_far) ∙ ap (λ (left : List ℕ). compared_from c (is_closed ys) (number + 1) so_far (lines left)) (sym empty),
-          ap (so_far_after c (is_closed xs) so_far) here ∙ silent_after (is_closed xs) so_far line (long_with so_far line many)
-              ∙ sym (nothing_after (is_closed ys) so_far) ∙ ap (λ (left : List ℕ). so_far_after c (is_closed ys) so_far (lines left)) (sym empty),
+          ap (compared_from c (is_closed xs) number so_far) here ∙ long_last (is_closed xs) number so_far line many
+              ∙ sym (no_lines (is_closed ys) (number + 1) (with_long so_far)) ∙ ap (λ (left : List ℕ). compared_from c (is_closed ys) (number + 1) (with_long so_far) (lines left)) (sym empty),
+          ap (so_far_after c (is_closed xs) so_far) here ∙ long_after (is_closed xs) so_far line many
+              ∙ sym (nothing_after (is_closed ys) (with_long so_far)) ∙ ap (λ (left : List ℕ). so_far_after c (is_closed ys) (with_long so_far) (lines left)) (sym empty),
         )
     gives_long (Some xs) (Some ys) gives many (inr alike) =
-        subst (λ (ls : List (List ℕ)). Gives c (Some xs) (Some ys) number (number + 1) so_far so_far ls) (long_lines number so_far line many)
+        subst (λ (ls : List (List ℕ)). Gives c (Some xs) (Some ys) number (number + 1) so_far (with_long so_far) ls) (long_lines number so_far line many)
         (subst (λ (s : SoFar). Gives c (Some xs) (Some ys) number (number + 1) so_far s (line_lines c number so_far line)) (long_with so_far line many) (gives_one (Some xs) (Some ys) gives alike))
 
   -- the end
-  gives_all : (known rest : Option (List ℕ)) (form : Form) (number : ℕ) (so_far : SoFar) (written : List (List ℕ))
-      → Gives c known rest 1 number (at_first c form) so_far written → IsAtEnd rest
-      → IfSome known (λ text. (compared c form text ≡ written) × (comparing_after c form text ≡ so_far.comparing))
-  gives_all None rest form number so_far written h end = tt
-  gives_all (Some text) None form number so_far written h end = absurd h
-  gives_all (Some text) (Some rest) form number so_far written h end = (
+  gives_all : (known rest : Option (List ℕ)) (form : Form) (report : Option Kept) (number : ℕ) (so_far : SoFar) (written : List (List ℕ))
+      → Gives c known rest 1 number (at_first c form report) so_far written → IsAtEnd rest
+      → IfSome known (λ text. (compared c form report text ≡ written) × (comparing_after c form report text ≡ so_far.comparing))
+  gives_all None rest form report number so_far written h end = tt
+  gives_all (Some text) None form report number so_far written h end = absurd h
+  gives_all (Some text) (Some rest) form report number so_far written h end = (
     h.0 ∙ ap (λ (bytes : List ℕ). written ++ compared_from c (is_closed bytes) number so_far (lines bytes)) end
         ∙ ap (λ (ls : List (List ℕ)). written ++ ls) (no_lines true number so_far) ∙ append-nil written,
     ap (λ (s : SoFar). s.comparing) (h.1 ∙ ap (λ (bytes : List ℕ). so_far_after c (is_closed bytes) so_far (lines bytes)) end ∙ nothing_after true so_far),
@@ -188,18 +193,18 @@ module _ (c : Comparison) where
 
   -- what is found next
   module _ (held holds : Held) (before after : Option (List ℕ)) (number : ℕ) (log : Log) (first : Comparing) (old new : Option (List ℕ)) where
-    module _ (line : List ℕ) (then : Log) (next : Comparing) (left : then ≡ (says log line).0) (is : next ≡ said_with c first (line_at log line))
-        (written : WritesLines old new (said_lines c number first (line_at log line))) where
-      so : Takes c held holds before after number (number + 1) (record { log = log; comparing = first }) (record { log = (says log line).0; comparing = said_with c first (line_at log line) }) old new
+    module _ (line : List ℕ) (then : Log) (next : Comparing) (left : then ≡ (says log line).0) (is : next ≡ said_with c (line_noted first line) (line_at log line))
+        (written : WritesLines old new (said_lines c number (line_noted first line) (line_at log line))) where
+      so : Takes c held holds before after number (number + 1) (record { log = log; comparing = first }) (record { log = (says log line).0; comparing = said_with c (line_noted first line) (line_at log line) }) old new
           → Takes c held holds before after number (number + 1) (record { log = log; comparing = first }) (record { log = then; comparing = next }) old new
       so h =
           subst (λ (n : Comparing). Takes c held holds before after number (number + 1) (record { log = log; comparing = first }) (record { log = then; comparing = n }) old new) (sym is)
-          (subst (λ (l : Log). Takes c held holds before after number (number + 1) (record { log = log; comparing = first }) (record { log = l; comparing = said_with c first (line_at log line) }) old new) (sym left) h)
+          (subst (λ (l : Log). Takes c held holds before after number (number + 1) (record { log = log; comparing = first }) (record { log = l; comparing = said_with c (line_noted first line) (line_at log line) }) old new) (sym left) h)
 
       pub takes_line : Gave held.ended holds.ended before after (λ had has. Finds (to_come held had) (to_come holds has) line Line)
           → Takes c held holds before after number (number + 1) (record { log = log; comparing = first }) (record { log = then; comparing = next }) old new
       takes_line found = so (record {
-        written = said_lines c number first (line_at log line);
+        written = said_lines c number (line_noted first line) (line_at log line);
         appended = written;
         gives = gave_so held.ended holds.ended before after _ _ found
             (λ had has f. gives_short number (record { log = log; comparing = first }) line (to_come held had) (to_come holds has) f.0 f.1 f.2);
@@ -211,11 +216,11 @@ module _ (c : Comparison) where
       written = [];
       appended = subst (λ (held : Option (List ℕ)). WritesLines old held []) same (Appends-nil old);
       gives = gave_so held.ended holds.ended before after _ _ found
-          (λ had has f. gives_last number (record { log = log; comparing = first }) line (to_come held had) (to_come holds has) f.0 f.2);
+          (λ had has f. gives_last number (record { log = log; comparing = first }) line (to_come held had) (to_come holds has) f.0 f.1 f.2);
     }
 
     pub takes_long : (line : List ℕ) → Gave held.ended holds.ended before after (λ had has. Finds (to_come held had) (to_come holds has) line TooLong)
-        → old ≡ new → Takes c held holds before after number (number + 1) (record { log = log; comparing = first }) (record { log = log; comparing = first }) old new
+        → old ≡ new → Takes c held holds before after number (number + 1) (record { log = log; comparing = first }) (record { log = log; comparing = long_noted first }) old new
     takes_long line found same = record {
       written = [];
       appended = subst (λ (held : Option (List ℕ)). WritesLines old held []) same (Appends-nil old);
@@ -250,22 +255,22 @@ all_to_come : (known : Option (List ℕ)) → to_come nothing_held known ≡ kno
 all_to_come None = refl
 all_to_come (Some bytes) = refl
 
-compares_if : (c : Comparison) (form : Form) (written : List (List ℕ)) (comparing : Comparing) (old new known : Option (List ℕ)) → WritesLines old new written
-    → IfSome known (λ text. (compared c form text ≡ written) × (comparing_after c form text ≡ comparing)) → IfSome known (Compares c form old new comparing)
-compares_if c form written comparing old new None appended h = tt
-compares_if c form written comparing old new (Some text) appended h = (subst (WritesLines old new) (sym h.0) appended, sym h.1)
+compares_if : (c : Comparison) (form : Form) (report : Option Kept) (written : List (List ℕ)) (comparing : Comparing) (old new known : Option (List ℕ)) → WritesLines old new written
+    → IfSome known (λ text. (compared c form report text ≡ written) × (comparing_after c form report text ≡ comparing)) → IfSome known (Compares c form report old new comparing)
+compares_if c form report written comparing old new None appended h = tt
+compares_if c form report written comparing old new (Some text) appended h = (subst (WritesLines old new) (sym h.0) appended, sym h.1)
 
-module _ (c : Comparison) (form : Form) (mid holds : Held) (before between after : Option (List ℕ)) (number : ℕ) (so_far : SoFar) (old new : Option (List ℕ))
-    (h : Takes c nothing_held mid before between 1 number (at_first c form) so_far old new)
+module _ (c : Comparison) (form : Form) (report : Option Kept) (mid holds : Held) (before between after : Option (List ℕ)) (number : ℕ) (so_far : SoFar) (old new : Option (List ℕ))
+    (h : Takes c nothing_held mid before between 1 number (at_first c form report) so_far old new)
     (end : Gave mid.ended holds.ended between after (λ had has. IsAtEnd (to_come mid had))) where
-  all : Gave false holds.ended before after (λ had has. IfSome had (Compares c form old new so_far.comparing))
+  all : Gave false holds.ended before after (λ had has. IfSome had (Compares c form report old new so_far.comparing))
   all = gave_then false mid.ended holds.ended before between after _ _ _ h.gives end
-      (λ had middle left p q. compares_if c form h.written so_far.comparing old new had h.appended
-      (subst (λ (known : Option (List ℕ)). IfSome known (λ text. (compared c form text ≡ h.written) × (comparing_after c form text ≡ so_far.comparing))) (all_to_come had)
-      (gives_all c (to_come nothing_held had) (to_come mid middle) form number so_far h.written p q)))
+      (λ had middle left p q. compares_if c form report h.written so_far.comparing old new had h.appended
+      (subst (λ (known : Option (List ℕ)). IfSome known (λ text. (compared c form report text ≡ h.written) × (comparing_after c form report text ≡ so_far.comparing))) (all_to_come had)
+      (gives_all c (to_come nothing_held had) (to_come mid middle) form report number so_far h.written p q)))
 
-  pub compared_known : IfSome before (Compares c form old new so_far.comparing)
+  pub compared_known : IfSome before (Compares c form report old new so_far.comparing)
   compared_known = of_known false holds.ended before after _ all
 
-  pub compared_any : GaveText before after (Compares c form old new so_far.comparing)
+  pub compared_any : GaveText before after (Compares c form report old new so_far.comparing)
   compared_any = (all.bytes, all.taken, of_given false holds.ended before after _ all)

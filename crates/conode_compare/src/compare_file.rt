@@ -1,9 +1,14 @@
 //! The file of a recording, compared with the data sheet of a device.
 
-ghost use Rattle.std.specs.Prelude.{◌≡◌, ◌⊎◌, ◌≤◌, length, true};
+ghost use Rattle.std.specs.Prelude.{◌≡◌, ◌⊎◌, ◌≤◌, length, true, OnOk, IfSome};
+ghost use Rattle.std.specs.Io.KnownBytes.{Appends};
 ghost use Rattle.std.specs.List.{AllPairs};
 ghost use Rattle.std.specs.Process.{exit_status};
 ghost use Rattle.co_value.specs.Keys.{is_key_before};
+ghost use Rattle.conode_io.specs.Written.{WritesLines};
+ghost use Rattle.conode_compare_text.specs.Tallies.{summary};
+ghost use Rattle.conode_compare.specs.Documents.{end_of, output};
+ghost use Rattle.conode_compare.specs.Views.{comparison_view};
 ghost use Rattle.conode_compare.specs.Verdicts.{no_frame, verdict_status};
 
 use crate::compared::compare;
@@ -90,13 +95,40 @@ fn write_summary<O: Write>(
     node: u8,
     tally: Tally,
     out: &mut O,
-) -> Result<(), CmdFault> {
+) -> Result<(), CmdFault>
+    ensures { OnOk result (Appends (O.contents out.old) (O.contents out.new) (summary node tally)) }
+{
     let mut text = String::new(alloc);
     set_summary(&mut text, node, tally)?;
     hand_over(text.as_bytes(), out)
 }
 
-// compares an input, and writes the last line or the document; what is known then
+// writes the last line, or the document
+fn write_end<O: Write>(
+    alloc: Global,
+    settings: &Settings<'_, '_>,
+    wanted: &Wanted<'_>,
+    comparing: &Comparing,
+    out: &mut O,
+) -> Result<(), CmdFault>
+    requires { AllPairs (λ e f. is_key_before e.key f.key ≡ true) settings.now.rows.now }
+    ensures { OnOk result (Appends (O.contents out.old) (O.contents out.new)
+        (end_of wanted.now.format (comparison_view settings.now) wanted.now.version.now
+        wanted.now.sheet.now comparing.now comparing.now.report)) }
+{
+    match comparing.report() {
+        Some(report) => {
+            let about = about_of(settings, wanted, comparing);
+            write_document(alloc, wanted.format, &about, report, out)
+        }
+        None => {
+            let (tally, _) = comparing.ends();
+            write_summary(alloc, settings.subject.node, tally, out)
+        }
+    }
+}
+
+// compares an input, and writes all of it; what is known at the end
 fn compare_and_write<R: Read, O: Write, E: Write>(
     alloc: Global,
     input: &mut R,
@@ -107,18 +139,15 @@ fn compare_and_write<R: Read, O: Write, E: Write>(
     err: &mut E,
 ) -> Result<(Tally, bool), CmdFault>
     requires { AllPairs (λ e f. is_key_before e.key f.key ≡ true) settings.now.rows.now }
+    ensures written { OnOk result (IfSome (R.remaining input.old) (λ text.
+        WritesLines (O.contents out.old) (O.contents out.new)
+        (output wanted.now.format (comparison_view settings.now)
+        wanted.now.version.now wanted.now.sheet.now form text))) }
 {
     let report = new_report(alloc, settings, wanted.format)?;
     let comparing = compare(alloc, input, settings, form, report, out, err)?;
-    let (tally, several) = comparing.ends();
-    match comparing.report() {
-        Some(report) => {
-            let about = about_of(settings, wanted, &comparing);
-            write_document(alloc, wanted.format, &about, report, out)?;
-        }
-        None => write_summary(alloc, settings.subject.node, tally, out)?,
-    }
-    Ok((tally, several))
+    write_end(alloc, settings, wanted, &comparing, out)?;
+    Ok(comparing.ends())
 }
 
 // compares an input

@@ -1,12 +1,16 @@
 //! The document of a comparison.
 
-ghost use Rattle.std.specs.Prelude.{◌≡◌, IfOk, true};
+ghost use Rattle.std.specs.Prelude.{◌≡◌, IfOk, OnOk, true, map};
 ghost use Rattle.std.specs.List.{AllPairs};
+ghost use Rattle.std.specs.Io.KnownBytes.{Appends};
+ghost use Rattle.co_sheet.specs.SheetViews.{row_view};
 ghost use Rattle.co_value.specs.Keys.{is_key_before};
+ghost use Rattle.conode_compare_report.specs.Abouts.{about_view};
+ghost use Rattle.conode_compare.specs.Documents.{described, document, identity_at, kept_for};
+ghost use Rattle.conode_compare.specs.Views.{comparison_view};
 
 use crate::comparing::Comparing;
 use crate::writes::Settings;
-use co_sheet::EntryRow;
 use co_value::Key;
 use conode_compare_json::{json_document, junit_document};
 use conode_compare_page::page;
@@ -49,6 +53,7 @@ pub(crate) fn new_report(
     format: Format,
 ) -> Result<Option<Report>, AllocError>
     requires { AllPairs (λ e f. is_key_before e.key f.key ≡ true) settings.now.rows.now }
+    ensures { IfOk result (λ report. report ≡ kept_for format (comparison_view settings.now)) }
 {
     match format {
         Format::Text => Ok(None),
@@ -59,38 +64,41 @@ pub(crate) fn new_report(
     }
 }
 
-// the number of the identity object at a sub-index, by the data sheet
-fn identity(rows: &[EntryRow<'_>], node: u8, sub: u8) -> Option<u64>
-    requires { AllPairs (λ e f. is_key_before e.key f.key ≡ true) rows.now }
+// the number that the sheet has at a sub-index of the identity object
+fn identity_at(settings: &Settings<'_, '_>, sub: u8) -> Option<u64>
+    requires { AllPairs (λ e f. is_key_before e.key f.key ≡ true) settings.now.rows.now }
+    ensures { result ≡ identity_at (comparison_view settings.now) sub }
 {
     let key = Key {
         index: IDENTITY,
         sub,
     };
-    preset_at(rows, node, key)
+    preset_at(settings.rows, settings.subject.node, key)
 }
 
 /// What a document says of a comparison that ended.
+#[tactic(auto, unfolding(crate::specs::Documents::described))]
 pub(crate) fn about_of<'s, 'a>(
     settings: &Settings<'s, 'a>,
     wanted: &Wanted<'s>,
     comparing: &Comparing,
 ) -> About<'s, 'a>
     requires { AllPairs (λ e f. is_key_before e.key f.key ≡ true) settings.now.rows.now }
+    ensures { about_view result ≡ described (comparison_view settings.now)
+        wanted.now.version.now wanted.now.sheet.now comparing.now }
 {
     let (tally, several) = comparing.ends();
-    let node = settings.subject.node;
     About {
         version: wanted.version,
         sheet: wanted.sheet,
         recording: settings.recording,
         interface: settings.interface,
-        node,
+        node: settings.subject.node,
         limits: settings.subject.limits,
         rows: settings.rows,
-        vendor: identity(settings.rows, node, 1),
-        product: identity(settings.rows, node, 2),
-        revision: identity(settings.rows, node, 3),
+        vendor: identity_at(settings, 1),
+        product: identity_at(settings, 2),
+        revision: identity_at(settings, 3),
         tally,
         several,
     }
@@ -105,7 +113,10 @@ pub(crate) fn write_document<O: Write>(
     about: &About<'_, '_>,
     report: &Report,
     out: &mut O,
-) -> Result<(), CmdFault> {
+) -> Result<(), CmdFault>
+    ensures { OnOk result (Appends (O.contents out.old) (O.contents out.new)
+        (document format (about_view about.now) report.now)) }
+{
     match format {
         Format::Text => Ok(()),
         Format::Json => {

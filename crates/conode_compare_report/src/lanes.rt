@@ -34,9 +34,9 @@ pub struct States {
     pub stopped: bool,
 }
 
-/// The lane of a frame.
+/// The lane of a frame in a picture of the bus.
 #[derive(Clone, Copy, Debug, PartialEq, Eq)]
-pub(crate) enum Lane {
+pub enum Lane {
     Heartbeats,
     Emergencies,
     Transfers,

@@ -18,7 +18,7 @@ pub use about::About;
 pub use before::{Before, Role, Rpdos};
 pub use coverage::{Coverage, Covered, Numbered};
 pub use kind::{Counted, Kind};
-pub use lanes::{Bin, Lanes, States};
+pub use lanes::{Bin, Lane, Lanes, States};
 pub use noted::{ContextLine, Noted};
 pub use report::Report;
 pub use service::{Served, Service};

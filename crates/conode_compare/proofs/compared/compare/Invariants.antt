@@ -7,5 +7,5 @@ use Rattle.conode_compare.proofs.compared.compare.Given as goal
 abbrev pub invariant-loop-number : goal.invariant-loop-number
 invariant-loop-number g l =
     Takes (comparison_view l.settings) nothing_held l.lines.lines (g.R.Read.remaining l.fn.reader) (g.R.Read.remaining l.reader) 1 l.number
-    (at_first (comparison_view l.settings) l.fn.form) (record { log = l.lines.log; comparing = l.lines.comparing })
+    (at_first (comparison_view l.settings) l.fn.form l.fn.report) (record { log = l.lines.log; comparing = l.lines.comparing })
     (g.W.Write.contents l.fn.out) (g.W.Write.contents l.out)
