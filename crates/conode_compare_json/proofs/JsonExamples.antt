@@ -11,8 +11,8 @@ use Rattle.conode_json.specs.Members.{array_begin, flag_member, number_member, o
 use Rattle.conode_compare_text.specs.FindingTexts.{finding_text, millis_text, timed_number}
 use Rattle.conode_compare_text.specs.Tallies.{no_frames}
 use Rattle.conode_compare_report.specs.Reports.{nothing_kept}
-use Rattle.conode_compare_json.specs.declared.outcome.Outcome.TheVariants.{NoDifference, Differences, NoFrame, SeveralInterfaces}
-use Rattle.conode_compare_json.specs.Outcomes.{of_tally, outcome_name, outcome_of}
+use Rattle.conode_compare_report.specs.declared.outcome.Outcome.TheVariants.{NoDifference, Differences, NoFrame, SeveralInterfaces}
+use Rattle.conode_compare_report.specs.Outcomes.{of_tally, outcome_name, outcome_of}
 use Rattle.conode_compare_json.specs.CoverageTokens.{abort_tokens, aborts_member, coverage_member, entries_member, entry_tokens, name_member, served_tokens, services_member, states_member, type_tokens, types_member}
 use Rattle.conode_compare_json.specs.NotedTokens.{context_member, context_tokens, findings_member, noted_tokens}
 use Rattle.conode_compare_json.specs.JsonDocument.{device_member, document_tokens, frames_member, head_members, json_document, kind_tokens, kinds_member, limits_member, recording_members}

@@ -12,7 +12,7 @@ use Rattle.conode_compare_text.specs.FindingTexts.{finding_line, finding_text, m
 use Rattle.conode_compare_text.specs.Tallies.{no_frames}
 use Rattle.conode_compare_report.specs.declared.kind.Kind.TheVariants.{HeartbeatLate, HeartbeatState}
 use Rattle.conode_compare_report.specs.Reports.{nothing_kept}
-use Rattle.conode_compare_json.specs.declared.outcome.Outcome.TheVariants.{NoFrame, SeveralInterfaces}
+use Rattle.conode_compare_report.specs.declared.outcome.Outcome.TheVariants.{NoFrame, SeveralInterfaces}
 use Rattle.conode_compare_json.specs.JunitCases.{case_begin, case_markup, differences_word, failed_markup, is_of_kind, line_markup, lines_markup, outcome_case}
 use Rattle.conode_compare_json.specs.JunitDocument.{junit_document, properties_markup, span_of, suite_begin}
 use Rattle.conode_compare_json.proofs.Reported.{about, late, report}

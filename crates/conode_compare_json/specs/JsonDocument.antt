@@ -12,7 +12,7 @@ use Rattle.conode_compare_report.specs.Kinds.{kind_name, kind_rule}
 use Rattle.conode_compare_report.specs.Views.{Kept}
 use Rattle.conode_compare_json.specs.CoverageTokens.{coverage_member}
 use Rattle.conode_compare_json.specs.NotedTokens.{findings_member}
-use Rattle.conode_compare_json.specs.Outcomes.{outcome_name, outcome_of}
+use Rattle.conode_compare_report.specs.Outcomes.{outcome_name, outcome_of}
 
 -- the node-ID, and the identity of the sheet, 1018h, as far as it has one
 unfoldable pub device_member : Described → List Token

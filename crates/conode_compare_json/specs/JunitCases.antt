@@ -7,8 +7,8 @@ use Rattle.conode_compare_report.specs.declared.kind.Kind.{Kind}
 use Rattle.conode_compare_report.specs.declared.noted.Noted.{Noted}
 use Rattle.conode_compare_report.specs.Kinds.{kind_name, kind_number, kind_of, kind_rule}
 use Rattle.conode_markup.specs.Escapes.{escaped}
-use Rattle.conode_compare_json.specs.declared.outcome.Outcome.{Outcome}
-use Rattle.conode_compare_json.specs.declared.outcome.Outcome.TheVariants.{NoDifference, Differences, NoFrame, SeveralInterfaces}
+use Rattle.conode_compare_report.specs.declared.outcome.Outcome.{Outcome}
+use Rattle.conode_compare_report.specs.declared.outcome.Outcome.TheVariants.{NoDifference, Differences, NoFrame, SeveralInterfaces}
 
 abbrev pub is_of_kind : Kind → Noted → Bool
 is_of_kind kind noted = kind_number (kind_of noted.finding) == kind_number kind

@@ -7,10 +7,10 @@ use Rattle.conode_compare_report.specs.declared.kind.Counted.{Counted}
 use Rattle.conode_compare_report.specs.Views.{Kept}
 use Rattle.conode_markup.specs.Escapes.{escaped}
 use Rattle.conode_markup.specs.Pieces.{seconds_text}
-use Rattle.conode_compare_json.specs.declared.outcome.Outcome.{Outcome}
-use Rattle.conode_compare_json.specs.declared.outcome.Outcome.TheVariants.{NoDifference, Differences, NoFrame, SeveralInterfaces}
+use Rattle.conode_compare_report.specs.declared.outcome.Outcome.{Outcome}
+use Rattle.conode_compare_report.specs.declared.outcome.Outcome.TheVariants.{NoDifference, Differences, NoFrame, SeveralInterfaces}
 use Rattle.conode_compare_json.specs.JunitCases.{case_markup, outcome_case}
-use Rattle.conode_compare_json.specs.Outcomes.{outcome_of}
+use Rattle.conode_compare_report.specs.Outcomes.{outcome_of}
 
 abbrev pub is_failed : Counted → Bool
 is_failed counted = nat_lt 0 counted.found

@@ -1,4 +1,3 @@
-pub mod Outcomes
 pub mod NotedTokens
 pub mod CoverageTokens
 pub mod JsonDocument

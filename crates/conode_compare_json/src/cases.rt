@@ -4,7 +4,7 @@
 ghost use Rattle.std.specs.Prelude.{◌≡◌, ◌++◌, filter, IfOk, OnOk, string_bytes};
 ghost use Rattle.std.specs.List.{flat_map};
 ghost use Rattle.conode_compare_report.specs.Abouts.{about_view};
-ghost use Rattle.conode_compare_json.specs.Outcomes.{outcome_of};
+ghost use Rattle.conode_compare_report.specs.Outcomes.{outcome_of};
 ghost use Rattle.conode_compare_json.specs.JunitCases.{
   case_begin,
   case_markup,
@@ -17,8 +17,7 @@ ghost use Rattle.conode_compare_json.specs.JunitCases.{
   outcome_case,
 };
 
-use crate::outcome::Outcome;
-use conode_compare_report::{About, Counted, Kind, Noted};
+use conode_compare_report::{About, Counted, Kind, Noted, Outcome};
 use conode_compare_text::set_finding_line;
 use conode_markup::{Piece, push_pieces};
 use std::alloc::{AllocError, Global};

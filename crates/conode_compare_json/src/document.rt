@@ -17,8 +17,7 @@ ghost use Rattle.conode_compare_json.specs.JsonDocument.{
 
 use crate::coverage::put_coverage;
 use crate::noted::put_findings;
-use crate::outcome::Outcome;
-use conode_compare_report::{About, Counted, Report};
+use conode_compare_report::{About, Counted, Outcome, Report};
 use conode_compare_rules::Limits;
 use conode_compare_text::Tally;
 use conode_json::JsonWriter;

@@ -16,8 +16,7 @@ ghost use Rattle.conode_compare_json.specs.JunitDocument.{
 };
 
 use crate::cases::{push_case, push_outcome};
-use crate::outcome::Outcome;
-use conode_compare_report::{About, Counted, Noted, Report};
+use conode_compare_report::{About, Counted, Noted, Outcome, Report};
 use conode_markup::{Piece, push_pieces};
 use std::alloc::{AllocError, Global};
 

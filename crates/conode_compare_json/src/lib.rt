@@ -6,7 +6,6 @@ mod coverage;
 mod document;
 mod junit;
 mod noted;
-mod outcome;
 
 pub use document::json_document;
 pub use junit::junit_document;

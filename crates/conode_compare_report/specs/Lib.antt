@@ -5,6 +5,7 @@ pub mod Counts
 pub mod Coverages
 pub mod Kinds
 pub mod Occasions
+pub mod Outcomes
 pub mod Reports
 pub mod Services
 pub mod Spans

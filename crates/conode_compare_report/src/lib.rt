@@ -11,6 +11,7 @@ mod kind;
 mod lanes;
 mod noted;
 mod occasions;
+mod outcome;
 mod report;
 mod service;
 
@@ -20,5 +21,6 @@ pub use coverage::{Coverage, Covered, Numbered};
 pub use kind::{Counted, Kind};
 pub use lanes::{Bin, Lane, Lanes, States};
 pub use noted::{ContextLine, Noted};
+pub use outcome::Outcome;
 pub use report::Report;
 pub use service::{Served, Service};

@@ -2,14 +2,14 @@
 
 ghost use Rattle.std.specs.Prelude.{◌≡◌};
 ghost use Rattle.conode_compare_report.specs.Abouts.{about_view};
-ghost use Rattle.conode_compare_json.specs.Outcomes.{of_tally, outcome_name, outcome_of};
+ghost use Rattle.conode_compare_report.specs.Outcomes.{of_tally, outcome_name, outcome_of};
 
-use conode_compare_report::About;
+use crate::about::About;
 use conode_compare_text::Tally;
 
 /// How a comparison ended.
 #[derive(Clone, Copy)]
-pub(crate) enum Outcome {
+pub enum Outcome {
     NoDifference,
     Differences,
     /// Nothing was compared: no frame of the device came.
@@ -32,7 +32,7 @@ fn of_tally(tally: Tally) -> Outcome
 
 impl Outcome {
     /// How a comparison ended.
-    pub(crate) fn of(about: &About<'_, '_>) -> Outcome
+    pub fn of(about: &About<'_, '_>) -> Outcome
         ensures { result ≡ outcome_of (about_view about.now) }
     {
         if about.several {
@@ -43,7 +43,7 @@ impl Outcome {
     }
 
     /// Its name.
-    pub(crate) fn name(self) -> &'static str
+    pub fn name(self) -> &'static str
         ensures { result.now ≡ outcome_name self }
     {
         match self {

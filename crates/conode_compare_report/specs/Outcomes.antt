@@ -2,8 +2,8 @@
 use Rattle.std.specs.Prelude.{ℕ, ◌==◌, nat_lt, ◌&&◌, if◌then◌else◌, List, codes}
 use Rattle.conode_compare_text.specs.declared.tally.Tally.{Tally}
 use Rattle.conode_compare_report.specs.Abouts.{Described}
-use Rattle.conode_compare_json.specs.declared.outcome.Outcome.{Outcome}
-use Rattle.conode_compare_json.specs.declared.outcome.Outcome.TheVariants.{NoDifference, Differences, NoFrame, SeveralInterfaces}
+use Rattle.conode_compare_report.specs.declared.outcome.Outcome.{Outcome}
+use Rattle.conode_compare_report.specs.declared.outcome.Outcome.TheVariants.{NoDifference, Differences, NoFrame, SeveralInterfaces}
 
 abbrev pub of_tally : Tally → Outcome
 of_tally tally =
