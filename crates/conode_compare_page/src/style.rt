@@ -8,14 +8,14 @@ pub(crate) const STYLE: &str = "\
       --paper: #ffffff; --panel: #f5f6f8; --line: #d5d9df; --ink: #171a1f; --soft: #545c67;\n\
       --bad: #b3261e; --good: #1b6e3c; --open: #8a5a00; --mark: #fbe4e2;\n\
       --frames: #4a76a8; --initialising: #8b93a0; --pre-operational: #c08a1e;\n\
-      --operational: #2e8b57; --stopped: #b3261e;\n\
+      --operational: #2e8b57; --stopped: #7d5ba6;\n\
     }\n\
     @media (prefers-color-scheme: dark) {\n\
       :root {\n\
         --paper: #14171b; --panel: #1d2127; --line: #363c45; --ink: #e7e9ec; --soft: #a3abb6;\n\
         --bad: #ff8d84; --good: #6fcf97; --open: #e5b454; --mark: #46211f;\n\
         --frames: #7fa8d8; --initialising: #8b93a0; --pre-operational: #d9a441;\n\
-        --operational: #56b27f; --stopped: #e5726a;\n\
+        --operational: #56b27f; --stopped: #b79be3;\n\
       }\n\
     }\n\
     * { box-sizing: border-box; }\n\
@@ -134,7 +134,7 @@ pub(crate) const STYLE: &str = "\
         --paper: #ffffff; --panel: #f5f6f8; --line: #c9ced6; --ink: #000000; --soft: #444b55;\n\
         --bad: #a01c15; --good: #1b6e3c; --open: #7a5000; --mark: #fbe4e2;\n\
         --frames: #4a76a8; --initialising: #8b93a0; --pre-operational: #c08a1e;\n\
-        --operational: #2e8b57; --stopped: #b3261e;\n\
+        --operational: #2e8b57; --stopped: #7d5ba6;\n\
       }\n\
       html { font-size: 9.5pt; }\n\
       body { padding: 0; max-width: none; }\n\
