@@ -184,12 +184,7 @@ impl JsonWriter {
     /// A member that is a number; one that readers might not keep exactly becomes a string of its
     /// digits.
     #[tactic(auto, unfolding(crate::specs::Members::number_member))]
-    pub fn put_number(
-        &mut self,
-        alloc: Global,
-        name: &str,
-        number: i128,
-    ) -> Result<(), AllocError>
+    pub fn put_number(&mut self, alloc: Global, name: &str, number: i128) -> Result<(), AllocError>
         ensures { OnOk result (self.new ≡ self.old ++ number_member name.now number) }
     {
         self.writer.key(name)?;

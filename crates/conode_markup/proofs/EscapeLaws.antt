@@ -1,5 +1,5 @@
 -- What is escaped is plain text in markup.
-use Rattle.std.proofs.Common.{◌≡◌, ℕ, ◌+◌, ◌/◌, ◌%◌, ◌<◌, ◌≤◌, ◌⊎◌, Bool, true, false, List, [], ◌∷◌, ◌++◌, Option, Some, None, refl, arith, inl, inr}
+use Rattle.std.proofs.Common.{◌≡◌, ℕ, ◌+◌, ◌/◌, ◌%◌, ◌<◌, ◌≤◌, ◌⊎◌, Bool, true, false, List, [], ◌∷◌, ◌++◌, Option, Some, None, refl, arith, rules, inl, inr}
 use Rattle.std.specs.Prelude.{◌==◌, ◌&&◌, ◌||◌, not, nat_le, nat_lt, codes}
 use Rattle.std.specs.Char.{encode_utf8, is_control}
 use Rattle.std.specs.List.{flat_map}
@@ -48,11 +48,13 @@ after_plain (x ∷ xs) ys plain data_ =
 high_bytes : (c : ℕ) → 128 ≤ c → are_plain (encode_utf8 c) ≡ true
 unfolding lib.Utf8.encode
 high_bytes c high =
+    let one = λ (b : ℕ) (h : 65 ≤ b) (rest : List ℕ) (r : are_plain rest ≡ true). and_from (is_plain b) (are_plain rest) (letter_byte b h) r in
+    let last = λ (b : ℕ). one (128 + b % 64) (omega arith) in
     cond_both (nat_lt c 128) _ _ (λ l. are_plain l ≡ true) (λ e. absurd (omega (arith, ltb-true c 128 e)))
-    (λ _. cond_both (nat_lt c 2048) _ _ (λ l. are_plain l ≡ true) (λ _. and_from _ _ (letter_byte _ (omega arith)) (and_from _ _ (letter_byte _ (omega arith)) refl))
+    (λ _. cond_both (nat_lt c 2048) _ _ (λ l. are_plain l ≡ true) (λ _. one (192 + c / 64) (omega arith) _ (last c [] refl))
     (λ _. cond_both (nat_lt c 65536) _ _ (λ l. are_plain l ≡ true)
-    (λ _. and_from _ _ (letter_byte _ (omega arith)) (and_from _ _ (letter_byte _ (omega arith)) (and_from _ _ (letter_byte _ (omega arith)) refl)))
-    (λ _. and_from _ _ (letter_byte _ (omega arith)) (and_from _ _ (letter_byte _ (omega arith)) (and_from _ _ (letter_byte _ (omega arith)) (and_from _ _ (letter_byte _ (omega arith)) refl))))))
+    (λ _. one (224 + c / 4096) (omega arith) _ (last (c / 64) _ (last c [] refl)))
+    (λ _. one (240 + c / 262144) (omega arith) _ (last (c / 4096) _ (last (c / 64) _ (last c [] refl))))))
 
 -- a digit of a control character
 digit_is_plain : (d : ℕ) → d < 16 → is_plain (printed_digit d) ≡ true

@@ -7,7 +7,7 @@ use Rattle.co_text.specs.Printed.{byte_text}
 use Rattle.conode_lint_text.specs.Characters.{characters_of}
 
 -- what stands for a character that has a meaning of its own in markup, and for a tab; U+FFFE and U+FFFF
--- may not be in XML
+-- may not be in XML: U+FFFD is there instead, in UTF-8
 abbrev pub replacement : ℕ → Option (List ℕ)
 replacement character =
     if character == 38 then Some (codes "&amp;")
@@ -16,7 +16,7 @@ replacement character =
     else if character == 34 then Some (codes "&quot;")
     else if character == 39 then Some (codes "&#39;")
     else if character == 9 then Some (codes "\\t")
-    else if (character == 0xFFFE) || (character == 0xFFFF) then Some (encode_utf8 0xFFFD)
+    else if (character == 0xFFFE) || (character == 0xFFFF) then Some (0xEF ∷ 0xBF ∷ 0xBD ∷ [])
     else None
 
 -- another character in UTF-8; a control character as `\x1B`, but for the line feed
