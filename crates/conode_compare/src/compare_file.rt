@@ -54,6 +54,7 @@ pub struct Asked<'s> {
 }
 
 // the files that are compared
+#[derive(Clone, Copy)]
 struct Paths<'s> {
     sheet: &'s str,
     recording: &'s str,

@@ -110,7 +110,7 @@ pub(crate) fn no_counts(alloc: Global) -> Result<Vec<Counted>, AllocError>
         Counted::none_of(Kind::AccessWrite),
         Counted::none_of(Kind::AccessLimits),
     ];
-    Vec::from_array(alloc, counts)
+    Ok(Vec::from_array(alloc, counts)?)
 }
 
 // a frame could have shown a difference of this kind

@@ -179,7 +179,7 @@ pub(crate) fn no_services(alloc: Global) -> Result<Vec<Served>, AllocError>
         Served::none_of(Service::Rpdo3),
         Served::none_of(Service::Rpdo4),
     ];
-    Vec::from_array(alloc, services)
+    Ok(Vec::from_array(alloc, services)?)
 }
 
 fn command_service(service: NmtService) -> Service
