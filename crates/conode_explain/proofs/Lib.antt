@@ -4,4 +4,6 @@ pub mod LogLemmas
 pub mod ServiceLemmas
 pub mod SheetExamples
 pub mod SheetWordLemmas
+pub mod TellingLemmas
 pub mod WriteLemmas
+pub mod WriteSets
