@@ -85,27 +85,8 @@ fn originals_in(alloc: Global, text: &[u8]) -> Result<Originals, SheetFault> {
     }
 }
 
-// explains the recording of a path by data sheets that are known, if they have all signals
-#[tactic(auto, using(crate::proofs::WriteLemmas::or_two))]
-fn explain_known<R: Files + AllocGlobal + Input, O: Write, E: Write>(
-    rt: &R,
-    path: &str,
-    settings: &Settings<'_, '_, '_, '_>,
-    out: &mut O,
-    err: &mut E,
-) -> ExitCode
-    ensures { (exit_status result ≡ 0) ⊎ ((exit_status result ≡ 1) ⊎ (exit_status result ≡ 2)) }
-{
-    if let Some(signal) = first_missing(settings.sheets, settings.form.signals) {
-        let (node, key) = (signal.node, signal.key);
-        let _ = writeln!(err, "--signal: no data sheet has {key} of node {node}");
-        return ExitCode::from(2);
-    }
-    explain_path(rt, path, settings, out, err)
-}
-
-// explains the recording of a path by data sheets
-#[tactic(auto, using(crate::proofs::WriteLemmas::one_or_two))]
+// Explains the recording of a path by data sheets, if they have all signals.
+#[tactic(auto, using(crate::proofs::WriteLemmas::or_two, crate::proofs::WriteLemmas::one_or_two))]
 fn explain_by<R: Files + AllocGlobal + Input, O: Write, E: Write>(
     rt: &R,
     path: &str,
@@ -116,14 +97,17 @@ fn explain_by<R: Files + AllocGlobal + Input, O: Write, E: Write>(
 ) -> ExitCode
     ensures { (exit_status result ≡ 0) ⊎ ((exit_status result ≡ 1) ⊎ (exit_status result ≡ 2)) }
 {
-    match known_sheets(rt.alloc(), sheets) {
-        Ok(known) => {
-            let sheets = known.as_slice();
-            let settings = Settings { form, sheets };
-            explain_known(rt, path, &settings, out, err)
-        }
-        Err(_) => stopped(CmdFault::Memory, out, err).status(),
+    let Ok(known) = known_sheets(rt.alloc(), sheets) else {
+        return stopped(CmdFault::Memory, out, err).status();
+    };
+    let sheets = known.as_slice();
+    if let Some(signal) = first_missing(sheets, form.signals) {
+        let (node, key) = (signal.node, signal.key);
+        let _ = writeln!(err, "--signal: no data sheet has {key} of node {node}");
+        return ExitCode::from(2);
     }
+    let settings = Settings { form, sheets };
+    explain_path(rt, path, &settings, out, err)
 }
 
 // a data sheet, and its original data types
@@ -137,16 +121,17 @@ fn sheet_in<'t>(alloc: Global, of: &'t SheetText<'_>) -> Result<ReadSheet<'t>, S
     })
 }
 
-// The data sheets of these texts. On an `Err` one is at fault, or memory ran out, and it is said.
-fn sheets_in<'t, O: Write, E: Write>(
+// Adds the data sheets of these texts. On an `Err` one is at fault, or memory ran out, and it is
+// said.
+fn add_sheets<'t, O: Write, E: Write>(
     alloc: Global,
+    sheets: &mut Vec<ReadSheet<'t>>,
     texts: &'t [SheetText<'_>],
     out: &mut O,
     err: &mut E,
-) -> Result<Vec<ReadSheet<'t>>, ExitCode>
+) -> Result<(), ExitCode>
     ensures { IfErr result (λ status. exit_status status ≡ 1) }
 {
-    let mut sheets = Vec::new(alloc);
     for text in texts {
         match sheet_in(alloc, text) {
             Ok(sheet) => {
@@ -159,7 +144,7 @@ fn sheets_in<'t, O: Write, E: Write>(
             }
         }
     }
-    Ok(sheets)
+    Ok(())
 }
 
 // explains the recording of a path by the data sheets that words name
@@ -177,10 +162,11 @@ fn explain_named<R: Files + AllocGlobal + Input, O: Write, E: Write>(
         Ok(texts) => texts,
         Err(status) => return status,
     };
-    match sheets_in(rt.alloc(), texts.as_slice(), out, err) {
-        Ok(sheets) => explain_by(rt, path, sheets.as_slice(), form, out, err),
-        Err(status) => status,
+    let mut sheets = Vec::new(rt.alloc());
+    if let Err(status) = add_sheets(rt.alloc(), &mut sheets, texts.as_slice(), out, err) {
+        return status;
     }
+    explain_by(rt, path, sheets.as_slice(), form, out, err)
 }
 
 // explains the recording of a path by the data sheets that the words of the command line name

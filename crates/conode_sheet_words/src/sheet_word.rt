@@ -159,8 +159,8 @@ fn with_node<'a>(
     front: &str,
     path: &'a str,
 ) -> Result<SheetWord<'a>, SheetPart>
-    ensures ok { IfOk result (λ word.
-        with_node (option_copied interface.entry) (front.now, path.entry.now) ≡ Ok (word_view word)) }
+    ensures ok { IfOk result (λ word. with_node (option_copied interface.entry)
+        (front.now, path.entry.now) ≡ Ok (word_view word)) }
     ensures err { IfErr result (λ part.
         with_node (option_copied interface.entry) (front.now, path.entry.now) ≡ Err part) }
 {

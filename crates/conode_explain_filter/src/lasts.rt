@@ -1,7 +1,7 @@
 //! What was said last of each identifier.
 
 ghost use Rattle.std.specs.Prelude.{◌≡◌, ◌<◌, ◌≤◌, [], length, OnOk, IfOk, IfSome};
-ghost use Rattle.conode_explain_changes.specs.Changes.{
+ghost use Rattle.conode_explain_filter.specs.Changes.{
   is_new,
   is_new_at,
   kept,
@@ -26,7 +26,7 @@ pub struct Lasts {
 
 impl Model for Lasts {
     ghost use Rattle.std.specs.Prelude.{List};
-    ghost use Rattle.conode_explain_changes.specs.Changes.{Said};
+    ghost use Rattle.conode_explain_filter.specs.Changes.{Said};
 
     ghost Value = { List Said };
 

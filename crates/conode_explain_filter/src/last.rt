@@ -1,7 +1,7 @@
 //! What was said last of one identifier on one interface.
 
 ghost use Rattle.std.specs.Prelude.{◌≡◌, ◌≤◌, length, IfOk};
-ghost use Rattle.conode_explain_changes.specs.Changes.{is_of, is_same};
+ghost use Rattle.conode_explain_filter.specs.Changes.{is_of, is_same};
 
 use arrayvec::ArrayVec;
 use std::alloc::{AllocError, Global};
@@ -18,7 +18,7 @@ pub(crate) struct Last {
 }
 
 impl Model for Last {
-    ghost use Rattle.conode_explain_changes.specs.Changes.{Said};
+    ghost use Rattle.conode_explain_filter.specs.Changes.{Said};
 
     ghost Value = { Said };
 

@@ -5,14 +5,14 @@ use Rattle.conode_convert.specs.Converted.{at_start}
 use Rattle.conode_explain.specs.Explained.{nothing_known}
 use Rattle.conode_explain.specs.Sheets.{sheets_of}
 use Rattle.conode_explain.proofs.Explaining.{explained_any, explained_known, takes_flushed, takes_more, takes_none}
-use Rattle.conode_explain.proofs.explained.explain.Goals as goal
+use Rattle.conode_explain.proofs.explained.explain_all.Goals as goal
 
 pub loop-number-init : goal.loop-number-init
 loop-number-init g c =
     let form = c.args.settings.now.form in
     let sheets = sheets_of c.args.settings.now in
     record {
-      taken = rw (c.new-explaining.ensures.lines, c.new-explaining.ensures.log, c.new-explaining.ensures.progress)
+      taken = rw (c.requires.lines, c.requires.log, c.requires.progress)
           (takes_none form sheets nothing_held (g.R.Read.remaining c.args.reader.now) (at_start form.log) nothing_known (g.W.Write.contents c.args.out.now));
       few = omega arith;
     }

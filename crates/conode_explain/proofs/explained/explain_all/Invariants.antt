@@ -4,7 +4,7 @@ use Rattle.conode_convert.specs.Converted.{at_start}
 use Rattle.conode_explain.specs.Explained.{nothing_known}
 use Rattle.conode_explain.specs.Taking.{Takes}
 use Rattle.conode_explain.specs.Sheets.{sheets_of}
-use Rattle.conode_explain.proofs.explained.explain.Given as goal
+use Rattle.conode_explain.proofs.explained.explain_all.Given as goal
 
 abbrev pub invariant-loop-number : goal.invariant-loop-number
 invariant-loop-number g l =
