@@ -29,11 +29,12 @@ use Rattle.conode_compare_rules.specs.declared.verdict.Findings.{Findings}
 use Rattle.conode_compare_rules.specs.declared.kind.FrameKind.{FrameKind}
 use Rattle.conode_compare_rules.specs.declared.progress.Progress.{Progress}
 use Rattle.conode_compare_rules.specs.FrameKinds.{kind_of}
-use Rattle.conode_compare_rules.specs.Progresses.{before_recording, findings_at, progress_with}
+use Rattle.conode_compare_rules.specs.Progresses.{before_recording, findings_at, is_number_kept, progress_with}
 use Rattle.conode_compare_text.specs.FindingTexts.{finding_line}
 use Rattle.conode_compare_text.specs.Tallies.{no_frames, tally_with}
 use Rattle.conode_compare_report.specs.Befores.{before_at}
-use Rattle.conode_compare_report.specs.Reports.{with_bad_line, with_finding, with_frame, with_line}
+use Rattle.conode_compare_report.specs.declared.kind.Kind.TheVariants.{ValueHeld}
+use Rattle.conode_compare_report.specs.Reports.{with_bad_line, with_finding, with_frame, with_line, with_passed}
 use Rattle.conode_compare_report.specs.Views.{Kept}
 use Rattle.conode_compare.specs.declared.comparing.Comparing.{Comparing}
 use Rattle.conode_compare.specs.Noted.{choice_lines, noted_choice, nothing_noted, notes_with}
@@ -88,10 +89,15 @@ frame_noted c progress micros kind kept =
     with_frame c.rows kept micros kind (before_at kept.rpdos progress kind) (progress_with c.subject progress micros kind).nmt.state
     (findings_at c.subject c.rows progress micros kind)
 
+-- an upload of an entry that is held shows the number that was written
+abbrev pub number_noted : Comparison → Progress → Kept → Kept
+number_noted c after kept = if is_number_kept c.subject after then with_passed kept ValueHeld else kept
+
 -- and its differences
 abbrev pub kind_noted : Comparison → Progress → ℕ → FrameKind → Kept → Kept
 kind_noted c progress micros kind kept =
-    findings_noted c micros (findings_at c.subject c.rows progress micros kind) (frame_noted c progress micros kind kept)
+    findings_noted c micros (findings_at c.subject c.rows progress micros kind)
+    (number_noted c (progress_with c.subject progress micros kind) (frame_noted c progress micros kind kept))
 
 -- ---- frames
 

@@ -27,7 +27,7 @@ line_of_value c row (Some width) None = []
 line_of_value c row (Some width) (Some number) =
     if nat_lt 4 width then []
     else learned_line (shown_name row) row.key (type_of (c.originals row.line) row.data_type) width number
-        (sheet_number c.subject.node row.default) ∷ []
+    (sheet_number c.subject.node row.default) ∷ []
 
 abbrev pub value_lines : Comparison → List Shown → Row → List (List ℕ)
 value_lines c learned row = line_of_value c row (width_of row.data_type) (shown_number learned row.key)

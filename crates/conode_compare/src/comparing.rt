@@ -26,7 +26,7 @@ use crate::kept::note_findings;
 use crate::notes::Notes;
 use crate::writes::{Settings, write_findings};
 use arrayvec::ArrayVec;
-use conode_compare_report::Report;
+use conode_compare_report::{Kind, Report};
 use conode_compare_rules::{Findings, FrameKind, Progress, Subject, kind_of};
 use conode_compare_text::Tally;
 use conode_io::CmdFault;
@@ -82,6 +82,9 @@ fn take_kind(
             let found = progress.take(&settings.subject, settings.rows, micros, kind);
             let state = progress.state();
             report.take_frame(settings.rows, micros, kind, &before, state, &found)?;
+            if progress.is_number_kept(&settings.subject) {
+                report.pass(Kind::ValueHeld);
+            }
             note_findings(report, settings, micros, &found)?;
             Ok(found)
         }

@@ -73,6 +73,19 @@ mismatch_of entries written certain Download ended = None
 unfoldable pub held_mismatch : List HeldEntry → Written → Bool → Option Ended → Option HeldMismatch
 held_mismatch entries written certain ended = option_and_then (λ e. mismatch_of entries written certain e.direction e) ended
 
+-- an upload could show another number than was written, and doesn't: after a difference the number
+-- that was written is unknown
+abbrev pub is_known : Option ℕ → Option ℕ → Bool
+is_known shown written = is_some shown && is_some written
+
+abbrev pub is_kept_by : List HeldEntry → Written → Bool → Direction → Ended → Bool
+is_kept_by entries after certain Upload ended = is_known (uploaded entries certain ended) (number_at after (place_of entries ended.key))
+is_kept_by entries after certain Download ended = false
+
+abbrev pub is_kept : List HeldEntry → Written → Bool → Option Ended → Bool
+is_kept entries after certain None = false
+is_kept entries after certain (Some ended) = is_kept_by entries after certain ended.direction ended
+
 -- ---- frames of the channel
 
 -- a transfer ended: after a difference the number is unknown, so that it is one

@@ -7,6 +7,7 @@ ghost use Rattle.conode_compare_held.specs.HeldNumbers.{
   differs,
   downloaded,
   held_mismatch,
+  is_kept,
   is_whole,
   nothing_written,
   number_at,
@@ -161,6 +162,20 @@ impl Written {
                 self.upload_mismatch(held, certain, ended)
             }
             _ => None,
+        }
+    }
+
+    /// Whether a transfer that ended is an upload that could have shown another number than was
+    /// written, and doesn't: asked once the frame was taken.
+    pub fn is_kept(&self, held: &HeldEntries, certain: bool, ended: &Option<Ended>) -> bool
+        ensures { result ≡ is_kept held.now.entries.items self.now certain ended.now }
+    {
+        match ended {
+            Some(ended) if matches!(ended.direction, Direction::Upload) => {
+                let written = self.number_at(held.place(ended.key));
+                uploaded(held, certain, ended).is_some() && written.is_some()
+            }
+            _ => false,
         }
     }
 

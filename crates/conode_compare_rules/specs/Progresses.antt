@@ -29,7 +29,7 @@ use Rattle.conode_compare_rules.specs.declared.kind.FrameKind.TheVariants.{Comma
 use Rattle.conode_compare_rules.specs.declared.verdict.Findings.{Findings}
 use Rattle.conode_compare_rules.specs.Answers.{answer_finding, confirmed_finding, first_of, held_finding, silence_finding, stopped_finding}
 use Rattle.conode_compare_transfers.specs.Dialogues.{dialogue_heard, given_up, interrupted, nothing_asked, nothing_left, exchange_in}
-use Rattle.conode_compare_held.specs.HeldNumbers.{nothing_written, written_heard}
+use Rattle.conode_compare_held.specs.HeldNumbers.{is_kept, nothing_written, written_heard}
 use Rattle.conode_compare_rules.specs.EmergencyRules.{emergency_finding, length_finding}
 use Rattle.conode_compare_rules.specs.EntriesInForce.{asked_to_write, ended_entries, reset_entries, shown_period}
 use Rattle.conode_compare_rules.specs.Heartbeats.{after_byte, follows_closely, late_finding, no_heartbeat, is_gap}
@@ -383,3 +383,11 @@ findings_at subject rows progress micros kind = findings_in subject rows (begun 
 
 unfoldable pub progress_with : Subject → Progress → ℕ → FrameKind → Progress
 progress_with subject progress micros kind = after_frame subject (begun subject progress micros) micros kind
+
+-- the frame is an upload that could show another number than was written to its entry, which is held,
+-- and doesn't
+abbrev pub kept_in : Subject → Written → Exchange → Bool
+kept_in subject written exchange = is_kept subject.held.entries.items written exchange.certain exchange.heard.ended
+
+abbrev pub is_number_kept : Subject → Progress → Bool
+is_number_kept subject after = option_map_or (kept_in subject after.written) after.exchange false

@@ -30,6 +30,7 @@ ghost use Rattle.conode_compare_rules.specs.Progresses.{
   free_at,
   heartbeat_findings,
   is_judged,
+  is_number_kept,
   odd_control_findings,
   odd_emergency_findings,
   with_gap,
@@ -610,5 +611,19 @@ impl Progress {
     {
         self.begin(subject, micros);
         self.take_kind(subject, rows, micros, kind)
+    }
+
+    /// Whether the newest frame is the end of an upload that could have shown another number than
+    /// was written to its entry, which is held, and doesn't.
+    pub fn is_number_kept(&self, subject: &Subject) -> bool
+        ensures { result ≡ is_number_kept subject.now self.now }
+    {
+        match &self.exchange {
+            Some(exchange) => {
+                let ended = &exchange.heard.ended;
+                self.written.is_kept(&subject.held, exchange.certain, ended)
+            }
+            None => false,
+        }
     }
 }
