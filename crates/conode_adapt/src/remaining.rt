@@ -23,37 +23,23 @@ fn push_lines(sources: &mut Vec<usize>, text: &[u8], number: usize) -> Result<()
     Ok(())
 }
 
-// appends the number of the source line for each line of a piece; returns the number of the last
-// source line so far
-fn push_sources(
-    sources: &mut Vec<usize>,
-    piece: &Piece<'_>,
-    number: usize,
-) -> Result<usize, AllocError> {
-    let next = number.saturating_add(1);
-    match piece {
-        Piece::Kept(_) => {
-            sources.push(next)?;
-            Ok(next)
-        }
-        Piece::Changed(change) => {
-            push_lines(sources, change.new.as_slice(), next)?;
-            Ok(next)
-        }
-        Piece::Added { line, text } => {
-            push_lines(sources, text.as_slice(), *line)?;
-            Ok(number)
-        }
-    }
-}
-
 // for each line of the rewritten text, the number of its source line; the first line is a comment
 fn sources_of(alloc: Global, pieces: &[Piece<'_>]) -> Result<Vec<usize>, AllocError> {
     let mut sources = Vec::new(alloc);
     sources.push(0)?;
     let mut number: usize = 0;
     for piece in pieces {
-        number = push_sources(&mut sources, piece, number)?;
+        match piece {
+            Piece::Kept(_) => {
+                number = number.saturating_add(1);
+                sources.push(number)?;
+            }
+            Piece::Changed(change) => {
+                number = number.saturating_add(1);
+                push_lines(&mut sources, change.new.as_slice(), number)?;
+            }
+            Piece::Added { line, text } => push_lines(&mut sources, text.as_slice(), *line)?,
+        }
     }
     Ok(sources)
 }
