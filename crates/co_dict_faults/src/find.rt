@@ -26,7 +26,7 @@ use co_value::Key;
 use std::alloc::{AllocError, Global};
 
 /// All faults of a dictionary.
-#[derive(Debug, Drop)]
+#[derive(Drop)]
 pub struct BuildFaults {
     /// By the numbers of their kinds, and then by key; none is there twice.
     pub faults: Vec<BuildFault>,

@@ -4,7 +4,7 @@ use co_value::Key;
 
 /// Why a counted word of a mapping can't be mapped, or its count can't be (CiA 301, 7.5.2.36,
 /// 7.5.2.38).
-#[derive(Clone, Copy, Debug, PartialEq, Eq)]
+#[derive(Clone, Copy)]
 pub enum MappingReason {
     /// Of the count: no word is there at that sub-index or later, up to 64.
     CountsMore,
@@ -31,7 +31,7 @@ pub enum MappingReason {
 }
 
 /// A fault of a mapping.
-#[derive(Clone, Copy, Debug, PartialEq, Eq)]
+#[derive(Clone, Copy)]
 pub struct MappingFault {
     /// The key of the word; for the count sub-index 0.
     pub key: Key,

@@ -1,7 +1,8 @@
 //! The outcome of adapting a text, before it is written.
 
-ghost use Rattle.std.specs.Prelude.{◌≡◌, ◌++◌, ◌&&◌, not, true, None, codes, map, IfOk};
+ghost use Rattle.std.specs.Prelude.{◌≡◌, ◌++◌, ◌&&◌, not, true, None, is_none, map, IfOk};
 ghost use Rattle.co_sheet.specs.Accepted.{first_fault};
+ghost use Rattle.co_sheet_adapt.specs.Adapted.{adapted_text, pieces_in};
 ghost use Rattle.co_sheet_changes.specs.Pieces.{piece_view};
 ghost use Rattle.conode_adapt.specs.Written.{
   by_line,
@@ -16,7 +17,7 @@ use crate::listing::push_changes;
 use crate::orders::Orders;
 use crate::remaining::remaining;
 use co_sheet_adapt::{Adapted, adapt};
-use co_sheet_changes::{AdaptFault, Piece, joined, on_request};
+use co_sheet_changes::{AdaptFault, Piece, Requested, joined, on_request};
 use std::alloc::{AllocError, Global};
 
 /// The outcome of adapting a text.
@@ -95,6 +96,56 @@ fn stays_with(is_accepted: bool, is_read_anew: bool, is_forced: bool) -> bool
     is_accepted && !is_read_anew && !is_forced
 }
 
+// the outcome of a text that was adapted in these steps
+fn outcome_with(
+    alloc: Global,
+    text: &[u8],
+    name: &str,
+    read: &Requested<'_>,
+    forced: &Requested<'_>,
+    adapted: Adapted<'_>,
+) -> Result<Outcome, AllocError>
+    ensures sheet { IfOk result (λ made. made.sheet.items ≡ adapted.entry.text.items) }
+    ensures changes { IfOk result (λ made. made.changes.items ≡ changes_in name.now text.now
+        (adapted.entry.stays && not read.now.has_changes && not forced.now.has_changes)
+        (map piece_view read.now.pieces.items) (map piece_view forced.now.pieces.items)
+        (map piece_view adapted.entry.pieces.items)) }
+    ensures accepted { IfOk result (λ made. made.is_accepted ≡ adapted.entry.is_accepted) }
+{
+    let steps = Steps {
+        read: read.pieces.as_slice(),
+        forced: forced.pieces.as_slice(),
+        adapted: adapted.pieces.as_slice(),
+        stays: stays_with(adapted.stays, read.has_changes, forced.has_changes),
+    };
+    let changes = listed(alloc, text, name, &steps)?;
+    let remaining = remaining_of(alloc, text, name, &adapted)?;
+    Ok(Outcome {
+        sheet: adapted.text,
+        changes,
+        is_accepted: adapted.is_accepted,
+        remaining,
+    })
+}
+
+// a text adapted; its first line says by whom, and from what
+fn adapted_by<'a>(
+    alloc: Global,
+    version: &str,
+    name: &str,
+    text: &'a [u8],
+) -> Result<Adapted<'a>, AdaptFault>
+    ensures pieces { IfOk result (λ made.
+        map piece_view made.pieces.items ≡ pieces_in text.entry.now) }
+    ensures text { IfOk result (λ made.
+        made.text.items ≡ adapted_text (by_line version.now name.now) text.entry.now) }
+    ensures stays { IfOk result (λ made. made.stays ≡ is_none (first_fault text.entry.now)) }
+    ensures accepted { IfOk result (λ made. made.is_accepted ≡ is_none (first_fault made.text.items)) }
+{
+    let by = by_line(alloc, version, name)?;
+    adapt(alloc, text, by.as_slice())
+}
+
 /// Adapts a text. `TooLarge` if it, or what is added to it, has more than 1,048,576 bytes; `Memory`
 /// if memory ran out.
 pub(crate) fn outcome_of(
@@ -113,20 +164,7 @@ pub(crate) fn outcome_of(
 {
     let read = on_request(alloc, text, orders.zeros_request())?;
     let forced = on_request(alloc, read.text.as_slice(), orders.force_request())?;
-    let by = by_line(alloc, version, name)?;
-    let adapted = adapt(alloc, forced.text.as_slice(), by.as_slice())?;
-    let steps = Steps {
-        read: read.pieces.as_slice(),
-        forced: forced.pieces.as_slice(),
-        adapted: adapted.pieces.as_slice(),
-        stays: stays_with(adapted.stays, read.has_changes, forced.has_changes),
-    };
-    let changes = listed(alloc, text, name, &steps)?;
-    let remaining = remaining_of(alloc, text, name, &adapted)?;
-    Ok(Outcome {
-        sheet: adapted.text,
-        changes,
-        is_accepted: adapted.is_accepted,
-        remaining,
-    })
+    let adapted = adapted_by(alloc, version, name, forced.text.as_slice())?;
+    let outcome = outcome_with(alloc, text, name, &read, &forced, adapted)?;
+    Ok(outcome)
 }

@@ -202,9 +202,9 @@ pub(crate) fn remaining(
     rewritten: &[u8],
     pieces: &[Piece<'_>],
 ) -> Result<String, AllocError> {
-    let mut report = String::new(alloc);
     let faults = find_faults(alloc, rewritten)?;
     let sources = sources_of(alloc, pieces)?;
+    let mut report = String::new(alloc);
     push_faults(
         alloc,
         &mut report,

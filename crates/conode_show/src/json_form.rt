@@ -16,7 +16,7 @@ ghost use Rattle.conode_show.specs.JsonForm.{
 use crate::json_entries::put_section;
 use crate::json_pdos::put_pdo;
 use crate::json_services::put_service;
-use crate::json_writer::JsonWriter;
+use crate::json_writer::{JsonWriter, Part, number_part};
 use co_sheet_rows::SheetFault;
 use co_sheet_text::TextSection;
 use conode_show_text::Chapter;
@@ -33,16 +33,16 @@ fn chapter_name(chapter: Chapter) -> &'static str
 }
 
 // what a chapter has for a section
-fn put_tokens(
+fn put_tokens<'p>(
     alloc: Global,
     writer: &mut JsonWriter,
     chapter: Chapter,
     node: Option<u8>,
-    sections: &[TextSection],
-    section: &TextSection<'_, '_>,
+    sections: &'p [TextSection<'p, 'p>],
+    section: &'p TextSection<'p, 'p>,
 ) -> Result<(), AllocError>
     ensures { OnOk result (writer.new ≡ writer.old ++ chapter_tokens chapter node
-        (map section_view sections.now) (section_view section.now)) }
+        (map section_view sections.entry.now) (section_view section.entry.now)) }
 {
     match chapter {
         Chapter::Entries => put_section(alloc, writer, node, section),
@@ -52,21 +52,21 @@ fn put_tokens(
 }
 
 #[tactic(auto, unfolding(crate::specs::JsonForm::chapter_member))]
-fn put_chapter(
+fn put_chapter<'p>(
     alloc: Global,
     writer: &mut JsonWriter,
     chapter: Chapter,
     node: Option<u8>,
-    sections: &[TextSection],
+    sections: &'p [TextSection<'p, 'p>],
 ) -> Result<(), AllocError>
     ensures { OnOk result (writer.new
-        ≡ writer.old ++ chapter_member chapter node (map section_view sections.now)) }
+        ≡ writer.old ++ chapter_member chapter node (map section_view sections.entry.now)) }
 {
-    writer.begin_array_of(chapter_name(chapter))?;
+    writer.put(alloc, &[Part::Array(chapter_name(chapter))])?;
     for section in sections {
         put_tokens(alloc, writer, chapter, node, sections, section)?;
     }
-    writer.end_array()
+    writer.put(alloc, &[Part::EndArray])
 }
 
 fn node_number(node: Option<u8>) -> Option<i128>
@@ -76,22 +76,27 @@ fn node_number(node: Option<u8>) -> Option<i128>
 }
 
 #[tactic(auto, unfolding(crate::specs::JsonForm::document_tokens))]
-fn put_document(
+fn put_document<'p>(
     alloc: Global,
     writer: &mut JsonWriter,
     node: Option<u8>,
-    sections: &[TextSection],
+    sections: &'p [TextSection<'p, 'p>],
 ) -> Result<(), AllocError>
     ensures { OnOk result
-        (writer.new ≡ writer.old ++ document_tokens node (map section_view sections.now)) }
+        (writer.new ≡ writer.old ++ document_tokens node (map section_view sections.entry.now)) }
 {
-    writer.begin_object()?;
-    writer.put_number(alloc, "version", 1)?;
-    writer.put_number_if(alloc, "node", node_number(node))?;
+    writer.put(
+        alloc,
+        &[
+            Part::BeginObject,
+            Part::Number("version", 1),
+            number_part("node", node_number(node)),
+        ],
+    )?;
     put_chapter(alloc, writer, Chapter::Entries, node, sections)?;
     put_chapter(alloc, writer, Chapter::Pdos, node, sections)?;
     put_chapter(alloc, writer, Chapter::Services, node, sections)?;
-    writer.end_object()
+    writer.put(alloc, &[Part::EndObject])
 }
 
 /// The object dictionary of sections in order, as a JSON document. `Err`: out of memory.
@@ -113,10 +118,16 @@ pub(crate) fn json_document(
 fn put_fault(alloc: Global, writer: &mut JsonWriter, fault: SheetFault) -> Result<(), AllocError>
     ensures { OnOk result (writer.new ≡ writer.old ++ fault_tokens fault) }
 {
-    writer.begin_object()?;
-    writer.put_number(alloc, "version", 1)?;
-    writer.put_text("fault", fault.text().as_str())?;
-    writer.end_object()
+    let text = fault.text();
+    writer.put(
+        alloc,
+        &[
+            Part::BeginObject,
+            Part::Number("version", 1),
+            Part::Text("fault", text.as_str()),
+            Part::EndObject,
+        ],
+    )
 }
 
 /// Why a text can't be shown, as a JSON document. `Err`: out of memory.

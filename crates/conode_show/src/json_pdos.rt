@@ -1,7 +1,7 @@
-//! PDOs as objects of JSON. Each function appends tokens. `Err`: out of memory; some tokens may be
-//! there.
+//! PDOs as objects of JSON. Each function with a writer appends tokens. `Err`: out of memory; some
+//! tokens may be there.
 
-ghost use Rattle.std.specs.Prelude.{◌≡◌, ◌++◌, [], ◌≤◌, codes, map, OnOk};
+ghost use Rattle.std.specs.Prelude.{◌≡◌, ◌++◌, [], ◌≤◌, map, OnOk};
 ghost use Rattle.std.specs.Option.{option_map_or};
 ghost use Rattle.co_sheet_text.specs.Views.{section_view};
 ghost use Rattle.conode_show.specs.JsonForm.{
@@ -10,65 +10,64 @@ ghost use Rattle.conode_show.specs.JsonForm.{
   mapped_tokens,
   mapping_tokens,
   name_at,
-  pdo_members,
   pdo_of,
   pdo_tokens,
-  text_member,
+  said_at_member,
 };
-ghost use Rattle.conode_show_text.specs.Pdos.{pdo_name};
+ghost use Rattle.conode_show.specs.Parts.{part_tokens};
 
-use crate::json_entries::{put_key, put_property};
-use crate::json_words::{put_said, put_said_at, put_words};
-use crate::json_writer::JsonWriter;
+use crate::json_entries::{index_part, property_part};
+use crate::json_writer::{JsonWriter, Part};
+use co_sheet::section_at;
 use co_sheet_text::{SectionKind, TextSection};
 use co_value::Key;
 use conode_show_text::{
     Meaning, Word, entry_section, is_counted, is_pdo_cob_id, mapped_key, mapping_count,
-    push_pdo_name, section_word,
+    section_word,
 };
 use std::alloc::{AllocError, Global};
 
 // the name of an entry
-fn put_name_at(
-    alloc: Global,
-    writer: &mut JsonWriter,
-    sections: &[TextSection],
-    key: Key,
-) -> Result<(), AllocError>
-    ensures { OnOk result
-        (writer.new ≡ writer.old ++ name_at (map section_view sections.now) key) }
+fn name_part<'p>(sections: &'p [TextSection<'p, 'p>], key: Key) -> Part<'p>
+    ensures { part_tokens result ≡ name_at (map section_view sections.entry.now) key }
 {
     match entry_section(sections, key) {
-        Some(section) => put_property(alloc, writer, "name", b"ParameterName", section),
-        None => Ok(()),
+        Some(section) => property_part("name", b"ParameterName", section),
+        None => Part::Nothing,
     }
 }
 
-#[tactic(auto, unfolding(crate::specs::JsonForm::mapped_members))]
-fn put_mapped_members(
+#[tactic(auto, unfolding(crate::specs::JsonForm::mapped_members, crate::specs::JsonForm::key_members))]
+fn put_mapped_members<'p>(
     alloc: Global,
     writer: &mut JsonWriter,
-    sections: &[TextSection],
+    sections: &'p [TextSection<'p, 'p>],
     word: Word,
 ) -> Result<(), AllocError>
     ensures { OnOk result
-        (writer.new ≡ writer.old ++ mapped_members (map section_view sections.now) word) }
+        (writer.new ≡ writer.old ++ mapped_members (map section_view sections.entry.now) word) }
 {
     let key = mapped_key(word.number);
-    put_key(alloc, writer, key)?;
-    writer.put_number(alloc, "bits", i128::from(word.number % 0x100))?;
-    put_name_at(alloc, writer, sections, key)
+    writer.put(
+        alloc,
+        &[
+            Part::Number("index", i128::from(key.index)),
+            Part::Number("subIndex", i128::from(key.sub)),
+            Part::Number("bits", i128::from(word.number % 0x100)),
+            name_part(sections, key),
+        ],
+    )
 }
 
 // what a word of a mapping names, nothing if it is no number
-fn put_mapped_if(
+fn put_mapped_if<'p>(
     alloc: Global,
     writer: &mut JsonWriter,
-    sections: &[TextSection],
+    sections: &'p [TextSection<'p, 'p>],
     word: Option<Word>,
 ) -> Result<(), AllocError>
     ensures { OnOk result (writer.new ≡ writer.old
-        ++ option_map_or (mapped_members (map section_view sections.now)) word []) }
+        ++ option_map_or (mapped_members (map section_view sections.entry.now)) word []) }
 {
     match word {
         Some(word) => put_mapped_members(alloc, writer, sections, word),
@@ -77,33 +76,35 @@ fn put_mapped_if(
 }
 
 #[tactic(auto, unfolding(crate::specs::JsonForm::mapped_tokens))]
-fn put_mapped(
+fn put_mapped<'p>(
     alloc: Global,
     writer: &mut JsonWriter,
     node: Option<u8>,
-    sections: &[TextSection],
-    section: &TextSection<'_, '_>,
+    sections: &'p [TextSection<'p, 'p>],
+    section: &'p TextSection<'p, 'p>,
 ) -> Result<(), AllocError>
-    ensures { OnOk result (writer.new ≡ writer.old
-        ++ mapped_tokens node (map section_view sections.now) (section_view section.now)) }
+    ensures { OnOk result (writer.new ≡ writer.old ++ mapped_tokens node
+        (map section_view sections.entry.now) (section_view section.entry.now)) }
 {
-    writer.begin_object()?;
+    writer.put(alloc, &[Part::BeginObject])?;
     put_mapped_if(alloc, writer, sections, section_word(node, section))?;
-    put_words(alloc, writer, Meaning::Mapped, node, section)?;
-    writer.end_object()
+    writer.put(
+        alloc,
+        &[Part::Words(Meaning::Mapped, node, section), Part::EndObject],
+    )
 }
 
-fn put_if_counted(
+fn put_if_counted<'p>(
     alloc: Global,
     writer: &mut JsonWriter,
     node: Option<u8>,
-    sections: &[TextSection],
+    sections: &'p [TextSection<'p, 'p>],
     index: u16,
     count: u64,
-    section: &TextSection<'_, '_>,
+    section: &'p TextSection<'p, 'p>,
 ) -> Result<(), AllocError>
     ensures { OnOk result (writer.new ≡ writer.old ++ counted_tokens node
-        (map section_view sections.now) index count (section_view section.now)) }
+        (map section_view sections.entry.now) index count (section_view section.entry.now)) }
 {
     if is_counted(index, count, section.kind) {
         put_mapped(alloc, writer, node, sections, section)
@@ -114,15 +115,15 @@ fn put_if_counted(
 
 // what a PDO maps
 #[tactic(auto, unfolding(crate::specs::JsonForm::mapping_tokens))]
-fn put_mapping(
+fn put_mapping<'p>(
     alloc: Global,
     writer: &mut JsonWriter,
     node: Option<u8>,
-    sections: &[TextSection],
+    sections: &'p [TextSection<'p, 'p>],
     index: u16,
 ) -> Result<(), AllocError>
     ensures { OnOk result (writer.new ≡ writer.old
-        ++ mapping_tokens node (map section_view sections.now) index) }
+        ++ mapping_tokens node (map section_view sections.entry.now) index) }
 {
     let count = mapping_count(node, sections, index);
     for section in sections {
@@ -131,93 +132,72 @@ fn put_mapping(
     Ok(())
 }
 
-fn put_pdo_name(alloc: Global, writer: &mut JsonWriter, index: u16) -> Result<(), AllocError>
-    ensures { OnOk result (writer.new ≡ writer.old ++ text_member (codes "pdo") (pdo_name index)) }
+// the value of a sub-index, nothing if it isn't there
+#[tactic(auto, unfolding(crate::specs::JsonForm::said_at_member))]
+fn said_at<'p>(
+    name: &'static str,
+    meaning: Meaning,
+    node: Option<u8>,
+    sections: &'p [TextSection<'p, 'p>],
+    key: Key,
+) -> Part<'p>
+    ensures { part_tokens result
+        ≡ said_at_member name.now meaning node (map section_view sections.entry.now) key }
 {
-    let mut name = String::new(alloc);
-    push_pdo_name(&mut name, index)?;
-    writer.put_text("pdo", name.as_str())
+    match section_at(sections, SectionKind::SubIndex(key)) {
+        Some(section) => Part::Said(name, meaning, node, section),
+        None => Part::Nothing,
+    }
 }
 
-// the COB-ID, transmission type and timers of a PDO
-#[tactic(auto, unfolding(crate::specs::JsonForm::pdo_members))]
-fn put_pdo_members(
+fn put_pdo_tokens<'p>(
     alloc: Global,
     writer: &mut JsonWriter,
     node: Option<u8>,
-    sections: &[TextSection],
+    sections: &'p [TextSection<'p, 'p>],
     index: u16,
-    section: &TextSection<'_, '_>,
-) -> Result<(), AllocError>
-    ensures { OnOk result (writer.new ≡ writer.old
-        ++ pdo_members node (map section_view sections.now) index (section_view section.now)) }
-{
-    put_pdo_name(alloc, writer, index)?;
-    writer.put_number(alloc, "index", i128::from(index))?;
-    put_said(alloc, writer, "cobId", Meaning::PdoCobId, node, section)?;
-    let key = Key { index, sub: 2 };
-    put_said_at(
-        alloc,
-        writer,
-        "transmissionType",
-        Meaning::Transmission,
-        node,
-        sections,
-        key,
-    )?;
-    let key = Key { index, sub: 3 };
-    put_said_at(
-        alloc,
-        writer,
-        "inhibitTime",
-        Meaning::PdoInhibit,
-        node,
-        sections,
-        key,
-    )?;
-    let key = Key { index, sub: 5 };
-    put_said_at(
-        alloc,
-        writer,
-        "eventTimer",
-        Meaning::EventTimer,
-        node,
-        sections,
-        key,
-    )
-}
-
-#[tactic(auto, unfolding(crate::specs::JsonForm::pdo_tokens))]
-fn put_pdo_tokens(
-    alloc: Global,
-    writer: &mut JsonWriter,
-    node: Option<u8>,
-    sections: &[TextSection],
-    index: u16,
-    section: &TextSection<'_, '_>,
+    section: &'p TextSection<'p, 'p>,
 ) -> Result<(), AllocError>
     requires { index ≤ 0x1BFF }
-    ensures { OnOk result (writer.new ≡ writer.old
-        ++ pdo_tokens node (map section_view sections.now) index (section_view section.now)) }
+    ensures { OnOk result (writer.new ≡ writer.old ++ pdo_tokens node
+        (map section_view sections.entry.now) index (section_view section.entry.now)) }
 {
-    writer.begin_object()?;
-    put_pdo_members(alloc, writer, node, sections, index, section)?;
-    writer.begin_array_of("mapped")?;
+    let transmission = Key { index, sub: 2 };
+    let inhibit = Key { index, sub: 3 };
+    let timer = Key { index, sub: 5 };
+    writer.put(
+        alloc,
+        &[
+            Part::BeginObject,
+            Part::Pdo(index),
+            index_part(index),
+            Part::Said("cobId", Meaning::PdoCobId, node, section),
+            said_at(
+                "transmissionType",
+                Meaning::Transmission,
+                node,
+                sections,
+                transmission,
+            ),
+            said_at("inhibitTime", Meaning::PdoInhibit, node, sections, inhibit),
+            said_at("eventTimer", Meaning::EventTimer, node, sections, timer),
+            Part::Array("mapped"),
+        ],
+    )?;
     put_mapping(alloc, writer, node, sections, index + 0x200)?;
-    writer.end_array()?;
-    writer.end_object()
+    writer.put(alloc, &[Part::EndArray, Part::EndObject])
 }
 
 /// Appends a PDO, by the section of its COB-ID; nothing for any other section.
-pub(crate) fn put_pdo(
+pub(crate) fn put_pdo<'p>(
     alloc: Global,
     writer: &mut JsonWriter,
     node: Option<u8>,
-    sections: &[TextSection],
-    section: &TextSection<'_, '_>,
+    sections: &'p [TextSection<'p, 'p>],
+    section: &'p TextSection<'p, 'p>,
 ) -> Result<(), AllocError>
     ensures { OnOk result (writer.new ≡ writer.old
-        ++ pdo_of node (map section_view sections.now) (section_view section.now)) }
+        ++ pdo_of node (map section_view sections.entry.now) (section_view section.entry.now)) }
 {
     match section.kind {
         SectionKind::SubIndex(key) if is_pdo_cob_id(key) => {

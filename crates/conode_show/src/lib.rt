@@ -6,7 +6,6 @@ mod json_entries;
 mod json_form;
 mod json_pdos;
 mod json_services;
-mod json_words;
 mod json_writer;
 mod retyped;
 mod shown_file;

@@ -1,4 +1,4 @@
-use Rattle.std.proofs.Common.{◌≡◌, List, ℕ, ap, sym, ◌∙◌, map}
+use Rattle.std.proofs.Common.{◌≡◌, List, ℕ, refl, ap, sym, ◌∙◌, map}
 use Rattle.co_sheet_changes.specs.Pieces.{Piece, piece_view}
 use Rattle.co_sheet_changes.specs.Requested.{has_changes}
 use Rattle.conode_adapt.specs.Written.{forced_text, orders_view, sheet_of}
@@ -10,10 +10,12 @@ returns-clause-sheet c =
     let orders = orders_view c.args.orders in
     let read = read_same orders c.args.text.now _ _ c.zeros_request.ensures c.in_ok-read.ensures.text in
     let forced = forced_same orders c.args.text.now _ _ _ c.force_request.ensures (c.as_slice.ensures.value ∙ read) c.in_ok-forced.ensures.text in
-    sheet_same c.args.version.now c.args.name.now orders c.args.text.now _ _ _ (c.as_slice-3.ensures.value ∙ c.in_ok-by.ensures) (c.as_slice-2.ensures.value ∙ forced) c.in_ok-adapted.ensures.text
+    c.in_ok-outcome.ensures.sheet
+    ∙ sheet_same c.args.version.now c.args.name.now orders c.args.text.now _ _ _ refl (c.as_slice-2.ensures.value ∙ forced) c.in_ok-adapted.ensures.text
 
 pub returns-clause-accepted : goal.returns-clause-accepted
-returns-clause-accepted c = accepted_sheet _ _ _ (returns-clause-sheet c) c.in_ok-adapted.ensures.accepted
+returns-clause-accepted c =
+    accepted_sheet _ _ _ (sym c.in_ok-outcome.ensures.sheet ∙ returns-clause-sheet c) (c.in_ok-outcome.ensures.accepted ∙ c.in_ok-adapted.ensures.accepted)
 
 pub returns-clause-changes : goal.returns-clause-changes
 returns-clause-changes c =
@@ -21,13 +23,10 @@ returns-clause-changes c =
     let text = c.args.text.now in
     let read = c.as_slice.ensures.value ∙ read_same orders text _ _ c.zeros_request.ensures c.in_ok-read.ensures.text in
     let forced = c.as_slice-2.ensures.value ∙ forced_same orders text _ _ _ c.force_request.ensures read c.in_ok-forced.ensures.text in
-    let read_pieces = ap (map piece_view) c.as_slice-4.ensures.value ∙ c.in_ok-read.ensures.pieces in
-    let forced_pieces = ap (map piece_view) c.as_slice-5.ensures.value ∙ c.in_ok-forced.ensures.pieces in
-    let pieces = ap (map piece_view) c.as_slice-6.ensures.value ∙ c.in_ok-adapted.ensures.pieces in
-    let stays = stays_same c.as_slice-2.result.now c.stays_with.result c.in_ok-adapted.adapted.stays c.in_ok-read.read.has_changes c.in_ok-forced.forced.has_changes
-    (map piece_view c.as_slice-4.result.now) (map piece_view c.as_slice-5.result.now) c.stays_with.ensures c.in_ok-adapted.ensures.stays
-    (c.in_ok-read.ensures.changes ∙ ap has_changes (sym read_pieces)) (c.in_ok-forced.ensures.changes ∙ ap has_changes (sym forced_pieces)) in
-    c.in_ok-changes.ensures
-    ∙ changes_same c.args.name.now orders text c.as_slice-2.result.now c.stays_with.result (map piece_view c.as_slice-4.result.now) (map piece_view c.as_slice-5.result.now)
-    (map piece_view c.as_slice-6.result.now) forced (read_pieces_same orders text _ _ c.zeros_request.ensures read_pieces)
-    (forced_pieces_same orders text _ _ _ c.force_request.ensures read forced_pieces) stays pieces
+    let stays = stays_same c.as_slice-2.result.now _ c.in_ok-adapted.adapted.stays c.in_ok-read.read.has_changes c.in_ok-forced.forced.has_changes
+    (map piece_view c.in_ok-read.read.pieces.items) (map piece_view c.in_ok-forced.forced.pieces.items) refl c.in_ok-adapted.ensures.stays
+    (c.in_ok-read.ensures.changes ∙ ap has_changes (sym c.in_ok-read.ensures.pieces)) (c.in_ok-forced.ensures.changes ∙ ap has_changes (sym c.in_ok-forced.ensures.pieces)) in
+    c.in_ok-outcome.ensures.changes
+    ∙ changes_same c.args.name.now orders text c.as_slice-2.result.now _ (map piece_view c.in_ok-read.read.pieces.items) (map piece_view c.in_ok-forced.forced.pieces.items)
+    (map piece_view c.in_ok-adapted.adapted.pieces.items) forced (read_pieces_same orders text _ _ c.zeros_request.ensures c.in_ok-read.ensures.pieces)
+    (forced_pieces_same orders text _ _ _ c.force_request.ensures read c.in_ok-forced.ensures.pieces) stays c.in_ok-adapted.ensures.pieces
