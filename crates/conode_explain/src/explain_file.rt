@@ -85,8 +85,27 @@ fn originals_in(alloc: Global, text: &[u8]) -> Result<Originals, SheetFault> {
     }
 }
 
-// Explains the recording of a path by data sheets, if they have all signals.
-#[tactic(auto, using(crate::proofs::WriteLemmas::or_two, crate::proofs::WriteLemmas::one_or_two))]
+// explains the recording of a path by data sheets that are known, if they have all signals
+#[tactic(auto, using(crate::proofs::WriteLemmas::or_two))]
+fn explain_known<R: Files + AllocGlobal + Input, O: Write, E: Write>(
+    rt: &R,
+    path: &str,
+    settings: &Settings<'_, '_, '_, '_>,
+    out: &mut O,
+    err: &mut E,
+) -> ExitCode
+    ensures { (exit_status result ≡ 0) ⊎ ((exit_status result ≡ 1) ⊎ (exit_status result ≡ 2)) }
+{
+    if let Some(signal) = first_missing(settings.sheets, settings.form.signals) {
+        let (node, key) = (signal.node, signal.key);
+        let _ = writeln!(err, "--signal: no data sheet has {key} of node {node}");
+        return ExitCode::from(2);
+    }
+    explain_path(rt, path, settings, out, err)
+}
+
+// explains the recording of a path by data sheets
+#[tactic(auto, using(crate::proofs::WriteLemmas::one_or_two))]
 fn explain_by<R: Files + AllocGlobal + Input, O: Write, E: Write>(
     rt: &R,
     path: &str,
@@ -97,17 +116,14 @@ fn explain_by<R: Files + AllocGlobal + Input, O: Write, E: Write>(
 ) -> ExitCode
     ensures { (exit_status result ≡ 0) ⊎ ((exit_status result ≡ 1) ⊎ (exit_status result ≡ 2)) }
 {
-    let Ok(known) = known_sheets(rt.alloc(), sheets) else {
-        return stopped(CmdFault::Memory, out, err).status();
-    };
-    let sheets = known.as_slice();
-    if let Some(signal) = first_missing(sheets, form.signals) {
-        let (node, key) = (signal.node, signal.key);
-        let _ = writeln!(err, "--signal: no data sheet has {key} of node {node}");
-        return ExitCode::from(2);
+    match known_sheets(rt.alloc(), sheets) {
+        Ok(known) => {
+            let sheets = known.as_slice();
+            let settings = Settings { form, sheets };
+            explain_known(rt, path, &settings, out, err)
+        }
+        Err(_) => stopped(CmdFault::Memory, out, err).status(),
     }
-    let settings = Settings { form, sheets };
-    explain_path(rt, path, &settings, out, err)
 }
 
 // a data sheet, and its original data types
