@@ -10,7 +10,7 @@ use Rattle.conode_stats_counts.specs.declared.node.Shown.{Shown}
 use Rattle.conode_stats_counts.specs.declared.state.NmtState.TheVariants.{Stopped}
 use Rattle.conode_stats_counts.specs.declared.state.StateTimes.{StateTimes}
 use Rattle.conode_stats_text.specs.Cells.{seconds, thousandths}
-use Rattle.conode_stats_text.specs.NodeLines.{answer_of, millis_of, node_in, node_line, restart_line, restarts_in, time_cells}
+use Rattle.conode_stats_text.specs.NodeLines.{answer_of, count_cells, millis_of, node_in, node_line, restart_line, restarts_in, time_cells}
 use Rattle.conode_stats_text.specs.NodeTokens.{count_members, heartbeat_members, node_tokens, state_members, time_members, times_tokens, tokens_in}
 use Rattle.conode_stats_text.specs.Paces.{median}
 use Rattle.conode_stats_text.specs.StatsTokens.{number_member, text_member}
@@ -59,12 +59,12 @@ no_restart = refl
 
 row : node_in (codes "can0") 41000000 127 (node 2)
     ≡ codes "can0                  127            3           2        0.001              2.000         30.000        0.000        0.005              1.200  stopped\n"
-unfolding node_line time_cells thousandths digits_text digits
+unfolding node_line count_cells time_cells thousandths digits_text digits
 row = refl
 
 server_row : node_in (codes "can0") 41000000 7 (server (Some 250))
     ≡ codes "can0                    7            3           0        0.001              2.000         30.000        0.000        0.005              0.250  -\n"
-unfolding node_line time_cells thousandths digits_text digits
+unfolding node_line count_cells time_cells thousandths digits_text digits
 server_row = refl
 
 no_row : node_in (codes "can0") 41000000 127 (server None) ≡ []

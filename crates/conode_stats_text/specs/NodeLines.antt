@@ -51,11 +51,18 @@ abbrev pub shown_word : Option Shown → List ℕ
 shown_word None = codes "-"
 shown_word (Some last) = state_word last.state
 
+unfoldable pub count_cells : List ℕ → ℕ → Node → List ℕ
+count_cells interface number node =
+    left 15 (name_text interface) ++ codes "  " ++ right 8 (decimal number) ++ right 13 (decimal node.boot_ups) ++ right 12 (decimal node.restarts)
+
+abbrev pub answer_cell : ℕ → Option ℕ → List ℕ
+answer_cell end answer = right 19 (or_none thousandths (answer_of end answer))
+
 -- the line of a node on an interface whose last frame has a stamp
 unfoldable pub node_line : List ℕ → ℕ → ℕ → Node → List ℕ
 node_line interface end number node =
-    left 15 (name_text interface) ++ codes "  " ++ right 8 (decimal number) ++ right 13 (decimal node.boot_ups) ++ right 12 (decimal node.restarts)
-    ++ time_cells end node.times ++ right 19 (or_none thousandths (answer_of end node.longest_answer)) ++ codes "  " ++ shown_word node.last ++ codes "\n"
+    count_cells interface number node ++ time_cells end node.times ++ answer_cell end node.longest_answer
+    ++ codes "  " ++ shown_word node.last ++ codes "\n"
 
 -- whether a node sent a frame of error control, or an answer
 abbrev pub is_shown : Node → Bool

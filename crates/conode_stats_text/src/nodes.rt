@@ -3,7 +3,9 @@
 
 ghost use Rattle.std.specs.Prelude.{◌≡◌, ◌++◌, ◌/◌, OnOk, string_bytes};
 ghost use Rattle.conode_stats_text.specs.NodeLines.{
+  answer_cell,
   answer_of,
+  count_cells,
   is_shown,
   millis_of,
   node_in,
@@ -123,6 +125,38 @@ fn shown_word(last: Option<Shown>) -> &'static str
     }
 }
 
+#[tactic(auto, unfolding(crate::specs::NodeLines::count_cells))]
+fn push_counts(
+    text: &mut String,
+    cell: &mut String,
+    interface: &[u8],
+    number: u32,
+    node: &Node,
+) -> Result<(), AllocError>
+    ensures { OnOk result (string_bytes text.new
+        ≡ string_bytes text.old ++ count_cells interface.now number node.now) }
+{
+    set_name(cell, interface)?;
+    push_left(text, 15, cell.as_str())?;
+    push_words(text, "  ")?;
+    push_right(text, 8, decimal_digits(u64::from(number)).as_str())?;
+    push_right(text, 13, decimal_digits(node.boot_ups).as_str())?;
+    push_right(text, 12, decimal_digits(node.restarts).as_str())
+}
+
+fn push_answer(
+    text: &mut String,
+    cell: &mut String,
+    end: u64,
+    answer: Option<u64>,
+) -> Result<(), AllocError>
+    ensures { OnOk result (string_bytes text.new
+        ≡ string_bytes text.old ++ answer_cell end answer) }
+{
+    set_thousandths(cell, answer_of(end, answer))?;
+    push_right(text, 19, cell.as_str())
+}
+
 #[tactic(auto, unfolding(crate::specs::NodeLines::node_line))]
 fn push_node_line(
     text: &mut String,
@@ -135,15 +169,9 @@ fn push_node_line(
     ensures { OnOk result (string_bytes text.new
         ≡ string_bytes text.old ++ node_line interface.now end number node.now) }
 {
-    set_name(cell, interface)?;
-    push_left(text, 15, cell.as_str())?;
-    push_words(text, "  ")?;
-    push_right(text, 8, decimal_digits(u64::from(number)).as_str())?;
-    push_right(text, 13, decimal_digits(node.boot_ups).as_str())?;
-    push_right(text, 12, decimal_digits(node.restarts).as_str())?;
+    push_counts(text, cell, interface, number, node)?;
     push_times(text, cell, end, &node.times)?;
-    set_thousandths(cell, answer_of(end, node.longest_answer))?;
-    push_right(text, 19, cell.as_str())?;
+    push_answer(text, cell, end, node.longest_answer)?;
     push_words(text, "  ")?;
     push_words(text, shown_word(node.last))?;
     push_words(text, "\n")
