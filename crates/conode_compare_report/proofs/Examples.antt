@@ -473,7 +473,7 @@ abbrev one_frame : Kept
 one_frame = with_frame rows empty_report 9000 (frame.Control 5) (before PreOperational None None role.Other) Operational nothing_found
 
 frame_begins : one_frame.begin ≡ Some 9000
-unfolding with_frame
+unfolding with_frame nothing_kept
 frame_begins = refl
 
 frame_is_covered : one_frame.coverage.states ≡ record no_states { operational = true }
