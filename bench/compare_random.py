@@ -15,7 +15,9 @@ COUNT = int(sys.argv[1]) if len(sys.argv) > 1 else 400
 SEED = int(sys.argv[2]) if len(sys.argv) > 2 else random.randrange(10**6)
 PROGRAM = sys.argv[3].split() if len(sys.argv) > 3 else ["bin/conode"]
 
-SHEETS = [("examples/temperature-sensor.eds", 5), ("examples/io-module.eds", 8)]
+# with what each device keeps of what is written
+SHEETS = [("examples/temperature-sensor.eds", 5, "1017:00,2000:00,2010:00")]
+SHEETS += [("examples/io-module.eds", 8, "1014:00,1015:00,1017:00,1800:01,1800:02,1A00:00,2001:00")]
 KEYS = [(0x1000, 0), (0x1001, 0), (0x1003, 0), (0x1008, 0), (0x1014, 0), (0x1015, 0), (0x1017, 0), (0x1018, 0), (0x1018, 1)]
 KEYS += [(0x1800, 1), (0x1800, 2), (0x1A00, 0), (0x2000, 0), (0x2001, 1), (0x1234, 0)]
 
@@ -77,11 +79,12 @@ def main():
     with tempfile.TemporaryDirectory() as folder:
         for number in range(COUNT):
             it = random.Random(SEED * 1_000_000 + number)
-            sheet, node = it.choice(SHEETS)
+            sheet, node, held = it.choice(SHEETS)
             file = f"{folder}/session.log"
             with open(file, "w", encoding="ascii") as recorded:
                 recorded.write("\n".join(recording(it, sheet, node, folder)) + "\n")
-            ran = subprocess.run([*PROGRAM, "compare", sheet, file, "--node", str(node)], capture_output=True, text=True, check=False)
+            words = [*PROGRAM, "compare", sheet, file, "--node", str(node), "--held", held]
+            ran = subprocess.run(words, capture_output=True, text=True, check=False)
             if ran.returncode:
                 different += 1
                 print(f"session {number} of seed {SEED}: status {ran.returncode}\n{ran.stdout}{ran.stderr}")

@@ -1,3 +1,4 @@
+pub mod MaybePlaces
 pub mod Channels
 pub mod Banks
 pub mod Events

@@ -5,5 +5,6 @@
 mod bank;
 mod channels;
 mod laws;
+mod maybe_place;
 
 pub use bank::Bank;

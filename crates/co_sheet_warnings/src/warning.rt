@@ -3,7 +3,7 @@
 use crate::known_key::KnownKey;
 
 /// What is suspicious (CiA 306-1, CiA 301).
-#[derive(Clone, Copy, Debug, PartialEq, Eq)]
+#[derive(Clone, Copy)]
 pub enum WarningKind {
     /// SubNumber isn't the number of the object's sub-index sections.
     SubNumber,
@@ -58,7 +58,7 @@ pub enum WarningKind {
 }
 
 /// What is suspicious, and where.
-#[derive(Clone, Copy, Debug, PartialEq, Eq)]
+#[derive(Clone, Copy)]
 pub struct Warning {
     pub kind: WarningKind,
     /// From 1; 0 where no line is to blame.

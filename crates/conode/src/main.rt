@@ -244,13 +244,13 @@ fn carry_out_task<O: Write, E: Write>(
         }
         Task::Stats {
             trace,
-            sheet,
+            sheets,
             bit_rate,
             lines_as,
             form,
         } => {
             let words = StatsWords {
-                sheet,
+                sheets: sheets.as_slice(),
                 bit_rate,
                 json: lines_as == LinesAs::Json,
                 log: recorded_form(form),
@@ -262,6 +262,9 @@ fn carry_out_task<O: Write, E: Write>(
             trace,
             node,
             interface,
+            held,
+            choices,
+            learned,
             form,
             report_as,
             timing,
@@ -276,7 +279,10 @@ fn carry_out_task<O: Write, E: Write>(
                 node,
                 limits,
                 interface,
+                held,
                 form: recorded_form(form),
+                choices,
+                learned,
                 format: compared_format(report_as),
                 version: version(),
             };

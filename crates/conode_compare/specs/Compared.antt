@@ -22,29 +22,34 @@ use Rattle.conode_record.specs.declared.line.Record.{Record}
 use Rattle.conode_record.specs.declared.line.RecordLine.{RecordLine}
 use Rattle.conode_record.specs.declared.line.RecordLine.TheVariants.{Skipped, Frame}
 use Rattle.conode_compare_rules.specs.declared.finding.Finding.{Finding}
-use Rattle.conode_compare_rules.specs.declared.finding.Finding.TheVariants.{Value}
+use Rattle.conode_compare_rules.specs.declared.finding.Finding.TheVariants.{Value, Held}
 use Rattle.conode_compare_values.specs.declared.mismatch.Mismatch.TheVariants.{ValueConst}
 use Rattle.conode_compare_rules.specs.declared.limits.Subject.{Subject}
 use Rattle.conode_compare_rules.specs.declared.verdict.Findings.{Findings}
 use Rattle.conode_compare_rules.specs.declared.kind.FrameKind.{FrameKind}
 use Rattle.conode_compare_rules.specs.declared.progress.Progress.{Progress}
 use Rattle.conode_compare_rules.specs.FrameKinds.{kind_of}
-use Rattle.conode_compare_rules.specs.Progresses.{before_recording, findings_at, progress_with}
+use Rattle.conode_compare_rules.specs.Progresses.{before_recording, findings_at, is_number_kept, progress_with}
 use Rattle.conode_compare_text.specs.FindingTexts.{finding_line}
 use Rattle.conode_compare_text.specs.Tallies.{no_frames, tally_with}
 use Rattle.conode_compare_report.specs.Befores.{before_at}
-use Rattle.conode_compare_report.specs.Reports.{with_bad_line, with_finding, with_frame, with_line}
+use Rattle.conode_compare_report.specs.declared.kind.Kind.TheVariants.{ValueHeld}
+use Rattle.conode_compare_report.specs.Reports.{with_bad_line, with_finding, with_frame, with_line, with_passed}
 use Rattle.conode_compare_report.specs.Views.{Kept}
 use Rattle.conode_compare.specs.declared.comparing.Comparing.{Comparing}
+use Rattle.conode_compare.specs.Noted.{choice_lines, noted_choice, nothing_noted, notes_with}
 
 -- what is compared: a device, the entries of its data sheet, the codes of their original data types
--- by the line of their sections, the name of the recording, and the interface, if it is named
+-- by the line of their sections, the name of the recording, the interface, if it is named, and
+-- whether choices and the values of entries are noted
 pub record Comparison : Type 0 where
   pub subject : Subject
   pub rows : List Row
   pub originals : ℕ → Option (List ℕ)
   pub recording : List ℕ
   pub interface : Option (List ℕ)
+  pub choices : Bool
+  pub learned : Bool
 
 -- ---- lines
 
@@ -55,6 +60,7 @@ type_at c key = option_map_or (λ row. type_of (c.originals row.line) row.data_t
 -- the data type in which the values of a difference are shown
 abbrev pub shown_type : Comparison → Finding → ValueType
 shown_type c (Value (ValueConst key shown held)) = type_at c key
+shown_type c (Held mismatch) = type_at c mismatch.key
 shown_type c finding = Plain Unsigned32
 
 abbrev pub listed : Comparison → ℕ → Option Finding → List (List ℕ)
@@ -83,10 +89,15 @@ frame_noted c progress micros kind kept =
     with_frame c.rows kept micros kind (before_at kept.rpdos progress kind) (progress_with c.subject progress micros kind).nmt.state
     (findings_at c.subject c.rows progress micros kind)
 
+-- an upload of an entry that is held shows the number that was written
+abbrev pub number_noted : Comparison → Progress → Kept → Kept
+number_noted c after kept = if is_number_kept c.subject after then with_passed kept ValueHeld else kept
+
 -- and its differences
 abbrev pub kind_noted : Comparison → Progress → ℕ → FrameKind → Kept → Kept
 kind_noted c progress micros kind kept =
-    findings_noted c micros (findings_at c.subject c.rows progress micros kind) (frame_noted c progress micros kind kept)
+    findings_noted c micros (findings_at c.subject c.rows progress micros kind)
+    (number_noted c (progress_with c.subject progress micros kind) (frame_noted c progress micros kind kept))
 
 -- ---- frames
 
@@ -97,6 +108,7 @@ nothing_compared subject report = record {
   tally = no_frames;
   first = record { items = [] };
   several = false;
+  notes = nothing_noted;
   report = report;
 }
 
@@ -107,26 +119,49 @@ is_first first = length first == 0
 abbrev pub is_compared : Option (List ℕ) → List ℕ → List ℕ → Bool
 is_compared interface first name = option_map_or (λ wanted. bytes_eq wanted name) interface (is_first first || bytes_eq first name)
 
-abbrev pub found_at : Comparison → Comparing → Record → Findings
-found_at c so_far frame = findings_at c.subject c.rows so_far.progress frame.micros (kind_of c.subject.node frame.id frame.content)
+-- by what the frame is to the device
+abbrev pub found_at : Comparison → Comparing → Record → FrameKind → Findings
+found_at c so_far frame kind = findings_at c.subject c.rows so_far.progress frame.micros kind
+
+abbrev pub progress_at : Comparison → Comparing → Record → FrameKind → Progress
+progress_at c so_far frame kind = progress_with c.subject so_far.progress frame.micros kind
+
+-- its differences, then what the device chose with it
+unfoldable pub taken_lines : Comparison → ℕ → Comparing → Record → FrameKind → List (List ℕ)
+taken_lines c number so_far frame kind =
+    findings_lines c number (found_at c so_far frame kind)
+    ++ choice_lines c.recording number (noted_choice c.choices kind (progress_at c so_far frame kind).exchange)
+
+abbrev pub kind_at : Comparison → Record → FrameKind
+kind_at c frame = kind_of c.subject.node frame.id frame.content
 
 -- no line is written where a document is wanted
 abbrev pub frame_lines : Comparison → ℕ → Comparing → Record → List (List ℕ)
 frame_lines c number so_far frame =
     if is_compared c.interface so_far.first.items frame.interface && is_none so_far.report
-    then findings_lines c number (found_at c so_far frame) else []
+    then taken_lines c number so_far frame (kind_at c frame) else []
 
 abbrev pub first_with : ArrayVec ℕ → List ℕ → ArrayVec ℕ
 first_with first name = if is_first first.items then record { items = name } else first
 
-unfoldable pub frame_taken : Comparison → Comparing → Record → Comparing
-frame_taken c so_far frame = record {
-  progress = progress_with c.subject so_far.progress frame.micros (kind_of c.subject.node frame.id frame.content);
-  tally = tally_with so_far.tally (found_at c so_far frame).verdict;
+unfoldable pub frame_taken : Comparison → Comparing → Record → FrameKind → Comparing
+frame_taken c so_far frame kind = record {
+  progress = progress_at c so_far frame kind;
+  tally = tally_with so_far.tally (found_at c so_far frame kind).verdict;
   first = first_with so_far.first frame.interface;
   several = so_far.several;
-  report = option_map (kind_noted c so_far.progress frame.micros (kind_of c.subject.node frame.id frame.content)) so_far.report;
+  notes = so_far.notes;
+  report = option_map (kind_noted c so_far.progress frame.micros kind) so_far.report;
 }
+
+-- with what is noted beside differences, in lines; a document has none of it
+unfoldable pub with_notes : Comparison → Comparing → Record → FrameKind → Comparing
+with_notes c so_far frame kind =
+    if is_none so_far.report
+    then record (frame_taken c so_far frame kind) {
+      notes = notes_with c.choices c.learned c.rows so_far.notes kind (progress_at c so_far frame kind).exchange;
+    }
+    else frame_taken c so_far frame kind
 
 -- where none is named, there is another one
 abbrev pub other_seen : Option (List ℕ) → Comparing → Comparing
@@ -134,7 +169,7 @@ other_seen interface so_far = record so_far { several = so_far.several || is_non
 
 abbrev pub frame_with : Comparison → Comparing → Record → Comparing
 frame_with c so_far frame =
-    if is_compared c.interface so_far.first.items frame.interface then frame_taken c so_far frame else other_seen c.interface so_far
+    if is_compared c.interface so_far.first.items frame.interface then with_notes c so_far frame (kind_at c frame) else other_seen c.interface so_far
 
 -- ---- lines of the recording
 

@@ -1,9 +1,8 @@
--- What is written at the end of a comparison: its last line, or its document.
+-- What is written at the end of a comparison: its last lines, or its document.
 use Rattle.std.specs.Prelude.{ℕ, List, [], ◌∷◌, ◌++◌, Option, Some, None}
 use Rattle.co_value.specs.declared.key.Key.{Key}
 use Rattle.conode_logs.specs.declared.log.Form.{Form}
 use Rattle.conode_compare_pdos.specs.SheetNumbers.{preset_at}
-use Rattle.conode_compare_text.specs.Tallies.{summary}
 use Rattle.conode_compare_report.specs.Abouts.{Described}
 use Rattle.conode_compare_report.specs.Reports.{nothing_kept}
 use Rattle.conode_compare_report.specs.Views.{Kept}
@@ -14,6 +13,7 @@ use Rattle.conode_compare.specs.declared.comparing.Comparing.{Comparing}
 use Rattle.conode_compare.specs.declared.document.Format.{Format}
 use Rattle.conode_compare.specs.declared.document.Format.TheVariants.{Text, Json, JUnit, Html}
 use Rattle.conode_compare.specs.Compared.{Comparison, compared, comparing_after}
+use Rattle.conode_compare.specs.LastLines.{last_lines}
 
 -- what is kept for a document of this format; none for text
 abbrev pub kept_for : Format → Comparison → Option Kept
@@ -50,13 +50,14 @@ described c version sheet comparing = record {
   several = comparing.several;
 }
 
-abbrev pub end_of : Format → Comparison → List ℕ → List ℕ → Comparing → Option Kept → List ℕ
-end_of format c version sheet comparing None = summary c.subject.node comparing.tally
-end_of format c version sheet comparing (Some kept) = document format (described c version sheet comparing) kept
+-- the last lines, or the document
+abbrev pub end_lines : Format → Comparison → List ℕ → List ℕ → Comparing → Option Kept → List (List ℕ)
+end_lines format c version sheet comparing None = last_lines c comparing
+end_lines format c version sheet comparing (Some kept) = document format (described c version sheet comparing) kept ∷ []
 
--- all that is written of a recording: the lines of its differences, then the last line or the
+-- all that is written of a recording: the lines of its differences, then the last lines or the
 -- document
 abbrev pub output : Format → Comparison → List ℕ → List ℕ → Form → List ℕ → List (List ℕ)
 output format c version sheet form text =
     let comparing = comparing_after c form (kept_for format c) text in
-    compared c form (kept_for format c) text ++ end_of format c version sheet comparing comparing.report ∷ []
+    compared c form (kept_for format c) text ++ end_lines format c version sheet comparing comparing.report

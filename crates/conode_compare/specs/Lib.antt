@@ -1,5 +1,7 @@
 pub mod Compared
 pub mod Documents
+pub mod LastLines
+pub mod Noted
 pub mod Taking
 pub mod Verdicts
 pub mod Views

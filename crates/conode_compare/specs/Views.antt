@@ -13,4 +13,6 @@ comparison_view settings = record {
   originals = text_at settings.originals.now;
   recording = settings.recording.now;
   interface = option_copied settings.interface;
+  choices = settings.choices;
+  learned = settings.learned;
 }

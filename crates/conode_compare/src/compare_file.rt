@@ -1,27 +1,27 @@
 //! The file of a recording, compared with the data sheet of a device.
 
 ghost use Rattle.std.specs.Prelude.{◌≡◌, ◌⊎◌, ◌≤◌, length, true, OnOk, IfSome};
-ghost use Rattle.std.specs.Io.KnownBytes.{Appends};
 ghost use Rattle.std.specs.List.{AllPairs};
 ghost use Rattle.std.specs.Process.{exit_status};
 ghost use Rattle.co_value.specs.Keys.{is_key_before};
 ghost use Rattle.conode_io.specs.Written.{WritesLines};
-ghost use Rattle.conode_compare_text.specs.Tallies.{summary};
-ghost use Rattle.conode_compare.specs.Documents.{end_of, output};
+ghost use Rattle.conode_compare.specs.Documents.{end_lines, output};
 ghost use Rattle.conode_compare.specs.Views.{comparison_view};
 ghost use Rattle.conode_compare.specs.Verdicts.{no_frame, verdict_status};
 
 use crate::compared::compare;
 use crate::comparing::Comparing;
 use crate::document::{Format, Wanted, about_of, new_report, write_document};
+use crate::last_lines::write_last_lines;
 use crate::writes::Settings;
-use co_sheet::{Sheet, read};
+use co_sheet::{EntryRow, Sheet, read};
 use co_sheet_changes::Originals;
+use conode_compare_held::{HeldEntries, HeldFault};
 use conode_compare_rules::{Limits, Subject, facts_of};
-use conode_compare_text::{Tally, set_summary};
+use conode_compare_text::Tally;
 use conode_io::{
-    CmdFault, cannot_read, faulty_sheet, file_text, flushed, hand_over, no_node_id, no_text,
-    out_of_memory, stopped,
+    CmdFault, cannot_read, faulty_sheet, file_text, flushed, no_node_id, no_text, out_of_memory,
+    stopped,
 };
 use conode_logs::Form;
 use std::alloc::Global;
@@ -45,8 +45,15 @@ pub struct Asked<'s> {
     pub limits: Limits,
     /// The interface whose frames are compared; `None`: the only one that there is.
     pub interface: Option<&'s str>,
+    /// The keys of the entries that are held to what was written, with a comma between two; `None`:
+    /// none.
+    pub held: Option<&'s str>,
     /// In which form the log is.
     pub form: Form,
+    /// Whether choices have lines, and are counted in the last line.
+    pub choices: bool,
+    /// Whether the values of entries have lines after that.
+    pub learned: bool,
     /// How the comparison is written.
     pub format: Format,
     /// The version of the program, for a document.
@@ -90,21 +97,8 @@ fn say_why<E: Write>(node: u8, tally: Tally, several: bool, err: &mut E) {
     }
 }
 
-// writes the last line
-fn write_summary<O: Write>(
-    alloc: Global,
-    node: u8,
-    tally: Tally,
-    out: &mut O,
-) -> Result<(), CmdFault>
-    ensures { OnOk result (Appends (O.contents out.old) (O.contents out.new) (summary node tally)) }
-{
-    let mut text = String::new(alloc);
-    set_summary(&mut text, node, tally)?;
-    hand_over(text.as_bytes(), out)
-}
-
-// writes the last line, or the document
+// writes the last lines, or the document
+#[tactic(auto, using(conode_io::proofs::WriteLemmas::line_alone))]
 fn write_end<O: Write>(
     alloc: Global,
     settings: &Settings<'_, '_>,
@@ -113,8 +107,8 @@ fn write_end<O: Write>(
     out: &mut O,
 ) -> Result<(), CmdFault>
     requires { AllPairs (λ e f. is_key_before e.key f.key ≡ true) settings.now.rows.now }
-    ensures { OnOk result (Appends (O.contents out.old) (O.contents out.new)
-        (end_of wanted.now.format (comparison_view settings.now) wanted.now.version.now
+    ensures { OnOk result (WritesLines (O.contents out.old) (O.contents out.new)
+        (end_lines wanted.now.format (comparison_view settings.now) wanted.now.version.now
         wanted.now.sheet.now comparing.now comparing.now.report)) }
 {
     match comparing.report() {
@@ -122,10 +116,7 @@ fn write_end<O: Write>(
             let about = about_of(settings, wanted, comparing);
             write_document(alloc, wanted.format, &about, report, out)
         }
-        None => {
-            let (tally, _) = comparing.ends();
-            write_summary(alloc, settings.subject.node, tally, out)
-        }
+        None => write_last_lines(alloc, settings, comparing, out),
     }
 }
 
@@ -210,6 +201,31 @@ fn compare_path<R: Files + AllocGlobal + Input, O: Write, E: Write>(
     }
 }
 
+// the entries that are held to what was written
+fn held_entries(rows: &[EntryRow<'_>], keys: Option<&str>) -> Result<HeldEntries, HeldFault>
+    requires { AllPairs (λ e f. is_key_before e.key f.key ≡ true) rows.now }
+{
+    match keys {
+        Some(keys) => HeldEntries::read(rows, keys.as_bytes()),
+        None => Ok(HeldEntries::none()),
+    }
+}
+
+// says on `err` what is wrong with the word that names them
+fn bad_keys<E: Write>(fault: HeldFault, err: &mut E) -> ExitCode
+    ensures { exit_status result ≡ 2 }
+{
+    let _ = match fault {
+        HeldFault::Word => writeln!(err, "--held: keys are wanted, as 2001:00,2010:00"),
+        HeldFault::Entry(key) => writeln!(
+            err,
+            "--held: the data sheet has no integer of up to four bytes at {key}"
+        ),
+        HeldFault::TooMany => writeln!(err, "--held: more than 64 keys"),
+    };
+    ExitCode::from(NOT_COMPARED)
+}
+
 // compares the recording of a path with a data sheet, whose entries have these original data types
 fn compare_sheet<R: Files + AllocGlobal + Input, O: Write, E: Write>(
     rt: &R,
@@ -226,11 +242,16 @@ fn compare_sheet<R: Files + AllocGlobal + Input, O: Write, E: Write>(
         return no_node_id(err);
     };
     let rows = sheet.entries();
+    let held = match held_entries(rows, asked.held) {
+        Ok(held) => held,
+        Err(fault) => return bad_keys(fault, err),
+    };
     let configured = sheet.node_id().is_some();
     let subject = Subject {
         node,
         limits: asked.limits,
         facts: facts_of(rows, node, configured),
+        held,
     };
     let interface = match asked.interface {
         Some(name) => Some(name.as_bytes()),
@@ -242,6 +263,8 @@ fn compare_sheet<R: Files + AllocGlobal + Input, O: Write, E: Write>(
         originals,
         recording: paths.recording,
         interface,
+        choices: asked.choices,
+        learned: asked.learned,
     };
     let wanted = Wanted {
         format: asked.format,
@@ -275,9 +298,10 @@ fn compare_text<R: Files + AllocGlobal + Input, O: Write, E: Write>(
 
 /// Compares the recording of a path, or of standard input where that is `-`, with the data sheet of
 /// a path: each difference has a line on `out`, and the last line counts the device's frames by
-/// verdict; or there is one document, by the format that is asked for. The status is 0 where there is no difference, 1 where there is one, and 2 where nothing
-/// can be compared: a file that can't be read, a sheet with a fault, no node-ID, no frame of the
-/// node, frames of several interfaces and none of them named.
+/// verdict; or there is one document, by the format that is asked for. The status is 0 where there
+/// is no difference, 1 where there is one, and 2 where nothing can be compared: a file that can't be
+/// read, a sheet with a fault, no node-ID, no frame of the node, frames of several interfaces and
+/// none of them named.
 pub fn compare_files<R: Files + AllocGlobal + Input, O: Write, E: Write>(
     rt: &R,
     sheet: &str,

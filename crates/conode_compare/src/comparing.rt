@@ -22,15 +22,16 @@ ghost use Rattle.conode_compare.specs.Compared.{
 };
 ghost use Rattle.conode_compare.specs.Views.{comparison_view};
 
-use crate::notes::note_findings;
+use crate::kept::note_findings;
+use crate::notes::Notes;
 use crate::writes::{Settings, write_findings};
 use arrayvec::ArrayVec;
-use conode_compare_report::Report;
+use conode_compare_report::{Kind, Report};
 use conode_compare_rules::{Findings, FrameKind, Progress, Subject, kind_of};
 use conode_compare_text::Tally;
 use conode_io::CmdFault;
 use conode_record::Record;
-use std::alloc::AllocError;
+use std::alloc::{AllocError, Global};
 use std::io::Write;
 
 /// How far a recording is compared.
@@ -42,6 +43,8 @@ pub struct Comparing {
     pub(crate) first: ArrayVec<u8, 15>,
     /// Whether frames came on another one, where none is named.
     pub(crate) several: bool,
+    /// What is noted beside differences.
+    pub(crate) notes: Notes,
     /// What is kept for a document, if one is wanted.
     pub(crate) report: Option<Report>,
 }
@@ -79,6 +82,9 @@ fn take_kind(
             let found = progress.take(&settings.subject, settings.rows, micros, kind);
             let state = progress.state();
             report.take_frame(settings.rows, micros, kind, &before, state, &found)?;
+            if progress.is_number_kept(&settings.subject) {
+                report.pass(Kind::ValueHeld);
+            }
             note_findings(report, settings, micros, &found)?;
             Ok(found)
         }
@@ -88,7 +94,7 @@ fn take_kind(
 
 impl Comparing {
     /// No frame came; `report`: what is kept for a document, if one is wanted.
-    pub(crate) fn new(subject: &Subject, report: Option<Report>) -> Comparing
+    pub(crate) fn new(alloc: Global, subject: &Subject, report: Option<Report>) -> Comparing
         ensures { result ≡ nothing_compared subject.now report }
     {
         Comparing {
@@ -96,6 +102,7 @@ impl Comparing {
             tally: Tally::new(),
             first: ArrayVec::new(),
             several: false,
+            notes: Notes::new(alloc),
             report,
         }
     }
@@ -134,6 +141,13 @@ impl Comparing {
         (self.tally, self.several)
     }
 
+    /// What is noted of the device beside differences.
+    pub fn notes(&self) -> &Notes
+        ensures { result.now ≡ self.now.notes }
+    {
+        &self.notes
+    }
+
     // notes the interface of the first frame
     fn note_first(&mut self, name: &[u8])
         requires { length name.now ≤ 15 }
@@ -154,28 +168,26 @@ impl Comparing {
         }
     }
 
-    // what is found at a frame of the interface
+    // what is found at a frame of the interface, by what it is to the device
     #[tactic(auto, unfolding(crate::specs::Compared::frame_taken))]
     fn take(
         &mut self,
         settings: &Settings<'_, '_>,
         frame: &Record<'_>,
+        kind: &FrameKind,
     ) -> Result<Findings, AllocError>
         requires rows { AllPairs (λ e f. is_key_before e.key f.key ≡ true) settings.now.rows.now }
-        requires id { IsIdentifier frame.now.id }
         ensures found { IfOk result (λ found. found ≡ found_at
-            (comparison_view settings.now) self.old frame.now) }
-        ensures next { OnOk result
-            (self.new ≡ frame_taken (comparison_view settings.now) self.old frame.now) }
+            (comparison_view settings.now) self.old frame.now kind.now) }
+        ensures next { OnOk result (self.new
+            ≡ frame_taken (comparison_view settings.now) self.old frame.now kind.now) }
     {
-        let kind = kind_of(settings.subject.node, frame.id, &frame.content);
-        let micros = frame.micros;
         let found = take_kind(
             &mut self.progress,
             &mut self.report,
             settings,
-            micros,
-            &kind,
+            frame.micros,
+            kind,
         )?;
         self.tally.count(found.verdict);
         self.note_first(frame.interface.bytes());
@@ -206,10 +218,14 @@ impl Comparing {
             return Ok(());
         }
         let is_documented = self.report.is_some();
-        let found = self.take(settings, frame)?;
+        let kind = kind_of(settings.subject.node, frame.id, &frame.content);
+        let found = self.take(settings, frame, &kind)?;
         if is_documented {
             return Ok(());
         }
-        write_findings(text, settings, number, found, out)
+        write_findings(text, settings, number, found, out)?;
+        let exchange = &self.progress.exchange;
+        self.notes
+            .take(text, settings, number, &kind, exchange, out)
     }
 }

@@ -136,7 +136,7 @@ impl Lines {
         Lines {
             lines: BoundedLines::new(),
             log: Log { form, clock: 0 },
-            comparing: Comparing::new(&settings.subject, report),
+            comparing: Comparing::new(alloc, &settings.subject, report),
             text: String::new(alloc),
             frame: Vec::new(alloc),
         }

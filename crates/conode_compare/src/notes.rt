@@ -1,47 +1,131 @@
-//! Differences that are kept for a document.
+//! What is noted of a device beside differences: its choices, and the values of its entries.
 
-ghost use Rattle.std.specs.Prelude.{◌≡◌, OnOk, true};
+ghost use Rattle.std.specs.Prelude.{◌≡◌, ◌⊎◌, OnOk, IfErr, true};
 ghost use Rattle.std.specs.List.{AllPairs};
 ghost use Rattle.co_value.specs.Keys.{is_key_before};
-ghost use Rattle.conode_compare.specs.Compared.{findings_noted, if_noted};
+ghost use Rattle.conode_io.specs.Written.{WritesLines};
+ghost use Rattle.conode_compare.specs.Noted.{
+  choice_lines,
+  counted,
+  learned_by,
+  noted_choice,
+  nothing_noted,
+  notes_with,
+};
 ghost use Rattle.conode_compare.specs.Views.{comparison_view};
 
-use crate::writes::{Settings, shown_type};
-use conode_compare_report::Report;
-use conode_compare_rules::{Finding, Findings};
-use std::alloc::AllocError;
+use crate::writes::Settings;
+use conode_compare_notes::{Choice, Learned, choice_at};
+use conode_compare_rules::FrameKind;
+use conode_compare_text::set_choice_line;
+use conode_compare_transfers::Exchange;
+use conode_io::{CmdFault, hand_over};
+use std::alloc::{AllocError, Global};
+use std::io::Write;
 
-// keeps a difference at a frame with this stamp, if there is one
-fn note_finding(
-    report: &mut Report,
-    settings: &Settings<'_, '_>,
-    micros: u64,
-    finding: Option<Finding>,
-) -> Result<(), AllocError>
-    requires { AllPairs (λ e f. is_key_before e.key f.key ≡ true) settings.now.rows.now }
-    ensures { OnOk result
-        (report.new ≡ if_noted (comparison_view settings.now) micros finding report.old) }
+/// What is noted of a device beside differences, as far as it is asked for.
+#[derive(Drop)]
+pub struct Notes {
+    /// How many frames show a choice, up to 2^64 - 1.
+    pub choices: u64,
+    /// The values of its entries.
+    pub learned: Learned,
+}
+
+// what the device chose with a frame, if that is asked for
+fn noted_choice(wanted: bool, kind: &FrameKind, exchange: &Option<Exchange>) -> Option<Choice>
+    ensures { result ≡ noted_choice wanted kind.now exchange.now }
 {
-    match finding {
-        Some(finding) => report.take_finding(micros, shown_type(settings, finding), finding),
+    if wanted {
+        choice_at(kind, exchange)
+    } else {
+        None
+    }
+}
+
+// Writes the line of a choice, if there is one.
+#[tactic(auto, using(conode_io::proofs::WriteLemmas::line_alone))]
+fn write_choice<W: Write>(
+    text: &mut String,
+    recording: &str,
+    number: u64,
+    choice: Option<Choice>,
+    out: &mut W,
+) -> Result<(), CmdFault>
+    ensures lines { OnOk result (WritesLines (W.contents out.old) (W.contents out.new)
+        (choice_lines recording.now number choice)) }
+    ensures err { IfErr result (λ fault. (fault ≡ CmdFault.Write) ⊎ (fault ≡ CmdFault.Memory)) }
+{
+    match choice {
+        Some(choice) => {
+            set_choice_line(text, recording, number, choice)?;
+            hand_over(text.as_bytes(), out)
+        }
         None => Ok(()),
     }
 }
 
-/// Keeps what is found at a frame with this stamp, in microseconds. `Err`: out of memory.
-#[tactic(auto, unfolding(crate::specs::Compared::findings_noted))]
-pub(crate) fn note_findings(
-    report: &mut Report,
-    settings: &Settings<'_, '_>,
-    micros: u64,
-    found: &Findings,
-) -> Result<(), AllocError>
-    requires { AllPairs (λ e f. is_key_before e.key f.key ≡ true) settings.now.rows.now }
-    ensures { OnOk result
-        (report.new ≡ findings_noted (comparison_view settings.now) micros found.now report.old) }
-{
-    note_finding(report, settings, micros, found.boot)?;
-    note_finding(report, settings, micros, found.heartbeat)?;
-    note_finding(report, settings, micros, found.answer)?;
-    note_finding(report, settings, micros, found.frame)
+impl Notes {
+    /// Nothing was noted.
+    pub(crate) fn new(alloc: Global) -> Notes
+        ensures { result ≡ nothing_noted }
+    {
+        Notes {
+            choices: 0,
+            learned: Learned::new(alloc),
+        }
+    }
+
+    fn count(&mut self, choice: Option<Choice>)
+        ensures { self.new ≡ record self.old { choices = counted self.old.choices choice } }
+    {
+        if choice.is_some() {
+            self.choices = self.choices.saturating_add(1);
+        }
+    }
+
+    fn learn(
+        &mut self,
+        settings: &Settings<'_, '_>,
+        exchange: &Option<Exchange>,
+    ) -> Result<(), AllocError>
+        requires { AllPairs (λ e f. is_key_before e.key f.key ≡ true) settings.now.rows.now }
+        ensures { OnOk result (self.new ≡ record self.old {
+          learned = learned_by settings.now.learned (comparison_view settings.now).rows
+              self.old.learned exchange.now;
+        }) }
+    {
+        if settings.learned {
+            self.learned.take(settings.rows, exchange)?;
+        }
+        Ok(())
+    }
+
+    /// Takes a frame, by what it is to the device, and on its SDO channel, and writes the line of
+    /// what the device chose with it.
+    #[tactic(auto, unfolding(crate::specs::Noted::notes_with))]
+    pub(crate) fn take<W: Write>(
+        &mut self,
+        text: &mut String,
+        settings: &Settings<'_, '_>,
+        number: u64,
+        kind: &FrameKind,
+        exchange: &Option<Exchange>,
+        out: &mut W,
+    ) -> Result<(), CmdFault>
+        requires { AllPairs (λ e f. is_key_before e.key f.key ≡ true) settings.now.rows.now }
+        ensures lines { OnOk result (WritesLines (W.contents out.old) (W.contents out.new)
+            (choice_lines settings.now.recording.now number
+            (noted_choice settings.now.choices kind.now exchange.now))) }
+        ensures next { OnOk result (self.new ≡ notes_with (comparison_view settings.now).choices
+            (comparison_view settings.now).learned (comparison_view settings.now).rows
+            self.old kind.now exchange.now) }
+        ensures err { IfErr result
+            (λ fault. (fault ≡ CmdFault.Write) ⊎ (fault ≡ CmdFault.Memory)) }
+    {
+        let choice = noted_choice(settings.choices, kind, exchange);
+        self.count(choice);
+        self.learn(settings, exchange)?;
+        write_choice(text, settings.recording, number, choice, out)
+    }
 }

@@ -19,7 +19,7 @@ use conode_io::{CmdFault, hand_over};
 use std::io::Write;
 
 /// What is compared.
-#[derive(Clone, Copy)]
+#[derive(Drop)]
 pub struct Settings<'s, 'a> {
     /// The device.
     pub subject: Subject,
@@ -31,6 +31,10 @@ pub struct Settings<'s, 'a> {
     pub recording: &'s str,
     /// The interface whose frames are compared; `None`: that of the first frame.
     pub interface: Option<&'s [u8]>,
+    /// Whether choices have lines.
+    pub choices: bool,
+    /// Whether the values of entries are kept.
+    pub learned: bool,
 }
 
 // the data type of the values of an entry: its original one, where the sheet was adapted
@@ -51,6 +55,7 @@ pub(crate) fn shown_type(settings: &Settings<'_, '_>, finding: Finding) -> Value
 {
     match finding {
         Finding::Value(Mismatch::ValueConst(key, _, _)) => type_at(settings, key),
+        Finding::Held(mismatch) => type_at(settings, mismatch.key),
         _ => ValueType::Plain(DataType::Unsigned32),
     }
 }

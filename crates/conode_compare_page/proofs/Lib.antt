@@ -1,0 +1,3 @@
+mod Examples
+pub mod IndexedLaws
+pub mod PictureLaws

@@ -1,2 +1,16 @@
-//! The page in HTML of a comparison.
+//! A comparison as one page of HTML, which is XML too and names no other file.
 #![tactic(auto)]
+
+mod coverage;
+mod device;
+mod differences;
+mod entries;
+mod head;
+mod kinds;
+mod lane;
+mod page;
+mod picture;
+mod states;
+mod style;
+
+pub use page::page;

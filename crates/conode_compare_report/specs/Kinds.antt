@@ -7,9 +7,9 @@ use Rattle.conode_compare_transfers.specs.declared.breach.Breach.TheVariants.{To
 use Rattle.conode_compare_values.specs.declared.mismatch.Mismatch.{Mismatch}
 use Rattle.conode_compare_values.specs.declared.mismatch.Mismatch.TheVariants.{ReadRefused, Written, AboveLimit, BelowLimit}
 use Rattle.conode_compare_rules.specs.declared.finding.Finding.{Finding}
-use Rattle.conode_compare_rules.specs.declared.finding.Finding.TheVariants.{SecondBootUp, NoState, WrongState, EmergencyStopped, Unasked, AnswerStopped, Transfer, Value, Pdo}
+use Rattle.conode_compare_rules.specs.declared.finding.Finding.TheVariants.{SecondBootUp, NoState, WrongState, EmergencyStopped, Unasked, AnswerStopped, Transfer, Value, Held, Pdo}
 use Rattle.conode_compare_report.specs.declared.kind.Kind.{Kind}
-use Rattle.conode_compare_report.specs.declared.kind.Kind.TheVariants.{HeartbeatLate, HeartbeatState, HeartbeatLength, PdoLength, PdoState, PdoSync, PdoInhibit, PdoLate, BootMissing, SecondSender, EmergencyLength, EmergencyState, EmergencyRegister, EmergencyInhibit, NoAnswer, AnswerKey, AnswerForm, AnswerToggle, AnswerSize, AnswerCrc, AnswerState, AbortKey, ValueLength, ValueConst, AccessRead, AccessWrite, AccessLimits}
+use Rattle.conode_compare_report.specs.declared.kind.Kind.TheVariants.{HeartbeatLate, HeartbeatState, HeartbeatLength, PdoLength, PdoState, PdoSync, PdoInhibit, PdoLate, BootMissing, SecondSender, EmergencyLength, EmergencyState, EmergencyRegister, EmergencyInhibit, NoAnswer, AnswerKey, AnswerForm, AnswerToggle, AnswerSize, AnswerCrc, AnswerState, AbortKey, ValueLength, ValueConst, ValueHeld, AccessRead, AccessWrite, AccessLimits}
 
 abbrev pub of_deviation : Deviation → Kind
 of_deviation (Length length mapped) = PdoLength
@@ -52,6 +52,7 @@ kind_of (Finding.AnswerForm key) = AnswerForm
 kind_of (AnswerStopped key) = AnswerState
 kind_of (Transfer breach) = of_breach breach
 kind_of (Value mismatch) = of_mismatch mismatch
+kind_of (Held mismatch) = ValueHeld
 kind_of (Pdo number deviation) = of_deviation deviation
 
 abbrev pub kind_name : Kind → List ℕ
@@ -79,6 +80,7 @@ kind_name AnswerState = codes "answer-state"
 kind_name AbortKey = codes "abort-key"
 kind_name ValueLength = codes "value-length"
 kind_name ValueConst = codes "value-const"
+kind_name ValueHeld = codes "value-held"
 kind_name AccessRead = codes "access-read"
 kind_name AccessWrite = codes "access-write"
 kind_name AccessLimits = codes "access-limits"
@@ -109,6 +111,7 @@ kind_rule AnswerState = codes "no SDO is served in the NMT state stopped (CiA 30
 kind_rule AbortKey = codes "an abort has the multiplexer of its transfer (CiA 301, 7.2.4.3.17)"
 kind_rule ValueLength = codes "a number has as many bytes as its data type (CiA 301, 7.4.7.1)"
 kind_rule ValueConst = codes "a constant entry has the value of the data sheet (CiA 301, 7.4)"
+kind_rule ValueHeld = codes "an entry that is named as held keeps what is written to it"
 kind_rule AccessRead = codes "an entry that is readable can be read (CiA 301, 7.4)"
 kind_rule AccessWrite = codes "an entry that is read only isn't written (CiA 301, 7.2.4.3.17)"
 kind_rule AccessLimits = codes "a value outside the limits is refused (CiA 301, 7.2.4.3.17)"
@@ -139,6 +142,7 @@ kind_number AnswerState = 20
 kind_number AbortKey = 21
 kind_number ValueLength = 22
 kind_number ValueConst = 23
-kind_number AccessRead = 24
-kind_number AccessWrite = 25
-kind_number AccessLimits = 26
+kind_number ValueHeld = 24
+kind_number AccessRead = 25
+kind_number AccessWrite = 26
+kind_number AccessLimits = 27

@@ -1,5 +1,5 @@
 -- What is kept of a comparison: line by line, frame by frame, and difference by difference.
-use Rattle.std.specs.Prelude.{ℕ, ◌+◌, ◌-◌, ◌^◌, ◌==◌, min, nat_lt, if◌then◌else◌, List, [], ◌∷◌, ◌++◌, length, drop, Option, Some, None}
+use Rattle.std.specs.Prelude.{ℕ, ◌+◌, ◌-◌, ◌^◌, ◌==◌, min, nat_lt, true, if◌then◌else◌, List, [], ◌∷◌, ◌++◌, length, drop, Option, Some, None}
 use Rattle.co_sheet.specs.Content.{Row}
 use Rattle.conode_explain_transfers.specs.declared.channel.Heard.{Heard}
 use Rattle.conode_explain_transfers.specs.Followed.{Following, after_boot, followed, nothing_heard}
@@ -10,13 +10,14 @@ use Rattle.conode_compare_rules.specs.declared.kind.FrameKind.{FrameKind}
 use Rattle.conode_compare_rules.specs.declared.kind.FrameKind.TheVariants.{Control, Sdo}
 use Rattle.conode_compare_rules.specs.declared.verdict.Findings.{Findings}
 use Rattle.conode_compare_report.specs.declared.before.Before.{Before}
+use Rattle.conode_compare_report.specs.declared.kind.Kind.{Kind}
 use Rattle.conode_compare_report.specs.declared.noted.Noted.{Noted}
 use Rattle.conode_compare_report.specs.Befores.{rpdos_of}
 use Rattle.conode_compare_report.specs.Contexts.{KeptLine}
 use Rattle.conode_compare_report.specs.Counts.{one_more}
 use Rattle.conode_compare_report.specs.Coverages.{coverage_with, lane_of, no_coverage}
 use Rattle.conode_compare_report.specs.Kinds.{kind_of}
-use Rattle.conode_compare_report.specs.Occasions.{counts_found, ended_in, frame_passed, no_counts}
+use Rattle.conode_compare_report.specs.Occasions.{counts_passed, counts_found, ended_in, frame_passed, no_counts}
 use Rattle.conode_compare_report.specs.Spans.{bin_with, lanes_with, no_lanes}
 use Rattle.conode_compare_report.specs.Views.{Kept}
 
@@ -97,6 +98,10 @@ with_frame rows kept micros kind before state found =
       end = micros;
       channel = channel_after kept.channel micros kind;
     }
+
+-- a frame could have shown a difference of this kind, and shows none
+abbrev pub with_passed : Kept → Kind → Kept
+with_passed kept kind = record kept { kinds = counts_passed true kind kept.kinds }
 
 -- ---- a difference
 

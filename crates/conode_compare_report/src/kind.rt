@@ -36,6 +36,7 @@ pub enum Kind {
     AbortKey,
     ValueLength,
     ValueConst,
+    ValueHeld,
     AccessRead,
     AccessWrite,
     AccessLimits,
@@ -109,6 +110,7 @@ impl Kind {
             Finding::AnswerStopped(_) => Kind::AnswerState,
             Finding::Transfer(breach) => of_breach(breach),
             Finding::Value(mismatch) => of_mismatch(mismatch),
+            Finding::Held(_) => Kind::ValueHeld,
             Finding::Pdo(_, deviation) => of_deviation(deviation),
         }
     }
@@ -142,6 +144,7 @@ impl Kind {
             Kind::AbortKey => "abort-key",
             Kind::ValueLength => "value-length",
             Kind::ValueConst => "value-const",
+            Kind::ValueHeld => "value-held",
             Kind::AccessRead => "access-read",
             Kind::AccessWrite => "access-write",
             Kind::AccessLimits => "access-limits",
@@ -197,6 +200,7 @@ impl Kind {
             Kind::AbortKey => "an abort has the multiplexer of its transfer (CiA 301, 7.2.4.3.17)",
             Kind::ValueLength => "a number has as many bytes as its data type (CiA 301, 7.4.7.1)",
             Kind::ValueConst => "a constant entry has the value of the data sheet (CiA 301, 7.4)",
+            Kind::ValueHeld => "an entry that is named as held keeps what is written to it",
             Kind::AccessRead => "an entry that is readable can be read (CiA 301, 7.4)",
             Kind::AccessWrite => "an entry that is read only isn't written (CiA 301, 7.2.4.3.17)",
             Kind::AccessLimits => "a value outside the limits is refused (CiA 301, 7.2.4.3.17)",
@@ -232,9 +236,10 @@ impl Kind {
             Kind::AbortKey => 21,
             Kind::ValueLength => 22,
             Kind::ValueConst => 23,
-            Kind::AccessRead => 24,
-            Kind::AccessWrite => 25,
-            Kind::AccessLimits => 26,
+            Kind::ValueHeld => 24,
+            Kind::AccessRead => 25,
+            Kind::AccessWrite => 26,
+            Kind::AccessLimits => 27,
         }
     }
 }

@@ -108,6 +108,7 @@ pub(crate) fn no_counts(alloc: Global) -> Result<Vec<Counted>, AllocError>
         Counted::none_of(Kind::AbortKey),
         Counted::none_of(Kind::ValueLength),
         Counted::none_of(Kind::ValueConst),
+        Counted::none_of(Kind::ValueHeld),
         Counted::none_of(Kind::AccessRead),
         Counted::none_of(Kind::AccessWrite),
         Counted::none_of(Kind::AccessLimits),
@@ -117,7 +118,7 @@ pub(crate) fn no_counts(alloc: Global) -> Result<Vec<Counted>, AllocError>
 
 // a frame could have shown a difference of this kind
 #[tactic(auto, unfolding(crate::specs::Occasions::counts_passed))]
-fn pass(counts: &mut [Counted], could: bool, kind: Kind)
+pub(crate) fn pass(counts: &mut [Counted], could: bool, kind: Kind)
     ensures { counts.new ≡ counts_passed could kind counts.old }
 {
     let place = kind.number();

@@ -22,6 +22,7 @@ ghost use Rattle.conode_compare_report.specs.Reports.{
   with_finding,
   with_frame,
   with_line,
+  with_passed,
 };
 
 use crate::before::{Before, Rpdos};
@@ -29,7 +30,7 @@ use crate::coverage::{Coverage, ended_in};
 use crate::kind::{Counted, Kind};
 use crate::lanes::Lanes;
 use crate::noted::{ContextLine, Noted, around};
-use crate::occasions::{find, no_counts, pass_frame};
+use crate::occasions::{find, no_counts, pass, pass_frame};
 use crate::service::lane_of;
 use co_sheet::EntryRow;
 use conode_compare_rules::{Finding, Findings, FrameKind, NmtState, Progress};
@@ -237,6 +238,13 @@ impl Report {
         self.begin = self.begin.or(Some(micros));
         self.end = micros;
         Ok(())
+    }
+
+    /// The newest frame could have shown a difference of this kind, and shows none.
+    pub fn pass(&mut self, kind: Kind)
+        ensures { self.new ≡ with_passed self.old kind }
+    {
+        pass(&mut self.kinds, true, kind);
     }
 
     // lists a difference

@@ -30,7 +30,7 @@ use Rattle.conode_compare_rules.specs.declared.limits.Limits.{Limits}
 use Rattle.conode_compare_rules.specs.declared.nmt.Nmt.{Nmt}
 use Rattle.conode_compare_rules.specs.Answers.{confirmed_finding, stopped_finding}
 use Rattle.conode_compare_transfers.specs.Dialogues.{dialogue_heard, is_certain, nothing_asked}
-use Rattle.conode_compare_transfers.specs.NewestFrames.{newest_after}
+use Rattle.conode_compare_transfers.specs.NewestFrames.{newest_after, newest_with}
 use Rattle.conode_compare_rules.specs.EmergencyRules.{emergency_finding, inhibit_finding}
 use Rattle.conode_compare_rules.specs.EntriesInForce.{ended_entries, facts_of, initial_entries, sheet_entries, shown_inhibit, shown_period}
 use Rattle.conode_compare_rules.specs.FrameKinds.{command_kind}
@@ -427,7 +427,7 @@ constant_sheet = refl
 
 -- a recording that begins anew awaits it all the same
 still_saving : (still_awaited (dialogue_heard 1000 0 nothing_asked 2000000 Client (record { id = 0x605; bytes = 0x23 ∷ 0x10 ∷ 0x10 ∷ 1 ∷ 0x73 ∷ 0x61 ∷ 0x76 ∷ 0x65 ∷ [] })) 9000000).slow ≡ record { count = 1; newest = 9000000 }
-unfolding dialogue_heard is_certain newest_after request_row_in
+unfolding dialogue_heard is_certain newest_after newest_with request_row_in
 still_saving = refl
 
 -- ---- a command that may be the device's own

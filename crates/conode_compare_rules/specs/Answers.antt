@@ -8,13 +8,15 @@ use Rattle.conode_explain_transfers.specs.declared.kinds.What.{What}
 use Rattle.conode_explain_transfers.specs.declared.kinds.What.TheVariants.{Part, Overtaken, Unexpected, Stray}
 use Rattle.conode_compare_transfers.specs.declared.breach.Breach.{Breach}
 use Rattle.conode_compare_transfers.specs.Breaches.{byte_at, key_in}
+use Rattle.conode_compare_held.specs.declared.written.Written.{Written}
+use Rattle.conode_compare_held.specs.HeldNumbers.{held_mismatch}
 use Rattle.conode_compare_values.specs.declared.mismatch.Mismatch.{Mismatch}
 use Rattle.conode_compare_values.specs.SheetValues.{mismatch_at}
 use Rattle.conode_compare_transfers.specs.declared.dialogue.Asked.{Asked}
 use Rattle.conode_compare_transfers.specs.declared.dialogue.Dialogue.{Dialogue}
 use Rattle.conode_compare_transfers.specs.declared.dialogue.Exchange.{Exchange}
 use Rattle.conode_compare_rules.specs.declared.finding.Finding.{Finding}
-use Rattle.conode_compare_rules.specs.declared.finding.Finding.TheVariants.{NoAnswer, Unasked, AnswerKey, AnswerForm, AnswerStopped, Transfer, Value}
+use Rattle.conode_compare_rules.specs.declared.finding.Finding.TheVariants.{NoAnswer, Unasked, AnswerKey, AnswerForm, AnswerStopped, Transfer, Value, Held}
 use Rattle.conode_compare_rules.specs.declared.finding.NmtState.{NmtState}
 use Rattle.conode_compare_rules.specs.declared.finding.NmtState.TheVariants.{PreOperational, Operational}
 use Rattle.conode_compare_rules.specs.declared.limits.Limits.{Limits}
@@ -111,6 +113,11 @@ stopped_with limits started nmt (Some asked) =
 
 unfoldable pub stopped_finding : Limits → ℕ → Nmt → Exchange → Option Finding
 stopped_finding limits started nmt exchange = if exchange.certain then stopped_with limits started nmt exchange.asked else None
+
+-- `value-held`: an upload shows another number than the last download of an entry that is held
+unfoldable pub held_finding : Subject → Written → Exchange → Option Finding
+held_finding subject written exchange =
+    option_map (λ m. Held m) (held_mismatch subject.held.entries.items written exchange.certain exchange.heard.ended)
 
 -- the client's confirmation shows what the device did in the transfer that ends with it
 unfoldable pub confirmed_finding : Exchange → Option Finding

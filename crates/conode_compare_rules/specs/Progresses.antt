@@ -9,7 +9,6 @@ use Rattle.conode_explain_transfers.specs.declared.kinds.Side.{Side}
 use Rattle.conode_explain_transfers.specs.declared.kinds.Side.TheVariants.{Client, Server}
 use Rattle.conode_explain_transfers.specs.declared.kinds.What.{What}
 use Rattle.conode_explain_transfers.specs.declared.kinds.What.TheVariants.{Part}
-use Rattle.conode_explain_transfers.specs.Followed.{followed}
 use Rattle.conode_compare_pdos.specs.declared.deviation.Moment.{Moment}
 use Rattle.conode_compare_pdos.specs.declared.pdos.Pdos.{Pdos}
 use Rattle.conode_compare_pdos.specs.declared.pdos.Sighting.{Sighting}
@@ -28,8 +27,9 @@ use Rattle.conode_compare_rules.specs.declared.limits.Subject.{Subject}
 use Rattle.conode_compare_rules.specs.declared.kind.FrameKind.{FrameKind}
 use Rattle.conode_compare_rules.specs.declared.kind.FrameKind.TheVariants.{Command, CommandToAll, Guarding, Control, OddControl, Emergency, OddEmergency, Sdo, Process, Polled, Fault, Other}
 use Rattle.conode_compare_rules.specs.declared.verdict.Findings.{Findings}
-use Rattle.conode_compare_rules.specs.Answers.{answer_finding, confirmed_finding, first_of, silence_finding, stopped_finding}
+use Rattle.conode_compare_rules.specs.Answers.{answer_finding, confirmed_finding, first_of, held_finding, silence_finding, stopped_finding}
 use Rattle.conode_compare_transfers.specs.Dialogues.{dialogue_heard, given_up, interrupted, nothing_asked, nothing_left, exchange_in}
+use Rattle.conode_compare_held.specs.HeldNumbers.{is_kept, nothing_written, written_heard}
 use Rattle.conode_compare_rules.specs.EmergencyRules.{emergency_finding, length_finding}
 use Rattle.conode_compare_rules.specs.EntriesInForce.{asked_to_write, ended_entries, reset_entries, shown_period}
 use Rattle.conode_compare_rules.specs.Heartbeats.{after_byte, follows_closely, late_finding, no_heartbeat, is_gap}
@@ -51,6 +51,8 @@ before_recording subject = record {
   emergency = None;
   dialogue = nothing_asked;
   pdos = tpdos.unknown_pdos;
+  written = nothing_written;
+  exchange = None;
 }
 
 -- a recording begins anew at its first frame, where a stamp steps back, and where the recorder may
@@ -95,6 +97,7 @@ begun subject progress micros =
       free = free_at progress.newest progress.free micros;
       dialogue = with_quiet subject.limits progress micros;
       pdos = pdos_with_quiet subject.limits progress micros;
+      exchange = None;
     }
 
 -- what is open isn't known any more: after a reset, a boot-up, and an error frame
@@ -104,6 +107,7 @@ with_gap progress micros = record progress {
   emergency = None;
   dialogue = interrupted progress.dialogue micros;
   pdos = tpdos.interrupted progress.pdos;
+  written = nothing_written;
 }
 
 -- an error frame: what came with it may be missing in the recording
@@ -125,7 +129,7 @@ after_guarding progress = record progress { heartbeats = record progress.heartbe
 
 -- ---- boot-ups
 
-unfoldable pub boot_findings : Subject → Progress → ℕ → Findings
+abbrev pub boot_findings : Subject → Progress → ℕ → Findings
 boot_findings subject progress micros =
     found None None None (control_finding subject progress.started progress.heartbeats.guarded progress.nmt micros 0) true
 
@@ -139,6 +143,7 @@ booted subject progress micros = record progress {
   emergency = None;
   dialogue = record (interrupted progress.dialogue micros) { slow = nothing_left };
   pdos = subject.facts.pdos;
+  written = nothing_written;
 }
 
 -- ---- heartbeats
@@ -179,7 +184,7 @@ after_control subject progress micros byte = record progress {
 }
 
 -- of another number of bytes than one
-unfoldable pub odd_control_findings : Subject → Progress → ℕ → ℕ → Findings
+abbrev pub odd_control_findings : Subject → Progress → ℕ → ℕ → Findings
 odd_control_findings subject progress micros length =
     found (boot_finding subject.limits progress.nmt micros)
     (late_at subject progress micros)
@@ -202,7 +207,7 @@ emergency_findings subject progress micros code register =
     (emergency_finding subject.limits progress.entries progress.nmt.state settled progress.emergency micros code register)
     progress.entries.emergencies
 
-unfoldable pub odd_emergency_findings : Progress → ℕ → Findings
+abbrev pub odd_emergency_findings : Progress → ℕ → Findings
 odd_emergency_findings progress length = found None None None (length_finding progress.entries length) progress.entries.emergencies
 
 unfoldable pub after_emergency : Progress → ℕ → Progress
@@ -243,16 +248,27 @@ pdos_heard pdos ended asked micros = pdos_asked (pdos_ended pdos ended micros) a
 unfoldable pub exchange_at : Subject → Progress → ℕ → Side → FrameContent → Exchange
 exchange_at subject progress micros side frame = exchange_in subject.limits.answer progress.started progress.dialogue micros side frame
 
-unfoldable pub after_sdo : Subject → Progress → ℕ → Side → FrameContent → Progress
-after_sdo subject progress micros side frame =
+unfoldable pub channel_heard : Subject → Progress → ℕ → Side → FrameContent → Progress
+channel_heard subject progress micros side frame =
     let next = dialogue_heard subject.limits.answer progress.started progress.dialogue micros side frame in
-    let ended = (followed progress.dialogue.channel micros side frame.bytes).says.ended in
+    let ended = (exchange_at subject progress micros side frame).heard.ended in
     record progress {
       heartbeats = record progress.heartbeats { since = since_heard progress.heartbeats.since ended micros };
       entries = entries_heard progress.entries ended next.asked;
       pdos = pdos_heard progress.pdos ended next.asked micros;
       dialogue = next;
     }
+
+-- what the frame is, and what was written to the entries that are held
+unfoldable pub exchange_noted : Subject → Progress → Exchange → Progress
+exchange_noted subject progress exchange = record progress {
+  written = written_heard subject.held.entries.items progress.written exchange.certain exchange.heard.ended progress.dialogue.asked;
+  exchange = Some exchange;
+}
+
+abbrev pub after_sdo : Subject → Progress → ℕ → Side → FrameContent → Progress
+after_sdo subject progress micros side frame =
+    exchange_noted subject (channel_heard subject progress micros side frame) (exchange_at subject progress micros side frame)
 
 -- an answer comes: where a heartbeat was late, it isn't said again
 unfoldable pub late_noted : Subject → Progress → Bool → ℕ → Progress
@@ -277,10 +293,11 @@ answer_findings subject rows progress micros frame =
     let noted = answer_noted subject progress micros in
     let exchange = exchange_at subject noted micros Server frame in
     found (boot_finding subject.limits progress.nmt micros) (late_at subject progress micros) None
-    (first_of (stopped_finding subject.limits noted.started noted.nmt exchange) (answer_finding subject rows micros exchange frame))
+    (first_of (stopped_finding subject.limits noted.started noted.nmt exchange)
+    (first_of (answer_finding subject rows micros exchange frame) (held_finding subject noted.written exchange)))
     (is_judged exchange)
 
-unfoldable pub after_answer : Subject → Progress → ℕ → FrameContent → Progress
+abbrev pub after_answer : Subject → Progress → ℕ → FrameContent → Progress
 after_answer subject progress micros frame = after_sdo subject (answer_noted subject progress micros) micros Server frame
 
 -- a request, or another frame of the client: with one that ends a block upload the device's end of
@@ -366,3 +383,11 @@ findings_at subject rows progress micros kind = findings_in subject rows (begun 
 
 unfoldable pub progress_with : Subject → Progress → ℕ → FrameKind → Progress
 progress_with subject progress micros kind = after_frame subject (begun subject progress micros) micros kind
+
+-- the frame is an upload that could show another number than was written to its entry, which is held,
+-- and doesn't
+abbrev pub kept_in : Subject → Written → Exchange → Bool
+kept_in subject written exchange = is_kept subject.held.entries.items written exchange.certain exchange.heard.ended
+
+abbrev pub is_number_kept : Subject → Progress → Bool
+is_number_kept subject after = option_map_or (kept_in subject after.written) after.exchange false

@@ -11,6 +11,7 @@ ghost use Rattle.conode_compare_rules.specs.Answers.{
   ended_finding,
   first_of,
   form_finding,
+  held_finding,
   is_abort,
   is_indicated,
   key_finding,
@@ -30,6 +31,7 @@ use crate::limits::{Limits, Subject};
 use crate::nmt::Nmt;
 use co_frame::Frame;
 use co_sheet::EntryRow;
+use conode_compare_held::Written;
 use conode_compare_transfers::{
     Asked, Breach, Dialogue, Exchange, byte_at, is_past, is_timed, key_in,
 };
@@ -210,6 +212,21 @@ pub(crate) fn stopped_finding(
         Some(Finding::AnswerStopped(asked.key))
     } else {
         None
+    }
+}
+
+/// The difference of an upload of an entry that is held to what was written.
+#[tactic(auto, unfolding(crate::specs::Answers::held_finding))]
+pub(crate) fn held_finding(
+    subject: &Subject,
+    written: &Written,
+    exchange: &Exchange,
+) -> Option<Finding>
+    ensures { result ≡ held_finding subject.now written.now exchange.now }
+{
+    match written.mismatch(&subject.held, exchange.certain, &exchange.heard.ended) {
+        Some(mismatch) => Some(Finding::Held(mismatch)),
+        None => None,
     }
 }
 

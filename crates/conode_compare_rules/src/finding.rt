@@ -1,6 +1,7 @@
 //! The kinds of differences.
 
 use co_value::Key;
+use conode_compare_held::HeldMismatch;
 use conode_compare_pdos::Deviation;
 use conode_compare_transfers::Breach;
 use conode_compare_values::Mismatch;
@@ -60,6 +61,8 @@ pub enum Finding {
     /// `value-length`, `value-const`, `access-read`, `access-write`, `access-limits`: a transfer
     /// ended otherwise than the data sheet has its entry.
     Value(Mismatch),
+    /// `value-held`: an upload shows another number than the last download wrote.
+    Held(HeldMismatch),
     /// A difference of the TPDO with this number, from 1 on.
     Pdo(u8, Deviation),
 }

@@ -4,6 +4,7 @@ ghost use Rattle.std.specs.Prelude.{◌≡◌};
 ghost use Rattle.conode_compare_rules.specs.Times.{drift_of};
 
 use crate::entries::Facts;
+use conode_compare_held::HeldEntries;
 
 /// How exactly a device is judged.
 #[derive(Clone, Copy)]
@@ -19,7 +20,7 @@ pub struct Limits {
 }
 
 /// The device that is compared.
-#[derive(Clone, Copy)]
+#[derive(Drop)]
 pub struct Subject {
     /// Its node-ID, 1 to 127.
     pub node: u8,
@@ -27,6 +28,8 @@ pub struct Subject {
     pub limits: Limits,
     /// What its data sheet says of what it sends by itself.
     pub facts: Facts,
+    /// Which entries are held to what was written.
+    pub held: HeldEntries,
 }
 
 /// By how many microseconds the clocks may differ after so many ms.

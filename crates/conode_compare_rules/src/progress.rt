@@ -30,6 +30,7 @@ ghost use Rattle.conode_compare_rules.specs.Progresses.{
   free_at,
   heartbeat_findings,
   is_judged,
+  is_number_kept,
   odd_control_findings,
   odd_emergency_findings,
   with_gap,
@@ -43,13 +44,15 @@ ghost use Rattle.conode_compare_rules.specs.Progresses.{
   request_findings,
   settled_when_free,
   sighting_findings,
+  channel_heard,
   exchange_at,
   late_noted,
   was_quiet,
+  exchange_noted,
 };
 
 use crate::answers::{
-    answer_finding, confirmed_finding, first_of, silence_finding, stopped_finding,
+    answer_finding, confirmed_finding, first_of, held_finding, silence_finding, stopped_finding,
 };
 use crate::emergencies::{emergency_finding, length_finding};
 use crate::entries::{Entries, shown_period};
@@ -61,6 +64,7 @@ use crate::nmt::{Nmt, is_reset};
 use crate::verdict::Findings;
 use co_frame::{Frame, NmtService};
 use co_sheet::EntryRow;
+use conode_compare_held::Written;
 use conode_compare_pdos::{Moment, Pdos, Sighting};
 use conode_compare_transfers::{Asked, Dialogue, Exchange, Left, is_past};
 use conode_explain_transfers::{Ended, Side, What};
@@ -82,6 +86,10 @@ pub struct Progress {
     pub(crate) emergency: Option<u64>,
     pub(crate) dialogue: Dialogue,
     pub(crate) pdos: Pdos,
+    /// What was written to the entries that are held.
+    pub(crate) written: Written,
+    /// What the newest frame is on its SDO channel, if it is of that.
+    pub exchange: Option<Exchange>,
 }
 
 // Since when the next heartbeat is awaited after a transfer ended: one of 1017:00 starts the wait
@@ -180,6 +188,8 @@ impl Progress {
             emergency: None,
             dialogue: Dialogue::new(),
             pdos: Pdos::unknown(),
+            written: Written::nothing(),
+            exchange: None,
         }
     }
 
@@ -215,8 +225,8 @@ impl Progress {
         }
     }
 
-    // A frame comes. Where the recording begins anew, nothing is known, but that an answer which may
-    // take long is awaited; where it was quiet, no request is known.
+    // A frame comes. Where the recording begins anew, nothing is known, but that an answer which
+    // may take long is awaited; where it was quiet, no request is known.
     #[tactic(auto, unfolding(crate::specs::Progresses::begun))]
     fn begin(&mut self, subject: &Subject, micros: u64)
         ensures { self.new ≡ begun subject.now self.old micros }
@@ -233,6 +243,7 @@ impl Progress {
         }
         self.free = self.free_at(micros);
         self.newest = Some(micros);
+        self.exchange = None;
     }
 
     // What is open is no longer known.
@@ -244,6 +255,7 @@ impl Progress {
         self.emergency = None;
         self.dialogue.interrupt(micros);
         self.pdos.interrupt();
+        self.written = Written::nothing();
     }
 
     // A command; `own`: the device may have sent it itself, and needn't follow it. After a reset
@@ -272,7 +284,7 @@ impl Progress {
     }
 
     // a boot-up
-    #[tactic(auto, unfolding(crate::specs::Progresses::boot_findings, crate::specs::Progresses::booted, crate::specs::Progresses::with_gap))]
+    #[tactic(auto, unfolding(crate::specs::Progresses::booted, crate::specs::Progresses::with_gap))]
     fn take_boot_up(&mut self, subject: &Subject, micros: u64) -> Findings
         ensures findings { result ≡ boot_findings subject.now self.old micros }
         ensures progress { self.new ≡ booted subject.now self.old micros }
@@ -352,7 +364,7 @@ impl Progress {
     }
 
     // error control of another number of bytes than one
-    #[tactic(auto, unfolding(crate::specs::Progresses::odd_control_findings, crate::specs::Progresses::after_odd_control))]
+    #[tactic(auto, unfolding(crate::specs::Progresses::after_odd_control))]
     fn take_odd_control(&mut self, subject: &Subject, micros: u64, length: u8) -> Findings
         ensures findings { result ≡ odd_control_findings subject.now self.old micros length }
         ensures progress { self.new ≡ after_odd_control subject.now self.old micros }
@@ -405,7 +417,7 @@ impl Progress {
     }
 
     // an EMCY of another number of bytes than eight
-    #[tactic(auto, unfolding(crate::specs::Progresses::odd_emergency_findings, crate::specs::Progresses::after_emergency))]
+    #[tactic(auto, unfolding(crate::specs::Progresses::after_emergency))]
     fn take_odd_emergency(&mut self, micros: u64, length: u8) -> Findings
         ensures findings { result ≡ odd_emergency_findings self.old length }
         ensures progress { self.new ≡ after_emergency self.old micros }
@@ -416,10 +428,11 @@ impl Progress {
     }
 
     // a frame of the SDO channel is heard
-    #[tactic(auto, unfolding(crate::specs::Progresses::exchange_at, crate::specs::Progresses::after_sdo, conode_compare_transfers::specs::Dialogues::exchange_in))]
+    #[tactic(auto, unfolding(crate::specs::Progresses::exchange_at, crate::specs::Progresses::channel_heard))]
     fn hear(&mut self, subject: &Subject, micros: u64, side: Side, frame: &Frame) -> Exchange
         ensures exchange { result ≡ exchange_at subject.now self.old micros side frame.now }
-        ensures progress { self.new ≡ after_sdo subject.now self.old micros side frame.now }
+        ensures progress { self.new ≡ channel_heard subject.now self.old micros side frame.now }
+        ensures written { self.new.written ≡ self.old.written }
     {
         let exchange = self
             .dialogue
@@ -435,6 +448,17 @@ impl Progress {
         exchange
     }
 
+    // what a frame is that was heard, and what was written to the entries that are held
+    #[tactic(auto, unfolding(crate::specs::Progresses::exchange_noted))]
+    fn note_exchange(&mut self, subject: &Subject, exchange: Exchange)
+        ensures { self.new ≡ exchange_noted subject.now self.old exchange }
+    {
+        let (certain, asked) = (exchange.certain, self.dialogue.asked);
+        self.written
+            .hear(&subject.held, certain, &exchange.heard.ended, asked);
+        self.exchange = Some(exchange);
+    }
+
     // an answer comes: where a heartbeat was late, it isn't said again
     #[tactic(auto, unfolding(crate::specs::Progresses::late_noted))]
     fn note_answer(&mut self, subject: &Subject, late: bool, micros: u64)
@@ -447,7 +471,7 @@ impl Progress {
     }
 
     // an answer
-    #[tactic(auto, unfolding(crate::specs::Progresses::answer_findings, crate::specs::Progresses::after_answer))]
+    #[tactic(auto, unfolding(crate::specs::Progresses::answer_findings))]
     fn take_answer(
         &mut self,
         subject: &Subject,
@@ -468,11 +492,17 @@ impl Progress {
         let nmt = self.nmt;
         let started = self.started;
         let exchange = self.hear(subject, micros, Side::Server, frame);
+        let held = held_finding(subject, &self.written, &exchange);
         let difference = first_of(
             stopped_finding(&subject.limits, started, &nmt, &exchange),
-            answer_finding(subject, rows, micros, &exchange, frame),
+            first_of(
+                answer_finding(subject, rows, micros, &exchange, frame),
+                held,
+            ),
         );
-        Findings::of(boot, heartbeat, None, difference, is_judged(&exchange))
+        let judged = is_judged(&exchange);
+        self.note_exchange(subject, exchange);
+        Findings::of(boot, heartbeat, None, difference, judged)
     }
 
     // a request, or another frame of the client
@@ -482,7 +512,9 @@ impl Progress {
         ensures progress { self.new ≡ after_sdo subject.now self.old micros Client frame.now }
     {
         let exchange = self.hear(subject, micros, Side::Client, frame);
-        confirmed_findings(confirmed_finding(&exchange))
+        let finding = confirmed_finding(&exchange);
+        self.note_exchange(subject, exchange);
+        confirmed_findings(finding)
     }
 
     // whether the tolerance was over when the bus was free last
@@ -579,5 +611,19 @@ impl Progress {
     {
         self.begin(subject, micros);
         self.take_kind(subject, rows, micros, kind)
+    }
+
+    /// Whether the newest frame is the end of an upload that could have shown another number than
+    /// was written to its entry, which is held, and doesn't.
+    pub fn is_number_kept(&self, subject: &Subject) -> bool
+        ensures { result ≡ is_number_kept subject.now self.now }
+    {
+        match &self.exchange {
+            Some(exchange) => {
+                let ended = &exchange.heard.ended;
+                self.written.is_kept(&subject.held, exchange.certain, ended)
+            }
+            None => false,
+        }
     }
 }

@@ -103,9 +103,13 @@ below_limit : finding_text plain (Value (BelowLimit key)) ≡ codes "access-limi
 unfolding finding_text mismatch_text keyed digits_text
 below_limit = refl
 
+value_held : finding_text plain (Held (record { key = key; shown = 0x5; written = 0x12345678 })) ≡ codes "value-held: 1018:01 has 00000005h, written was 12345678h"
+unfolding finding_text keyed_values shown_value hexadecimal digits_text
+value_held = refl
+
 sums : summary 5 (record { prescribed = 118; different = 2; unjudged = 14 })
     ≡ codes "node 5: 118 frames as prescribed, 2 with a difference, 14 unjudged" ++ 10 ∷ []
-unfolding summary numbered digits
+unfolding summary tally_text numbered digits
 sums = refl
 
 -- ---- TPDOs
@@ -155,3 +159,52 @@ size = refl
 crc : finding_text plain (Transfer (Crc key 0x1234 0xABC)) ≡ codes "answer-crc: 1018:01 has the CRC 00001234h, that of its bytes is 00000ABCh"
 unfolding finding_text transfer_text keyed_codes hexadecimal digits_text
 crc = refl
+
+-- ---- choices
+
+choice_segments : choice_text (Segments key 2) ≡ codes "choice-segments: 1018:01 has 2 bytes, and is uploaded in segments"
+unfolding choice_text keyed_number digits_text digits
+choice_segments = refl
+
+choice_size : choice_text (NoSize key) ≡ codes "choice-size: 1018:01 is uploaded without its size"
+unfolding choice_text keyed digits_text
+choice_size = refl
+
+choice_short : choice_text (ShortSegment key 3) ≡ codes "choice-short-segment: 1018:01 is uploaded, a segment before the last has 3 bytes"
+unfolding choice_text keyed_number digits_text digits
+choice_short = refl
+
+choice_crc : choice_text (NoCrc key) ≡ codes "choice-crc: 1018:01 is transferred in blocks without a CRC"
+unfolding choice_text keyed digits_text
+choice_crc = refl
+
+choice_block : choice_text (BlockSize key 21) ≡ codes "choice-block-size: 1018:01 is downloaded in sub-blocks of 21 segments"
+unfolding choice_text keyed_number digits_text digits
+choice_block = refl
+
+choice_timeout : choice_text (Timeout key) ≡ codes "choice-timeout: the transfer of 1018:01 is aborted since it timed out"
+unfolding choice_text keyed digits_text
+choice_timeout = refl
+
+choice_at_line : choice_line (codes "r.log") 12 (NoCrc key) ≡ codes "r.log:12: choice-crc: 1018:01 is transferred in blocks without a CRC" ++ 10 ∷ []
+unfolding choice_line choice_text keyed numbered digits_text digits
+choice_at_line = refl
+
+sums_choices : choices_summary 5 (record { prescribed = 118; different = 2; unjudged = 14 }) 3
+    ≡ codes "node 5: 118 frames as prescribed, 2 with a difference, 14 unjudged, 3 choices" ++ 10 ∷ []
+unfolding choices_summary tally_text numbered digits
+sums_choices = refl
+
+-- ---- learned values
+
+learned_same : learned_line (Some (codes "Interval")) key (Plain Unsigned16) 2 1000 (Some 1000) ≡ codes "learned: Interval 1018:01 = 1000" ++ 10 ∷ []
+unfolding learned_line number_text value_text digits_text digits
+learned_same = refl
+
+learned_other : learned_line None key (Plain Integer16) 2 0xFFFE (Some 5) ≡ codes "learned: 1018:01 = -2, the sheet has 5" ++ 10 ∷ []
+unfolding learned_line number_text value_text digits_text digits
+learned_other = refl
+
+learned_alone : learned_line None key (Plain Unsigned8) 1 7 None ≡ codes "learned: 1018:01 = 7" ++ 10 ∷ []
+unfolding learned_line number_text value_text digits_text digits
+learned_alone = refl

@@ -14,7 +14,7 @@ use Rattle.conode_compare_transfers.specs.declared.breach.Breach.TheVariants.{To
 use Rattle.conode_compare_values.specs.declared.mismatch.Mismatch.{Mismatch}
 use Rattle.conode_compare_values.specs.declared.mismatch.Mismatch.TheVariants.{ValueLength, ValueConst, ReadRefused, Written, AboveLimit, BelowLimit}
 use Rattle.conode_compare_rules.specs.declared.finding.Finding.{Finding}
-use Rattle.conode_compare_rules.specs.declared.finding.Finding.TheVariants.{BootMissing, SecondBootUp, HeartbeatLength, NoState, WrongState, HeartbeatLate, EmergencyLength, EmergencyStopped, EmergencyRegister, EmergencyInhibit, NoAnswer, Unasked, AnswerKey, AnswerForm, AnswerStopped, Transfer, Value, Pdo}
+use Rattle.conode_compare_rules.specs.declared.finding.Finding.TheVariants.{BootMissing, SecondBootUp, HeartbeatLength, NoState, WrongState, HeartbeatLate, EmergencyLength, EmergencyStopped, EmergencyRegister, EmergencyInhibit, NoAnswer, Unasked, AnswerKey, AnswerForm, AnswerStopped, Transfer, Value, Held, Pdo}
 use Rattle.conode_compare_rules.specs.declared.finding.NmtState.{NmtState}
 use Rattle.conode_compare_rules.specs.declared.finding.NmtState.TheVariants.{Unknown, Initialising, PreOperational, Operational, Stopped}
 
@@ -60,6 +60,9 @@ two_codes front code middle byte end = front ++ digits_text 16 4 code ++ middle 
 
 unfoldable pub keyed_time : List ℕ → Key → List ℕ → ℕ → List ℕ → List ℕ
 keyed_time front key middle micros end = front ++ key_text key ++ middle ++ millis_text micros ++ end
+
+unfoldable pub keyed_number : List ℕ → Key → List ℕ → ℕ → List ℕ → List ℕ
+keyed_number front key middle number end = front ++ key_text key ++ middle ++ decimal number ++ end
 
 unfoldable pub keyed_numbers : List ℕ → Key → List ℕ → ℕ → List ℕ → ℕ → List ℕ
 keyed_numbers front key middle number last other = front ++ key_text key ++ middle ++ decimal number ++ last ++ decimal other
@@ -145,6 +148,8 @@ finding_text t (AnswerForm key) = keyed (codes "answer-form: ") key (codes " was
 finding_text t (AnswerStopped key) = keyed (codes "answer-state: ") key (codes " is answered while stopped")
 finding_text t (Transfer breach) = transfer_text breach
 finding_text t (Value mismatch) = mismatch_text t mismatch
+finding_text t (Held mismatch) =
+    keyed_values (codes "value-held: ") mismatch.key (codes " has ") t mismatch.shown (codes ", written was ") mismatch.written
 finding_text t (Pdo number deviation) = pdo_text number deviation
 
 -- `recording.log:123: heartbeat-late: ..`

@@ -1,2 +1,4 @@
+pub mod ChoiceTexts
 pub mod FindingTexts
+pub mod LearnedTexts
 pub mod Tallies

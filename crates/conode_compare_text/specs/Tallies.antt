@@ -22,8 +22,12 @@ abbrev pub tally_with : Tally → Option Verdict → Tally
 tally_with tally None = tally
 tally_with tally (Some verdict) = with_verdict tally verdict
 
+-- how many there are, in words
+unfoldable pub tally_text : ℕ → Tally → List ℕ
+tally_text node tally =
+    numbered (codes "node ") node (codes ": ") ++ numbered [] tally.prescribed (codes " frames as prescribed, ")
+    ++ numbered [] tally.different (codes " with a difference, ") ++ numbered [] tally.unjudged (codes " unjudged")
+
 -- the line that ends a comparison
 unfoldable pub summary : ℕ → Tally → List ℕ
-summary node tally =
-    numbered (codes "node ") node (codes ": ") ++ numbered [] tally.prescribed (codes " frames as prescribed, ")
-    ++ numbered [] tally.different (codes " with a difference, ") ++ numbered [] tally.unjudged (codes " unjudged") ++ 10 ∷ []
+summary node tally = tally_text node tally ++ 10 ∷ []

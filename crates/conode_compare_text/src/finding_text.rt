@@ -281,6 +281,16 @@ pub fn push_finding(
         }
         Finding::Transfer(breach) => push_transfer(text, breach),
         Finding::Value(mismatch) => push_mismatch(text, value_type, mismatch),
+        Finding::Held(mismatch) => push_key_values(
+            text,
+            "value-held: ",
+            mismatch.key,
+            " has ",
+            value_type,
+            mismatch.shown,
+            ", written was ",
+            mismatch.written,
+        ),
         Finding::Pdo(number, deviation) => push_pdo(text, number, deviation),
     }
 }

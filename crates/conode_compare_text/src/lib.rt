@@ -1,9 +1,13 @@
-//! The differences of a device, in words.
+//! The differences of a device, its choices, and the values that it showed, in words.
 #![tactic(auto)]
 
+mod choice_text;
 mod finding_text;
+mod learned_text;
 mod parts;
 mod tally;
 
+pub use choice_text::{set_choice_line, set_choices_summary};
 pub use finding_text::{push_finding, set_finding_line};
+pub use learned_text::set_learned_line;
 pub use tally::{Tally, set_summary};

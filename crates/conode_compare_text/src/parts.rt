@@ -9,6 +9,7 @@ ghost use Rattle.conode_compare_text.specs.FindingTexts.{
   keyed,
   keyed_code,
   keyed_codes,
+  keyed_number,
   keyed_numbers,
   keyed_time,
   keyed_values,
@@ -225,6 +226,26 @@ pub(crate) fn push_key_time(
     push_words(text, key.text().as_str())?;
     push_words(text, middle)?;
     push_millis(text, micros)?;
+    push_words(text, end)
+}
+
+/// A key and a number between words.
+#[tactic(auto, unfolding(crate::specs::FindingTexts::keyed_number))]
+pub(crate) fn push_key_number(
+    text: &mut String,
+    front: &str,
+    key: Key,
+    middle: &str,
+    number: u64,
+    end: &str,
+) -> Result<(), AllocError>
+    ensures { OnOk result (string_bytes text.new
+        ≡ string_bytes text.old ++ keyed_number front.now key middle.now number end.now) }
+{
+    push_words(text, front)?;
+    push_words(text, key.text().as_str())?;
+    push_words(text, middle)?;
+    push_decimal(text, number)?;
     push_words(text, end)
 }
 

@@ -51,6 +51,18 @@ impl Tally {
     }
 }
 
+/// How many frames have which verdict, in words.
+#[tactic(auto, unfolding(crate::specs::Tallies::tally_text))]
+pub(crate) fn push_tally(text: &mut String, node: u8, tally: Tally) -> Result<(), AllocError>
+    ensures { OnOk result
+        (string_bytes text.new ≡ string_bytes text.old ++ tally_text node tally) }
+{
+    push_number(text, "node ", u64::from(node), ": ")?;
+    push_number(text, "", tally.prescribed, " frames as prescribed, ")?;
+    push_number(text, "", tally.different, " with a difference, ")?;
+    push_number(text, "", tally.unjudged, " unjudged")
+}
+
 /// Sets a text to the line that ends a comparison, with its line feed. On an `Err` memory ran out,
 /// and a part of it may be there.
 #[tactic(auto, unfolding(crate::specs::Tallies::summary))]
@@ -58,9 +70,6 @@ pub fn set_summary(text: &mut String, node: u8, tally: Tally) -> Result<(), Allo
     ensures { OnOk result (string_bytes text.new ≡ summary node tally) }
 {
     text.clear();
-    push_number(text, "node ", u64::from(node), ": ")?;
-    push_number(text, "", tally.prescribed, " frames as prescribed, ")?;
-    push_number(text, "", tally.different, " with a difference, ")?;
-    push_number(text, "", tally.unjudged, " unjudged")?;
+    push_tally(text, node, tally)?;
     text.push('\n')
 }

@@ -19,10 +19,10 @@ use Rattle.conode_compare_transfers.specs.declared.breach.Breach.{Breach}
 use Rattle.conode_compare_transfers.specs.declared.breach.Breach.TheVariants.{AbortKey, Crc, Form, Size, Toggle}
 use Rattle.conode_compare_transfers.specs.declared.dialogue.Dialogue.{Dialogue}
 use Rattle.conode_compare_transfers.specs.declared.left.Left.{Left}
-use Rattle.conode_compare_transfers.specs.declared.newest.Newest.TheVariants.{Acknowledge, Answer, Data, LaterAcknowledge, LaterData, Request}
+use Rattle.conode_compare_transfers.specs.declared.newest.Newest.TheVariants.{Acknowledge, AllAcknowledged, Answer, Data, LastData, LaterAcknowledge, LaterData, Request}
 use Rattle.conode_compare_transfers.specs.Breaches.{breach_at, server_breach}
 use Rattle.conode_compare_transfers.specs.Dialogues.{dialogue_heard, exchange_in, is_certain, is_late_answer, is_timed, is_awaited, is_in_turn, leaves_slow, left_after, left_after_answer, nothing_asked, nothing_left, owes}
-use Rattle.conode_compare_transfers.specs.NewestFrames.{newest_after}
+use Rattle.conode_compare_transfers.specs.NewestFrames.{newest_after, newest_with}
 
 abbrev key : Key
 key = record { index = 0x1008; sub = 0 }
@@ -181,6 +181,40 @@ number_0_later = refl
 
 block_gap : server_breach Data key (OutOfSequence 3 2) 3 ≡ None
 block_gap = refl
+
+-- the last segment, c = 1; not where it may be of the sub-block before
+last_segment : newest_with Server (Segment 3) (answer 0x83) (Some Data) ≡ Some (LastData 3)
+unfolding newest_with newest_after
+last_segment = refl
+
+first_is_last : newest_with Server (Segment 1) (answer 0x81) (Some Acknowledge) ≡ Some (LastData 1)
+unfolding newest_with newest_after
+first_is_last = refl
+
+not_last : newest_with Server (Segment 3) (answer 0x03) (Some Data) ≡ Some Data
+unfolding newest_with newest_after
+not_last = refl
+
+last_of_either : newest_with Server (Segment 2) (answer 0x82) (Some LaterData) ≡ Some LaterData
+unfolding newest_with newest_after
+last_of_either = refl
+
+-- the client has all of the upload, or asks for some of the sub-block again
+all_acknowledged : newest_with Client Part (record { id = 0x605; bytes = 0xA2 ∷ 3 ∷ 4 ∷ [] }) (Some (LastData 3)) ≡ Some AllAcknowledged
+unfolding newest_with newest_after
+all_acknowledged = refl
+
+some_acknowledged : newest_with Client Part (record { id = 0x605; bytes = 0xA2 ∷ 2 ∷ 4 ∷ [] }) (Some (LastData 3)) ≡ Some Acknowledge
+unfolding newest_with newest_after
+some_acknowledged = refl
+
+-- then its end comes, and nothing else
+end_of_all : newest_with Server Part (answer 0xC1) (Some AllAcknowledged) ≡ Some Answer
+unfolding newest_with newest_after
+end_of_all = refl
+
+only_its_end : map (server_breach AllAcknowledged key Unexpected) (0x02 ∷ 0x20 ∷ 0xA1 ∷ 0xD5 ∷ []) ≡ Some (Form key) ∷ Some (Form key) ∷ Some (Form key) ∷ None ∷ []
+only_its_end = refl
 
 -- ---- ends
 
@@ -459,15 +493,15 @@ abbrev saving : Dialogue
 saving = sent (sent nothing_asked 2000000 Client (0x23 ∷ 0x10 ∷ 0x10 ∷ 1 ∷ 0x73 ∷ 0x61 ∷ 0x76 ∷ 0x65 ∷ [])) 3000000 Client (0x40 ∷ 0 ∷ 0x10 ∷ 0 ∷ 0 ∷ 0 ∷ 0 ∷ 0 ∷ [])
 
 is_saving : saving.slow ≡ left_at 1 3000000
-unfolding dialogue_heard is_certain newest_after request_row_in
+unfolding dialogue_heard is_certain newest_after newest_with request_row_in
 is_saving = refl
 
 late_save : (exchange_in 1000 0 saving 9000000 Server (reply 0x60 0x10)).certain ≡ false
-unfolding exchange_in is_certain dialogue_heard newest_after request_row_in response_row_in
+unfolding exchange_in is_certain dialogue_heard newest_after newest_with request_row_in response_row_in
 late_save = refl
 
 saved : (sent saving 9000000 Server (0x60 ∷ 0x10 ∷ 0x10 ∷ 1 ∷ 0 ∷ 0 ∷ 0 ∷ 0 ∷ [])).slow ≡ left_at 0 3000000
-unfolding dialogue_heard is_certain newest_after request_row_in response_row_in
+unfolding dialogue_heard is_certain newest_after newest_with request_row_in response_row_in
 saved = refl
 
 -- an answer of an entry that may take long, where none is awaited: its request may have come before the recording
@@ -475,11 +509,11 @@ abbrev asking : Dialogue
 asking = sent nothing_asked 2000000 Client (0x40 ∷ 0 ∷ 0x10 ∷ 0 ∷ 0 ∷ 0 ∷ 0 ∷ 0 ∷ [])
 
 none_left_before : asking.slow ≡ nothing_left
-unfolding dialogue_heard is_certain newest_after request_row_in
+unfolding dialogue_heard is_certain newest_after newest_with request_row_in
 none_left_before = refl
 
 never_judged : (exchange_in 1000 0 asking 2500000 Server (reply 0x60 0x10)).certain ≡ false
-unfolding exchange_in is_certain dialogue_heard newest_after request_row_in response_row_in
+unfolding exchange_in is_certain dialogue_heard newest_after newest_with request_row_in response_row_in
 never_judged = refl
 
 -- 1000:00 is asked for once more, and answered in its turn: nothing is awaited any more
@@ -487,9 +521,9 @@ abbrev asked_anew : Dialogue
 asked_anew = sent (sent saving 3500000 Server (0x43 ∷ 0 ∷ 0x10 ∷ 0 ∷ 1 ∷ 0 ∷ 0 ∷ 0 ∷ [])) 5000000 Client (0x40 ∷ 0 ∷ 0x10 ∷ 0 ∷ 0 ∷ 0 ∷ 0 ∷ 0 ∷ [])
 
 still_awaited : asked_anew.slow ≡ left_at 1 3000000
-unfolding dialogue_heard is_certain newest_after request_row_in response_row_in
+unfolding dialogue_heard is_certain newest_after newest_with request_row_in response_row_in
 still_awaited = refl
 
 answered_anew : (sent asked_anew 5001000 Server (0x43 ∷ 0 ∷ 0x10 ∷ 0 ∷ 1 ∷ 0 ∷ 0 ∷ 0 ∷ [])).slow ≡ nothing_left
-unfolding dialogue_heard is_certain newest_after request_row_in response_row_in
+unfolding dialogue_heard is_certain newest_after newest_with request_row_in response_row_in
 answered_anew = refl

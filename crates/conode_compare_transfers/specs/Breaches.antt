@@ -20,7 +20,7 @@ use Rattle.conode_explain_transfers.specs.declared.kinds.What.TheVariants.{Repea
 use Rattle.conode_compare_transfers.specs.declared.breach.Breach.{Breach}
 use Rattle.conode_compare_transfers.specs.declared.breach.Breach.TheVariants.{Toggle, Form, AbortKey, Size, Crc}
 use Rattle.conode_compare_transfers.specs.declared.newest.Newest.{Newest}
-use Rattle.conode_compare_transfers.specs.declared.newest.Newest.TheVariants.{Request, Data, Acknowledge, LaterData, LaterAcknowledge}
+use Rattle.conode_compare_transfers.specs.declared.newest.Newest.TheVariants.{Request, Data, LastData, Acknowledge, LaterData, LaterAcknowledge, AllAcknowledged}
 
 -- ---- frames
 
@@ -67,11 +67,14 @@ ended_breach frame ended = ending_breach frame ended ended.direction ended.endin
 -- Among the segments of a block upload one whose number is 0 or above the block size; not what
 -- looks like the end of a block upload, before which segments may be missing in the recording.
 -- After an acknowledge a segment may be of the sub-block before, whose block size may have been
--- greater: only the number 0 is none.
+-- greater: only the number 0 is none. After the acknowledge of the last segment nothing of the upload
+-- is on its way.
 abbrev pub server_breach : Newest → Key → What → ℕ → Option Breach
 server_breach Request key Repeated first = Some (Toggle key)
 server_breach Request key Unexpected first = if first / 32 == 6 then None else Some (Form key)
 server_breach Data key Unexpected first = if first / 32 == 6 then None else Some (Form key)
+server_breach (LastData number) key Unexpected first = if first / 32 == 6 then None else Some (Form key)
+server_breach AllAcknowledged key Unexpected first = if first / 32 == 6 then None else Some (Form key)
 server_breach Acknowledge key Unexpected first = if first % 128 == 0 then Some (Form key) else None
 server_breach LaterAcknowledge key Unexpected first = if first % 128 == 0 then Some (Form key) else None
 server_breach LaterData key Unexpected first = if first % 128 == 0 then Some (Form key) else None

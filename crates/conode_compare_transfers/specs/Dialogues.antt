@@ -18,9 +18,9 @@ use Rattle.conode_explain_transfers.specs.declared.kinds.What.{What}
 use Rattle.conode_explain_transfers.specs.declared.kinds.What.TheVariants.{Initiate, Part, Segment, OutOfSequence}
 use Rattle.conode_explain_transfers.specs.Followed.{after_boot, closed, followed, nothing_heard}
 use Rattle.conode_compare_transfers.specs.declared.newest.Newest.{Newest}
-use Rattle.conode_compare_transfers.specs.declared.newest.Newest.TheVariants.{Answer, Data, LaterData}
+use Rattle.conode_compare_transfers.specs.declared.newest.Newest.TheVariants.{LastData, Answer, Data, LaterData}
 use Rattle.conode_compare_transfers.specs.Breaches.{breach_at, byte_at, key_in}
-use Rattle.conode_compare_transfers.specs.NewestFrames.{newest_after}
+use Rattle.conode_compare_transfers.specs.NewestFrames.{newest_with}
 use Rattle.conode_compare_transfers.specs.declared.dialogue.Asked.{Asked}
 use Rattle.conode_compare_transfers.specs.declared.dialogue.Dialogue.{Dialogue}
 use Rattle.conode_compare_transfers.specs.declared.dialogue.Exchange.{Exchange}
@@ -110,6 +110,7 @@ is_left other ending = false
 abbrev pub owes_nothing : Option Newest → Bool
 owes_nothing (Some Answer) = true
 owes_nothing (Some Data) = true
+owes_nothing (Some (LastData number)) = true
 owes_nothing (Some LaterData) = true
 owes_nothing newest = false
 
@@ -210,8 +211,8 @@ abbrev pub doubted_after : Side → Heard → FrameContent → Option ℕ → �
 doubted_after side heard frame doubted micros = if leaves_request_open side heard frame then Some micros else doubted
 
 -- A transfer isn't judged whose initiate request comes while an earlier request may still be answered.
-abbrev pub newest_heard : Bool → Side → What → Option Newest → Option Newest
-newest_heard certain side what newest = if is_initiate what && not certain then None else newest_after side what newest
+abbrev pub newest_heard : Bool → Side → What → FrameContent → Option Newest → Option Newest
+newest_heard certain side what frame newest = if is_initiate what && not certain then None else newest_with side what frame newest
 
 unfoldable pub dialogue_heard : ℕ → ℕ → Dialogue → ℕ → Side → FrameContent → Dialogue
 dialogue_heard answer started dialogue micros side frame =
@@ -225,7 +226,7 @@ dialogue_heard answer started dialogue micros side frame =
       asked = asked_after f.says.what micros frame;
       doubted = doubted;
       slow = slow;
-      newest = newest_heard (is_certain answer started slow doubted micros) side f.says.what dialogue.newest;
+      newest = newest_heard (is_certain answer started slow doubted micros) side f.says.what frame dialogue.newest;
     }
 
 -- the request wasn't answered in time

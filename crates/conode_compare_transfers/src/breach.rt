@@ -109,15 +109,17 @@ fn ended_breach(frame: &Frame, ended: &Ended) -> Option<Breach>
 
 // The difference of a frame of the device with this first byte that doesn't end the transfer. Where
 // segments of a block upload may be missing in the recording, its end comes before its turn. After
-// an acknowledge a segment may be of the sub-block before, whose block size may have been greater.
+// an acknowledge a segment may be of the sub-block before, whose block size may have been greater;
+// not after that of the last segment.
 fn server_breach(newest: Newest, key: Key, what: What, first: u8) -> Option<Breach>
     ensures { result ≡ server_breach newest key what first }
 {
     match (newest, what) {
         (Newest::Request, What::Repeated) => Some(Breach::Toggle(key)),
-        (Newest::Request | Newest::Data, What::Unexpected) if first / 32 != 6 => {
-            Some(Breach::Form(key))
-        }
+        (
+            Newest::Request | Newest::Data | Newest::LastData(_) | Newest::AllAcknowledged,
+            What::Unexpected,
+        ) if first / 32 != 6 => Some(Breach::Form(key)),
         (Newest::Acknowledge | Newest::LaterData | Newest::LaterAcknowledge, What::Unexpected)
             if first % 128 == 0 => Some(Breach::Form(key)),
         _ => None,

@@ -35,7 +35,7 @@ ghost use Rattle.conode_compare_transfers.specs.Dialogues.{
 
 use crate::breach::{Breach, breach_at, byte_at, key_in};
 use crate::left::Left;
-use crate::newest::{Newest, newest_after};
+use crate::newest::{Newest, newest_with};
 use crate::times::is_past;
 use co_frame::Frame;
 use co_profile::{RESTORE_PARAMETERS, STORE_PARAMETERS};
@@ -132,7 +132,7 @@ fn owes_nothing(newest: Option<Newest>) -> bool
 {
     matches!(
         newest,
-        Some(Newest::Answer | Newest::Data | Newest::LaterData)
+        Some(Newest::Answer | Newest::Data | Newest::LastData(_) | Newest::LaterData)
     )
 }
 
@@ -261,14 +261,21 @@ fn is_initiate(what: What) -> bool
     matches!(what, What::Initiate)
 }
 
-// whose frame the newest one is; none of a transfer that isn't judged, since its request came while an earlier one could be answered
-fn newest_heard(certain: bool, side: Side, what: What, newest: Option<Newest>) -> Option<Newest>
-    ensures { result ≡ newest_heard certain side what newest }
+// whose frame the newest one is; none of a transfer that isn't judged, since its request came while
+// an earlier one could be answered
+fn newest_heard(
+    certain: bool,
+    side: Side,
+    what: What,
+    frame: &Frame,
+    newest: Option<Newest>,
+) -> Option<Newest>
+    ensures { result ≡ newest_heard certain side what frame.now newest }
 {
     if is_initiate(what) && !certain {
         None
     } else {
-        newest_after(side, what, newest)
+        newest_with(side, what, frame, newest)
     }
 }
 
@@ -392,7 +399,7 @@ impl Dialogue {
             self.doubted = Some(micros);
         }
         let judged = self.is_certain(answer, started, micros);
-        self.newest = newest_heard(judged, side, heard.what, self.newest);
+        self.newest = newest_heard(judged, side, heard.what, frame, self.newest);
         Exchange {
             heard,
             asked,

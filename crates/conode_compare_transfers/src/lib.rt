@@ -12,5 +12,5 @@ mod times;
 pub use breach::{Breach, breach_at, byte_at, key_in};
 pub use dialogue::{Asked, Dialogue, Exchange, is_timed};
 pub use left::Left;
-pub use newest::{Newest, newest_after};
+pub use newest::{Newest, newest_with};
 pub use times::{is_past, micros_of};

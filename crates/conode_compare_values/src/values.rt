@@ -74,8 +74,8 @@ fn held_number(node: u8, row: &EntryRow<'_>) -> Option<u64>
     }
 }
 
-// the number that the first bytes are
-fn shown_number(width: usize, bytes: &[u8]) -> Option<u64>
+/// The number that the first bytes are, up to four.
+pub fn shown_number(width: usize, bytes: &[u8]) -> Option<u64>
     ensures { result ≡ shown_number width bytes.now }
 {
     if width <= 4 && width <= bytes.len() {

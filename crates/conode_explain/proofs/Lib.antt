@@ -3,5 +3,6 @@ pub mod Explaining
 pub mod LogLemmas
 pub mod ServiceLemmas
 pub mod SheetExamples
-pub mod SheetWordLemmas
+pub mod TellingLemmas
 pub mod WriteLemmas
+pub mod WriteSets

@@ -1,7 +1,7 @@
 -- What a log is explained as: the lines of its frames that are asked for, in order, each with that
 -- of the transfer that ended with it, and at the end those of the transfers that are open. A bad
 -- line has none here, and is counted.
-use Rattle.std.specs.Prelude.{ℕ, ◌+◌, ◌==◌, Bool, nat_lt, ◌||◌, if◌then◌else◌, List, [], ◌∷◌, ◌++◌, length, Option, Some, None}
+use Rattle.std.specs.Prelude.{ℕ, ◌+◌, ◌==◌, Bool, false, nat_lt, ◌||◌, if◌then◌else◌, List, [], ◌∷◌, ◌++◌, length, Option, Some, None}
 use Rattle.std.specs.List.{flat_map}
 use Rattle.std.specs.Str.Lines.{lines}
 use Rattle.co_bounded_lines.specs.Founds.{is_closed}
@@ -29,7 +29,7 @@ use Rattle.conode_explain_pdo.specs.Known.{names_for}
 use Rattle.conode_explain_transfers.specs.declared.ended.Ended.{Ended}
 use Rattle.conode_explain_transfers.specs.declared.ended.Ending.TheVariants.{Unfinished}
 use Rattle.conode_explain_transfers.specs.Followed.{closed}
-use Rattle.conode_explain_changes.specs.Changes.{Said}
+use Rattle.conode_explain_filter.specs.Changes.{Said}
 use Rattle.conode_explain_filter.specs.declared.kind.Kind.{Kind}
 use Rattle.conode_explain_filter.specs.declared.kind.Kind.TheVariants.{Sdo}
 use Rattle.conode_explain_filter.specs.declared.subject.Subject.{Subject}
@@ -60,6 +60,11 @@ telling_in channels frame _ _ = record { told = None; tracks = channels }
 
 unfoldable pub telling_of : List Track → Record → Telling
 telling_of channels frame = telling_in channels frame frame.id frame.content
+
+-- a channel may take a frame: its identifier is above those of PDOs
+abbrev pub may_be_told : Identifier → Bool
+may_be_told (Base id) = nat_lt 0x580 id
+may_be_told _ = false
 
 -- what is known of the PDOs of a frame's bus
 abbrev pub bus_of : List KnownSheet → List ShownPdo → Record → Bus
@@ -145,22 +150,31 @@ lasts_with form bus claims so_far lasts frame told =
     if length form.signals.now == 0
     then lasts_after form so_far lasts (subject_in claims frame) frame (told_words bus claims frame told) else lasts
 
+-- the lines of a frame of which its SDO channel says this
+abbrev pub lines_by : Layout → List KnownSheet → Progress → Record → Option Told → List (List ℕ)
+lines_by form sheets progress frame told =
+    let bus = bus_of sheets progress.entries frame in
+    lines_with form sheets bus (claims_at bus frame.id) progress.seen progress.lasts frame told
+
+-- how far it is after it, where the channels have it already
+abbrev pub progress_by : Layout → List KnownSheet → Progress → Record → Option Told → Progress
+progress_by form sheets progress frame told =
+    let bus = bus_of sheets progress.entries frame in
+    record {
+      seen = seen_with progress.seen frame.micros frame.interface;
+      channels = progress.channels;
+      lasts = lasts_with form bus (claims_at bus frame.id) progress.seen progress.lasts frame told;
+      entries = entries_with progress.entries frame.interface told;
+    }
+
 -- the lines of a frame
 unfoldable pub frame_lines : Layout → List KnownSheet → Progress → Record → List (List ℕ)
-frame_lines form sheets progress frame =
-    let bus = bus_of sheets progress.entries frame in
-    lines_with form sheets bus (claims_at bus frame.id) progress.seen progress.lasts frame (telling_of progress.channels frame).told
+frame_lines form sheets progress frame = lines_by form sheets progress frame (telling_of progress.channels frame).told
 
 unfoldable pub progress_with : Layout → List KnownSheet → Progress → Record → Progress
 progress_with form sheets progress frame =
     let telling = telling_of progress.channels frame in
-    let bus = bus_of sheets progress.entries frame in
-    record {
-      seen = seen_with progress.seen frame.micros frame.interface;
-      channels = telling.tracks;
-      lasts = lasts_with form bus (claims_at bus frame.id) progress.seen progress.lasts frame telling.told;
-      entries = entries_with progress.entries frame.interface telling.told;
-    }
+    progress_by form sheets (record progress { channels = telling.tracks }) frame telling.told
 
 -- the lines of what a line says, if that is a frame
 abbrev pub said_lines : Layout → List KnownSheet → Progress → Option RecordLine → List (List ℕ)

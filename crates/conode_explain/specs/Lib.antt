@@ -4,7 +4,6 @@ pub mod Explained
 pub mod Filtered
 pub mod FrameWords
 pub mod LogLines
-pub mod SheetWords
 pub mod Sheets
 pub mod Taking
 pub mod ToldWords

@@ -5,7 +5,6 @@ ghost use Rattle.std.specs.Process.{exit_status};
 
 use crate::explained::explain;
 use crate::progress::{Layout, LineFormat};
-use crate::sheet_word::{SheetWord, SheetWordFault, sheet_words};
 use crate::sheets::{ReadSheet, known_sheets};
 use crate::writes::{Settings, write_header};
 use co_sheet::{FaultKind, GREATEST_SIZE, SheetFault, read};
@@ -13,8 +12,9 @@ use co_sheet_changes::Originals;
 use conode_explain_filter::{Filter, FilterFault, FilterWords};
 use conode_explain_signals::{Signal, SignalFault, first_missing};
 use conode_explain_text::StampForm;
-use conode_io::{CmdFault, cannot_read, faulty_sheet, file_text, flushed, no_text, stopped};
+use conode_io::{CmdFault, cannot_read, flushed, stopped};
 use conode_logs::Form;
+use conode_sheet_words::{SheetText, SheetWord, bad_sheet, bad_sheet_word, sheet_words, texts_of};
 use std::alloc::Global;
 use std::fs;
 use std::io::{Input, Read, Write};
@@ -85,27 +85,8 @@ fn originals_in(alloc: Global, text: &[u8]) -> Result<Originals, SheetFault> {
     }
 }
 
-// explains the recording of a path by data sheets that are known, if they have all signals
-#[tactic(auto, using(crate::proofs::WriteLemmas::or_two))]
-fn explain_known<R: Files + AllocGlobal + Input, O: Write, E: Write>(
-    rt: &R,
-    path: &str,
-    settings: &Settings<'_, '_, '_, '_>,
-    out: &mut O,
-    err: &mut E,
-) -> ExitCode
-    ensures { (exit_status result ≡ 0) ⊎ ((exit_status result ≡ 1) ⊎ (exit_status result ≡ 2)) }
-{
-    if let Some(signal) = first_missing(settings.sheets, settings.form.signals) {
-        let (node, key) = (signal.node, signal.key);
-        let _ = writeln!(err, "--signal: no data sheet has {key} of node {node}");
-        return ExitCode::from(2);
-    }
-    explain_path(rt, path, settings, out, err)
-}
-
-// explains the recording of a path by data sheets
-#[tactic(auto, using(crate::proofs::WriteLemmas::one_or_two))]
+// Explains the recording of a path by data sheets, if they have all signals.
+#[tactic(auto, using(crate::proofs::WriteLemmas::or_two, crate::proofs::WriteLemmas::one_or_two))]
 fn explain_by<R: Files + AllocGlobal + Input, O: Write, E: Write>(
     rt: &R,
     path: &str,
@@ -116,21 +97,17 @@ fn explain_by<R: Files + AllocGlobal + Input, O: Write, E: Write>(
 ) -> ExitCode
     ensures { (exit_status result ≡ 0) ⊎ ((exit_status result ≡ 1) ⊎ (exit_status result ≡ 2)) }
 {
-    match known_sheets(rt.alloc(), sheets) {
-        Ok(known) => {
-            let sheets = known.as_slice();
-            let settings = Settings { form, sheets };
-            explain_known(rt, path, &settings, out, err)
-        }
-        Err(_) => stopped(CmdFault::Memory, out, err).status(),
+    let Ok(known) = known_sheets(rt.alloc(), sheets) else {
+        return stopped(CmdFault::Memory, out, err).status();
+    };
+    let sheets = known.as_slice();
+    if let Some(signal) = first_missing(sheets, form.signals) {
+        let (node, key) = (signal.node, signal.key);
+        let _ = writeln!(err, "--signal: no data sheet has {key} of node {node}");
+        return ExitCode::from(2);
     }
-}
-
-// The text of a data sheet, and what its word names.
-#[derive(Drop)]
-struct SheetText<'a> {
-    word: SheetWord<'a>,
-    text: Vec<u8>,
+    let settings = Settings { form, sheets };
+    explain_path(rt, path, &settings, out, err)
 }
 
 // a data sheet, and its original data types
@@ -144,32 +121,17 @@ fn sheet_in<'t>(alloc: Global, of: &'t SheetText<'_>) -> Result<ReadSheet<'t>, S
     })
 }
 
-// Says why a text is no data sheet, and of which file, where there are several. The status is 1.
-fn bad_sheet<O: Write, E: Write>(
-    fault: SheetFault,
-    path: &str,
-    several: bool,
-    out: &mut O,
-    err: &mut E,
-) -> ExitCode
-    ensures { exit_status result ≡ 1 }
-{
-    if several && fault.kind != FaultKind::Memory {
-        let _ = writeln!(err, "{path} has a fault");
-    }
-    faulty_sheet(fault, out)
-}
-
-// The data sheets of these texts. On an `Err` one is at fault, or memory ran out, and it is said.
-fn sheets_in<'t, O: Write, E: Write>(
+// Adds the data sheets of these texts. On an `Err` one is at fault, or memory ran out, and it is
+// said.
+fn add_sheets<'t, O: Write, E: Write>(
     alloc: Global,
+    sheets: &mut Vec<ReadSheet<'t>>,
     texts: &'t [SheetText<'_>],
     out: &mut O,
     err: &mut E,
-) -> Result<Vec<ReadSheet<'t>>, ExitCode>
+) -> Result<(), ExitCode>
     ensures { IfErr result (λ status. exit_status status ≡ 1) }
 {
-    let mut sheets = Vec::new(alloc);
     for text in texts {
         match sheet_in(alloc, text) {
             Ok(sheet) => {
@@ -182,31 +144,7 @@ fn sheets_in<'t, O: Write, E: Write>(
             }
         }
     }
-    Ok(sheets)
-}
-
-// The texts of the data sheets that words name. On an `Err` a file can't be read, or memory ran
-// out, and it is said.
-fn texts_of<'a, R: Files + AllocGlobal, O: Write, E: Write>(
-    rt: &R,
-    words: &[SheetWord<'a>],
-    out: &mut O,
-    err: &mut E,
-) -> Result<Vec<SheetText<'a>>, ExitCode>
-    ensures { IfErr result (λ status. exit_status status ≡ 1) }
-{
-    let mut texts = Vec::new(rt.alloc());
-    for word in words {
-        match file_text(rt, word.path) {
-            Ok(text) => {
-                if texts.push(SheetText { word: *word, text }).is_err() {
-                    return Err(stopped(CmdFault::Memory, out, err).status());
-                }
-            }
-            Err(fault) => return Err(no_text(fault, word.path, out, err)),
-        }
-    }
-    Ok(texts)
+    Ok(())
 }
 
 // explains the recording of a path by the data sheets that words name
@@ -224,27 +162,11 @@ fn explain_named<R: Files + AllocGlobal + Input, O: Write, E: Write>(
         Ok(texts) => texts,
         Err(status) => return status,
     };
-    match sheets_in(rt.alloc(), texts.as_slice(), out, err) {
-        Ok(sheets) => explain_by(rt, path, sheets.as_slice(), form, out, err),
-        Err(status) => status,
+    let mut sheets = Vec::new(rt.alloc());
+    if let Err(status) = add_sheets(rt.alloc(), &mut sheets, texts.as_slice(), out, err) {
+        return status;
     }
-}
-
-// says which word names no data sheet, and what it lacks
-fn bad_sheet_word<O: Write, E: Write>(
-    fault: SheetWordFault<'_>,
-    out: &mut O,
-    err: &mut E,
-) -> ExitCode
-    ensures { (exit_status result ≡ 1) ⊎ (exit_status result ≡ 2) }
-{
-    match fault {
-        SheetWordFault::Word(part, word) => {
-            let _ = writeln!(err, "--sheet: {word} has no {}", part.wanted());
-            ExitCode::from(2)
-        }
-        SheetWordFault::Memory => stopped(CmdFault::Memory, out, err).status(),
-    }
+    explain_by(rt, path, sheets.as_slice(), form, out, err)
 }
 
 // explains the recording of a path by the data sheets that the words of the command line name

@@ -1,7 +1,10 @@
 //! A recording explained: each of its frames on a line.
 
-ghost use Rattle.std.specs.Prelude.{IfOk, IfSome};
+ghost use Rattle.std.specs.Prelude.{◌≡◌, IfOk, IfSome};
+ghost use Rattle.co_bounded_lines.specs.Held.{nothing_held};
+ghost use Rattle.conode_convert.specs.Converted.{at_start};
 ghost use Rattle.conode_lines.specs.TraceTexts.{GaveText};
+ghost use Rattle.conode_explain.specs.Explained.{nothing_known};
 ghost use Rattle.conode_explain.specs.Taking.{Explains};
 ghost use Rattle.conode_explain.specs.Sheets.{sheets_of};
 
@@ -10,6 +13,39 @@ use crate::writes::Settings;
 use conode_io::CmdFault;
 use std::alloc::Global;
 use std::io::{Read, Write};
+
+// explains all lines, where none was taken yet
+fn explain_all<R: Read, W: Write, E: Write>(
+    explaining: &mut Explaining,
+    reader: &mut R,
+    settings: &Settings<'_, '_, '_, '_>,
+    out: &mut W,
+    err: &mut E,
+) -> Result<u64, CmdFault>
+    requires lines { explaining.old.lines ≡ nothing_held }
+    requires log { explaining.old.log ≡ at_start settings.now.form.log }
+    requires progress { explaining.old.progress ≡ nothing_known }
+    ensures known { IfOk result (λ bad. IfSome (R.remaining reader.old)
+        (Explains settings.now.form (sheets_of settings.now)
+        (W.contents out.old) (W.contents out.new) bad)) }
+    ensures any_reader { IfOk result (λ bad.
+        GaveText (R.remaining reader.old) (R.remaining reader.new)
+        (Explains settings.now.form (sheets_of settings.now)
+        (W.contents out.old) (W.contents out.new) bad)) }
+{
+    let mut bad: u64 = 0;
+    for number in 1..u64::MAX {
+        explaining.let_out(out)?;
+        match explaining.take_line(reader, settings, number, out, err)? {
+            Some(more) => bad += more,
+            None => {
+                explaining.finish(settings, out)?;
+                return Ok(bad);
+            }
+        }
+    }
+    Err(CmdFault::NeverEnds)
+}
 
 /// Explains a log of the form that is given, or that its first lines show, line by line and in
 /// constant memory: for each frame a line is written on `out`, with its times and what it says, and
@@ -40,16 +76,5 @@ pub fn explain<R: Read, W: Write, E: Write>(
         (W.contents out.old) (W.contents out.new) bad)) }
 {
     let mut explaining = Explaining::new(alloc, settings.form.log);
-    let mut bad: u64 = 0;
-    for number in 1..u64::MAX {
-        explaining.let_out(out)?;
-        match explaining.take_line(reader, settings, number, out, err)? {
-            Some(more) => bad += more,
-            None => {
-                explaining.finish(settings, out)?;
-                return Ok(bad);
-            }
-        }
-    }
-    Err(CmdFault::NeverEnds)
+    explain_all(&mut explaining, reader, settings, out, err)
 }

@@ -17,8 +17,7 @@ ghost use Rattle.conode_explain.specs.Filtered.{
 
 use crate::progress::Layout;
 use arrayvec::ArrayVec;
-use conode_explain_changes::Lasts;
-use conode_explain_filter::{Kind, Subject};
+use conode_explain_filter::{Kind, Lasts, Subject};
 use conode_explain_pdo::Claim;
 use conode_explain_text::Seen;
 use conode_record::{Content, Record};
@@ -74,7 +73,7 @@ fn repeats(kind: Kind) -> bool
 }
 
 /// The bytes of a frame of data; none of another one.
-pub(crate) fn data_of(content: &Content) -> ArrayVec<u8, 8>
+pub(crate) fn data_of(content: &Content<'_>) -> ArrayVec<u8, 8>
     ensures { result.items ≡ data_of content.now }
 {
     match content {

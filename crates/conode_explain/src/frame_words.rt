@@ -134,7 +134,7 @@ pub(crate) fn set_words(
     bus: Bus<'_, '_, '_, '_, '_>,
     claims: &[Claim],
     id: Identifier,
-    content: &Content,
+    content: &Content<'_>,
 ) -> Result<(), AllocError>
     requires { IsIdentifier id }
     ensures { OnOk result (string_bytes said.new

@@ -9,7 +9,6 @@ mod explained;
 mod filtered;
 mod frame_words;
 mod progress;
-mod sheet_word;
 mod sheets;
 mod step;
 mod told_words;

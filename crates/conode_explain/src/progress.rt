@@ -4,13 +4,12 @@ ghost use Rattle.std.specs.Prelude.{◌≡◌, IfOk, OnOk};
 ghost use Rattle.conode_record.specs.Grammar.{IsIdentifier};
 ghost use Rattle.conode_explain_entries.specs.Tables.{entries_with};
 ghost use Rattle.conode_explain_text.specs.SoFar.{seen_with};
-ghost use Rattle.conode_explain.specs.Explained.{nothing_known, telling_of};
+ghost use Rattle.conode_explain.specs.Explained.{may_be_told, nothing_known, telling_of};
 
 use co_frame::Frame;
-use conode_explain_changes::Lasts;
 use conode_explain_channels::{Channels, Told};
 use conode_explain_entries::Entries;
-use conode_explain_filter::Filter;
+use conode_explain_filter::{Filter, Lasts};
 use conode_explain_signals::Signal;
 use conode_explain_text::{Seen, StampForm};
 use conode_logs::Form;
@@ -55,6 +54,17 @@ pub(crate) struct Progress {
     pub(crate) lasts: Lasts,
 }
 
+/// Whether an SDO channel may take a frame with this identifier. Of no other one there is anything
+/// to tell.
+pub(crate) fn may_be_told(id: Identifier) -> bool
+    ensures { result ≡ may_be_told id }
+{
+    match id {
+        Identifier::Base(id) => id > 0x580,
+        _ => false,
+    }
+}
+
 impl Progress {
     /// Nothing came.
     pub(crate) fn new(alloc: Global) -> Progress
@@ -91,6 +101,7 @@ impl Progress {
         self.channels
             .take(name, frame.micros, &Frame::packed(id, bytes))
     }
+
     /// Adds a frame: its stamp, its interface, and what it shows of entries by `told`, which its
     /// SDO channel says about it. On an `Err` memory ran out.
     pub(crate) fn add(&mut self, frame: &Record<'_>, told: &Option<Told>) -> Result<(), AllocError>

@@ -5,11 +5,11 @@ ghost use Rattle.conode_decode.specs.Names.{names_view};
 ghost use Rattle.conode_explain_pdo.specs.Known.{known_view};
 ghost use Rattle.conode_explain.specs.Sheets.{in_order, is_kind, node_for, of_kind, read_view};
 
-use crate::sheet_word::SheetWord;
 use co_sheet::Sheet;
 use co_sheet_changes::Originals;
 use conode_decode::Names;
 use conode_explain_pdo::KnownSheet;
+use conode_sheet_words::SheetWord;
 use std::alloc::{AllocError, Global};
 
 /// A data sheet that was read.

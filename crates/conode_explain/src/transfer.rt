@@ -135,7 +135,8 @@ pub(crate) fn push_transfer(
     row: &EntryRow<'_>,
 ) -> Result<(), AllocError>
     ensures { OnOk result (string_bytes text.new
-        ≡ string_bytes text.old ++ transfer_text (names_view names.entry) transfer.now (row_view row.now)) }
+        ≡ string_bytes text.old
+        ++ transfer_text (names_view names.entry) transfer.now (row_view row.now)) }
 {
     let bytes = value_bytes(row.data_type, &transfer.content);
     push_front(text, transfer)?;

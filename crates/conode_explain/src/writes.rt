@@ -17,12 +17,12 @@ ghost use Rattle.conode_explain.specs.Explained.{
   lasts_after,
   lasts_with,
   line_as,
-  lines_with,
+  lines_by,
   news_lines,
+  progress_by,
   progress_with,
   shown_lines,
   shown_signals,
-  signal_lines,
   told_lines,
   unfinished_lines,
 };
@@ -31,12 +31,11 @@ ghost use Rattle.conode_explain.specs.ToldWords.{told_words};
 ghost use Rattle.conode_explain.specs.Sheets.{sheets_of};
 
 use crate::filtered::{data_of, is_news, shows_end, shows_frame, subject_in};
-use crate::progress::{Layout, LineFormat, Progress};
+use crate::progress::{Layout, LineFormat, Progress, may_be_told};
 use crate::told_words::{set_ended_words, set_told_words};
-use conode_explain_changes::Lasts;
 use conode_explain_channels::Told;
 use conode_explain_entries::Entries;
-use conode_explain_filter::{Kind, Subject};
+use conode_explain_filter::{Kind, Lasts, Subject};
 use conode_explain_json::{json_line, own_json_line};
 use conode_explain_pdo::{Bus, Claim, KnownSheet, add_claims, names_for};
 use conode_explain_signals::{header, set_signal_line};
@@ -133,36 +132,9 @@ fn set_frame_line(
     }
 }
 
-// Writes the line of a frame that says these words, if they are new.
-#[tactic(auto, using(conode_io::proofs::WriteLemmas::line_alone, crate::proofs::WriteLemmas::are_shown, crate::proofs::WriteLemmas::are_hidden))]
-fn write_said<W: Write>(
-    alloc: Global,
-    line: &mut Vec<u8>,
-    text: &mut String,
-    form: &Layout<'_>,
-    seen: &Seen,
-    lasts: &mut Lasts,
-    subject: &Subject,
-    frame: &Record<'_>,
-    words: &[u8],
-    out: &mut W,
-) -> Result<(), CmdFault>
-    requires { IsIdentifier frame.now.id }
-    ensures lines { OnOk result (WritesLines (W.contents out.old) (W.contents out.new)
-        (news_lines form.now seen.now lasts.old subject.now frame.now words.now)) }
-    ensures lasts { OnOk result
-        (lasts.new ≡ lasts_told form.now lasts.old subject.now frame.now words.now) }
-    ensures err { IfErr result (λ fault. (fault ≡ CmdFault.Write) ⊎ (fault ≡ CmdFault.Memory)) }
-{
-    if !is_news(lasts, form, subject, frame, words)? {
-        return Ok(());
-    }
-    set_frame_line(alloc, line, text, form, seen, subject, frame, words)?;
-    hand_over(line.as_slice(), out)
-}
-
 // Writes the line of a frame that is asked for, if it says something new; `claims` are the PDOs
 // that it is.
+#[tactic(auto, using(crate::proofs::WriteSets::one_line))]
 fn write_news<W: Write>(
     room: &mut Room,
     form: &Layout<'_>,
@@ -184,23 +156,26 @@ fn write_news<W: Write>(
     ensures err { IfErr result (λ fault. (fault ≡ CmdFault.Write) ⊎ (fault ≡ CmdFault.Memory)) }
 {
     set_told_words(&mut room.said, bus, claims, frame, told)?;
-    write_said(
+    let words = room.said.as_bytes();
+    if !is_news(lasts, form, subject, frame, words)? {
+        return Ok(());
+    }
+    set_frame_line(
         room.alloc,
         &mut room.line,
         &mut room.text,
         form,
         seen,
-        lasts,
         subject,
         frame,
-        room.said.as_bytes(),
-        out,
-    )
+        words,
+    )?;
+    hand_over(room.line.as_slice(), out)
 }
 
 // Writes the line of a frame, if it is asked for, and says something new; `claims` are the PDOs
 // that it is.
-#[tactic(auto, unfolding(crate::specs::Explained::shown_lines, crate::specs::Explained::lasts_after), using(crate::proofs::WriteLemmas::are_shown, crate::proofs::WriteLemmas::are_hidden))]
+#[tactic(auto, unfolding(crate::specs::Explained::shown_lines, crate::specs::Explained::lasts_after), using(crate::proofs::WriteSets::one_line))]
 fn write_shown<W: Write>(
     room: &mut Room,
     form: &Layout<'_>,
@@ -230,35 +205,9 @@ fn write_shown<W: Write>(
     )
 }
 
-// Writes the line of a frame in a table of signals, if it has a value of one.
-#[tactic(auto, unfolding(crate::specs::Explained::signal_lines), using(conode_io::proofs::WriteLemmas::line_alone, crate::proofs::WriteLemmas::are_shown, crate::proofs::WriteLemmas::are_hidden))]
+// Writes the line of a frame in a table of signals, if it is asked for, and has a value of one.
+#[tactic(auto, unfolding(crate::specs::Explained::signal_lines), using(crate::proofs::WriteSets::one_line))]
 fn write_signals<W: Write>(
-    text: &mut String,
-    form: &Layout<'_>,
-    seen: &Seen,
-    bus: Bus<'_, '_, '_, '_, '_>,
-    claims: &[Claim],
-    frame: &Record<'_>,
-    told: &Option<Told>,
-    out: &mut W,
-) -> Result<(), CmdFault>
-    ensures lines { OnOk result (WritesLines (W.contents out.old) (W.contents out.new)
-        (signal_lines form.now seen.now (bus_view bus.entry) claims.now frame.now told.now)) }
-    ensures err { IfErr result (λ fault. (fault ≡ CmdFault.Write) ⊎ (fault ≡ CmdFault.Memory)) }
-{
-    let times = seen.times(frame.micros);
-    let data = data_of(&frame.content);
-    let bytes = data.as_slice();
-    let (stamps, signals) = (form.stamps, form.signals);
-    if !set_signal_line(text, stamps, times, bus, claims, bytes, told, signals)? {
-        return Ok(());
-    }
-    hand_over(text.as_bytes(), out)
-}
-
-// The same, if it is asked for.
-#[tactic(auto, using(crate::proofs::WriteLemmas::are_shown, crate::proofs::WriteLemmas::are_hidden))]
-fn write_shown_signals<W: Write>(
     text: &mut String,
     form: &Layout<'_>,
     seen: &Seen,
@@ -277,7 +226,14 @@ fn write_shown_signals<W: Write>(
     if !shows_frame(form, seen, &subject, frame.micros) {
         return Ok(());
     }
-    write_signals(text, form, seen, bus, claims, frame, told, out)
+    let times = seen.times(frame.micros);
+    let data = data_of(&frame.content);
+    let bytes = data.as_slice();
+    let (stamps, signals) = (form.stamps, form.signals);
+    if !set_signal_line(text, stamps, times, bus, claims, bytes, told, signals)? {
+        return Ok(());
+    }
+    hand_over(text.as_bytes(), out)
 }
 
 // Writes the line of a frame, or where signals are asked for, that of a table.
@@ -297,13 +253,14 @@ fn write_first<W: Write>(
         (first_lines form.now (bus_view bus.entry) claims.now seen.now lasts.old frame.now
         told.now)) }
     ensures lasts { OnOk result (lasts.new
-        ≡ lasts_with form.now (bus_view bus.entry) claims.now seen.now lasts.old frame.now told.now) }
+        ≡ lasts_with form.now (bus_view bus.entry) claims.now seen.now lasts.old frame.now
+        told.now) }
     ensures err { IfErr result (λ fault. (fault ≡ CmdFault.Write) ⊎ (fault ≡ CmdFault.Memory)) }
 {
     if form.signals.is_empty() {
         return write_shown(room, form, seen, lasts, bus, claims, frame, told, out);
     }
-    write_shown_signals(&mut room.text, form, seen, bus, claims, frame, told, out)
+    write_signals(&mut room.text, form, seen, bus, claims, frame, told, out)
 }
 
 // Sets `line` to the line of an ended transfer, with these words.
@@ -337,7 +294,7 @@ fn set_end_line(
 
 // Writes the line of the transfer that ended, if one did and it is asked for. It has the stamp and
 // the interface of the frame that ended it.
-#[tactic(auto, unfolding(crate::specs::Explained::end_line), using(conode_io::proofs::WriteLemmas::line_alone, crate::proofs::WriteLemmas::are_shown, crate::proofs::WriteLemmas::are_hidden))]
+#[tactic(auto, unfolding(crate::specs::Explained::end_line), using(crate::proofs::WriteSets::one_line))]
 fn write_end<W: Write>(
     room: &mut Room,
     seen: &Seen,
@@ -375,6 +332,7 @@ fn write_end<W: Write>(
     hand_over(room.line.as_slice(), out)
 }
 
+// Writes the line of the transfer that ended with a frame, if one did and it is asked for.
 fn write_told_end<W: Write>(
     room: &mut Room,
     seen: &Seen,
@@ -404,42 +362,6 @@ fn write_told_end<W: Write>(
     )
 }
 
-// Writes the line of a frame, and that of the transfer that ended with it, those that are asked
-// for; `claims` are the PDOs that the frame is.
-#[tactic(auto, using(conode_io::proofs::WriteLemmas::lines_after))]
-fn write_told<W: Write>(
-    room: &mut Room,
-    settings: &Settings<'_, '_, '_, '_>,
-    seen: &Seen,
-    lasts: &mut Lasts,
-    bus: Bus<'_, '_, '_, '_, '_>,
-    claims: &[Claim],
-    frame: &Record<'_>,
-    told: &Option<Told>,
-    out: &mut W,
-) -> Result<(), CmdFault>
-    requires { IsIdentifier frame.now.id }
-    ensures lines { OnOk result (WritesLines (W.contents out.old) (W.contents out.new)
-        (lines_with settings.now.form (sheets_of settings.now) (bus_view bus.entry) claims.now
-        seen.now lasts.old frame.now told.now)) }
-    ensures lasts { OnOk result (lasts.new ≡ lasts_with settings.now.form
-        (bus_view bus.entry) claims.now seen.now lasts.old frame.now told.now) }
-    ensures err { IfErr result (λ fault. (fault ≡ CmdFault.Write) ⊎ (fault ≡ CmdFault.Memory)) }
-{
-    write_first(
-        room,
-        &settings.form,
-        seen,
-        lasts,
-        bus,
-        claims,
-        frame,
-        told,
-        out,
-    )?;
-    write_told_end(room, seen, settings, frame, told, out)
-}
-
 /// Writes the first line of a table of signals, where they are asked for.
 #[tactic(auto, using(conode_io::proofs::WriteLemmas::line_alone))]
 pub(crate) fn write_header<W: Write>(
@@ -457,9 +379,47 @@ pub(crate) fn write_header<W: Write>(
     hand_over(line.as_slice(), out)
 }
 
+// Writes the line of a frame of which its SDO channel says this, and that of the transfer that ended
+// with it, those that are asked for, and adds the frame to what the recording showed; `claims` is
+// scratch space for its PDOs.
+#[tactic(auto, using(conode_io::proofs::WriteLemmas::lines_after))]
+fn write_by<W: Write>(
+    room: &mut Room,
+    claims: &mut Vec<Claim>,
+    progress: &mut Progress,
+    settings: &Settings<'_, '_, '_, '_>,
+    frame: &Record<'_>,
+    told: &Option<Told>,
+    out: &mut W,
+) -> Result<(), CmdFault>
+    requires { IsIdentifier frame.now.id }
+    ensures lines { OnOk result (WritesLines (W.contents out.old) (W.contents out.new)
+        (lines_by settings.now.form (sheets_of settings.now) progress.old frame.now told.now)) }
+    ensures progress { OnOk result (progress.new ≡ progress_by settings.now.form
+        (sheets_of settings.now) progress.old frame.now told.now) }
+    ensures err { IfErr result (λ fault. (fault ≡ CmdFault.Write) ⊎ (fault ≡ CmdFault.Memory)) }
+{
+    let bus = bus_of(settings, &progress.entries, frame);
+    set_claims(claims, bus, frame.id)?;
+    write_first(
+        room,
+        &settings.form,
+        &progress.seen,
+        &mut progress.lasts,
+        bus,
+        claims.as_slice(),
+        frame,
+        told,
+        out,
+    )?;
+    write_told_end(room, &progress.seen, settings, frame, told, out)?;
+    progress.add(frame, told)?;
+    Ok(())
+}
+
 /// Writes the lines of a frame, and adds it to what the recording showed; `claims` is scratch space
 /// for its PDOs.
-#[tactic(auto, unfolding(crate::specs::Explained::frame_lines, crate::specs::Explained::progress_with))]
+#[tactic(auto, unfolding(crate::specs::Explained::frame_lines, crate::specs::Explained::progress_with), using(crate::proofs::TellingLemmas::untold))]
 pub(crate) fn write_frame<W: Write>(
     room: &mut Room,
     claims: &mut Vec<Claim>,
@@ -475,22 +435,12 @@ pub(crate) fn write_frame<W: Write>(
         ≡ progress_with settings.now.form (sheets_of settings.now) progress.old frame.now) }
     ensures err { IfErr result (λ fault. (fault ≡ CmdFault.Write) ⊎ (fault ≡ CmdFault.Memory)) }
 {
+    // of most frames there is nothing to tell, and what is told is large
+    if !may_be_told(frame.id) {
+        return write_by(room, claims, progress, settings, frame, &None, out);
+    }
     let told = progress.tell(frame)?;
-    let bus = bus_of(settings, &progress.entries, frame);
-    set_claims(claims, bus, frame.id)?;
-    write_told(
-        room,
-        settings,
-        &progress.seen,
-        &mut progress.lasts,
-        bus,
-        claims.as_slice(),
-        frame,
-        &told,
-        out,
-    )?;
-    progress.add(frame, &told)?;
-    Ok(())
+    write_by(room, claims, progress, settings, frame, &told, out)
 }
 
 /// Writes the lines of the transfers that are open, at the end.

@@ -1,2 +1,4 @@
+mod ChangeExamples
 mod Examples
+pub mod Places
 pub mod Readings

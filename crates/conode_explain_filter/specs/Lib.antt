@@ -1,3 +1,4 @@
+pub mod Changes
 pub mod Conditions
 pub mod Filters
 pub mod Kinds

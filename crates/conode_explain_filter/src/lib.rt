@@ -1,9 +1,12 @@
-//! Which lines of an explained recording are printed: by node, identifier, kind and time.
+//! Which lines of an explained recording are printed: by node, identifier, kind and time; and
+//! whether a line says something new.
 #![tactic(auto)]
 
 mod condition;
 mod filter;
 mod kind;
+mod last;
+mod lasts;
 mod moment;
 mod option;
 mod reading;
@@ -12,6 +15,7 @@ mod subject;
 pub use condition::{Condition, Written};
 pub use filter::Filter;
 pub use kind::Kind;
+pub use lasts::Lasts;
 pub use moment::Moment;
 pub use option::FilterOption;
 pub use reading::{FilterFault, FilterWords};

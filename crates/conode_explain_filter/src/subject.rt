@@ -47,7 +47,7 @@ fn written_of(id: Identifier) -> Written
 }
 
 // the node that an NMT command is for: its second byte
-fn nmt_node(content: &Content) -> Option<u8>
+fn nmt_node(content: &Content<'_>) -> Option<u8>
     ensures { result ≡ nmt_node content.now }
 {
     match content {
@@ -63,7 +63,7 @@ fn nmt_node(content: &Content) -> Option<u8>
     }
 }
 
-fn node_at(kind: Kind, id: u16, content: &Content) -> Option<u8>
+fn node_at(kind: Kind, id: u16, content: &Content<'_>) -> Option<u8>
     ensures { result ≡ node_at kind id content.now }
 {
     match kind {
@@ -75,7 +75,7 @@ fn node_at(kind: Kind, id: u16, content: &Content) -> Option<u8>
 
 // of a frame with an identifier of 11 bits
 #[tactic(auto, unfolding(crate::specs::Subjects::subject_at))]
-fn subject_at(pdo: Option<u8>, id: u16, content: &Content) -> Subject
+fn subject_at(pdo: Option<u8>, id: u16, content: &Content<'_>) -> Subject
     ensures { result ≡ subject_at pdo id content.now }
 {
     let written = Written {

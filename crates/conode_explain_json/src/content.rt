@@ -102,7 +102,7 @@ fn put_data(
 pub(crate) fn put_content(
     alloc: Global,
     writer: &mut JsonWriter,
-    has: &Content,
+    has: &Content<'_>,
 ) -> Result<(), AllocError>
     ensures { OnOk result (writer.new ≡ writer.old ++ part_tokens (content has.now)) }
 {
@@ -119,7 +119,8 @@ pub(crate) fn put_content(
         Content::Fd(flags, data) => {
             writer.put_text("frame", "fd")?;
             writer.put_number(alloc, "flags", i128::from(*flags))?;
-            put_data(alloc, writer, data.bytes().len(), data.bytes())
+            let bytes = data.bytes();
+            put_data(alloc, writer, bytes.len(), bytes.as_slice())
         }
     }
 }

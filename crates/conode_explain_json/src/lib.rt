@@ -5,6 +5,5 @@ mod content;
 mod json_writer;
 mod kind_name;
 mod lines;
-mod moments;
 
 pub use lines::{json_line, own_json_line};

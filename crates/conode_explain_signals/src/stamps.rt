@@ -1,27 +1,12 @@
 //! Stamps in a table of values. Each function appends a text; on an `Err` memory ran out, and a
 //! part of it may be there.
 
-ghost use Rattle.std.specs.Prelude.{◌≡◌, ◌++◌, ◌<◌, ◌^◌, OnOk, string_bytes};
-ghost use Rattle.conode_explain_text.specs.Stamps.{micros_text, moment_text};
+ghost use Rattle.std.specs.Prelude.{◌≡◌, ◌++◌, OnOk, string_bytes};
 ghost use Rattle.conode_explain_signals.specs.Stamps.{between_text, seconds_text, stamp_field};
 
-use co_text::{push_decimal, push_digit};
-use conode_explain_text::{StampForm, Times, push_day, push_time_of_day};
+use co_text::push_decimal;
+use conode_explain_text::{StampForm, Times, push_micros, push_moment};
 use std::alloc::AllocError;
-
-#[tactic(auto, unfolding(co_text::specs::Printed::digits_text))]
-fn push_micros(text: &mut String, micros: u32) -> Result<(), AllocError>
-    requires { micros < 10 ^ 6 }
-    ensures { OnOk result
-        (string_bytes text.new ≡ string_bytes text.old ++ micros_text micros) }
-{
-    push_digit(text, (micros / 10 / 10 / 10 / 10 / 10 % 10) as u8)?;
-    push_digit(text, (micros / 10 / 10 / 10 / 10 % 10) as u8)?;
-    push_digit(text, (micros / 10 / 10 / 10 % 10) as u8)?;
-    push_digit(text, (micros / 10 / 10 % 10) as u8)?;
-    push_digit(text, (micros / 10 % 10) as u8)?;
-    push_digit(text, (micros % 10) as u8)
-}
 
 #[tactic(auto, unfolding(crate::specs::Stamps::seconds_text))]
 fn push_seconds(text: &mut String, micros: u64) -> Result<(), AllocError>
@@ -41,18 +26,6 @@ fn push_between(text: &mut String, from: u64, to: u64) -> Result<(), AllocError>
     }
     text.push_str("-")?;
     push_seconds(text, from - to)
-}
-
-#[tactic(auto, unfolding(conode_explain_text::specs::Stamps::moment_text))]
-fn push_moment(text: &mut String, micros: u64) -> Result<(), AllocError>
-    ensures { OnOk result (string_bytes text.new ≡ string_bytes text.old ++ moment_text micros) }
-{
-    let seconds = micros / 1_000_000;
-    push_day(text, seconds / 86_400)?;
-    text.push(' ')?;
-    push_time_of_day(text, seconds % 86_400)?;
-    text.push('.')?;
-    push_micros(text, (micros % 1_000_000) as u32)
 }
 
 /// Appends the stamp of a frame.

@@ -1,3 +1,5 @@
+pub mod ColumnLemmas
 pub mod Examples
 pub mod LineLemmas
 pub mod SaidLemmas
+pub mod StampLemmas

@@ -1,6 +1,6 @@
 -- Stamps and times, in microseconds.
-use Rattle.std.specs.Prelude.{ℕ, ◌-◌, ◌/◌, ◌%◌, nat_le, if◌then◌else◌, List, ◌++◌, length, codes, decimal, replicate}
-use Rattle.co_text.specs.Printed.{digits_text}
+use Rattle.std.specs.Prelude.{ℕ, ◌-◌, ◌/◌, ◌%◌, nat_le, nat_lt, if◌then◌else◌, List, ◌++◌, length, codes, decimal, replicate}
+use Rattle.co_text.specs.Printed.{digits_text, printed_digit}
 use Rattle.conode_explain_text.specs.declared.dates.Date.{Date}
 use Rattle.conode_explain_text.specs.declared.so_far.Times.{Times}
 use Rattle.conode_explain_text.specs.declared.stamps.StampForm.{StampForm}
@@ -10,6 +10,10 @@ use Rattle.conode_explain_text.specs.Dates.{date_of}
 -- a number in decimal digits, with blanks before it up to this width
 abbrev pub padded : ℕ → ℕ → List ℕ
 padded width number = replicate (width - length (decimal number)) 32 ++ decimal number
+
+-- a digit of a number, by its unit: blank where the number is smaller
+abbrev pub column : ℕ → ℕ → ℕ
+column unit number = if nat_lt number unit then 32 else printed_digit (number / unit % 10)
 
 -- microseconds in six digits
 abbrev pub micros_text : ℕ → List ℕ

@@ -17,7 +17,7 @@ ghost use Rattle.conode_explain_text.specs.Columns.{
 
 use crate::stamps::push_blanks;
 use arrayvec::ArrayString;
-use co_text::{byte_digits, push_byte, push_decimal, push_digit, push_u32};
+use co_text::{byte_digits, push_byte, push_decimal, push_u32};
 use conode_record::{Content, Identifier};
 use std::alloc::AllocError;
 
@@ -41,17 +41,25 @@ pub(crate) fn push_name(text: &mut String, name: &[u8]) -> Result<(), AllocError
     Ok(())
 }
 
-/// Appends an identifier.
+// an identifier of 11 bits
 #[tactic(auto, unfolding(co_text::specs::Printed::digits_text))]
+fn base_digits(id: u16) -> ArrayString<3>
+    requires { id < 2048 }
+    ensures { result.bytes ≡ digits_text 16 3 id }
+{
+    let mut digits = ArrayString::new();
+    digits.push((b'0' + (id / 256) as u8) as char);
+    digits.push_str(byte_digits((id % 256) as u8).as_str());
+    digits
+}
+
+/// Appends an identifier.
 pub(crate) fn push_id(text: &mut String, id: Identifier) -> Result<(), AllocError>
     requires { IsIdentifier id }
     ensures { OnOk result (string_bytes text.new ≡ string_bytes text.old ++ id_text id) }
 {
     match id {
-        Identifier::Base(id) => {
-            push_digit(text, (id / 256) as u8)?;
-            push_byte(text, (id % 256) as u8)
-        }
+        Identifier::Base(id) => text.push_str(base_digits(id).as_str()),
         Identifier::Extended(id) => push_u32(text, id),
         Identifier::Error(class) => push_u32(text, class + 0x2000_0000),
     }
@@ -67,7 +75,29 @@ fn blank_byte(byte: u8) -> ArrayString<3>
     text
 }
 
-fn push_bytes(text: &mut String, bytes: &[u8]) -> Result<(), AllocError>
+// four bytes, each after a blank
+fn four_bytes(a: u8, b: u8, c: u8, d: u8) -> ArrayString<12>
+    ensures { result.bytes ≡ blank_byte a ++ blank_byte b ++ blank_byte c ++ blank_byte d }
+{
+    let mut text = ArrayString::new();
+    text.push_str(blank_byte(a).as_str());
+    text.push_str(blank_byte(b).as_str());
+    text.push_str(blank_byte(c).as_str());
+    text.push_str(blank_byte(d).as_str());
+    text
+}
+
+// eight bytes, as most frames have: without a loop
+fn push_eight(text: &mut String, bytes: &[u8]) -> Result<(), AllocError>
+    requires { length bytes.now ≡ 8 }
+    ensures { OnOk result
+        (string_bytes text.new ≡ string_bytes text.old ++ flat_map blank_byte bytes.now) }
+{
+    text.push_str(four_bytes(bytes[0], bytes[1], bytes[2], bytes[3]).as_str())?;
+    text.push_str(four_bytes(bytes[4], bytes[5], bytes[6], bytes[7]).as_str())
+}
+
+fn push_each(text: &mut String, bytes: &[u8]) -> Result<(), AllocError>
     ensures { OnOk result
         (string_bytes text.new ≡ string_bytes text.old ++ flat_map blank_byte bytes.now) }
 {
@@ -75,6 +105,17 @@ fn push_bytes(text: &mut String, bytes: &[u8]) -> Result<(), AllocError>
         text.push_str(blank_byte(*byte).as_str())?;
     }
     Ok(())
+}
+
+fn push_bytes(text: &mut String, bytes: &[u8]) -> Result<(), AllocError>
+    ensures { OnOk result
+        (string_bytes text.new ≡ string_bytes text.old ++ flat_map blank_byte bytes.now) }
+{
+    if bytes.len() == 8 {
+        push_eight(text, bytes)
+    } else {
+        push_each(text, bytes)
+    }
 }
 
 // a length of one digit, in brackets
@@ -114,7 +155,7 @@ fn push_counted(text: &mut String, count: usize, bytes: &[u8]) -> Result<(), All
 }
 
 /// Appends the length and the data of a frame.
-pub(crate) fn push_content(text: &mut String, content: &Content) -> Result<(), AllocError>
+pub(crate) fn push_content(text: &mut String, content: &Content<'_>) -> Result<(), AllocError>
     ensures { OnOk result
         (string_bytes text.new ≡ string_bytes text.old ++ content_text content.now) }
 {
@@ -124,6 +165,9 @@ pub(crate) fn push_content(text: &mut String, content: &Content) -> Result<(), A
             push_counted(text, bytes.len(), bytes.as_slice())
         }
         Content::Remote(count) => push_counted(text, usize::from(*count), &[]),
-        Content::Fd(_, data) => push_counted(text, data.bytes().len(), data.bytes()),
+        Content::Fd(_, data) => {
+            let bytes = data.bytes();
+            push_counted(text, bytes.len(), bytes.as_slice())
+        }
     }
 }

@@ -12,4 +12,4 @@ mod stamps;
 pub use line::set_line;
 pub use own_line::set_own_line;
 pub use so_far::{Seen, Times};
-pub use stamps::{StampForm, push_day, push_time_of_day};
+pub use stamps::{StampForm, push_day, push_micros, push_moment, push_time_of_day};

@@ -47,7 +47,7 @@ pub(crate) fn push_interface(text: &mut String, shows: bool, name: &[u8]) -> Res
     }
 }
 
-fn push_frame(text: &mut String, id: Identifier, has: &Content) -> Result<(), AllocError>
+fn push_frame(text: &mut String, id: Identifier, has: &Content<'_>) -> Result<(), AllocError>
     requires { IsIdentifier id }
     ensures { OnOk result (string_bytes text.new ≡ string_bytes text.old
         ++ after_blanks (identifier id) ++ after_blanks (content has.now)) }
@@ -66,14 +66,14 @@ pub(crate) fn add_said(line: &mut Vec<u8>, words: &[u8]) -> Result<(), AllocErro
 }
 
 // what comes after what the frame says
-fn end_text(times: Times) -> &'static [u8]
-    ensures { result.now ≡ flat_map after_blanks (notes times) ++ 10 ∷ [] }
+fn add_end(line: &mut Vec<u8>, times: Times) -> Result<(), AllocError>
+    ensures { OnOk result
+        (line.new.items ≡ line.old.items ++ flat_map after_blanks (notes times) ++ 10 ∷ []) }
 {
     if times.now < times.before {
-        b"  note: the stamp steps back\n"
-    } else {
-        b"\n"
+        return line.extend_from_slice(b"  note: the stamp steps back\n");
     }
+    line.extend_from_slice(b"\n")
 }
 
 // makes the text what comes before what the frame says
@@ -115,7 +115,7 @@ fn write_line(
     line.clear();
     line.extend_from_slice(text.as_bytes())?;
     add_said(line, words)?;
-    line.extend_from_slice(end_text(times))
+    add_end(line, times)
 }
 
 /// Sets `line` to the line of a frame that says these words; `seen` is what the recording showed

@@ -17,7 +17,12 @@ fn is_control(byte: u8) -> bool
 fn is_plain(said: &[u8]) -> bool
     ensures { result ≡ list_all (λ byte. not (is_control byte)) said.now }
 {
-    said.iter().all(|byte| !is_control(*byte))
+    // no early end: a loop over all bytes takes many of them at once
+    let mut is_plain = true;
+    for byte in said {
+        is_plain = is_plain & !is_control(*byte);
+    }
+    is_plain
 }
 
 fn add_byte(line: &mut Vec<u8>, byte: u8) -> Result<(), AllocError>

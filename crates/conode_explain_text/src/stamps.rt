@@ -1,10 +1,11 @@
 //! Stamps and times. Each function appends a text; on an `Err` memory ran out, and a part of it may
 //! be there.
 
-ghost use Rattle.std.specs.Prelude.{◌≡◌, ◌++◌, ◌<◌, ◌^◌, OnOk, string_bytes, replicate};
+ghost use Rattle.std.specs.Prelude.{◌≡◌, [], ◌∷◌, ◌++◌, ◌<◌, ◌^◌, OnOk, string_bytes, replicate};
 ghost use Rattle.co_text.specs.Printed.{digits_text, printed_digit};
 ghost use Rattle.conode_explain_text.specs.Dates.{date_of};
 ghost use Rattle.conode_explain_text.specs.Stamps.{
+  column,
   padded,
   micros_text,
   time_text,
@@ -78,7 +79,8 @@ fn micros_digits(micros: u32) -> ArrayString<6>
     digits
 }
 
-fn push_micros(text: &mut String, micros: u32) -> Result<(), AllocError>
+/// Appends microseconds in six digits.
+pub fn push_micros(text: &mut String, micros: u32) -> Result<(), AllocError>
     requires { micros < 10 ^ 6 }
     ensures { OnOk result
         (string_bytes text.new ≡ string_bytes text.old ++ micros_text micros) }
@@ -97,25 +99,97 @@ fn push_time(text: &mut String, micros: u64, width: usize) -> Result<(), AllocEr
     push_micros(text, (micros % 1_000_000) as u32)
 }
 
+// a digit of a number, by its unit; blank where the number is smaller
+fn column(number: u64, unit: u64) -> char
+    requires { 0 < unit }
+    ensures value { result ≡ column unit number }
+    ensures ascii { result < 128 }
+{
+    if number < unit {
+        ' '
+    } else {
+        decimal_char((number / unit % 10) as u32)
+    }
+}
+
+// a number in five columns
+fn five_columns(number: u64) -> ArrayString<5>
+    requires { number < 10 ^ 5 }
+    ensures { result.bytes ≡ padded 5 number }
+{
+    let mut columns = ArrayString::new();
+    columns.push(column(number, 10_000));
+    columns.push(column(number, 1000));
+    columns.push(column(number, 100));
+    columns.push(column(number, 10));
+    columns.push(decimal_char((number % 10) as u32));
+    columns
+}
+
+// a sign, and a time of less than 100,000 seconds in the width of a stamp
+#[tactic(auto, unfolding(crate::specs::Stamps::time_text))]
+fn short_stamp(sign: char, micros: u64) -> ArrayString<13>
+    requires ascii { sign < 128 }
+    requires short { micros < 10 ^ 11 }
+    ensures { result.bytes ≡ sign ∷ time_text 5 micros }
+{
+    let mut text = ArrayString::new();
+    text.push(sign);
+    text.push_str(five_columns(micros / 1_000_000).as_str());
+    text.push('.');
+    text.push_str(micros_digits((micros % 1_000_000) as u32).as_str());
+    text
+}
+
+// a sign, and a time of less than 10 seconds in the width of a gap
+#[tactic(auto, unfolding(crate::specs::Stamps::time_text), using(std::proofs::lemmas::Fmt::decimal_digit))]
+fn short_gap(sign: char, micros: u64) -> ArrayString<9>
+    requires ascii { sign < 128 }
+    requires short { micros < 10 ^ 7 }
+    ensures { result.bytes ≡ sign ∷ time_text 1 micros }
+{
+    let mut text = ArrayString::new();
+    text.push(sign);
+    text.push(decimal_char((micros / 1_000_000) as u32));
+    text.push('.');
+    text.push_str(micros_digits((micros % 1_000_000) as u32).as_str());
+    text
+}
+
+// a sign and a time; those of most frames are put together before they are appended
+fn push_signed(text: &mut String, sign: char, width: usize, micros: u64) -> Result<(), AllocError>
+    requires { sign < 128 }
+    ensures { OnOk result
+        (string_bytes text.new ≡ string_bytes text.old ++ sign ∷ time_text width micros) }
+{
+    if width == 1 && micros < 10_000_000 {
+        return text.push_str(short_gap(sign, micros).as_str());
+    }
+    if width == 5 && micros < 100_000_000_000 {
+        return text.push_str(short_stamp(sign, micros).as_str());
+    }
+    text.push(sign)?;
+    push_time(text, micros, width)
+}
+
 // the time from one stamp to another: a hyphen before it where the other is the earlier one, else
-// this text
+// this sign
 #[tactic(auto, unfolding(crate::specs::Stamps::difference_text))]
 fn push_difference(
     text: &mut String,
-    plus: &str,
+    plus: char,
     width: usize,
     from: u64,
     to: u64,
 ) -> Result<(), AllocError>
+    requires { plus < 128 }
     ensures { OnOk result (string_bytes text.new
-        ≡ string_bytes text.old ++ difference_text plus.now width from to) }
+        ≡ string_bytes text.old ++ difference_text (plus ∷ []) width from to) }
 {
     if from <= to {
-        text.push_str(plus)?;
-        push_time(text, to - from, width)
+        push_signed(text, plus, width, to - from)
     } else {
-        text.push_str("-")?;
-        push_time(text, from - to, width)
+        push_signed(text, '-', width, from - to)
     }
 }
 
@@ -161,8 +235,9 @@ pub fn push_time_of_day(text: &mut String, seconds: u64) -> Result<(), AllocErro
     push_two_digits(text, seconds % 60)
 }
 
+/// Appends the date and the time of day of a stamp, in UTC, as `2015-07-10 06:17:32.249713`.
 #[tactic(auto, unfolding(crate::specs::Stamps::moment_text))]
-fn push_moment(text: &mut String, micros: u64) -> Result<(), AllocError>
+pub fn push_moment(text: &mut String, micros: u64) -> Result<(), AllocError>
     ensures { OnOk result (string_bytes text.new ≡ string_bytes text.old ++ moment_text micros) }
 {
     let seconds = micros / 1_000_000;
@@ -180,7 +255,7 @@ pub(crate) fn push_stamp(text: &mut String, form: StampForm, times: Times) -> Re
         ≡ string_bytes text.old ++ stamp_text form times) }
 {
     match form {
-        StampForm::Relative => push_difference(text, " ", 5, times.first, times.now),
+        StampForm::Relative => push_difference(text, ' ', 5, times.first, times.now),
         StampForm::Absolute => push_time(text, times.now, 10),
         StampForm::Delta => push_gap(text, times),
         StampForm::Date => push_moment(text, times.now),
@@ -192,5 +267,5 @@ pub(crate) fn push_stamp(text: &mut String, form: StampForm, times: Times) -> Re
 pub(crate) fn push_gap(text: &mut String, times: Times) -> Result<(), AllocError>
     ensures { OnOk result (string_bytes text.new ≡ string_bytes text.old ++ gap_text times) }
 {
-    push_difference(text, "+", 1, times.before, times.now)
+    push_difference(text, '+', 1, times.before, times.now)
 }

@@ -1,7 +1,7 @@
 //! What `lint` finds.
 
 /// The severity of a finding.
-#[derive(Clone, Copy, Debug, PartialEq, Eq)]
+#[derive(Clone, Copy)]
 pub enum Severity {
     /// A fault: the sheet is refused, or no dictionary can be built from it.
     Error,
@@ -10,7 +10,7 @@ pub enum Severity {
 }
 
 /// Which part of its line a finding is about.
-#[derive(Clone, Copy, Debug, PartialEq, Eq)]
+#[derive(Clone, Copy)]
 pub enum Place {
     /// The whole line, from its first character that is no blank.
     Beginning,
@@ -19,7 +19,7 @@ pub enum Place {
 }
 
 /// What a finding is about, if its line doesn't show it.
-#[derive(Clone, Copy, Debug, PartialEq, Eq)]
+#[derive(Clone, Copy)]
 pub enum About {
     /// The line.
     Line,
@@ -32,7 +32,7 @@ pub enum About {
 }
 
 /// What is found at a line of a file.
-#[derive(Clone, Copy, Debug)]
+#[derive(Clone, Copy)]
 pub struct Finding<'a> {
     /// From 1; 0 if no line is to blame.
     pub line: usize,
@@ -55,7 +55,7 @@ pub struct Finding<'a> {
 }
 
 /// A kind of finding, as a log of SARIF lists it.
-#[derive(Clone, Copy, Debug)]
+#[derive(Clone, Copy)]
 pub struct Rule<'a> {
     /// The name of the kind, as `BadList`.
     pub name: &'a str,

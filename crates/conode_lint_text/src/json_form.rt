@@ -9,18 +9,18 @@ ghost use Rattle.conode_lint_text.specs.JsonForm.{document_end, document_head, f
 use crate::characters::utf8_of;
 use crate::column::own_column;
 use crate::finding::Finding;
-use crate::parts::{Part, put_parts, put_text};
+use crate::parts::{Part, put_parts};
 use crate::words::message_of;
 use json::Writer;
 use std::alloc::{AllocError, Global};
 
 #[tactic(auto, unfolding(crate::specs::JsonForm::finding_tokens, crate::specs::JsonForm::place_members, crate::specs::JsonForm::word_members))]
-fn put_members(
+fn put_members<'p>(
     writer: &mut Writer,
-    finding: &Finding<'_>,
+    finding: &'p Finding<'p>,
     column: usize,
-    message: &str,
-    text: &str,
+    message: &'p str,
+    text: &'p str,
 ) -> Result<(), AllocError>
     requires column { column ≡ column_of finding.now }
     requires message { message.now ≡ message_of finding.now }
@@ -36,13 +36,8 @@ fn put_members(
             Part::Number("column", column),
             Part::Severity("severity", finding.severity),
             Part::Text("name", finding.name),
-        ],
-    )?;
-    put_text(writer, "meaning", message)?;
-    put_text(writer, "text", text)?;
-    put_parts(
-        writer,
-        &[
+            Part::Text("meaning", message),
+            Part::Text("text", text),
             Part::Text("fix", finding.fix),
             Part::Text("subject", finding.subject),
             Part::EndObject,

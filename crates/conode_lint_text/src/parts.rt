@@ -30,7 +30,7 @@ pub(crate) enum Part<'a> {
 }
 
 #[tactic(auto, unfolding(crate::specs::JsonForm::text_member))]
-pub(crate) fn put_text(writer: &mut Writer, name: &str, text: &str) -> Result<(), AllocError>
+fn put_text(writer: &mut Writer, name: &str, text: &str) -> Result<(), AllocError>
     ensures { OnOk result
         (writer.new.tokens ≡ writer.old.tokens ++ text_member name.now text.now) }
 {
@@ -39,7 +39,7 @@ pub(crate) fn put_text(writer: &mut Writer, name: &str, text: &str) -> Result<()
 }
 
 #[tactic(auto, unfolding(crate::specs::JsonForm::message_member, crate::specs::JsonForm::object_begin))]
-pub(crate) fn put_message(writer: &mut Writer, name: &str, text: &str) -> Result<(), AllocError>
+fn put_message(writer: &mut Writer, name: &str, text: &str) -> Result<(), AllocError>
     ensures { OnOk result
         (writer.new.tokens ≡ writer.old.tokens ++ message_member name.now text.now) }
 {

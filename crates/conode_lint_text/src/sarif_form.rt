@@ -18,13 +18,17 @@ ghost use Rattle.conode_lint_text.specs.SarifForm.{
 use crate::characters::utf8_of;
 use crate::column::own_column;
 use crate::finding::{Finding, Rule};
-use crate::parts::{Part, put_message, put_parts};
+use crate::parts::{Part, put_parts};
 use crate::words::{help_of, message_of};
 use json::Writer;
 use std::alloc::{AllocError, Global};
 
 #[tactic(auto, unfolding(crate::specs::SarifForm::rule_tokens, crate::specs::SarifForm::level_member))]
-fn put_rule_members(writer: &mut Writer, rule: &Rule<'_>, help: &str) -> Result<(), AllocError>
+fn put_rule_members<'p>(
+    writer: &mut Writer,
+    rule: &'p Rule<'p>,
+    help: &'p str,
+) -> Result<(), AllocError>
     requires { help.now ≡ help_of rule.now.fix.now rule.now.subject.now }
     ensures { OnOk result (writer.new.tokens ≡ writer.old.tokens ++ rule_tokens rule.now) }
 {
@@ -34,12 +38,7 @@ fn put_rule_members(writer: &mut Writer, rule: &Rule<'_>, help: &str) -> Result<
             Part::BeginObject,
             Part::Text("id", rule.name),
             Part::Message("shortDescription", rule.meaning),
-        ],
-    )?;
-    put_message(writer, "help", help)?;
-    put_parts(
-        writer,
-        &[
+            Part::Message("help", help),
             Part::Object("defaultConfiguration"),
             Part::Severity("level", rule.severity),
             Part::EndObject,
@@ -126,7 +125,11 @@ fn put_locations(
 
 // the name of its kind, its level and what is wrong, after the beginning of an object
 #[tactic(auto, unfolding(crate::specs::SarifForm::said_tokens))]
-fn put_said(writer: &mut Writer, finding: &Finding<'_>, message: &str) -> Result<(), AllocError>
+fn put_said<'p>(
+    writer: &mut Writer,
+    finding: &'p Finding<'p>,
+    message: &'p str,
+) -> Result<(), AllocError>
     requires { message.now ≡ message_of finding.now }
     ensures { OnOk result (writer.new.tokens ≡ writer.old.tokens ++ said_tokens finding.now) }
 {
@@ -136,9 +139,9 @@ fn put_said(writer: &mut Writer, finding: &Finding<'_>, message: &str) -> Result
             Part::BeginObject,
             Part::Text("ruleId", finding.name),
             Part::Severity("level", finding.severity),
+            Part::Message("message", message),
         ],
-    )?;
-    put_message(writer, "message", message)
+    )
 }
 
 #[tactic(auto, unfolding(crate::specs::SarifForm::result_tokens, crate::specs::SarifForm::said_tokens))]

@@ -9,12 +9,10 @@ ghost use Rattle.conode_lint_text.specs.TextForm.{
   severity_colour,
   position_text,
   head_line,
+  label_part,
+  place_part,
   quoted_line,
   help_line,
-  label_part,
-  label_text,
-  place_part,
-  place_text,
   finding_lines,
   more_line,
   summary_line,
@@ -85,55 +83,31 @@ fn push_position(
     )
 }
 
-#[tactic(auto, unfolding(crate::specs::TextForm::place_text))]
-fn push_place(
-    text: &mut String,
-    file: &[char],
-    finding: &Finding<'_>,
-    characters: &[char],
-) -> Result<(), AllocError>
-    requires { characters.now ≡ characters_of finding.now.text.now }
-    ensures { OnOk result
-        (string_bytes text.new ≡ string_bytes text.old ++ place_text file.now finding.now) }
-{
-    push_pieces(text, &[Piece::Shown(file), Piece::Text(":")])?;
-    push_position(text, finding, characters)
-}
-
-#[tactic(auto, unfolding(crate::specs::TextForm::label_text))]
-fn push_label(text: &mut String, finding: &Finding<'_>) -> Result<(), AllocError>
-    ensures { OnOk result
-        (string_bytes text.new ≡ string_bytes text.old ++ label_text finding.now) }
-{
-    push_pieces(
-        text,
-        &[
-            Piece::Severity(finding.severity),
-            Piece::Text("["),
-            Piece::Text(finding.name),
-            Piece::Text("]:"),
-        ],
-    )
-}
-
-#[tactic(auto, unfolding(crate::specs::TextForm::place_part, crate::specs::TextForm::coloured))]
-fn push_place_part(
+#[tactic(auto, unfolding(crate::specs::TextForm::place_part, crate::specs::TextForm::coloured, crate::specs::TextForm::place_text))]
+fn push_place_part<'p>(
     text: &mut String,
     colours: bool,
-    file: &[char],
-    finding: &Finding<'_>,
-    characters: &[char],
+    file: &'p [char],
+    finding: &'p Finding<'p>,
+    characters: &'p [char],
 ) -> Result<(), AllocError>
     requires { characters.now ≡ characters_of finding.now.text.now }
     ensures { OnOk result (string_bytes text.new
         ≡ string_bytes text.old ++ place_part colours file.now finding.now) }
 {
-    text.push_str(begin_place(colours))?;
-    push_place(text, file, finding, characters)?;
+    push_pieces(
+        text,
+        &[
+            Piece::Text(begin_place(colours)),
+            Piece::Shown(file),
+            Piece::Text(":"),
+        ],
+    )?;
+    push_position(text, finding, characters)?;
     text.push_str(end_colour(colours))
 }
 
-#[tactic(auto, unfolding(crate::specs::TextForm::label_part, crate::specs::TextForm::coloured))]
+#[tactic(auto, unfolding(crate::specs::TextForm::label_part, crate::specs::TextForm::coloured, crate::specs::TextForm::label_text))]
 fn push_label_part(
     text: &mut String,
     colours: bool,
@@ -142,9 +116,17 @@ fn push_label_part(
     ensures { OnOk result
         (string_bytes text.new ≡ string_bytes text.old ++ label_part colours finding.now) }
 {
-    text.push_str(begin_label(colours, finding.severity))?;
-    push_label(text, finding)?;
-    text.push_str(end_colour(colours))
+    push_pieces(
+        text,
+        &[
+            Piece::Text(begin_label(colours, finding.severity)),
+            Piece::Severity(finding.severity),
+            Piece::Text("["),
+            Piece::Text(finding.name),
+            Piece::Text("]:"),
+            Piece::Text(end_colour(colours)),
+        ],
+    )
 }
 
 #[tactic(auto, unfolding(crate::specs::TextForm::head_line))]

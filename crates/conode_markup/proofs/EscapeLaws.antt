@@ -1,15 +1,15 @@
 -- What is escaped is plain text in markup.
-use Rattle.std.proofs.Common.{◌≡◌, ℕ, ◌+◌, ◌/◌, ◌%◌, ◌<◌, ◌≤◌, ◌⊎◌, Bool, true, false, List, [], ◌∷◌, ◌++◌, Option, Some, None, refl, arith, rules, inl, inr}
-use Rattle.std.specs.Prelude.{◌==◌, ◌&&◌, ◌||◌, not, nat_le, nat_lt, codes}
+use Rattle.std.proofs.Common.{◌≡◌, ℕ, ◌+◌, ◌/◌, ◌%◌, ◌<◌, ◌≤◌, Bool, true, false, List, [], ◌∷◌, ◌++◌, Option, cond, refl, ◌∙◌, arith, rules, inl, inr}
+use Rattle.std.specs.Prelude.{◌==◌, ◌&&◌, ◌||◌, not, nat_le, nat_lt}
 use Rattle.std.specs.Char.{encode_utf8, is_control}
 use Rattle.std.specs.List.{flat_map}
 use Rattle.std.specs.Option.{option_map_or}
-use Rattle.std.proofs.lemmas.Bool.{and_from, and_parts, cases_Bool, cases_lt, cond_both, eqb-true, ltb-false, ltb-true, or_cases, or_left, or_right}
+use Rattle.std.proofs.lemmas.Bool.{and_from, and_parts, cases_Bool, cases_lt, cond-false, cond_both, eqb-true, ltb-false, ltb-true, or_cases, or_left, or_right}
 use Rattle.std.proofs.lemmas.Bool.Decides.{nat_tests}
 use Rattle.std.proofs.lemmas.Str.{encode_ascii}
 use Rattle.co_text.specs.Printed.{digits_text, printed_digit}
 use Rattle.conode_lint_text.specs.Characters.{characters_of}
-use Rattle.conode_markup.specs.Escapes.{escaped, escaped_character, is_character_data, is_plain, shown}
+use Rattle.conode_markup.specs.Escapes.{escaped, escaped_character, is_character_data, is_plain, is_reference, shown}
 
 -- ---- plain bytes
 
@@ -40,21 +40,42 @@ after_plain : (xs ys : List ℕ) → are_plain xs ≡ true → is_character_data
 after_plain [] ys plain data_ = data_
 after_plain (x ∷ xs) ys plain data_ =
     let p = and_parts (is_plain x) (are_plain xs) plain in
-    rw (no_ampersand x p.0, p.0, after_plain xs ys p.1 data_) refl
+    and_from (cond (x == 38) (is_reference (xs ++ ys)) (is_plain x)) (is_character_data (xs ++ ys))
+    (cond-false (x == 38) (is_reference (xs ++ ys)) (is_plain x) (no_ampersand x p.0) ∙ p.0) (after_plain xs ys p.1 data_)
 
 -- ---- characters
 
--- the bytes of a character past ASCII
+one_more : (b : ℕ) (rest : List ℕ) → 65 ≤ b → are_plain rest ≡ true → are_plain (b ∷ rest) ≡ true
+one_more b rest high plain = and_from (is_plain b) (are_plain rest) (letter_byte b high) plain
+
+-- the last bytes of a character past ASCII
+abbrev one_last : ℕ → List ℕ
+one_last c = (128 + c % 64) ∷ []
+
+abbrev two_last : ℕ → List ℕ
+two_last c = (128 + c / 64 % 64) ∷ one_last c
+
+abbrev three_last : ℕ → List ℕ
+three_last c = (128 + c / 4096 % 64) ∷ two_last c
+
+one_plain : (c : ℕ) → are_plain (one_last c) ≡ true
+one_plain c = one_more (128 + c % 64) [] (omega arith) refl
+
+two_plain : (c : ℕ) → are_plain (two_last c) ≡ true
+two_plain c = one_more (128 + c / 64 % 64) (one_last c) (omega arith) (one_plain c)
+
+three_plain : (c : ℕ) → are_plain (three_last c) ≡ true
+three_plain c = one_more (128 + c / 4096 % 64) (two_last c) (omega arith) (two_plain c)
+
+-- its bytes
 high_bytes : (c : ℕ) → 128 ≤ c → are_plain (encode_utf8 c) ≡ true
 unfolding lib.Utf8.encode
 high_bytes c high =
-    let one = λ (b : ℕ) (h : 65 ≤ b) (rest : List ℕ) (r : are_plain rest ≡ true). and_from (is_plain b) (are_plain rest) (letter_byte b h) r in
-    let last = λ (b : ℕ). one (128 + b % 64) (omega arith) in
     cond_both (nat_lt c 128) _ _ (λ l. are_plain l ≡ true) (λ e. absurd (omega (arith, ltb-true c 128 e)))
-    (λ _. cond_both (nat_lt c 2048) _ _ (λ l. are_plain l ≡ true) (λ _. one (192 + c / 64) (omega arith) _ (last c [] refl))
+    (λ _. cond_both (nat_lt c 2048) _ _ (λ l. are_plain l ≡ true) (λ _. one_more (192 + c / 64) (one_last c) (omega arith) (one_plain c))
     (λ _. cond_both (nat_lt c 65536) _ _ (λ l. are_plain l ≡ true)
-    (λ _. one (224 + c / 4096) (omega arith) _ (last (c / 64) _ (last c [] refl)))
-    (λ _. one (240 + c / 262144) (omega arith) _ (last (c / 4096) _ (last (c / 64) _ (last c [] refl))))))
+    (λ _. one_more (224 + c / 4096) (two_last c) (omega arith) (two_plain c))
+    (λ _. one_more (240 + c / 262144) (three_last c) (omega arith) (three_plain c))))
 
 -- a digit of a control character
 digit_is_plain : (d : ℕ) → d < 16 → is_plain (printed_digit d) ≡ true

@@ -1,6 +1,6 @@
 //! What follows the number sign of a frame line.
 
-ghost use Rattle.std.specs.Prelude.{◌≡◌, ◌+◌, ◌<◌, ◌≤◌, ◌++◌, ◌∷◌, [], length, slice_index, ◌==◌, true, false};
+ghost use Rattle.std.specs.Prelude.{◌≡◌, ◌+◌, ◌≤◌, length, slice_index, ◌==◌};
 ghost use Rattle.std.specs.Option.{option_map, option_copied};
 ghost use Rattle.std.specs.List.{list_all};
 ghost use Rattle.co_text.specs.Texts.{is_blank};
@@ -33,60 +33,50 @@ pub enum Direction {
     Sent,
 }
 
-/// The data of a CAN FD frame: at most 64 bytes. Contracts see the bytes.
+/// The data of a CAN FD frame: at most 64 bytes, in pairs of hexadecimal digits. The text is
+/// borrowed, and the bytes are decoded when they are asked for. Contracts see the bytes.
 #[derive(Drop)]
-pub struct FdBytes {
-    bytes: ArrayVec<u8, 64>,
+pub struct FdBytes<'a> {
+    // the pairs, and what follows them
+    text: &'a [u8],
 }
 
-impl Model for FdBytes {
+impl<'a> Model for FdBytes<'a> {
     ghost use Rattle.std.specs.Prelude.{ℕ, List, length, ◌≤◌};
+    ghost use Rattle.co_text.specs.HexPairs.{pairs_at};
 
     ghost Value = { List ℕ };
 
-    ghost view = { λ fd. fd.bytes.items };
+    ghost view = { λ fd. (pairs_at fd.text.now).0 };
 
-    ghost invariant = { λ fd. length fd.bytes.items ≤ 64 };
+    ghost invariant = { λ fd. length (pairs_at fd.text.now).0 ≤ 64 };
 }
 
-impl FdBytes {
-    fn new() -> FdBytes
-        ensures { result ≡ [] }
-    {
-        FdBytes {
-            bytes: ArrayVec::new(),
-        }
-    }
-
-    // appends a byte; `false` where there are 64 already
-    #[inline(always)]
-    fn try_append(&mut self, byte: u8) -> bool
-        ensures done { result ≡ true → self.new ≡ self.old ++ byte ∷ [] }
-        ensures fits { result ≡ true → length self.old < 64 }
-        ensures full { result ≡ false → 64 ≤ length self.old }
-    {
-        self.bytes.try_push(byte).is_ok()
-    }
-
+impl<'a> FdBytes<'a> {
     /// The bytes.
-    pub fn bytes(&self) -> &[u8]
-        ensures bytes { result.now ≡ self.now }
-        ensures few { length result.now ≤ 64 }
+    pub fn bytes(&self) -> ArrayVec<u8, 64>
+        ensures { result.items ≡ self.now }
     {
-        self.bytes.as_slice()
+        let mut bytes = ArrayVec::new();
+        let mut rest = self.text;
+        while let Some((byte, after)) = pair_at(rest) {
+            bytes.push(byte);
+            rest = after;
+        }
+        bytes
     }
 }
 
 /// The content of a frame.
 #[derive(Drop)]
-pub enum Content {
+pub enum Content<'a> {
     /// Data, at most 8 bytes.
     Data(PackedBytes),
     /// A remote frame: the length of the data that it asks for, at most 8.
     Remote(u8),
     /// A CAN FD frame: its flags (bit 0 bit rate switch, bit 1 error state indicator), and its
     /// data.
-    Fd(u8, FdBytes),
+    Fd(u8, FdBytes<'a>),
 }
 
 #[inline(always)]
@@ -155,23 +145,34 @@ fn few_pairs_at(text: &[u8]) -> Option<(PackedBytes, &[u8])>
     Some((bytes, rest))
 }
 
-// the same for a CAN FD frame, if they are at most 64
-fn fd_pairs_at(text: &[u8]) -> Option<(FdBytes, &[u8])>
-    ensures { option_map (λ found. (found.0, found.1.now)) result ≡ few_pairs 64 text.now }
+// how many pairs are at the front, and what follows
+fn pair_count(text: &[u8]) -> (usize, &[u8])
+    ensures count { result.0 ≡ length (pairs_at text.now).0 }
+    ensures rest { result.1.now ≡ (pairs_at text.now).1 }
 {
-    let mut bytes = FdBytes::new();
+    let mut count: usize = 0;
     let mut rest = text;
-    while let Some((byte, after)) = pair_at(rest) {
-        if !bytes.try_append(byte) {
-            return None;
-        }
+    while let Some((_, after)) = pair_at(rest) {
+        count += 1;
         rest = after;
     }
-    Some((bytes, rest))
+    (count, rest)
+}
+
+// the bytes of the pairs at the front of a CAN FD frame's data, if they are at most 64, and what
+// follows
+fn fd_pairs_at(text: &[u8]) -> Option<(FdBytes<'_>, &[u8])>
+    ensures { option_map (λ found. (found.0, found.1.now)) result ≡ few_pairs 64 text.now }
+{
+    let (count, rest) = pair_count(text);
+    if count > 64 {
+        return None;
+    }
+    Some((FdBytes { text }, rest))
 }
 
 #[inline(always)]
-fn data_in(text: &[u8]) -> Result<(Content, Option<Direction>), BadLine>
+fn data_in(text: &[u8]) -> Result<(Content<'_>, Option<Direction>), BadLine>
     ensures { result ≡ data_in text.now }
 {
     let Some((bytes, rest)) = few_pairs_at(text) else {
@@ -181,7 +182,7 @@ fn data_in(text: &[u8]) -> Result<(Content, Option<Direction>), BadLine>
     Ok((Content::Data(bytes), direction))
 }
 
-fn fd_in(text: &[u8]) -> Result<(Content, Option<Direction>), BadLine>
+fn fd_in(text: &[u8]) -> Result<(Content<'_>, Option<Direction>), BadLine>
     ensures { result ≡ fd_in text.now }
 {
     let [digit, text @ ..] = text else {
@@ -213,7 +214,7 @@ fn length_at(text: &[u8]) -> Option<(u8, &[u8])>
     }
 }
 
-fn remote_in(text: &[u8]) -> Result<(Content, Option<Direction>), BadLine>
+fn remote_in(text: &[u8]) -> Result<(Content<'_>, Option<Direction>), BadLine>
     ensures { result ≡ remote_in text.now }
 {
     let Some((length, rest)) = length_at(text) else {
@@ -226,7 +227,7 @@ fn remote_in(text: &[u8]) -> Result<(Content, Option<Direction>), BadLine>
 /// What follows the number sign, and the direction, if there is one.
 #[tactic(auto, unfolding(crate::specs::Contents::content_in))]
 #[inline(always)]
-pub(crate) fn content_in(text: &[u8]) -> Result<(Content, Option<Direction>), BadLine>
+pub(crate) fn content_in(text: &[u8]) -> Result<(Content<'_>, Option<Direction>), BadLine>
     ensures { result ≡ content_in text.now }
 {
     match text {

@@ -20,7 +20,7 @@ pub struct Record<'a> {
     /// Its identifier.
     pub id: Identifier,
     /// Its data, or the length of a remote frame.
-    pub content: Content,
+    pub content: Content<'a>,
     /// Whether it was received or sent, where the line says so.
     pub direction: Option<Direction>,
 }

@@ -8,3 +8,4 @@ pub mod Entries
 pub mod Services
 pub mod Pdos
 pub mod Document
+pub mod Cells

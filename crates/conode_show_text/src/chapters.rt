@@ -45,19 +45,19 @@ fn head_of(chapter: Chapter, format: Format) -> &'static str
 }
 
 // what a chapter has for a section
-fn push_text(
+fn push_text<'p>(
     text: &mut Vec<u8>,
     line: &mut Vec<u8>,
     part: &mut String,
     chapter: Chapter,
     format: Format,
     node: Option<u8>,
-    sections: &[TextSection],
-    section: &TextSection<'_, '_>,
+    sections: &'p [TextSection<'p, 'p>],
+    section: &'p TextSection<'p, 'p>,
 ) -> Result<(), AllocError>
     ensures { OnOk result (text.new.items ≡ text.old.items
-        ++ chapter_text chapter format node (map section_view sections.now)
-        (section_view section.now)) }
+        ++ chapter_text chapter format node (map section_view sections.entry.now)
+        (section_view section.entry.now)) }
 {
     match chapter {
         Chapter::Entries => push_section(text, line, part, format, node, section),
@@ -66,17 +66,17 @@ fn push_text(
     }
 }
 
-fn push_lines(
+fn push_lines<'p>(
     text: &mut Vec<u8>,
     line: &mut Vec<u8>,
     part: &mut String,
     chapter: Chapter,
     format: Format,
     node: Option<u8>,
-    sections: &[TextSection],
+    sections: &'p [TextSection<'p, 'p>],
 ) -> Result<(), AllocError>
     ensures { OnOk result (text.new.items ≡ text.old.items
-        ++ chapter_lines chapter format node (map section_view sections.now)) }
+        ++ chapter_lines chapter format node (map section_view sections.entry.now)) }
 {
     for section in sections {
         push_text(text, line, part, chapter, format, node, sections, section)?;
@@ -95,7 +95,7 @@ fn push_with_head(text: &mut Vec<u8>, front: &str, body: &[u8]) -> Result<(), Al
     text.extend_from_slice(body)
 }
 
-fn push_chapter(
+fn push_chapter<'p>(
     alloc: Global,
     text: &mut Vec<u8>,
     line: &mut Vec<u8>,
@@ -103,19 +103,56 @@ fn push_chapter(
     chapter: Chapter,
     format: Format,
     node: Option<u8>,
-    sections: &[TextSection],
+    sections: &'p [TextSection<'p, 'p>],
 ) -> Result<(), AllocError>
     ensures { OnOk result (text.new.items ≡ text.old.items
-        ++ chapter_of chapter format node (map section_view sections.now)) }
+        ++ chapter_of chapter format node (map section_view sections.entry.now)) }
 {
     let mut body = Vec::new(alloc);
     push_lines(&mut body, line, part, chapter, format, node, sections)?;
     push_with_head(text, head_of(chapter, format), body.as_slice())
 }
 
+// all chapters
+#[tactic(auto, unfolding(crate::specs::Document::document))]
+fn push_chapters<'p>(
+    alloc: Global,
+    text: &mut Vec<u8>,
+    line: &mut Vec<u8>,
+    part: &mut String,
+    format: Format,
+    node: Option<u8>,
+    sections: &'p [TextSection<'p, 'p>],
+) -> Result<(), AllocError>
+    ensures { OnOk result (text.new.items
+        ≡ text.old.items ++ document format node (map section_view sections.entry.now)) }
+{
+    text.extend_from_slice(head_of(Chapter::Entries, format).as_bytes())?;
+    push_lines(text, line, part, Chapter::Entries, format, node, sections)?;
+    push_chapter(
+        alloc,
+        text,
+        line,
+        part,
+        Chapter::Pdos,
+        format,
+        node,
+        sections,
+    )?;
+    push_chapter(
+        alloc,
+        text,
+        line,
+        part,
+        Chapter::Services,
+        format,
+        node,
+        sections,
+    )
+}
+
 /// The object dictionary of sections in order: its entries, its PDOs, and its services. `Err`: out
 /// of memory.
-#[tactic(auto, unfolding(crate::specs::Document::document))]
 pub fn document(
     alloc: Global,
     format: Format,
@@ -128,35 +165,8 @@ pub fn document(
     let mut text = Vec::new(alloc);
     let mut line = Vec::new(alloc);
     let mut part = String::new(alloc);
-    text.extend_from_slice(head_of(Chapter::Entries, format).as_bytes())?;
-    push_lines(
-        &mut text,
-        &mut line,
-        &mut part,
-        Chapter::Entries,
-        format,
-        node,
-        sections,
-    )?;
-    push_chapter(
-        alloc,
-        &mut text,
-        &mut line,
-        &mut part,
-        Chapter::Pdos,
-        format,
-        node,
-        sections,
-    )?;
-    push_chapter(
-        alloc,
-        &mut text,
-        &mut line,
-        &mut part,
-        Chapter::Services,
-        format,
-        node,
-        sections,
+    push_chapters(
+        alloc, &mut text, &mut line, &mut part, format, node, sections,
     )?;
     Ok(text)
 }

@@ -18,13 +18,13 @@ ghost use Rattle.conode_show_text.specs.Entries.{
   type_text,
 };
 
+use crate::cells::{Cell, Content, set_line};
 use crate::format::Format;
-use crate::layout::{begin, end, place, push_cell};
+use crate::layout::push_cell;
 use crate::numbers::push_words;
 use crate::sections::object_code;
 use crate::texts::{push_plain, push_property};
 use crate::type_names::push_type_name;
-use crate::values::{push_default, push_limits};
 use co_sheet_text::{SectionKind, TextSection};
 use co_text::push_u16;
 use co_value::Key;
@@ -91,64 +91,61 @@ pub fn is_mappable(section: &TextSection<'_, '_>) -> bool
 }
 
 #[tactic(auto, unfolding(crate::specs::Entries::mappable_text))]
-fn push_mappable(text: &mut String, section: &TextSection<'_, '_>) -> Result<(), AllocError>
-    ensures { OnOk result (string_bytes text.new
-        ≡ string_bytes text.old ++ mappable_text (section_view section.now)) }
+fn mappable_word(section: &TextSection<'_, '_>) -> &'static str
+    ensures { result.now ≡ mappable_text (section_view section.now) }
 {
-    if is_mappable(section) {
-        push_words(text, "PDO")
-    } else {
-        Ok(())
-    }
+    if is_mappable(section) { "PDO" } else { "" }
 }
 
 #[tactic(auto, unfolding(crate::specs::Entries::entry_line))]
-fn set_entry_line(
+fn set_entry_line<'p>(
     line: &mut Vec<u8>,
     part: &mut String,
     format: Format,
     node: Option<u8>,
     key: Key,
-    section: &TextSection<'_, '_>,
+    section: &'p TextSection<'p, 'p>,
 ) -> Result<(), AllocError>
     ensures { OnOk result
-        (line.new.items ≡ entry_line format node key (section_view section.now)) }
+        (line.new.items ≡ entry_line format node key (section_view section.entry.now)) }
 {
-    begin(line, format, part)?;
-    push_words(part, key.text().as_str())?;
-    place(line, format, 0, part)?;
-    push_property(part, section, b"ParameterName")?;
-    place(line, format, 8, part)?;
-    push_type(part, section)?;
-    place(line, format, 42, part)?;
-    push_property(part, section, b"AccessType")?;
-    place(line, format, 53, part)?;
-    push_mappable(part, section)?;
-    place(line, format, 60, part)?;
-    push_default(part, node, section)?;
-    place(line, format, 64, part)?;
-    push_limits(part, section)?;
-    place(line, format, 87, part)?;
-    end(line)
+    set_line(
+        line,
+        part,
+        format,
+        node,
+        &[
+            Cell(0, Content::Key(key)),
+            Cell(8, Content::Property(b"ParameterName", section)),
+            Cell(42, Content::TypeOf(section)),
+            Cell(53, Content::Property(b"AccessType", section)),
+            Cell(60, Content::Words(mappable_word(section))),
+            Cell(64, Content::Default(section)),
+            Cell(87, Content::Limits(section)),
+        ],
+    )
 }
 
 #[tactic(auto, unfolding(crate::specs::Entries::object_line))]
-fn set_object_line(
+fn set_object_line<'p>(
     line: &mut Vec<u8>,
     part: &mut String,
     index: u16,
-    section: &TextSection<'_, '_>,
+    section: &'p TextSection<'p, 'p>,
 ) -> Result<(), AllocError>
-    ensures { OnOk result (line.new.items ≡ object_line index (section_view section.now)) }
+    ensures { OnOk result (line.new.items ≡ object_line index (section_view section.entry.now)) }
 {
-    begin(line, Format::Text, part)?;
-    push_u16(part, index)?;
-    place(line, Format::Text, 0, part)?;
-    push_property(part, section, b"ParameterName")?;
-    place(line, Format::Text, 8, part)?;
-    push_type(part, section)?;
-    place(line, Format::Text, 42, part)?;
-    end(line)
+    set_line(
+        line,
+        part,
+        Format::Text,
+        None,
+        &[
+            Cell(0, Content::Index(index)),
+            Cell(8, Content::Property(b"ParameterName", section)),
+            Cell(42, Content::TypeOf(section)),
+        ],
+    )
 }
 
 /// The head of a table of entries.
@@ -188,16 +185,16 @@ fn push_heading(
 
 // what comes before the entries of an object
 #[tactic(auto, unfolding(crate::specs::Entries::object_head))]
-fn push_object_head(
+fn push_object_head<'p>(
     text: &mut Vec<u8>,
     line: &mut Vec<u8>,
     part: &mut String,
     format: Format,
     index: u16,
-    section: &TextSection<'_, '_>,
+    section: &'p TextSection<'p, 'p>,
 ) -> Result<(), AllocError>
     ensures { OnOk result (text.new.items
-        ≡ text.old.items ++ object_head format index (section_view section.now)) }
+        ≡ text.old.items ++ object_head format index (section_view section.entry.now)) }
 {
     match format {
         Format::Text if has_sub_indices(section) => {
@@ -211,16 +208,16 @@ fn push_object_head(
 
 /// Appends the lines of a section: an object, with its entry if it has no sub-indices, or the entry
 /// of a sub-index.
-pub(crate) fn push_section(
+pub(crate) fn push_section<'p>(
     text: &mut Vec<u8>,
     line: &mut Vec<u8>,
     part: &mut String,
     format: Format,
     node: Option<u8>,
-    section: &TextSection<'_, '_>,
+    section: &'p TextSection<'p, 'p>,
 ) -> Result<(), AllocError>
     ensures { OnOk result (text.new.items
-        ≡ text.old.items ++ section_text format node (section_view section.now)) }
+        ≡ text.old.items ++ section_text format node (section_view section.entry.now)) }
 {
     let key = match section.kind {
         SectionKind::Object(index) => {

@@ -1,7 +1,7 @@
 //! A line, made of parts. Each function appends to a line. `Err`: out of memory; a part of it may
 //! be there.
 
-ghost use Rattle.std.specs.Prelude.{◌≡◌, ◌++◌, [], ◌∷◌, replicate, OnOk, string_bytes};
+ghost use Rattle.std.specs.Prelude.{◌≡◌, ◌++◌, replicate, OnOk};
 ghost use Rattle.std.specs.List.{flat_map};
 ghost use Rattle.conode_show_text.specs.Layout.{begins_character, begun, cell_byte, columns, gap, is_markup, placed};
 
@@ -100,42 +100,28 @@ fn place_in_row(line: &mut Vec<u8>, column: usize, part: &[u8]) -> Result<(), Al
     line.extend_from_slice(b" |")
 }
 
-/// Appends a part to a line, and empties the part.
+/// Appends a part to a line.
 pub(crate) fn place(
     line: &mut Vec<u8>,
     format: Format,
     column: usize,
-    part: &mut String,
+    part: &[u8],
 ) -> Result<(), AllocError>
-    ensures line { OnOk result
-        (line.new.items ≡ placed format column line.old.items (string_bytes part.old)) }
-    ensures part { OnOk result (string_bytes part.new ≡ []) }
+    ensures { OnOk result (line.new.items ≡ placed format column line.old.items part.now) }
 {
     match format {
-        Format::Text => place_in_column(line, column, part.as_bytes())?,
-        Format::Markdown => place_in_row(line, column, part.as_bytes())?,
+        Format::Text => place_in_column(line, column, part),
+        Format::Markdown => place_in_row(line, column, part),
     }
-    part.clear();
-    Ok(())
 }
 
-/// Empties a line and its part, and begins it.
-pub(crate) fn begin(line: &mut Vec<u8>, format: Format, part: &mut String) -> Result<(), AllocError>
-    ensures line { OnOk result (line.new.items ≡ begun format) }
-    ensures part { OnOk result (string_bytes part.new ≡ []) }
+/// Empties a line, and begins it.
+pub(crate) fn begin(line: &mut Vec<u8>, format: Format) -> Result<(), AllocError>
+    ensures { OnOk result (line.new.items ≡ begun format) }
 {
     line.clear();
-    part.clear();
     match format {
         Format::Text => Ok(()),
         Format::Markdown => line.extend_from_slice(b"|"),
     }
-}
-
-/// Ends a line.
-pub(crate) fn end(line: &mut Vec<u8>) -> Result<(), AllocError>
-    ensures { OnOk result (line.new.items ≡ line.old.items ++ 10 ∷ []) }
-{
-    line.push(b'\n')?;
-    Ok(())
 }

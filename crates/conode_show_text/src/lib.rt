@@ -2,6 +2,7 @@
 //! Markdown.
 #![tactic(auto)]
 
+mod cells;
 mod chapters;
 mod cob_ids;
 mod entries;

@@ -1,8 +1,9 @@
 //! PDOs in words: COB-ID, transmission type, timers, what they map (CiA 301, 7.5.2.35 to 7.5.2.38).
 
-ghost use Rattle.std.specs.Prelude.{◌≡◌, ◌≤◌, ◌++◌, map, option_map, OnOk, string_bytes};
+ghost use Rattle.std.specs.Prelude.{◌≡◌, ◌≤◌, ◌++◌, ℕ, Option, map, option_map, OnOk, string_bytes};
 ghost use Rattle.std.specs.Option.{option_copied};
 ghost use Rattle.co_sheet_text.specs.Views.{section_view};
+ghost use Rattle.conode_show_text.specs.Cells.{cell_text};
 ghost use Rattle.conode_show_text.specs.Pdos.{
   counted_line,
   entry_section,
@@ -21,11 +22,10 @@ ghost use Rattle.conode_show_text.specs.Pdos.{
   section_word,
 };
 
+use crate::cells::{Cell, Content, set_line};
 use crate::format::Format;
-use crate::layout::{begin, end, place};
-use crate::meaning::{Meaning, mapped_key, push_said};
+use crate::meaning::{Meaning, mapped_key};
 use crate::numbers::push_words;
-use crate::texts::push_property;
 use crate::values::{Word, value_of, word_of};
 use co_profile::IndexRange;
 use co_sheet::section_at;
@@ -60,65 +60,45 @@ pub fn push_pdo_name(text: &mut String, index: u16) -> Result<(), AllocError>
 
 // the value of a sub-index in words
 #[tactic(auto, unfolding(crate::specs::Pdos::said_at))]
-fn push_said_at(
-    text: &mut String,
-    meaning: Meaning,
-    node: Option<u8>,
-    sections: &[TextSection],
-    key: Key,
-) -> Result<(), AllocError>
-    ensures { OnOk result (string_bytes text.new ≡ string_bytes text.old
-        ++ said_at meaning node (map section_view sections.now) key) }
+fn said_at<'p>(meaning: Meaning, sections: &'p [TextSection<'p, 'p>], key: Key) -> Content<'p>
+    ensures { (node : Option ℕ) → cell_text node result
+        ≡ said_at meaning node (map section_view sections.entry.now) key }
 {
     match section_at(sections, SectionKind::SubIndex(key)) {
-        Some(section) => push_said(text, meaning, node, section),
-        None => Ok(()),
+        Some(section) => Content::Said(meaning, section),
+        None => Content::Words(""),
     }
 }
 
 #[tactic(auto, unfolding(crate::specs::Pdos::pdo_line))]
-fn set_pdo_line(
+fn set_pdo_line<'p>(
     line: &mut Vec<u8>,
     part: &mut String,
     format: Format,
     node: Option<u8>,
-    sections: &[TextSection],
+    sections: &'p [TextSection<'p, 'p>],
     index: u16,
-    section: &TextSection<'_, '_>,
+    section: &'p TextSection<'p, 'p>,
 ) -> Result<(), AllocError>
-    ensures { OnOk result (line.new.items ≡ pdo_line format node (map section_view sections.now)
-        index (section_view section.now)) }
+    ensures { OnOk result (line.new.items ≡ pdo_line format node
+        (map section_view sections.entry.now) index (section_view section.entry.now)) }
 {
-    begin(line, format, part)?;
-    push_pdo_name(part, index)?;
-    place(line, format, 0, part)?;
-    push_said(part, Meaning::PdoCobId, node, section)?;
-    place(line, format, 8, part)?;
-    push_said_at(
+    let transmission = Key { index, sub: 2 };
+    let inhibit = Key { index, sub: 3 };
+    let timer = Key { index, sub: 5 };
+    set_line(
+        line,
         part,
-        Meaning::Transmission,
+        format,
         node,
-        sections,
-        Key { index, sub: 2 },
-    )?;
-    place(line, format, 38, part)?;
-    push_said_at(
-        part,
-        Meaning::PdoInhibit,
-        node,
-        sections,
-        Key { index, sub: 3 },
-    )?;
-    place(line, format, 72, part)?;
-    push_said_at(
-        part,
-        Meaning::EventTimer,
-        node,
-        sections,
-        Key { index, sub: 5 },
-    )?;
-    place(line, format, 88, part)?;
-    end(line)
+        &[
+            Cell(0, Content::Pdo(index)),
+            Cell(8, Content::Said(Meaning::PdoCobId, section)),
+            Cell(38, said_at(Meaning::Transmission, sections, transmission)),
+            Cell(72, said_at(Meaning::PdoInhibit, sections, inhibit)),
+            Cell(88, said_at(Meaning::EventTimer, sections, timer)),
+        ],
+    )
 }
 
 /// The section of an entry: that of its sub-index, or else for sub-index 0 that of its object.
@@ -145,45 +125,48 @@ pub fn section_word(node: Option<u8>, section: &TextSection<'_, '_>) -> Option<W
 
 // the name of the entry that a word of a mapping names
 #[tactic(auto, unfolding(crate::specs::Pdos::mapped_name))]
-fn push_mapped_name(
-    text: &mut String,
+fn mapped_name<'p>(
     node: Option<u8>,
-    sections: &[TextSection],
+    sections: &'p [TextSection<'p, 'p>],
     section: &TextSection<'_, '_>,
-) -> Result<(), AllocError>
-    ensures { OnOk result (string_bytes text.new ≡ string_bytes text.old
-        ++ mapped_name node (map section_view sections.now) (section_view section.now)) }
+) -> Content<'p>
+    ensures { cell_text node result ≡ mapped_name node (map section_view sections.entry.now)
+        (section_view section.now) }
 {
     let Some(word) = section_word(node, section) else {
-        return Ok(());
+        return Content::Words("");
     };
     match entry_section(sections, mapped_key(word.number)) {
-        Some(entry) => push_property(text, entry, b"ParameterName"),
-        None => Ok(()),
+        Some(entry) => Content::Property(b"ParameterName", entry),
+        None => Content::Words(""),
     }
 }
 
 #[tactic(auto, unfolding(crate::specs::Pdos::mapped_line))]
-fn set_mapped_line(
+fn set_mapped_line<'p>(
     line: &mut Vec<u8>,
     part: &mut String,
     format: Format,
     node: Option<u8>,
-    sections: &[TextSection],
-    section: &TextSection<'_, '_>,
+    sections: &'p [TextSection<'p, 'p>],
+    section: &'p TextSection<'p, 'p>,
 ) -> Result<(), AllocError>
-    ensures { OnOk result (line.new.items ≡ mapped_line format node (map section_view sections.now)
-        (section_view section.now)) }
+    ensures { OnOk result (line.new.items ≡ mapped_line format node
+        (map section_view sections.entry.now) (section_view section.entry.now)) }
 {
-    begin(line, format, part)?;
-    place(line, format, 0, part)?;
-    push_said(part, Meaning::Mapped, node, section)?;
-    place(line, format, 8, part)?;
-    push_mapped_name(part, node, sections, section)?;
-    place(line, format, 38, part)?;
-    place(line, format, 72, part)?;
-    place(line, format, 88, part)?;
-    end(line)
+    set_line(
+        line,
+        part,
+        format,
+        node,
+        &[
+            Cell(0, Content::Words("")),
+            Cell(8, Content::Said(Meaning::Mapped, section)),
+            Cell(38, mapped_name(node, sections, section)),
+            Cell(72, Content::Words("")),
+            Cell(88, Content::Words("")),
+        ],
+    )
 }
 
 /// How many words of a mapping count: the value of its sub-index 0, or 0 if that is above 64 or no
@@ -213,19 +196,19 @@ pub fn is_counted(index: u16, count: u64, kind: SectionKind) -> bool
 }
 
 // the line of a section, if it is a word that counts in the mapping
-fn push_if_counted(
+fn push_if_counted<'p>(
     text: &mut Vec<u8>,
     line: &mut Vec<u8>,
     part: &mut String,
     format: Format,
     node: Option<u8>,
-    sections: &[TextSection],
+    sections: &'p [TextSection<'p, 'p>],
     index: u16,
     count: u64,
-    section: &TextSection<'_, '_>,
+    section: &'p TextSection<'p, 'p>,
 ) -> Result<(), AllocError>
     ensures { OnOk result (text.new.items ≡ text.old.items ++ counted_line format node
-        (map section_view sections.now) index count (section_view section.now)) }
+        (map section_view sections.entry.now) index count (section_view section.entry.now)) }
 {
     if !is_counted(index, count, section.kind) {
         return Ok(());
@@ -236,18 +219,18 @@ fn push_if_counted(
 
 // the lines of what a mapping maps
 #[tactic(auto, unfolding(crate::specs::Pdos::mapped_lines))]
-fn push_mapped_lines(
+fn push_mapped_lines<'p>(
     text: &mut Vec<u8>,
     line: &mut Vec<u8>,
     part: &mut String,
     format: Format,
     node: Option<u8>,
-    sections: &[TextSection],
+    sections: &'p [TextSection<'p, 'p>],
     index: u16,
     count: u64,
 ) -> Result<(), AllocError>
     ensures { OnOk result (text.new.items ≡ text.old.items ++ mapped_lines format node
-        (map section_view sections.now) index count) }
+        (map section_view sections.entry.now) index count) }
 {
     for section in sections {
         push_if_counted(
@@ -259,19 +242,19 @@ fn push_mapped_lines(
 
 // a PDO, by the section of its COB-ID
 #[tactic(auto, unfolding(crate::specs::Pdos::pdo_lines))]
-fn push_pdo_lines(
+fn push_pdo_lines<'p>(
     text: &mut Vec<u8>,
     line: &mut Vec<u8>,
     part: &mut String,
     format: Format,
     node: Option<u8>,
-    sections: &[TextSection],
+    sections: &'p [TextSection<'p, 'p>],
     index: u16,
-    section: &TextSection<'_, '_>,
+    section: &'p TextSection<'p, 'p>,
 ) -> Result<(), AllocError>
     requires { index ≤ 0x1BFF }
     ensures { OnOk result (text.new.items ≡ text.old.items ++ pdo_lines format node
-        (map section_view sections.now) index (section_view section.now)) }
+        (map section_view sections.entry.now) index (section_view section.entry.now)) }
 {
     set_pdo_line(line, part, format, node, sections, index, section)?;
     text.extend_from_slice(line.as_slice())?;
@@ -281,17 +264,17 @@ fn push_pdo_lines(
 }
 
 /// Appends the lines of a PDO, by the section of its COB-ID; nothing for any other section.
-pub(crate) fn push_pdo(
+pub(crate) fn push_pdo<'p>(
     text: &mut Vec<u8>,
     line: &mut Vec<u8>,
     part: &mut String,
     format: Format,
     node: Option<u8>,
-    sections: &[TextSection],
-    section: &TextSection<'_, '_>,
+    sections: &'p [TextSection<'p, 'p>],
+    section: &'p TextSection<'p, 'p>,
 ) -> Result<(), AllocError>
     ensures { OnOk result (text.new.items ≡ text.old.items ++ pdo_text format node
-        (map section_view sections.now) (section_view section.now)) }
+        (map section_view sections.entry.now) (section_view section.entry.now)) }
 {
     match section.kind {
         SectionKind::SubIndex(key) if is_pdo_cob_id(key) => {

@@ -4,9 +4,9 @@ ghost use Rattle.std.specs.Prelude.{◌≡◌, ◌++◌, OnOk, string_bytes};
 ghost use Rattle.co_sheet_text.specs.Views.{section_view};
 ghost use Rattle.conode_show_text.specs.Services.{channel_name, key_of, service_line, service_meaning, service_name, service_of, service_text};
 
+use crate::cells::{Cell, Content, set_line};
 use crate::format::Format;
-use crate::layout::{begin, end, place};
-use crate::meaning::{Meaning, push_said};
+use crate::meaning::Meaning;
 use crate::numbers::push_words;
 use co_sheet_text::{SectionKind, TextSection};
 use co_text::push_decimal;
@@ -103,26 +103,29 @@ pub fn push_service_name(text: &mut String, service: Service) -> Result<(), Allo
 }
 
 #[tactic(auto, unfolding(crate::specs::Services::service_line))]
-fn set_service_line(
+fn set_service_line<'p>(
     line: &mut Vec<u8>,
     part: &mut String,
     format: Format,
     node: Option<u8>,
     key: Key,
     service: Service,
-    section: &TextSection<'_, '_>,
+    section: &'p TextSection<'p, 'p>,
 ) -> Result<(), AllocError>
     ensures { OnOk result (line.new.items
-        ≡ service_line format node key service (section_view section.now)) }
+        ≡ service_line format node key service (section_view section.entry.now)) }
 {
-    begin(line, format, part)?;
-    push_words(part, key.text().as_str())?;
-    place(line, format, 0, part)?;
-    push_service_name(part, service)?;
-    place(line, format, 8, part)?;
-    push_said(part, service.meaning(), node, section)?;
-    place(line, format, 38, part)?;
-    end(line)
+    set_line(
+        line,
+        part,
+        format,
+        node,
+        &[
+            Cell(0, Content::Key(key)),
+            Cell(8, Content::Service(service)),
+            Cell(38, Content::Said(service.meaning(), section)),
+        ],
+    )
 }
 
 /// The key of the entry that a section describes.
@@ -137,16 +140,16 @@ pub fn key_of(kind: SectionKind) -> Option<Key>
 }
 
 /// Appends the line of an entry of a service; nothing for any other section.
-pub(crate) fn push_service(
+pub(crate) fn push_service<'p>(
     text: &mut Vec<u8>,
     line: &mut Vec<u8>,
     part: &mut String,
     format: Format,
     node: Option<u8>,
-    section: &TextSection<'_, '_>,
+    section: &'p TextSection<'p, 'p>,
 ) -> Result<(), AllocError>
     ensures { OnOk result (text.new.items
-        ≡ text.old.items ++ service_text format node (section_view section.now)) }
+        ≡ text.old.items ++ service_text format node (section_view section.entry.now)) }
 {
     let Some(key) = key_of(section.kind) else {
         return Ok(());

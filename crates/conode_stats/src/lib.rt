@@ -4,6 +4,7 @@
 mod bit_rate;
 mod recording;
 mod recording_file;
+mod sheet_time;
 mod step;
 
 pub use recording::{Recording, count};

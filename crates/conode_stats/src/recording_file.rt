@@ -1,17 +1,16 @@
 //! The file of a recording, and the page of its statistics.
 
-ghost use Rattle.std.specs.Prelude.{◌≡◌, ◌⊎◌, ◌≤◌, IfSome};
+ghost use Rattle.std.specs.Prelude.{◌≡◌, ◌⊎◌, ◌≤◌, IfOk, IfErr, IfSome};
 ghost use Rattle.std.specs.Process.{exit_status};
 
 use crate::bit_rate::{bit_rate_in, rate_of};
 use crate::recording::{Recording, count};
-use co_sheet::read;
-use co_text::decimal_in;
-use conode_io::{
-    CmdFault, cannot_read, faulty_sheet, file_text, flushed, hand_over, no_text, stopped,
-};
+use crate::sheet_time::sheet_time;
+use co_sheet::{FaultKind, SheetFault, read};
+use conode_io::{CmdFault, cannot_read, flushed, hand_over, stopped};
 use conode_logs::Form;
-use conode_stats_text::{Page, put_page, set_page};
+use conode_sheet_words::{SheetText, SheetWord, bad_sheet, bad_sheet_word, sheet_words, texts_of};
+use conode_stats_text::{Page, SheetTime, put_page, set_page};
 use json::Writer;
 use std::alloc::{AllocError, Global};
 use std::fs;
@@ -25,9 +24,9 @@ const STANDARD_INPUT: &str = "-";
 /// What the command line asks for.
 #[derive(Clone, Copy)]
 pub struct StatsWords<'a> {
-    /// The path of a data sheet, perhaps after its node-ID, as `5=sensor.dcf`. Its bit rate counts
-    /// if none is given.
-    pub sheet: Option<&'a str>,
+    /// The words that name data sheets, each `[INTERFACE:][NODE=]FILE`. The first bit rate of one
+    /// counts if none is given, and their producer heartbeat times.
+    pub sheets: &'a [&'a str],
     /// The bit rate, 1,000 to 1,000,000 bit/s, if one is given: `500k`, `1M`, `125000`.
     pub bit_rate: Option<&'a str>,
     /// Whether to write JSON in place of the page.
@@ -38,8 +37,9 @@ pub struct StatsWords<'a> {
 
 // how a recording is counted
 #[derive(Clone, Copy)]
-struct Settings {
+struct Settings<'a> {
     bit_rate: Option<u32>,
+    sheets: &'a [SheetTime<'a>],
     json: bool,
     log: Form,
 }
@@ -66,13 +66,14 @@ fn page_json(alloc: Global, page: &Page<'_>) -> Result<Vec<u8>, AllocError> {
 fn write_page<O: Write>(
     alloc: Global,
     recording: &Recording,
-    settings: &Settings,
+    settings: &Settings<'_>,
     out: &mut O,
 ) -> Result<(), CmdFault>
     requires { IfSome settings.now.bit_rate (λ rate. rate ≤ 1000000) }
 {
     let page = Page {
         counts: &recording.counts,
+        sheets: settings.sheets,
         bad: recording.bad,
         bit_rate: settings.bit_rate,
     };
@@ -88,7 +89,7 @@ fn write_page<O: Write>(
 fn stats<R: Read, O: Write, E: Write>(
     alloc: Global,
     input: &mut R,
-    settings: &Settings,
+    settings: &Settings<'_>,
     out: &mut O,
     err: &mut E,
 ) -> Result<u64, CmdFault>
@@ -103,7 +104,7 @@ fn stats<R: Read, O: Write, E: Write>(
 fn stats_input<R: Read, O: Write, E: Write>(
     alloc: Global,
     input: &mut R,
-    settings: &Settings,
+    settings: &Settings<'_>,
     out: &mut O,
     err: &mut E,
 ) -> ExitCode
@@ -122,7 +123,7 @@ fn stats_input<R: Read, O: Write, E: Write>(
 fn stats_path<R: Files + AllocGlobal + Input, O: Write, E: Write>(
     rt: &R,
     path: &str,
-    settings: &Settings,
+    settings: &Settings<'_>,
     out: &mut O,
     err: &mut E,
 ) -> ExitCode
@@ -138,63 +139,119 @@ fn stats_path<R: Files + AllocGlobal + Input, O: Write, E: Write>(
     }
 }
 
-// the path of a sheet, without the node-ID before it
-fn path_of(word: &str) -> &str {
-    match word.split_once('=') {
-        Some((front, path)) => match decimal_in(front.as_bytes(), 1, 127) {
-            Some(_) => path,
-            None => word,
-        },
-        None => word,
+// what data sheets have
+#[derive(Drop)]
+struct Taken<'a> {
+    bit_rate: Option<u32>,
+    times: Vec<SheetTime<'a>>,
+}
+
+impl<'a> Taken<'a> {
+    // adds what a sheet has
+    fn add(&mut self, alloc: Global, of: &SheetText<'a>) -> Result<(), SheetFault>
+        ensures { IfSome self.old.bit_rate (λ rate. rate ≤ 1000000)
+            → IfSome self.new.bit_rate (λ rate. rate ≤ 1000000) }
+    {
+        let sheet = read(alloc, of.text.as_slice())?;
+        if self.bit_rate.is_none() {
+            self.bit_rate = bit_rate_in(of.text.as_slice());
+        }
+        if let Some(time) = sheet_time(&sheet, &of.word) {
+            if self.times.push(time).is_err() {
+                return Err(SheetFault {
+                    kind: FaultKind::Memory,
+                    line: 0,
+                });
+            }
+        }
+        Ok(())
     }
 }
 
-// the page with the bit rate of a sheet's text, if none is given; the text has to be a sheet
+// What the texts of sheets have. On an `Err` one is at fault, or memory ran out, and it is said.
+fn taken_from<'a, O: Write, E: Write>(
+    alloc: Global,
+    texts: &[SheetText<'a>],
+    out: &mut O,
+    err: &mut E,
+) -> Result<Taken<'a>, ExitCode>
+    ensures rate { IfOk result (λ taken. IfSome taken.bit_rate (λ rate. rate ≤ 1000000)) }
+    ensures status { IfErr result (λ status. exit_status status ≡ 1) }
+{
+    let mut taken = Taken {
+        bit_rate: None,
+        times: Vec::new(alloc),
+    };
+    for text in texts {
+        if let Err(fault) = taken.add(alloc, text) {
+            return Err(bad_sheet(fault, text.word.path, texts.len() > 1, out, err));
+        }
+    }
+    Ok(taken)
+}
+
+// the page with what the texts of sheets have
 fn stats_with<R: Files + AllocGlobal + Input, O: Write, E: Write>(
     rt: &R,
     path: &str,
-    text: &[u8],
-    settings: Settings,
+    texts: &[SheetText<'_>],
+    settings: Settings<'_>,
     out: &mut O,
     err: &mut E,
 ) -> ExitCode
     requires { IfSome settings.bit_rate (λ rate. rate ≤ 1000000) }
     ensures { (exit_status result ≡ 0) ⊎ (exit_status result ≡ 1) }
 {
-    if let Err(fault) = read(rt.alloc(), text) {
-        return faulty_sheet(fault, out);
-    }
+    let taken = match taken_from(rt.alloc(), texts, out, err) {
+        Ok(taken) => taken,
+        Err(status) => return status,
+    };
     let bit_rate = match settings.bit_rate {
         Some(rate) => Some(rate),
-        None => bit_rate_in(text),
+        None => taken.bit_rate,
     };
     let settings = Settings {
         bit_rate,
+        sheets: taken.times.as_slice(),
         json: settings.json,
         log: settings.log,
     };
     stats_path(rt, path, &settings, out, err)
 }
 
-// the page, with a sheet if one is given
-fn stats_in<R: Files + AllocGlobal + Input, O: Write, E: Write>(
+// the page with the sheets that words name
+fn stats_named<R: Files + AllocGlobal + Input, O: Write, E: Write>(
     rt: &R,
     path: &str,
-    sheet: Option<&str>,
-    settings: Settings,
+    words: &[SheetWord<'_>],
+    settings: Settings<'_>,
     out: &mut O,
     err: &mut E,
 ) -> ExitCode
     requires { IfSome settings.bit_rate (λ rate. rate ≤ 1000000) }
     ensures { (exit_status result ≡ 0) ⊎ (exit_status result ≡ 1) }
 {
-    let Some(word) = sheet else {
-        return stats_path(rt, path, &settings, out, err);
-    };
-    let sheet = path_of(word);
-    match file_text(rt, sheet) {
-        Ok(text) => stats_with(rt, path, text.as_slice(), settings, out, err),
-        Err(fault) => no_text(fault, sheet, out, err),
+    match texts_of(rt, words, out, err) {
+        Ok(texts) => stats_with(rt, path, texts.as_slice(), settings, out, err),
+        Err(status) => status,
+    }
+}
+
+// the page with the sheets that the words of the command line name
+fn stats_in<R: Files + AllocGlobal + Input, O: Write, E: Write>(
+    rt: &R,
+    path: &str,
+    words: &[&str],
+    settings: Settings<'_>,
+    out: &mut O,
+    err: &mut E,
+) -> ExitCode
+    requires { IfSome settings.bit_rate (λ rate. rate ≤ 1000000) }
+    ensures { (exit_status result ≡ 0) ⊎ ((exit_status result ≡ 1) ⊎ (exit_status result ≡ 2)) }
+{
+    match sheet_words(rt.alloc(), words) {
+        Ok(words) => stats_named(rt, path, words.as_slice(), settings, out, err),
+        Err(fault) => bad_sheet_word(fault, out, err),
     }
 }
 
@@ -210,9 +267,10 @@ fn bad_rate<E: Write>(word: &str, err: &mut E) -> ExitCode
 }
 
 /// Writes the statistics of a recording on one page: of the file at the path, or of standard input
-/// for `-`. A word that is no bit rate is named on `err`, and the status is 2. Then the sheet is
-/// read, and its fault goes to `out`. Bad lines, and a file that can't be read, are named on `err`.
-/// The status is 0 if all lines are good, else 1.
+/// for `-`. A word that is no bit rate, or names no sheet, is named on `err`, and the status is 2.
+/// Then the sheets are read: a fault of one goes to `out`, and where there are several, its path to
+/// `err`. Bad lines, and a file that can't be read, are named on `err`. The status is 0 if all lines
+/// are good, else 1.
 pub fn stats_file<R: Files + AllocGlobal + Input, O: Write, E: Write>(
     rt: &R,
     path: &str,
@@ -231,8 +289,9 @@ pub fn stats_file<R: Files + AllocGlobal + Input, O: Write, E: Write>(
     };
     let settings = Settings {
         bit_rate,
+        sheets: &[],
         json: words.json,
         log: words.log,
     };
-    stats_in(rt, path, words.sheet, settings, out, err)
+    stats_in(rt, path, words.sheets, settings, out, err)
 }

@@ -1,5 +1,7 @@
+pub mod Beaten
 pub mod Changes
 pub mod Counting
+pub mod Distinct
 mod EmergencyExamples
 pub mod EmergencyLaws
 mod Examples
@@ -7,6 +9,7 @@ pub mod Failed
 mod FailureExamples
 pub mod Fours
 pub mod Grouped
+mod HeartbeatExamples
 pub mod Loaded
 pub mod NodeEvents
 mod NodeExamples

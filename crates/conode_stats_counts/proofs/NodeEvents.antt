@@ -1,5 +1,5 @@
 -- One event more of a node, as it is counted, is one event more by definition.
-use Rattle.std.proofs.Common.{ℕ, Bool, false, List, ◌∷◌, ◌≡◌, ◌+◌, ◌-◌, Option, Some, None, refl, ap, arith}
+use Rattle.std.proofs.Common.{ℕ, Bool, false, List, ◌∷◌, ◌≡◌, ◌∙◌, ◌+◌, ◌-◌, Option, Some, None, refl, ap, arith}
 use Rattle.std.specs.Prelude.{is_some, not, ◌&&◌, if◌then◌else◌}
 use Rattle.co_text.proofs.Tests.{by_test}
 use Rattle.conode_stats_counts.specs.declared.node.Node.{Node}
@@ -7,8 +7,14 @@ use Rattle.conode_stats_counts.specs.declared.node.Shown.{Shown}
 use Rattle.conode_stats_counts.specs.declared.state.NmtState.{NmtState}
 use Rattle.conode_stats_counts.specs.declared.state.NmtState.TheVariants.{BootUp, PreOperational, Operational, Stopped, Unknown}
 use Rattle.conode_stats_counts.specs.declared.state.StateTimes.{StateTimes}
+use Rattle.conode_stats_counts.specs.declared.heartbeats.Heartbeats.{Heartbeats}
+use Rattle.conode_stats_counts.specs.declared.sdo_frame.Pending.{Pending}
+use Rattle.conode_stats_counts.specs.declared.sdo_frame.SdoFrame.{SdoFrame}
 use Rattle.conode_stats_counts.specs.Gaps.{counted}
-use Rattle.conode_stats_counts.specs.States.{NodeEvent, Commanded, Sent, boot_ups, booted_if, gap_if, is_commanded, last_restart, newest, node_commanded, node_of, node_with, restarts, same_state, time_in, time_since, times_of, times_since, times_with}
+use Rattle.conode_stats_counts.specs.Heartbeats.{beat_with, confirmed, heartbeats_of, longest_answer, pending}
+use Rattle.conode_stats_counts.specs.NodeCounts.{booted_if, node_commanded, node_exchanged, node_of, node_with}
+use Rattle.conode_stats_counts.specs.States.{NodeEvent, Commanded, Sent, Exchanged, boot_ups, gap_if, is_commanded, last_restart, newest, restarts, same_state, time_in, time_since, times_of, times_since, times_with}
+use Rattle.conode_stats_counts.proofs.Beaten as beaten
 use Rattle.conode_stats_counts.proofs.Tallied.{counted_more}
 
 -- ---- times
@@ -62,17 +68,18 @@ unfolding time_in
 times_more log state micros =
     since (time_in BootUp log) (time_in PreOperational log) (time_in Operational log) (time_in Stopped log) (time_in Unknown log) (newest log) micros
 
--- ---- boot-ups
+-- ---- the whole
 
-same_node : (last : Option Shown) (b b' r r' l l' : ℕ) (asked asked' : Bool) (t t' : StateTimes) → b ≡ b' → r ≡ r' → l ≡ l' → asked ≡ asked' → t ≡ t'
+same_node : (last : Option Shown) (b b' r r' l l' : ℕ) (asked asked' : Bool) (t t' : StateTimes) (h h' : Heartbeats) (p p' : Option Pending) (a : Option ℕ)
+    → b ≡ b' → r ≡ r' → l ≡ l' → asked ≡ asked' → t ≡ t' → h ≡ h' → p ≡ p'
     → ◌≡◌ {A = Node}
-    (record { last = last; boot_ups = b; restarts = r; last_restart = l; is_commanded = asked; times = t })
-    (record { last = last; boot_ups = b'; restarts = r'; last_restart = l'; is_commanded = asked'; times = t' })
-same_node last b b' r r' l l' asked asked' t t' p q s u v = cc
+    (record { last = last; boot_ups = b; restarts = r; last_restart = l; is_commanded = asked; times = t; heartbeats = h; pending = p; longest_answer = a })
+    (record { last = last; boot_ups = b'; restarts = r'; last_restart = l'; is_commanded = asked'; times = t'; heartbeats = h'; pending = p'; longest_answer = a })
+same_node last b b' r r' l l' asked asked' t t' h h' p p' a e f g i j k m = cc
 
 -- a node with these parts after a frame
-abbrev with_parts : NmtState → ℕ → Option Shown → ℕ → ℕ → ℕ → Bool → StateTimes → Node
-with_parts state micros last b r l asked t =
+abbrev with_parts : NmtState → ℕ → Option Shown → ℕ → ℕ → ℕ → Bool → StateTimes → Heartbeats → Option Pending → Option ℕ → Heartbeats → Node
+with_parts state micros last b r l asked t h p a next =
     record (booted_if (same_state state BootUp) micros (record {
       last = last;
       boot_ups = counted b;
@@ -80,12 +87,16 @@ with_parts state micros last b r l asked t =
       last_restart = l;
       is_commanded = asked;
       times = t;
+      heartbeats = h;
+      pending = p;
+      longest_answer = a;
     })) {
       last = Some (record { state = state; micros = micros });
       times = times_since last micros t;
+      heartbeats = next;
     }
 
-module _ (state : NmtState) (micros : ℕ) (last : Option Shown) (b r l : ℕ) (asked : Bool) (t more : StateTimes) (is : times_since last micros t ≡ more) where
+module _ (state : NmtState) (micros : ℕ) (last : Option Shown) (b r l : ℕ) (asked : Bool) (t more : StateTimes) (h next : Heartbeats) (p : Option Pending) (a : Option ℕ) (is : times_since last micros t ≡ more) where
   abbrev after : Bool → Node
   after boots = record {
     last = Some (record { state = state; micros = micros });
@@ -94,20 +105,30 @@ module _ (state : NmtState) (micros : ℕ) (last : Option Shown) (b r l : ℕ) (
     last_restart = if boots && (is_some last && not asked) then micros else l;
     is_commanded = if boots then false else asked;
     times = more;
+    heartbeats = next;
+    pending = if boots then None else p;
+    longest_answer = a;
   }
 
-  parts : with_parts state micros last b r l asked t ≡ after (same_state state BootUp)
+  parts : with_parts state micros last b r l asked t h p a next ≡ after (same_state state BootUp)
   parts = by_test (same_state state BootUp)
       (λ boots. by_test (is_some last && not asked)
-      (λ holds. rw (boots, holds) (same_node _ _ _ _ _ _ _ _ _ _ _ (counted_more b 1) (counted_more r 1) refl refl is))
-      (λ fails. rw (boots, fails) (same_node _ _ _ _ _ _ _ _ _ _ _ (counted_more b 1) (none_more r) refl refl is)))
-      (λ other. rw other (same_node _ _ _ _ _ _ _ _ _ _ _ (none_more b) (none_more r) refl refl is))
+      (λ holds. rw (boots, holds) (same_node _ _ _ _ _ _ _ _ _ _ _ _ _ _ _ _ (counted_more b 1) (counted_more r 1) refl refl is refl refl))
+      (λ fails. rw (boots, fails) (same_node _ _ _ _ _ _ _ _ _ _ _ _ _ _ _ _ (counted_more b 1) (none_more r) refl refl is refl refl)))
+      (λ other. rw other (same_node _ _ _ _ _ _ _ _ _ _ _ _ _ _ _ _ (none_more b) (none_more r) refl refl is refl refl))
 
 pub shows_more : (log : List NodeEvent) (state : NmtState) (micros : ℕ) → node_with state micros (node_of log) ≡ node_of (Sent state micros ∷ log)
-unfolding node_with node_of newest boot_ups restarts last_restart is_commanded
+unfolding node_with node_of newest boot_ups restarts last_restart is_commanded pending longest_answer
 shows_more log state micros =
-    parts state micros (newest log) (boot_ups log) (restarts log) (last_restart log) (is_commanded log) (times_of log) (times_of (Sent state micros ∷ log)) (times_more log state micros)
+    ap (with_parts state micros (newest log) (boot_ups log) (restarts log) (last_restart log) (is_commanded log) (times_of log) (heartbeats_of log) (pending log) (longest_answer log)) (beaten.shown_more log state micros)
+    ∙ parts state micros (newest log) (boot_ups log) (restarts log) (last_restart log) (is_commanded log) (times_of log) (times_of (Sent state micros ∷ log)) (heartbeats_of log) (heartbeats_of (Sent state micros ∷ log)) (pending log) (longest_answer log) (times_more log state micros)
 
 pub commanded_more : (log : List NodeEvent) → node_commanded (node_of log) ≡ node_of (Commanded ∷ log)
-unfolding node_commanded node_of newest boot_ups restarts last_restart is_commanded time_in
-commanded_more log = refl
+unfolding node_commanded node_of newest boot_ups restarts last_restart is_commanded time_in pending longest_answer
+commanded_more log =
+    same_node (newest log) _ _ _ _ _ _ _ _ _ _ _ _ _ _ (longest_answer log) refl refl refl refl refl (beaten.commanded_more log) refl
+
+pub exchanged_more : (log : List NodeEvent) (frame : SdoFrame) (micros : ℕ) → node_exchanged frame micros (node_of log) ≡ node_of (Exchanged frame micros ∷ log)
+unfolding node_exchanged node_of newest boot_ups restarts last_restart is_commanded time_in pending longest_answer
+exchanged_more log frame micros =
+    same_node (newest log) _ _ _ _ _ _ _ _ _ _ _ _ _ _ _ refl refl refl refl refl (beaten.exchanged_more log frame micros) refl

@@ -1,8 +1,9 @@
 -- What nodes show, evaluated.
-use Rattle.std.proofs.Common.{ℕ, List, [], ◌∷◌, ◌≡◌, Some, refl}
+use Rattle.std.proofs.Common.{ℕ, List, [], ◌∷◌, ◌≡◌, Some, None, true, false, refl}
 use Rattle.conode_record.specs.declared.content.Content.TheVariants.{Data, Remote}
 use Rattle.conode_record.specs.declared.fields.Identifier.TheVariants.{Base, Extended}
-use Rattle.conode_stats_counts.specs.declared.sign.Sign.TheVariants.{Reset, Shows, Other}
+use Rattle.conode_stats_counts.specs.declared.sdo_frame.SdoFrame.TheVariants.{Abort, Request, Response}
+use Rattle.conode_stats_counts.specs.declared.sign.Sign.TheVariants.{Reset, Shows, Exchanges, Other}
 use Rattle.conode_stats_counts.specs.declared.state.NmtState.TheVariants.{BootUp, PreOperational, Operational, Stopped, Unknown}
 use Rattle.conode_stats_counts.specs.Nodes.{log_with, sign_as, table}
 use Rattle.conode_stats_counts.specs.States.{NodeEvent, Commanded, Sent, boot_ups, is_commanded, last_restart, newest, restarts, state_of, time_in}
@@ -77,6 +78,56 @@ guarding_request = refl
 
 extended_control : sign_as (Extended 0x705) (Data (0x05 ∷ [])) ≡ Other
 extended_control = refl
+
+-- ---- SDO frames on default channels (CiA 301, 7.2.4.3)
+
+-- 1017:00 gets 500 ms: 2Bh has two bytes, 22h no size
+writes_time : sign_as (Base 0x605) (Data (0x2B ∷ 0x17 ∷ 0x10 ∷ 0x00 ∷ 0xF4 ∷ 0x01 ∷ 0 ∷ 0 ∷ [])) ≡ Exchanges 5 (Request (Some 500))
+writes_time = refl
+
+writes_without_size : sign_as (Base 0x67F) (Data (0x22 ∷ 0x17 ∷ 0x10 ∷ 0x00 ∷ 0xF4 ∷ 0x01 ∷ 0 ∷ 0 ∷ [])) ≡ Exchanges 127 (Request (Some 500))
+writes_without_size = refl
+
+-- one byte, sub-index 1, 1018h, 1117h, and an upload are other requests
+writes_a_byte : sign_as (Base 0x605) (Data (0x2F ∷ 0x17 ∷ 0x10 ∷ 0x00 ∷ 0xF4 ∷ 0x01 ∷ 0 ∷ 0 ∷ [])) ≡ Exchanges 5 (Request None)
+writes_a_byte = refl
+
+writes_sub_index : sign_as (Base 0x605) (Data (0x2B ∷ 0x17 ∷ 0x10 ∷ 0x01 ∷ 0xF4 ∷ 0x01 ∷ 0 ∷ 0 ∷ [])) ≡ Exchanges 5 (Request None)
+writes_sub_index = refl
+
+writes_next_index : sign_as (Base 0x605) (Data (0x2B ∷ 0x18 ∷ 0x10 ∷ 0x00 ∷ 0xF4 ∷ 0x01 ∷ 0 ∷ 0 ∷ [])) ≡ Exchanges 5 (Request None)
+writes_next_index = refl
+
+writes_higher_index : sign_as (Base 0x605) (Data (0x2B ∷ 0x17 ∷ 0x11 ∷ 0x00 ∷ 0xF4 ∷ 0x01 ∷ 0 ∷ 0 ∷ [])) ≡ Exchanges 5 (Request None)
+writes_higher_index = refl
+
+reads_time : sign_as (Base 0x605) (Data (0x40 ∷ 0x17 ∷ 0x10 ∷ 0x00 ∷ 0 ∷ 0 ∷ 0 ∷ 0 ∷ [])) ≡ Exchanges 5 (Request None)
+reads_time = refl
+
+client_aborts : sign_as (Base 0x605) (Data (0x80 ∷ 0x17 ∷ 0x10 ∷ 0x00 ∷ 0 ∷ 0 ∷ 4 ∷ 5 ∷ [])) ≡ Exchanges 5 Abort
+client_aborts = refl
+
+confirms_time : sign_as (Base 0x585) (Data (0x60 ∷ 0x17 ∷ 0x10 ∷ 0x00 ∷ 0 ∷ 0 ∷ 0 ∷ 0 ∷ [])) ≡ Exchanges 5 (Response true)
+confirms_time = refl
+
+-- another entry, and an abort of the server, are other responses
+confirms_another : sign_as (Base 0x5FF) (Data (0x60 ∷ 0x18 ∷ 0x10 ∷ 0x00 ∷ 0 ∷ 0 ∷ 0 ∷ 0 ∷ [])) ≡ Exchanges 127 (Response false)
+confirms_another = refl
+
+server_aborts : sign_as (Base 0x585) (Data (0x80 ∷ 0x17 ∷ 0x10 ∷ 0x00 ∷ 0x30 ∷ 0 ∷ 9 ∷ 6 ∷ [])) ≡ Exchanges 5 (Response false)
+server_aborts = refl
+
+short_request : sign_as (Base 0x605) (Data (0x2B ∷ 0x17 ∷ 0x10 ∷ 0x00 ∷ 0xF4 ∷ 0x01 ∷ 0 ∷ [])) ≡ Other
+short_request = refl
+
+before_responses : sign_as (Base 0x580) (Data (0x60 ∷ 0x17 ∷ 0x10 ∷ 0x00 ∷ 0 ∷ 0 ∷ 0 ∷ 0 ∷ [])) ≡ Other
+before_responses = refl
+
+before_requests : sign_as (Base 0x600) (Data (0x2B ∷ 0x17 ∷ 0x10 ∷ 0x00 ∷ 0xF4 ∷ 0x01 ∷ 0 ∷ 0 ∷ [])) ≡ Other
+before_requests = refl
+
+after_requests : sign_as (Base 0x680) (Data (0x2B ∷ 0x17 ∷ 0x10 ∷ 0x00 ∷ 0xF4 ∷ 0x01 ∷ 0 ∷ 0 ∷ [])) ≡ Other
+after_requests = refl
 
 -- ---- to which nodes it matters
 

@@ -7,10 +7,11 @@ use Rattle.co_text.proofs.Tests.{by_test}
 use Rattle.conode_record.specs.declared.line.Record.{Record}
 use Rattle.conode_stats_counts.specs.declared.node.Node.{Node}
 use Rattle.conode_stats_counts.specs.declared.sign.Sign.{Sign}
-use Rattle.conode_stats_counts.specs.declared.sign.Sign.TheVariants.{Reset, Shows, Other}
+use Rattle.conode_stats_counts.specs.declared.sign.Sign.TheVariants.{Reset, Shows, Exchanges, Other}
 use Rattle.conode_stats_counts.specs.Nodes.{changed_at, log_with, most_nodes, new_node, node_log, nodes_of, nodes_with, sign_of, table}
-use Rattle.conode_stats_counts.specs.States.{NodeEvent, Commanded, node_commanded, node_of, node_with}
-use Rattle.conode_stats_counts.proofs.NodeEvents.{commanded_more, shows_more}
+use Rattle.conode_stats_counts.specs.NodeCounts.{node_commanded, node_exchanged, node_of, node_with}
+use Rattle.conode_stats_counts.specs.States.{NodeEvent, Commanded}
+use Rattle.conode_stats_counts.proofs.NodeEvents.{commanded_more, exchanged_more, shows_more}
 
 -- ---- tables
 
@@ -90,6 +91,9 @@ module _ (logs : ℕ → List NodeEvent) (count : ℕ) where
       (λ n other. rw (single, other) refl))
   sign_more (Shows place state) micros =
       one (Shows place state) micros place (node_with state micros) (let self : (place == place) ≡ true = grind (arith, nat_tests) in rw self (shows_more (logs place) state micros))
+      (λ n other. rw other refl)
+  sign_more (Exchanges place frame) micros =
+      one (Exchanges place frame) micros place (node_exchanged frame micros) (let self : (place == place) ≡ true = grind (arith, nat_tests) in rw self (exchanged_more (logs place) frame micros))
       (λ n other. rw other refl)
 
 -- a frame of a bus

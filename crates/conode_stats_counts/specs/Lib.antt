@@ -1,11 +1,15 @@
 pub mod Bits
 pub mod Buses
+pub mod DistinctRows
 pub mod Emergencies
 pub mod Failures
 pub mod Gaps
 pub mod Groups
+pub mod Heartbeats
 pub mod Loads
+pub mod NodeCounts
 pub mod Nodes
+pub mod SdoFrames
 pub mod Sizes
 pub mod States
 pub mod Tallies

@@ -8,8 +8,10 @@ use Rattle.conode_record.specs.declared.fields.Identifier.TheVariants.{Base}
 use Rattle.conode_record.specs.declared.line.Record.{Record}
 use Rattle.conode_stats_counts.specs.declared.node.Node.{Node}
 use Rattle.conode_stats_counts.specs.declared.sign.Sign.{Sign}
-use Rattle.conode_stats_counts.specs.declared.sign.Sign.TheVariants.{Reset, Shows, Other}
-use Rattle.conode_stats_counts.specs.States.{NodeEvent, Commanded, Sent, node_commanded, node_of, node_with, state_of}
+use Rattle.conode_stats_counts.specs.declared.sign.Sign.TheVariants.{Reset, Shows, Exchanges, Other}
+use Rattle.conode_stats_counts.specs.SdoFrames.{request_in, response_in}
+use Rattle.conode_stats_counts.specs.NodeCounts.{node_commanded, node_of, node_exchanged, node_with}
+use Rattle.conode_stats_counts.specs.States.{NodeEvent, Commanded, Sent, Exchanged, state_of}
 
 -- ---- what a frame shows
 
@@ -27,7 +29,9 @@ control_in node _ = Other
 abbrev pub sign_in : ℕ → List ℕ → Sign
 sign_in id bytes =
     if id == 0 then command_in bytes
-    else (if nat_lt 0x700 id && nat_lt id 0x780 then control_in (id - 0x700) bytes else Other)
+    else (if nat_lt 0x700 id && nat_lt id 0x780 then control_in (id - 0x700) bytes
+    else (if nat_lt 0x580 id && nat_lt id 0x600 then response_in (id - 0x580) bytes
+    else (if nat_lt 0x600 id && nat_lt id 0x680 then request_in (id - 0x600) bytes else Other)))
 
 abbrev pub sign_as : Identifier → Content → Sign
 sign_as (Base id) (Data bytes) = sign_in id bytes
@@ -42,6 +46,7 @@ sign_of frame = sign_as frame.id frame.content
 abbrev pub log_with : ℕ → Sign → ℕ → List NodeEvent → List NodeEvent
 log_with node (Reset other) micros log = if (other == 0) || (other == node) then Commanded ∷ log else log
 log_with node (Shows other state) micros log = if other == node then Sent state micros ∷ log else log
+log_with node (Exchanges other frame) micros log = if other == node then Exchanged frame micros ∷ log else log
 log_with node Other micros log = log
 
 -- what frames are to a node, the newest first
@@ -75,4 +80,5 @@ changed_at node change nodes =
 unfoldable pub nodes_with : Sign → ℕ → List Node → List Node
 nodes_with (Reset node) micros nodes = if node == 0 then map node_commanded nodes else changed_at node node_commanded nodes
 nodes_with (Shows node state) micros nodes = changed_at node (node_with state micros) nodes
+nodes_with (Exchanges node frame) micros nodes = changed_at node (node_exchanged frame micros) nodes
 nodes_with Other micros nodes = nodes

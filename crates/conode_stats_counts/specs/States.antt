@@ -1,7 +1,7 @@
--- What a node shows of its NMT state (CiA 301, 7.2.8.3.2): the newest first, its frames of error
--- control and the commands to reset it.
+-- What happens to a node, the newest first, and what it shows of its NMT state by its frames of error
+-- control (CiA 301, 7.2.8.3.2).
 use Rattle.std.specs.Prelude.{ℕ, ◌+◌, ◌-◌, ◌%◌, ◌==◌, Bool, true, false, not, ◌&&◌, if◌then◌else◌, List, [], ◌∷◌, Option, Some, None, is_some}
-use Rattle.conode_stats_counts.specs.declared.node.Node.{Node}
+use Rattle.conode_stats_counts.specs.declared.sdo_frame.SdoFrame.{SdoFrame}
 use Rattle.conode_stats_counts.specs.declared.node.Shown.{Shown}
 use Rattle.conode_stats_counts.specs.declared.state.NmtState.{NmtState}
 use Rattle.conode_stats_counts.specs.declared.state.NmtState.TheVariants.{BootUp, PreOperational, Operational, Stopped, Unknown}
@@ -34,11 +34,14 @@ pub data NodeEvent : Type 0 where
   Commanded : NodeEvent
   -- a frame of error control that shows a state, with its stamp
   Sent : NmtState → ℕ → NodeEvent
+  -- an SDO frame on its default channel, with its stamp
+  Exchanged : SdoFrame → ℕ → NodeEvent
 
 -- its newest frame
 unfoldable pub newest : List NodeEvent → Option Shown
 newest [] = None
 newest (Commanded ∷ older) = newest older
+newest (Exchanged frame micros ∷ older) = newest older
 newest (Sent state micros ∷ older) = Some (record { state = state; micros = micros })
 
 -- ---- times
@@ -56,6 +59,7 @@ time_since state (Some before) micros = gap_if (same_state before.state state) (
 unfoldable pub time_in : NmtState → List NodeEvent → ℕ
 time_in state [] = 0
 time_in state (Commanded ∷ older) = time_in state older
+time_in state (Exchanged frame micros ∷ older) = time_in state older
 time_in state (Sent other micros ∷ older) = time_since state (newest older) micros + time_in state older
 
 abbrev pub times_of : List NodeEvent → StateTimes
@@ -72,12 +76,14 @@ times_of log = record {
 unfoldable pub boot_ups : List NodeEvent → ℕ
 boot_ups [] = 0
 boot_ups (Commanded ∷ older) = boot_ups older
+boot_ups (Exchanged frame micros ∷ older) = boot_ups older
 boot_ups (Sent state micros ∷ older) = (if same_state state BootUp then 1 else 0) + boot_ups older
 
 -- whether a command to reset came since the last boot-up
 unfoldable pub is_commanded : List NodeEvent → Bool
 is_commanded [] = false
 is_commanded (Commanded ∷ older) = true
+is_commanded (Exchanged frame micros ∷ older) = is_commanded older
 is_commanded (Sent state micros ∷ older) = if same_state state BootUp then false else is_commanded older
 
 -- whether a frame that shows this state is a restart without a command: a boot-up of a node that
@@ -88,25 +94,15 @@ is_restart state older = same_state state BootUp && (is_some (newest older) && n
 unfoldable pub restarts : List NodeEvent → ℕ
 restarts [] = 0
 restarts (Commanded ∷ older) = restarts older
+restarts (Exchanged frame micros ∷ older) = restarts older
 restarts (Sent state micros ∷ older) = (if is_restart state older then 1 else 0) + restarts older
 
 -- the stamp of the last of them, 0 where there is none
 unfoldable pub last_restart : List NodeEvent → ℕ
 last_restart [] = 0
 last_restart (Commanded ∷ older) = last_restart older
+last_restart (Exchanged frame micros ∷ older) = last_restart older
 last_restart (Sent state micros ∷ older) = if is_restart state older then micros else last_restart older
-
--- ---- the whole
-
-unfoldable pub node_of : List NodeEvent → Node
-node_of log = record {
-  last = newest log;
-  boot_ups = counted (boot_ups log);
-  restarts = counted (restarts log);
-  last_restart = last_restart log;
-  is_commanded = is_commanded log;
-  times = times_of log;
-}
 
 -- ---- one event more, as it is counted
 
@@ -120,28 +116,3 @@ times_with Unknown gap times = record times { unknown = counted (times.unknown +
 abbrev pub times_since : Option Shown → ℕ → StateTimes → StateTimes
 times_since None micros times = times
 times_since (Some before) micros times = times_with before.state (micros - before.micros) times
-
--- a boot-up
-abbrev pub booted : ℕ → Node → Node
-booted micros node =
-    if is_some node.last && not node.is_commanded
-    then record node {
-      boot_ups = counted (node.boot_ups + 1);
-      restarts = counted (node.restarts + 1);
-      last_restart = micros;
-      is_commanded = false;
-    }
-    else record node { boot_ups = counted (node.boot_ups + 1); is_commanded = false }
-
-abbrev pub booted_if : Bool → ℕ → Node → Node
-booted_if true micros node = booted micros node
-booted_if false micros node = node
-
-unfoldable pub node_with : NmtState → ℕ → Node → Node
-node_with state micros node = record (booted_if (same_state state BootUp) micros node) {
-  last = Some (record { state = state; micros = micros });
-  times = times_since node.last micros node.times;
-}
-
-unfoldable pub node_commanded : Node → Node
-node_commanded node = record node { is_commanded = true }

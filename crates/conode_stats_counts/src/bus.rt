@@ -1,23 +1,15 @@
 //! The frames of one bus.
 
-ghost use Rattle.std.specs.Prelude.{◌≡◌, ◌<◌, ◌≤◌, [], length, position, OnOk, IfOk, IfSome};
+ghost use Rattle.std.specs.Prelude.{◌≡◌, ◌≤◌, length, OnOk, IfOk};
 ghost use Rattle.conode_record.specs.Grammar.{IsIdentifier};
-ghost use Rattle.conode_stats_counts.specs.Buses.{
-  bus_with,
-  can_id,
-  is_row,
-  most_rows,
-  new_bus,
-  new_row,
-  row_with,
-};
-ghost use Rattle.conode_stats_counts.specs.Groups.{group_with, no_room};
+ghost use Rattle.conode_stats_counts.specs.Buses.{bus_with, new_bus};
 
 use crate::emergencies::Emergencies;
 use crate::load::Load;
 use crate::node::Node;
 use crate::nodes::{new_nodes, show_sign};
 use crate::row::{Row, can_id};
+use crate::rows::Rows;
 use crate::sign::Sign;
 use crate::size::Size;
 use crate::tally::{Tally, counted};
@@ -26,9 +18,6 @@ use arrayvec::ArrayVec;
 use conode_record::Record;
 use std::alloc::{AllocError, Global};
 use std::marker::Model;
-
-/// The most identifiers counted on a bus.
-const MOST_ROWS: usize = 4096;
 
 /// Stamps are in microseconds.
 const SECOND: u64 = 1_000_000;
@@ -44,7 +33,7 @@ pub struct Bus {
     nodes: Vec<Node>,
     transfers: Transfers,
     emergencies: Emergencies,
-    rows: Vec<Row>,
+    rows: Rows,
     left_out: u64,
 }
 
@@ -60,43 +49,9 @@ impl Model for Bus {
       nodes = bus.nodes.items;
       transfers = bus.transfers;
       emergencies = bus.emergencies;
-      rows = bus.rows.items;
+      rows = bus.rows;
       left_out = bus.left_out;
     } };
-}
-
-// the place of the row of an identifier
-fn place_of(rows: &[Row], id: u32) -> Option<usize>
-    ensures place { result ≡ position (is_row id) rows.now }
-    ensures within { IfSome result (λ place. place < length rows.now) }
-{
-    rows.iter().position(|row| row.can_id == id)
-}
-
-// Adds a frame to the row of its identifier, a new one if there is none. Returns 1 if there is no
-// room for a new row, else 0. `Err`: out of memory.
-#[tactic(auto, unfolding(crate::specs::Groups::group_with, crate::specs::Groups::no_room))]
-fn add_to_row(rows: &mut Vec<Row>, id: u32, micros: u64) -> Result<u64, AllocError>
-    ensures rows { OnOk result (rows.new.items
-        ≡ group_with (is_row id) (row_with micros) (new_row id) most_rows rows.old.items) }
-    ensures left_out { IfOk result
-        (λ count. count ≡ no_room (is_row id) most_rows rows.old.items) }
-{
-    match place_of(rows.as_slice(), id) {
-        Some(place) => {
-            rows[place].add(micros);
-            Ok(0)
-        }
-        None => {
-            if rows.len() >= MOST_ROWS {
-                return Ok(1);
-            }
-            let mut row = Row::new(id);
-            row.add(micros);
-            rows.push(row)?;
-            Ok(0)
-        }
-    }
 }
 
 impl Bus {
@@ -107,6 +62,7 @@ impl Bus {
         ensures { IfOk result (λ bus. bus ≡ new_bus interface.now) }
     {
         let nodes = new_nodes(alloc)?;
+        let rows = Rows::new(alloc)?;
         let mut name = ArrayVec::new();
         name.try_extend_from_slice(interface).unwrap();
         Ok(Bus {
@@ -116,7 +72,7 @@ impl Bus {
             nodes,
             transfers: Transfers::new(alloc),
             emergencies: Emergencies::new(alloc),
-            rows: Vec::new(alloc),
+            rows,
             left_out: 0,
         })
     }
@@ -127,7 +83,7 @@ impl Bus {
         requires { IsIdentifier frame.now.id }
         ensures { OnOk result (self.new ≡ bus_with self.old frame.now) }
     {
-        let more = add_to_row(&mut self.rows, can_id(frame.id), frame.micros)?;
+        let more = self.rows.add(can_id(frame.id), frame.micros)?;
         self.left_out = counted(self.left_out, more);
         self.transfers.take(frame)?;
         self.emergencies.take(frame)?;

@@ -1,14 +1,17 @@
-//! What a node shows of its state, counted.
+//! What a node shows, counted.
 
 ghost use Rattle.std.specs.Prelude.{◌≡◌, [], ◌+◌, ◌-◌};
-ghost use Rattle.conode_stats_counts.specs.States.{
+ghost use Rattle.conode_stats_counts.specs.NodeCounts.{
   booted,
   node_commanded,
+  node_exchanged,
   node_of,
   node_with,
-  times_since,
 };
+ghost use Rattle.conode_stats_counts.specs.States.{times_since};
 
+use crate::heartbeats::Heartbeats;
+use crate::sdo_frame::{Pending, SdoFrame, longer};
 use crate::state::{NmtState, StateTimes};
 use crate::tally::counted;
 
@@ -22,12 +25,13 @@ pub struct Shown {
     pub micros: u64,
 }
 
-/// What a node shows by its frames of error control. Counts and sums saturate at 2^64 - 1.
-#[derive(Clone, Copy)]
+/// What a node shows by its frames of error control and the SDO frames on its default channel.
+/// Counts and sums saturate at 2^64 - 1.
+#[derive(Drop)]
 pub struct Node {
-    /// The newest of these frames; `None` if there is none.
+    /// Its newest frame of error control; `None` if there is none.
     pub last: Option<Shown>,
-    /// How many of them are boot-ups.
+    /// How many of its frames of error control are boot-ups.
     pub boot_ups: u64,
     /// How many boot-ups are restarts without a command: the node sent another frame before, and
     /// since its boot-up before no command came to reset it.
@@ -38,11 +42,17 @@ pub struct Node {
     pub is_commanded: bool,
     /// The time in each state.
     pub times: StateTimes,
+    /// Its heartbeats.
+    pub heartbeats: Heartbeats,
+    /// The SDO request to it that awaits a response, if there is one.
+    pub pending: Option<Pending>,
+    /// The longest time from an SDO request to its response, in microseconds, if there is any.
+    pub longest_answer: Option<u64>,
 }
 
 impl Node {
     /// A node that sent nothing.
-    #[tactic(auto, unfolding(crate::specs::States::node_of, crate::specs::States::newest, crate::specs::States::boot_ups, crate::specs::States::restarts, crate::specs::States::last_restart, crate::specs::States::is_commanded))]
+    #[tactic(auto, unfolding(crate::specs::NodeCounts::node_of, crate::specs::Heartbeats::pending, crate::specs::Heartbeats::longest_answer, crate::specs::States::newest, crate::specs::States::boot_ups, crate::specs::States::restarts, crate::specs::States::last_restart, crate::specs::States::is_commanded))]
     pub(crate) fn new() -> Node
         ensures { result ≡ node_of [] }
     {
@@ -53,11 +63,14 @@ impl Node {
             last_restart: 0,
             is_commanded: false,
             times: StateTimes::new(),
+            heartbeats: Heartbeats::new(),
+            pending: None,
+            longest_answer: None,
         }
     }
 
     /// Notes a command to reset the node.
-    #[tactic(auto, unfolding(crate::specs::States::node_commanded))]
+    #[tactic(auto, unfolding(crate::specs::NodeCounts::node_commanded))]
     pub(crate) fn command(&mut self)
         ensures { self.new ≡ node_commanded self.old }
     {
@@ -74,6 +87,7 @@ impl Node {
         }
         self.boot_ups = counted(self.boot_ups, 1);
         self.is_commanded = false;
+        self.pending = None;
     }
 
     // adds the time since the frame before
@@ -89,14 +103,27 @@ impl Node {
     }
 
     /// Counts a frame of error control.
-    #[tactic(auto, unfolding(crate::specs::States::node_with))]
+    #[tactic(auto, unfolding(crate::specs::NodeCounts::node_with))]
     pub(crate) fn show(&mut self, state: NmtState, micros: u64)
         ensures { self.new ≡ node_with state micros self.old }
     {
         self.pass(micros);
-        if let NmtState::BootUp = state {
+        let boots = state.is_boot_up();
+        if boots {
             self.boot(micros);
         }
+        self.heartbeats.beat(boots, micros);
         self.last = Some(Shown { state, micros });
+    }
+
+    /// Counts an SDO frame on its default channel.
+    #[tactic(auto, unfolding(crate::specs::NodeCounts::node_exchanged))]
+    pub(crate) fn exchange(&mut self, frame: SdoFrame, micros: u64)
+        ensures { self.new ≡ node_exchanged frame micros self.old }
+    {
+        self.heartbeats.write(frame.confirmed(self.pending), micros);
+        let time = frame.answer_time(self.pending, micros);
+        self.longest_answer = longer(self.longest_answer, time);
+        self.pending = frame.pending(micros);
     }
 }

@@ -2,9 +2,10 @@
 
 ghost use Rattle.std.specs.Prelude.{◌≡◌, [], map, IfOk};
 ghost use Rattle.conode_stats_counts.specs.Nodes.{changed_at, nodes_of, nodes_with};
-ghost use Rattle.conode_stats_counts.specs.States.{node_commanded, node_with};
+ghost use Rattle.conode_stats_counts.specs.NodeCounts.{node_commanded, node_exchanged, node_with};
 
 use crate::node::Node;
+use crate::sdo_frame::SdoFrame;
 use crate::sign::Sign;
 use crate::state::NmtState;
 use std::alloc::{AllocError, Global};
@@ -17,8 +18,11 @@ const MOST_NODES: usize = 128;
 pub(crate) fn new_nodes(alloc: Global) -> Result<Vec<Node>, AllocError>
     ensures { IfOk result (λ nodes. nodes.items ≡ nodes_of []) }
 {
-    let node = Node::new();
-    Ok(vec![in alloc; node; MOST_NODES]?)
+    let mut nodes = Vec::with_capacity(alloc, MOST_NODES)?;
+    for _number in 0..MOST_NODES {
+        nodes.push(Node::new())?;
+    }
+    Ok(nodes)
 }
 
 // notes a command to reset all nodes
@@ -51,6 +55,16 @@ fn show_one(nodes: &mut [Node], node: u8, state: NmtState, micros: u64)
     }
 }
 
+// counts an SDO frame on a node's default channel
+fn exchange_one(nodes: &mut [Node], node: u8, frame: SdoFrame, micros: u64)
+    ensures { nodes.new ≡ changed_at node (node_exchanged frame micros) nodes.old }
+{
+    let place = usize::from(node);
+    if place < nodes.len() {
+        nodes[place].exchange(frame, micros);
+    }
+}
+
 /// Counts a frame that shows this.
 #[tactic(auto, unfolding(crate::specs::Nodes::nodes_with))]
 pub(crate) fn show_sign(nodes: &mut [Node], sign: Sign, micros: u64)
@@ -60,6 +74,7 @@ pub(crate) fn show_sign(nodes: &mut [Node], sign: Sign, micros: u64)
         Sign::Reset(0) => command_all(nodes),
         Sign::Reset(node) => command_one(nodes, node),
         Sign::Shows(node, state) => show_one(nodes, node, state, micros),
+        Sign::Exchanges(node, frame) => exchange_one(nodes, node, frame, micros),
         Sign::Other => {}
     }
 }

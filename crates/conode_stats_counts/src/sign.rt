@@ -2,7 +2,9 @@
 
 ghost use Rattle.std.specs.Prelude.{◌≡◌, ◌==◌, ◌||◌};
 ghost use Rattle.conode_stats_counts.specs.Nodes.{command_in, control_in, sign_as, sign_in};
+ghost use Rattle.conode_stats_counts.specs.SdoFrames.{request_in, response_in};
 
+use crate::sdo_frame::{SdoFrame, is_heartbeat_time, writes_two_bytes};
 use crate::state::NmtState;
 use co_value::PackedBytes;
 use conode_record::{Content, Identifier};
@@ -14,6 +16,8 @@ pub(crate) enum Sign {
     Reset(u8),
     /// A node's frame of error control shows this state.
     Shows(u8, NmtState),
+    /// An SDO frame on a node's default channel.
+    Exchanges(u8, SdoFrame),
     /// None of these.
     Other,
 }
@@ -49,6 +53,38 @@ fn control_in(node: u8, bytes: &[u8]) -> Sign
     }
 }
 
+// a frame with the identifier of requests on a node's default channel
+fn request_in(node: u8, bytes: &[u8]) -> Sign
+    ensures { result ≡ request_in node bytes.now }
+{
+    match bytes {
+        [0x80, _, _, _, _, _, _, _] => Sign::Exchanges(node, SdoFrame::Abort),
+        [command, low, high, sub, first, second, _, _] => {
+            let is_time = writes_two_bytes(*command) && is_heartbeat_time(*low, *high, *sub);
+            let time = if is_time {
+                Some(u16::from(*first) + u16::from(*second) * 256)
+            } else {
+                None
+            };
+            Sign::Exchanges(node, SdoFrame::Request(time))
+        }
+        _ => Sign::Other,
+    }
+}
+
+// a frame with the identifier of responses there
+fn response_in(node: u8, bytes: &[u8]) -> Sign
+    ensures { result ≡ response_in node bytes.now }
+{
+    match bytes {
+        [command, low, high, sub, _, _, _, _] => {
+            let confirms = *command == 0x60 && is_heartbeat_time(*low, *high, *sub);
+            Sign::Exchanges(node, SdoFrame::Response(confirms))
+        }
+        _ => Sign::Other,
+    }
+}
+
 // a frame with data, by its identifier
 fn sign_in(id: u16, bytes: &PackedBytes) -> Sign
     ensures { result ≡ sign_in id bytes.now }
@@ -58,6 +94,12 @@ fn sign_in(id: u16, bytes: &PackedBytes) -> Sign
     }
     if 0x700 < id && id < 0x780 {
         return control_in((id - 0x700) as u8, bytes.to_list().as_slice());
+    }
+    if 0x580 < id && id < 0x600 {
+        return response_in((id - 0x580) as u8, bytes.to_list().as_slice());
+    }
+    if 0x600 < id && id < 0x680 {
+        return request_in((id - 0x600) as u8, bytes.to_list().as_slice());
     }
     Sign::Other
 }

@@ -1,7 +1,8 @@
 //! NMT states, and the time in them.
 
 ghost use Rattle.std.specs.Prelude.{◌≡◌, [], ◌+◌, ◌-◌};
-ghost use Rattle.conode_stats_counts.specs.States.{numbered, state_of, times_of, times_with};
+ghost use Rattle.conode_stats_counts.specs.States.{numbered, same_state, state_of, times_of, times_with};
+ghost use Rattle.conode_stats_counts.specs.declared.state.NmtState.TheVariants.{BootUp};
 
 use crate::tally::counted;
 
@@ -59,6 +60,16 @@ impl NmtState {
             NmtState::BootUp
         } else {
             NmtState::numbered(byte % 128)
+        }
+    }
+
+    /// Whether it is that of a boot-up message.
+    pub(crate) fn is_boot_up(self) -> bool
+        ensures { result ≡ same_state self BootUp }
+    {
+        match self {
+            NmtState::BootUp => true,
+            _ => false,
         }
     }
 }

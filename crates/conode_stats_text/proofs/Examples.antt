@@ -1,11 +1,10 @@
 -- Figures, cells and lines, evaluated.
-use Rattle.std.proofs.Common.{ℕ, ◌*◌, ◌≡◌, Some, None, true, false, refl}
+use Rattle.std.proofs.Common.{◌≡◌, Some, None, refl}
 use Rattle.std.specs.Prelude.{codes}
 use Rattle.std.specs.Fmt.{digits}
 use Rattle.co_text.specs.Printed.{digits_text}
-use Rattle.conode_stats_counts.specs.declared.tally.Tally.{Tally}
 use Rattle.conode_stats_text.specs.Cells.{seconds, tenths, thousandths}
-use Rattle.conode_stats_text.specs.Figures.{is_long, ratio, room_in}
+use Rattle.conode_stats_text.specs.Figures.{ratio, room_in}
 use Rattle.conode_stats_text.specs.StatsLines.{id_text}
 
 -- ---- figures
@@ -34,19 +33,6 @@ too_great = refl
 room : room_in 125000 2500000 ≡ 312500
 unfolding room_in
 room = refl
-
--- gaps of 200 in the mean: 300 is not above one and a half times that
-abbrev beats : ℕ → Tally
-beats gaps = record { first = 0; last = 400; frames = 3; steps_back = 0; gaps = gaps; total = 200 * gaps; smallest = 100; greatest = 300 }
-
-not_long : is_long (beats 2) 300 ≡ false
-not_long = refl
-
-long : is_long (beats 2) 301 ≡ true
-long = refl
-
-one_gap : is_long (beats 1) 301 ≡ false
-one_gap = refl
 
 -- ---- cells
 

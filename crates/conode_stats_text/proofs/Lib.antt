@@ -2,3 +2,4 @@ pub mod Appending
 mod Examples
 mod FailureExamples
 mod NodeExamples
+mod PaceExamples

@@ -1,17 +1,22 @@
 -- The lines and the JSON of nodes, evaluated.
-use Rattle.std.proofs.Common.{ℕ, [], ◌∷◌, ◌++◌, ◌≡◌, Some, None, false, refl}
+use Rattle.std.proofs.Common.{ℕ, Option, [], ◌∷◌, ◌++◌, ◌≡◌, Some, None, false, refl}
 use Rattle.std.specs.Prelude.{codes}
 use Rattle.std.specs.Fmt.{digits}
 use Rattle.json.specs.Token.{begin_object, end_object, key, number, string}
 use Rattle.co_text.specs.Printed.{digits_text}
+use Rattle.conode_stats_counts.specs.declared.heartbeats.Heartbeats.{Heartbeats}
 use Rattle.conode_stats_counts.specs.declared.node.Node.{Node}
 use Rattle.conode_stats_counts.specs.declared.node.Shown.{Shown}
 use Rattle.conode_stats_counts.specs.declared.state.NmtState.TheVariants.{Stopped}
 use Rattle.conode_stats_counts.specs.declared.state.StateTimes.{StateTimes}
 use Rattle.conode_stats_text.specs.Cells.{seconds, thousandths}
-use Rattle.conode_stats_text.specs.NodeLines.{millis_of, node_in, node_line, restart_line, restarts_in, time_cells}
-use Rattle.conode_stats_text.specs.NodeTokens.{count_members, node_tokens, state_members, time_members, times_tokens, tokens_in}
+use Rattle.conode_stats_text.specs.NodeLines.{answer_of, millis_of, node_in, node_line, restart_line, restarts_in, time_cells}
+use Rattle.conode_stats_text.specs.NodeTokens.{count_members, heartbeat_members, node_tokens, state_members, time_members, times_tokens, tokens_in}
+use Rattle.conode_stats_text.specs.Paces.{median}
 use Rattle.conode_stats_text.specs.StatsTokens.{number_member, text_member}
+
+abbrev no_heartbeats : Heartbeats
+no_heartbeats = record { written = None; since = None; late = 0; longest_late = 0; longest = 0; first = [] }
 
 -- five different times
 abbrev times : StateTimes
@@ -20,8 +25,26 @@ times = record { boot_up = 1999; pre_operational = 2000000; operational = 300000
 abbrev last : Shown
 last = record { state = Stopped; micros = 40000000 }
 
+-- heartbeats later than the time that was downloaded, and others
+abbrev heartbeats : Heartbeats
+heartbeats = record { written = Some 100; since = Some 40000000; late = 2; longest_late = 151000; longest = 800000; first = 200000 ∷ 800000 ∷ 210000 ∷ [] }
+
 abbrev node : ℕ → Node
-node restarts = record { last = Some last; boot_ups = 3; restarts = restarts; last_restart = 1130000; is_commanded = false; times = times }
+node restarts = record {
+  last = Some last;
+  boot_ups = 3;
+  restarts = restarts;
+  last_restart = 1130000;
+  is_commanded = false;
+  times = times;
+  heartbeats = heartbeats;
+  pending = None;
+  longest_answer = Some 1200;
+}
+
+-- one that only answers
+abbrev server : Option ℕ → Node
+server answer = record (node 0) { last = None; heartbeats = no_heartbeats; longest_answer = answer }
 
 -- ---- what looks wrong
 
@@ -34,13 +57,22 @@ no_restart = refl
 
 -- ---- the table
 
-row : node_in (codes "can0") 41000000 127 (node 2) (Some last)
-    ≡ codes "can0                  127            3           2        0.001              2.000         30.000        0.000        0.005  stopped\n"
+row : node_in (codes "can0") 41000000 127 (node 2)
+    ≡ codes "can0                  127            3           2        0.001              2.000         30.000        0.000        0.005              1.200  stopped\n"
 unfolding node_line time_cells thousandths digits_text digits
 row = refl
 
-no_row : node_in (codes "can0") 41000000 127 (node 2) None ≡ []
+server_row : node_in (codes "can0") 41000000 7 (server (Some 250))
+    ≡ codes "can0                    7            3           0        0.001              2.000         30.000        0.000        0.005              0.250  -\n"
+unfolding node_line time_cells thousandths digits_text digits
+server_row = refl
+
+no_row : node_in (codes "can0") 41000000 127 (server None) ≡ []
 no_row = refl
+
+-- in a log without stamps no answer has a time
+no_answer_time : answer_of 0 (Some 0) ≡ None
+no_answer_time = refl
 
 -- by the stamp of the bus's last frame, and not by that of the node's
 with_stamps : millis_of 1 1999 ≡ Some 1
@@ -75,11 +107,24 @@ state : state_members last ≡ key (codes "state") ∷ string (codes "stopped") 
 unfolding state_members number_member text_member digits
 state = refl
 
-object : tokens_in 6 (node 2) (Some last)
+all_heartbeats : heartbeat_members heartbeats
+    ≡ key (codes "heartbeatTime") ∷ number (codes "100") ∷ key (codes "lateHeartbeats") ∷ number (codes "2")
+    ∷ key (codes "longestLateGap") ∷ number (codes "151000") ∷ key (codes "longestGap") ∷ number (codes "800000")
+    ∷ key (codes "medianGap") ∷ number (codes "210000") ∷ []
+unfolding heartbeat_members number_member median digits
+all_heartbeats = refl
+
+-- what isn't there isn't written
+of_no_heartbeats : heartbeat_members no_heartbeats ≡ key (codes "lateHeartbeats") ∷ number (codes "0") ∷ []
+unfolding heartbeat_members number_member median digits
+of_no_heartbeats = refl
+
+object : tokens_in 6 (node 2)
     ≡ (begin_object ∷ []) ++ count_members 6 (node 2) ++ state_members last
-    ++ ((key (codes "times") ∷ begin_object ∷ []) ++ time_members times ++ end_object ∷ []) ++ end_object ∷ []
+    ++ ((key (codes "times") ∷ begin_object ∷ []) ++ time_members times ++ end_object ∷ [])
+    ++ heartbeat_members heartbeats ++ number_member (codes "longestAnswer") 1200 ++ end_object ∷ []
 unfolding node_tokens times_tokens
 object = refl
 
-no_object : tokens_in 6 (node 2) None ≡ []
+no_object : tokens_in 6 (server None) ≡ []
 no_object = refl

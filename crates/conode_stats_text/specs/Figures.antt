@@ -1,5 +1,5 @@
 -- Figures derived from the counts. Times are in microseconds.
-use Rattle.std.specs.Prelude.{ℕ, ◌+◌, ◌-◌, ◌*◌, ◌/◌, ◌%◌, ◌^◌, ◌==◌, Bool, nat_le, nat_lt, ◌&&◌, ◌||◌, if◌then◌else◌, Option, Some, None}
+use Rattle.std.specs.Prelude.{ℕ, ◌+◌, ◌-◌, ◌*◌, ◌/◌, ◌%◌, ◌^◌, ◌==◌, nat_lt, ◌||◌, if◌then◌else◌, Option, Some, None}
 use Rattle.conode_stats_counts.specs.declared.tally.Tally.{Tally}
 
 -- number * scale / whole, rounded down; none if whole is 0, or the product needs more than 64 bits
@@ -26,21 +26,3 @@ room_in bit_rate micros = micros / 1000000 * bit_rate + micros % 1000000 * bit_r
 -- the share of that room that bits take, in tenths of a percent
 abbrev pub load : ℕ → ℕ → Option ℕ
 load bits room = ratio bits 1000 room
-
--- ---- heartbeats, by identifier (CiA 301, 7.3.3)
-
-abbrev pub is_heartbeat : ℕ → Bool
-is_heartbeat id = nat_lt 0x700 id && nat_lt id 0x780
-
--- whether a time is more than one and a half times the mean gap; false with fewer than two gaps
-abbrev pub is_long : Tally → ℕ → Bool
-is_long tally micros =
-    nat_le 2 tally.gaps && nat_lt (tally.total / tally.gaps + tally.total / tally.gaps / 2) micros
-
--- whether heartbeats were lost
-abbrev pub has_lost : Tally → Bool
-has_lost tally = is_long tally tally.greatest
-
--- whether a node fell silent, if the last frame of the bus has this stamp
-abbrev pub is_silent : ℕ → Tally → Bool
-is_silent end tally = is_long tally (end - tally.last)

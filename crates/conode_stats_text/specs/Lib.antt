@@ -4,5 +4,7 @@ pub mod FailureTokens
 pub mod Figures
 pub mod NodeLines
 pub mod NodeTokens
+pub mod Paces
+pub mod SheetTimes
 pub mod StatsLines
 pub mod StatsTokens

@@ -1,5 +1,5 @@
 -- The lines of the page about nodes.
-use Rattle.std.specs.Prelude.{ℕ, ◌/◌, ◌==◌, if◌then◌else◌, List, [], ◌++◌, codes, decimal, Option, Some, None}
+use Rattle.std.specs.Prelude.{ℕ, ◌/◌, ◌==◌, Bool, ◌||◌, if◌then◌else◌, List, [], ◌++◌, codes, decimal, Option, Some, None, is_some}
 use Rattle.conode_stats_counts.specs.declared.node.Node.{Node}
 use Rattle.conode_stats_counts.specs.declared.node.Shown.{Shown}
 use Rattle.conode_stats_counts.specs.declared.state.NmtState.{NmtState}
@@ -42,13 +42,25 @@ time_cells end times =
     time_cell end 13 times.boot_up ++ time_cell end 19 times.pre_operational ++ time_cell end 15 times.operational
     ++ time_cell end 13 times.stopped ++ time_cell end 13 times.unknown
 
--- the line of a node whose newest frame is this one, on an interface whose last frame has a stamp
-unfoldable pub node_line : List ℕ → ℕ → ℕ → Node → Shown → List ℕ
-node_line interface end number node last =
-    left 15 (name_text interface) ++ codes "  " ++ right 8 (decimal number) ++ right 13 (decimal node.boot_ups) ++ right 12 (decimal node.restarts)
-    ++ time_cells end node.times ++ codes "  " ++ state_word last.state ++ codes "\n"
+-- the longest answer in milliseconds
+abbrev pub answer_of : ℕ → Option ℕ → Option ℕ
+answer_of end answer = if end == 0 then None else answer
 
--- nothing of a node without a frame of error control
-abbrev pub node_in : List ℕ → ℕ → ℕ → Node → Option Shown → List ℕ
-node_in interface end number node None = []
-node_in interface end number node (Some last) = node_line interface end number node last
+-- the state at the end
+abbrev pub shown_word : Option Shown → List ℕ
+shown_word None = codes "-"
+shown_word (Some last) = state_word last.state
+
+-- the line of a node on an interface whose last frame has a stamp
+unfoldable pub node_line : List ℕ → ℕ → ℕ → Node → List ℕ
+node_line interface end number node =
+    left 15 (name_text interface) ++ codes "  " ++ right 8 (decimal number) ++ right 13 (decimal node.boot_ups) ++ right 12 (decimal node.restarts)
+    ++ time_cells end node.times ++ right 19 (or_none thousandths (answer_of end node.longest_answer)) ++ codes "  " ++ shown_word node.last ++ codes "\n"
+
+-- whether a node sent a frame of error control, or an answer
+abbrev pub is_shown : Node → Bool
+is_shown node = is_some node.last || is_some node.longest_answer
+
+-- nothing of another one
+abbrev pub node_in : List ℕ → ℕ → ℕ → Node → List ℕ
+node_in interface end number node = if is_shown node then node_line interface end number node else []

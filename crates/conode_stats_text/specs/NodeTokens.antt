@@ -1,10 +1,12 @@
 -- The nodes of a bus in JSON. Times are in microseconds.
-use Rattle.std.specs.Prelude.{ℕ, ◌==◌, if◌then◌else◌, List, [], ◌∷◌, ◌++◌, codes, Option, Some, None}
+use Rattle.std.specs.Prelude.{ℕ, ◌==◌, if◌then◌else◌, List, [], ◌∷◌, ◌++◌, codes, length, Option, Some, None}
 use Rattle.json.specs.Token.{Token, begin_object, end_object, key}
+use Rattle.conode_stats_counts.specs.declared.heartbeats.Heartbeats.{Heartbeats}
 use Rattle.conode_stats_counts.specs.declared.node.Node.{Node}
 use Rattle.conode_stats_counts.specs.declared.node.Shown.{Shown}
 use Rattle.conode_stats_counts.specs.declared.state.StateTimes.{StateTimes}
-use Rattle.conode_stats_text.specs.NodeLines.{state_word}
+use Rattle.conode_stats_text.specs.NodeLines.{is_shown, state_word}
+use Rattle.conode_stats_text.specs.Paces.{median}
 use Rattle.conode_stats_text.specs.StatsTokens.{number_member, text_member}
 
 unfoldable pub time_members : StateTimes → List Token
@@ -25,16 +27,40 @@ count_members number node =
     number_member (codes "node") number ++ number_member (codes "bootUps") node.boot_ups
     ++ number_member (codes "restartsWithoutCommand") node.restarts ++ restart_members node
 
--- the state at the end, and the stamp that shows it
+-- the state at the end, and the stamp that shows it, if there is one
 unfoldable pub state_members : Shown → List Token
 state_members last = text_member (codes "state") (state_word last.state) ++ number_member (codes "last") last.micros
 
--- a node whose newest frame is this one
-unfoldable pub node_tokens : ℕ → Node → Shown → List Token
-node_tokens number node last =
-    (begin_object ∷ []) ++ count_members number node ++ state_members last ++ times_tokens node.times ++ end_object ∷ []
+abbrev pub shown_members : Option Shown → List Token
+shown_members None = []
+shown_members (Some last) = state_members last
 
--- nothing of a node without a frame of error control
-abbrev pub tokens_in : ℕ → Node → Option Shown → List Token
-tokens_in number node None = []
-tokens_in number node (Some last) = node_tokens number node last
+-- a number, if there is one
+abbrev pub member_in : List ℕ → Option ℕ → List Token
+member_in name None = []
+member_in name (Some number) = number_member name number
+
+-- the longest wait for a heartbeat, if there was any
+abbrev pub gap_in : Heartbeats → Option ℕ
+gap_in heartbeats = if length heartbeats.first == 0 then None else Some heartbeats.longest
+
+abbrev pub late_gap_in : Heartbeats → Option ℕ
+late_gap_in heartbeats = if heartbeats.late == 0 then None else Some heartbeats.longest_late
+
+-- heartbeats: the time that a download set, in ms, how many were later than 1.5 times that, and the
+-- longest wait for one of these; the longest wait while no download showed it, and the median
+unfoldable pub heartbeat_members : Heartbeats → List Token
+heartbeat_members heartbeats =
+    member_in (codes "heartbeatTime") heartbeats.written ++ number_member (codes "lateHeartbeats") heartbeats.late
+    ++ member_in (codes "longestLateGap") (late_gap_in heartbeats) ++ member_in (codes "longestGap") (gap_in heartbeats)
+    ++ member_in (codes "medianGap") (median heartbeats.first)
+
+-- a node
+unfoldable pub node_tokens : ℕ → Node → List Token
+node_tokens number node =
+    (begin_object ∷ []) ++ count_members number node ++ shown_members node.last ++ times_tokens node.times
+    ++ heartbeat_members node.heartbeats ++ member_in (codes "longestAnswer") node.longest_answer ++ end_object ∷ []
+
+-- nothing of a node without a line
+abbrev pub tokens_in : ℕ → Node → List Token
+tokens_in number node = if is_shown node then node_tokens number node else []

@@ -1,12 +1,12 @@
 -- The lines of the page.
-use Rattle.std.specs.Prelude.{ℕ, ◌-◌, ◌%◌, ◌==◌, nat_lt, if◌then◌else◌, List, [], ◌++◌, codes, decimal}
+use Rattle.std.specs.Prelude.{ℕ, ◌%◌, ◌==◌, nat_lt, if◌then◌else◌, List, [], ◌++◌, codes, decimal}
 use Rattle.co_text.specs.Printed.{digits_text}
 use Rattle.conode_stats_counts.specs.declared.load.Load.{Load}
 use Rattle.conode_stats_counts.specs.declared.load.Second.{Second}
 use Rattle.conode_stats_counts.specs.declared.row.Row.{Row}
 use Rattle.conode_stats_counts.specs.declared.tally.Tally.{Tally}
 use Rattle.conode_stats_text.specs.Cells.{left, name_text, or_none, right, seconds, tenths, thousandths}
-use Rattle.conode_stats_text.specs.Figures.{gap_of, has_lost, is_heartbeat, is_silent, load, mean, rate, room_in}
+use Rattle.conode_stats_text.specs.Figures.{gap_of, load, mean, rate, room_in}
 
 -- an identifier in three digits; in eight, if it has 29 bits or is of an error frame
 unfoldable pub id_text : ℕ → List ℕ
@@ -63,16 +63,6 @@ bus_line interface all =
 abbrev pub node_front : List ℕ → ℕ → List ℕ
 node_front interface node = codes "  " ++ name_text interface ++ codes ": node " ++ decimal node
 
-unfoldable pub silent_line : List ℕ → ℕ → Tally → List ℕ
-silent_line interface node tally =
-    node_front interface node ++ codes " silent since " ++ seconds tally.last ++ codes ", after a heartbeat every "
-    ++ or_none thousandths (mean tally) ++ codes " ms\n"
-
-unfoldable pub lost_line : List ℕ → ℕ → Tally → List ℕ
-lost_line interface node tally =
-    node_front interface node ++ codes " heartbeats up to " ++ thousandths tally.greatest ++ codes " ms apart, in the mean "
-    ++ or_none thousandths (mean tally) ++ codes " ms\n"
-
 -- the line of other things, with their count
 unfoldable pub count_line : List ℕ → List ℕ → ℕ → List ℕ
 count_line front what count = codes "  " ++ front ++ what ++ codes ": " ++ decimal count ++ codes "\n"
@@ -80,11 +70,3 @@ count_line front what count = codes "  " ++ front ++ what ++ codes ": " ++ decim
 -- nothing for a count of 0
 abbrev pub if_any : List ℕ → List ℕ → ℕ → List ℕ
 if_any front what count = if count == 0 then [] else count_line front what count
-
--- what looks wrong with the heartbeats of an identifier, if the bus's last frame has this stamp
-unfoldable pub wrong_in : List ℕ → ℕ → Row → List ℕ
-wrong_in interface end row =
-    if is_heartbeat row.can_id
-    then (if is_silent end row.tally then silent_line interface (row.can_id - 0x700) row.tally else [])
-    ++ (if has_lost row.tally then lost_line interface (row.can_id - 0x700) row.tally else [])
-    else []

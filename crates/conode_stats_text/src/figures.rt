@@ -1,7 +1,7 @@
 //! Figures derived from the counts.
 
 ghost use Rattle.std.specs.Prelude.{◌≡◌, ◌≤◌};
-ghost use Rattle.conode_stats_text.specs.Figures.{gap_of, is_long, mean, ratio, room_in};
+ghost use Rattle.conode_stats_text.specs.Figures.{gap_of, mean, ratio, room_in};
 
 use conode_stats_counts::Tally;
 
@@ -49,18 +49,4 @@ pub(crate) fn room_in(bit_rate: u32, micros: u64) -> u64
 {
     let rate = u64::from(bit_rate);
     micros / 1_000_000 * rate + micros % 1_000_000 * rate / 1_000_000
-}
-
-/// Whether a time is more than one and a half times the mean gap; false with fewer than two gaps.
-pub(crate) fn is_long(tally: &Tally, micros: u64) -> bool
-    ensures { result ≡ is_long tally.now micros }
-{
-    if tally.gaps < 2 {
-        return false;
-    }
-    let mean = tally.total / tally.gaps;
-    match mean.checked_add(mean / 2) {
-        Some(most) => most < micros,
-        None => false,
-    }
 }

@@ -8,9 +8,12 @@ mod figures;
 mod lines;
 mod node_tokens;
 mod nodes;
+mod pace;
 mod page;
+mod sheet_times;
 mod tokens;
 mod wrong;
 
 pub use page::{Page, set_page};
+pub use sheet_times::SheetTime;
 pub use tokens::put_page;

@@ -1,20 +1,26 @@
 //! The nodes of a bus in JSON. Each function writes tokens. `Err`: out of memory; some tokens may
 //! be there.
 
-ghost use Rattle.std.specs.Prelude.{◌≡◌, ◌++◌, OnOk};
+ghost use Rattle.std.specs.Prelude.{◌≡◌, ◌++◌, OnOk, codes};
 ghost use Rattle.conode_stats_text.specs.NodeTokens.{
   count_members,
+  gap_in,
+  heartbeat_members,
+  late_gap_in,
+  member_in,
   node_tokens,
   restart_members,
+  shown_members,
   state_members,
   time_members,
   times_tokens,
   tokens_in,
 };
 
-use crate::nodes::state_word;
+use crate::nodes::{is_shown, state_word};
+use crate::pace::median;
 use crate::tokens::{put_number, put_text};
-use conode_stats_counts::{Bus, Node, Shown, StateTimes};
+use conode_stats_counts::{Bus, Heartbeats, Node, Shown, StateTimes};
 use json::Writer;
 use std::alloc::AllocError;
 
@@ -68,35 +74,98 @@ fn put_state(writer: &mut Writer, last: Shown) -> Result<(), AllocError>
     put_number(writer, "last", last.micros)
 }
 
-#[tactic(auto, unfolding(crate::specs::NodeTokens::node_tokens))]
-fn put_shown(writer: &mut Writer, number: u32, node: &Node, last: Shown) -> Result<(), AllocError>
-    ensures { OnOk result
-        (writer.new.tokens ≡ writer.old.tokens ++ node_tokens number node.now last) }
+fn put_shown(writer: &mut Writer, last: Option<Shown>) -> Result<(), AllocError>
+    ensures { OnOk result (writer.new.tokens ≡ writer.old.tokens ++ shown_members last) }
 {
-    writer.begin_object()?;
-    put_counts(writer, number, node)?;
-    put_state(writer, last)?;
-    put_times_in(writer, &node.times)?;
-    writer.end_object()
-}
-
-fn put_node(writer: &mut Writer, number: u32, node: &Node) -> Result<(), AllocError>
-    ensures { OnOk result
-        (writer.new.tokens ≡ writer.old.tokens ++ tokens_in number node.now node.now.last) }
-{
-    match node.last {
-        Some(last) => put_shown(writer, number, node, last),
+    match last {
+        Some(last) => put_state(writer, last),
         None => Ok(()),
     }
 }
 
-/// Writes the nodes of a bus that sent a frame of error control, by node-ID.
+fn put_number_in(writer: &mut Writer, name: &str, number: Option<u64>) -> Result<(), AllocError>
+    ensures { OnOk result
+        (writer.new.tokens ≡ writer.old.tokens ++ member_in name.now number) }
+{
+    match number {
+        Some(number) => put_number(writer, name, number),
+        None => Ok(()),
+    }
+}
+
+fn put_time_in(writer: &mut Writer, time: Option<u16>) -> Result<(), AllocError>
+    ensures { OnOk result
+        (writer.new.tokens ≡ writer.old.tokens ++ member_in (codes "heartbeatTime") time) }
+{
+    match time {
+        Some(time) => put_number(writer, "heartbeatTime", u64::from(time)),
+        None => Ok(()),
+    }
+}
+
+fn gap_in(heartbeats: &Heartbeats) -> Option<u64>
+    ensures { result ≡ gap_in heartbeats.now }
+{
+    if heartbeats.first.as_slice().len() == 0 {
+        None
+    } else {
+        Some(heartbeats.longest)
+    }
+}
+
+fn late_gap_in(heartbeats: &Heartbeats) -> Option<u64>
+    ensures { result ≡ late_gap_in heartbeats.now }
+{
+    if heartbeats.late == 0 {
+        None
+    } else {
+        Some(heartbeats.longest_late)
+    }
+}
+
+#[tactic(auto, unfolding(crate::specs::NodeTokens::heartbeat_members))]
+fn put_heartbeats(writer: &mut Writer, heartbeats: &Heartbeats) -> Result<(), AllocError>
+    ensures { OnOk result
+        (writer.new.tokens ≡ writer.old.tokens ++ heartbeat_members heartbeats.now) }
+{
+    put_time_in(writer, heartbeats.written)?;
+    put_number(writer, "lateHeartbeats", heartbeats.late)?;
+    put_number_in(writer, "longestLateGap", late_gap_in(heartbeats))?;
+    put_number_in(writer, "longestGap", gap_in(heartbeats))?;
+    put_number_in(writer, "medianGap", median(heartbeats.first.as_slice()))
+}
+
+#[tactic(auto, unfolding(crate::specs::NodeTokens::node_tokens))]
+fn put_node(writer: &mut Writer, number: u32, node: &Node) -> Result<(), AllocError>
+    ensures { OnOk result
+        (writer.new.tokens ≡ writer.old.tokens ++ node_tokens number node.now) }
+{
+    writer.begin_object()?;
+    put_counts(writer, number, node)?;
+    put_shown(writer, node.last)?;
+    put_times_in(writer, &node.times)?;
+    put_heartbeats(writer, &node.heartbeats)?;
+    put_number_in(writer, "longestAnswer", node.longest_answer)?;
+    writer.end_object()
+}
+
+fn put_node_in(writer: &mut Writer, number: u32, node: &Node) -> Result<(), AllocError>
+    ensures { OnOk result
+        (writer.new.tokens ≡ writer.old.tokens ++ tokens_in number node.now) }
+{
+    if is_shown(node) {
+        return put_node(writer, number, node);
+    }
+    Ok(())
+}
+
+/// Writes the nodes of a bus that have a line on the page, by node-ID.
 pub(crate) fn put_nodes(writer: &mut Writer, bus: &Bus) -> Result<(), AllocError> {
     writer.key("nodes")?;
     writer.begin_array()?;
     for number in 1..128u32 {
         if let Some(node) = bus.nodes().get(number as usize) {
-            put_node(writer, number, node)?;
+            put_node_in(writer, number, node)?;
         }
     }
     writer.end_array()

@@ -3,11 +3,14 @@
 
 ghost use Rattle.std.specs.Prelude.{◌≡◌, ◌++◌, ◌/◌, OnOk, string_bytes};
 ghost use Rattle.conode_stats_text.specs.NodeLines.{
+  answer_of,
+  is_shown,
   millis_of,
   node_in,
   node_line,
   restart_line,
   restarts_in,
+  shown_word,
   state_word,
   time_cell,
   time_cells,
@@ -105,6 +108,21 @@ fn push_times(
     push_time(text, cell, end, 13, times.unknown)
 }
 
+fn answer_of(end: u64, answer: Option<u64>) -> Option<u64>
+    ensures { result ≡ answer_of end answer }
+{
+    if end == 0 { None } else { answer }
+}
+
+fn shown_word(last: Option<Shown>) -> &'static str
+    ensures { result.now ≡ shown_word last }
+{
+    match last {
+        Some(last) => state_word(last.state),
+        None => "-",
+    }
+}
+
 #[tactic(auto, unfolding(crate::specs::NodeLines::node_line))]
 fn push_node_line(
     text: &mut String,
@@ -113,10 +131,9 @@ fn push_node_line(
     end: u64,
     number: u32,
     node: &Node,
-    last: Shown,
 ) -> Result<(), AllocError>
     ensures { OnOk result (string_bytes text.new
-        ≡ string_bytes text.old ++ node_line interface.now end number node.now last) }
+        ≡ string_bytes text.old ++ node_line interface.now end number node.now) }
 {
     set_name(cell, interface)?;
     push_left(text, 15, cell.as_str())?;
@@ -125,13 +142,22 @@ fn push_node_line(
     push_right(text, 13, decimal_digits(node.boot_ups).as_str())?;
     push_right(text, 12, decimal_digits(node.restarts).as_str())?;
     push_times(text, cell, end, &node.times)?;
+    set_thousandths(cell, answer_of(end, node.longest_answer))?;
+    push_right(text, 19, cell.as_str())?;
     push_words(text, "  ")?;
-    push_words(text, state_word(last.state))?;
+    push_words(text, shown_word(node.last))?;
     push_words(text, "\n")
 }
 
-/// Appends the line of a node on an interface, if it sent a frame of error control. `end` is the
-/// stamp of the bus's last frame, in microseconds; `cell` is scratch space.
+/// Whether a node has a line: it sent a frame of error control, or an answer.
+pub(crate) fn is_shown(node: &Node) -> bool
+    ensures { result ≡ is_shown node.now }
+{
+    node.last.is_some() || node.longest_answer.is_some()
+}
+
+/// Appends the line of a node on an interface, if it has one. `end` is the stamp of the bus's last
+/// frame, in microseconds; `cell` is scratch space.
 pub(crate) fn push_node_in(
     text: &mut String,
     cell: &mut String,
@@ -141,10 +167,10 @@ pub(crate) fn push_node_in(
     node: &Node,
 ) -> Result<(), AllocError>
     ensures { OnOk result (string_bytes text.new
-        ≡ string_bytes text.old ++ node_in interface.now end number node.now node.now.last) }
+        ≡ string_bytes text.old ++ node_in interface.now end number node.now) }
 {
-    match node.last {
-        Some(last) => push_node_line(text, cell, interface, end, number, node, last),
-        None => Ok(()),
+    if is_shown(node) {
+        return push_node_line(text, cell, interface, end, number, node);
     }
+    Ok(())
 }

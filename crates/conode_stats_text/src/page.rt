@@ -5,7 +5,8 @@ ghost use Rattle.std.specs.Prelude.{◌≤◌, IfSome};
 use crate::cells::push_name;
 use crate::failures::{push_emergency, push_failure, push_open};
 use crate::lines::{push_bus, push_load, push_row};
-use crate::nodes::{push_node_in, push_restarts};
+use crate::nodes::{is_shown, push_node_in, push_restarts};
+use crate::sheet_times::{SheetTime, sheet_time};
 use crate::wrong::{push_count, push_wrong_in};
 use co_text::push_decimal;
 use conode_stats_counts::{Bus, Counts, FailureRow, Row};
@@ -16,6 +17,9 @@ use std::alloc::{AllocError, Global};
 pub struct Page<'a> {
     /// The counts of the recording.
     pub counts: &'a Counts,
+    /// The producer heartbeat times that data sheets have. For a node one for it comes before one
+    /// for each node, of those one for an interface, and of these the first.
+    pub sheets: &'a [SheetTime<'a>],
     /// How many lines of the recording are bad.
     pub bad: u64,
     /// The bit rate in bit/s, at most 1,000,000, if it is known.
@@ -28,7 +32,7 @@ const HEAD: &str =
 
 /// The columns of nodes.
 const NODE_HEAD: &str =
-    "interface            node     boot-ups    restarts    boot-up s  pre-operational s  operational s    stopped s    unknown s  at the end\n";
+    "interface            node     boot-ups    restarts    boot-up s  pre-operational s  operational s    stopped s    unknown s  longest answer ms  at the end\n";
 
 /// The words about SDO transfers without a line.
 const MORE_FAILURES: &str = "SDO transfers that failed with further nodes and codes";
@@ -123,15 +127,24 @@ fn push_emergencies_on(alloc: Global, text: &mut String, bus: &Bus) -> Result<()
 
 // the heartbeats that look wrong on a bus
 fn push_heartbeats_on(
-    alloc: Global,
     text: &mut String,
-    cell: &mut String,
+    sheets: &[SheetTime<'_>],
     bus: &Bus,
 ) -> Result<(), AllocError> {
     let end = bus.all().last;
-    let rows = sorted_rows(alloc, bus)?;
-    for row in &rows {
-        push_wrong_in(text, cell, bus.interface(), end, row)?;
+    for number in 1..128u8 {
+        if let Some(node) = bus.nodes().get(usize::from(number)) {
+            let time = sheet_time(sheets, bus.interface(), number);
+            let heartbeats = &node.heartbeats;
+            push_wrong_in(
+                text,
+                bus.interface(),
+                end,
+                time,
+                u32::from(number),
+                heartbeats,
+            )?;
+        }
     }
     Ok(())
 }
@@ -141,13 +154,14 @@ fn push_wrong_on(
     alloc: Global,
     text: &mut String,
     cell: &mut String,
+    sheets: &[SheetTime<'_>],
     bus: &Bus,
 ) -> Result<(), AllocError> {
     push_restarts_on(text, bus)?;
     push_failures_on(alloc, text, bus)?;
     push_open_on(text, bus)?;
     push_emergencies_on(alloc, text, bus)?;
-    push_heartbeats_on(alloc, text, cell, bus)?;
+    push_heartbeats_on(text, sheets, bus)?;
     cell.clear();
     push_name(cell, bus.interface())?;
     cell.push_str(": ")?;
@@ -169,7 +183,7 @@ fn push_all_wrong(
     text.push_str("What looks wrong\n")?;
     let before = text.len();
     for bus in page.counts.buses() {
-        push_wrong_on(alloc, text, cell, bus)?;
+        push_wrong_on(alloc, text, cell, page.sheets, bus)?;
     }
     push_count(text, "", "bad lines", page.bad)?;
     push_count(text, "", MORE_INTERFACES, page.counts.left_out())?;
@@ -201,9 +215,9 @@ fn push_front(text: &mut String, bus: &Bus, bit_rate: Option<u32>) -> Result<(),
     text.push_str("\n")
 }
 
-// whether a node sent a frame of error control
+// whether a node has a line
 fn has_nodes(bus: &Bus) -> bool {
-    bus.nodes().iter().any(|node| node.last.is_some())
+    bus.nodes().iter().any(|node| is_shown(node))
 }
 
 // the nodes of a bus, by node-ID

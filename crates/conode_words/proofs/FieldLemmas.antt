@@ -12,7 +12,7 @@ use Rattle.conode_words.specs.declared.tasks.Task.{Task}
 use Rattle.conode_words.specs.declared.tasks.TimingWords.{TimingWords}
 use Rattle.conode_words.specs.Fields.{AsksFor, GivesDevice, GivesDictionary, GivesTiming}
 use Rattle.conode_words.specs.Choices.{colours_for, colours_of, format_for, format_of, lines_as_for, lines_as_of, log_form_for, log_form_of, mode_for, mode_of, report_as_for, report_as_of, shown_as, shown_for, stamps_for, stamps_of, zeros_for, zeros_of}
-use Rattle.conode_words.specs.Tasks.{Asked, AskedAdapt, AskedCheck, AskedCompare, AskedConvert, AskedDecode, AskedExplain, AskedLint, AskedLoop, AskedReplay, AskedShow, AskedStats, adapt, asked_adapt, asked_by, asked_check, asked_compare, asked_convert, asked_decode, asked_device, asked_dictionary, asked_explain, asked_explain_of, asked_in, asked_lint, asked_lint_of, asked_loop, asked_of, asked_other, asked_replay, asked_show, asked_stats, asked_timing, check, compare, convert, decode, explain, lint, loop_back, number_for, number_of_bits, replay, show, stats}
+use Rattle.conode_words.specs.Tasks.{Asked, AskedAdapt, AskedCheck, AskedCompare, AskedConvert, AskedDecode, AskedExplain, AskedLint, AskedLoop, AskedReplay, AskedShow, AskedStats, adapt, asked_adapt, asked_by, asked_check, asked_compare, asked_convert, asked_decode, asked_device, asked_dictionary, asked_explain, asked_explain_of, asked_in, asked_lint, asked_lint_of, asked_loop, asked_of, asked_other, asked_replay, asked_show, asked_stats, asked_stats_of, asked_timing, check, compare, convert, decode, explain, lint, loop_back, number_for, number_of_bits, replay, show, stats}
 
 -- a value that is made of another
 mapped : {A B P : Type 0} (f : A → B) (o : Option A) (b : B) → option_map f o ≡ Some b → ((a : A) → o ≡ Some a → f a ≡ b → P) → P
@@ -165,7 +165,7 @@ convert_fields rows a e =
     subst (AsksFor (codes "convert") rows) is (refl, e0, chosen log_form_of (first_of (codes "log") rows) form e1)))
 
 stats_fields : (rows : List Row) (a : Asked) → asked_stats rows ≡ Some a → AsksFor (codes "stats") rows a
-unfolding asked_stats lines_as_for log_form_for
+unfolding asked_stats asked_stats_of lines_as_for log_form_for
 stats_fields rows a e =
     option_and_then_some _ (first_of (codes "TRACE") rows) a e (λ trace e0 f0.
     option_and_then_some _ (lines_as_for rows) a f0 (λ lines_as e1 f1.
@@ -207,6 +207,9 @@ compare_fields rows a e =
       e1,
       refl,
       refl,
+      refl,
+      refl,
+      refl,
       chosen log_form_of (first_of (codes "log") rows) form e2,
       chosen report_as_of (first_of (codes "format") rows) report_as e3,
       timing_fields rows timing e4,
@@ -233,16 +236,16 @@ other_fields name rows a e =
     either_way _ _ _ a f (λ y f. at_name name (codes "show") rows a y (show_fields rows a f)) (λ _ f.
     either_way _ _ _ a f (λ y f. at_name name (codes "adapt") rows a y (adapt_fields rows a f)) (λ _ f.
     either_way _ _ _ a f (λ y f. at_name name (codes "convert") rows a y (convert_fields rows a f)) (λ _ f.
-    either_way _ _ _ a f (λ y f. at_name name (codes "stats") rows a y (stats_fields rows a f)) (λ _ f.
     either_way _ _ _ a f (λ y f. at_name name (codes "compare") rows a y (compare_fields rows a f)) (λ _ f.
-    absurd (none_is a f))))))))))
+    absurd (none_is a f)))))))))
 
 pub fields_of : (name : Text) (rows : List Row) (a : Asked) → asked_in name rows ≡ Some a → AsksFor name rows a
 unfolding asked_in
 fields_of name rows a e =
     either_way _ _ _ a e (λ y f. at_name name (codes "lint") rows a y (lint_fields rows a f)) (λ _ f.
     either_way _ _ _ a f (λ y f. at_name name (codes "explain") rows a y (explain_fields rows a f)) (λ _ f.
-    other_fields name rows a f))
+    either_way _ _ _ a f (λ y f. at_name name (codes "stats") rows a y (stats_fields rows a f)) (λ _ f.
+    other_fields name rows a f)))
 
 pub fields_in : (matches : Option (Text × List Row)) (asked : Option Asked) (a : Asked) → asked ≡ asked_of matches → asked ≡ Some a → IsSomeAnd matches (λ m. AsksFor m.0 m.1 a)
 unfolding asked_of
@@ -373,11 +376,11 @@ convert_is rows a (name_is, log, f) =
     rw (log, form) refl
 
 stats_is : (rows : List Row) (a : AskedStats) → AsksFor (codes "stats") rows (stats a) → asked_stats rows ≡ Some (stats a)
-unfolding asked_stats lines_as_for log_form_for
-stats_is rows a (name_is, trace, sheet, rate, l, f) =
+unfolding asked_stats asked_stats_of lines_as_for log_form_for
+stats_is rows a (name_is, trace, sheets, rate, l, f) =
     let lines_as = choice_is lines_as_of (first_of (codes "format") rows) a.lines_as l in
     let form = choice_is log_form_of (first_of (codes "log") rows) a.form f in
-    rw (trace, lines_as, form, ← sheet, ← rate) refl
+    rw (trace, lines_as, form, ← sheets, ← rate) refl
 
 timing_is : (rows : List Row) (t : TimingWords) → GivesTiming rows t → asked_timing rows ≡ Some t
 unfolding asked_timing number_for
@@ -390,11 +393,11 @@ timing_is rows t h =
 
 compare_is : (rows : List Row) (a : AskedCompare) → AsksFor (codes "compare") rows (compare a) → asked_compare rows ≡ Some (compare a)
 unfolding asked_compare log_form_for report_as_for
-compare_is rows a (name_is, sheet, trace, node, interface, f, r, t) =
+compare_is rows a (name_is, sheet, trace, node, interface, held, choices, learned, f, r, t) =
     let form = choice_is log_form_of (first_of (codes "log") rows) a.form f in
     let report_as = choice_is report_as_of (first_of (codes "format") rows) a.report_as r in
     let timing = timing_is rows a.timing t in
-    rw (sheet, trace, form, report_as, timing, ← node, ← interface) refl
+    rw (sheet, trace, form, report_as, timing, ← node, ← interface, ← held, ← choices, ← learned) refl
 
 pub only_asked : (name : Text) (rows : List Row) (a : Asked) → AsksFor name rows a → asked_in name rows ≡ Some a
 only_asked name rows (check a) h = ap (λ (n : Text). asked_in n rows) h.0 ∙ named_check rows ∙ check_is rows a (subst (λ (n : Text). AsksFor n rows (check a)) h.0 h)

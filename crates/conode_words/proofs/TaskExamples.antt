@@ -283,12 +283,12 @@ unfolding words_on_literals
 forms_of_logs = refl
 
 stats_of_a_recording : asked_after stats_command (codes "stats") (codes "t" ∷ [])
-    ≡ Some (stats (record { trace = codes "t"; sheet = None; bit_rate = None; lines_as = lines.Text; form = log_form.Auto }))
+    ≡ Some (stats (record { trace = codes "t"; sheets = []; bit_rate = None; lines_as = lines.Text; form = log_form.Auto }))
 unfolding words_on_literals
 stats_of_a_recording = refl
 
-stats_with_options : asked_after stats_command (codes "stats") (codes "--bitrate" ∷ codes "500k" ∷ codes "-" ∷ codes "--sheet=5=s" ∷ codes "--format=json" ∷ codes "--log" ∷ codes "asc" ∷ [])
-    ≡ Some (stats (record { trace = codes "-"; sheet = Some (codes "5=s"); bit_rate = Some (codes "500k"); lines_as = lines.Json; form = log_form.Asc }))
+stats_with_options : asked_after stats_command (codes "stats") (codes "--bitrate" ∷ codes "500k" ∷ codes "-" ∷ codes "--sheet=5=s" ∷ codes "--sheet" ∷ codes "can1:d" ∷ codes "--format=json" ∷ codes "--log" ∷ codes "asc" ∷ [])
+    ≡ Some (stats (record { trace = codes "-"; sheets = codes "5=s" ∷ codes "can1:d" ∷ []; bit_rate = Some (codes "500k"); lines_as = lines.Json; form = log_form.Asc }))
 unfolding words_on_literals
 stats_with_options = refl
 
@@ -302,6 +302,9 @@ compare_with_a_sheet : asked_after compare_command (codes "compare") (codes "s" 
       trace = codes "t";
       node = None;
       interface = None;
+      held = None;
+      choices = false;
+      learned = false;
       form = log_form.Auto;
       report_as = report_form.Text;
       timing = record { tolerance = 10; drift = 1; answer = 1000; boot = 10000 };
@@ -309,12 +312,15 @@ compare_with_a_sheet : asked_after compare_command (codes "compare") (codes "s" 
 unfolding words_on_literals
 compare_with_a_sheet = refl
 
-compare_with_options : asked_after compare_command (codes "compare") (codes "s" ∷ codes "--node=5" ∷ codes "t" ∷ codes "--interface" ∷ codes "can0" ∷ codes "--log=trc" ∷ codes "--format=html" ∷ codes "--tolerance" ∷ codes "0" ∷ codes "--drift=100" ∷ codes "--answer=4294967295" ∷ codes "--boot=1" ∷ [])
+compare_with_options : asked_after compare_command (codes "compare") (codes "s" ∷ codes "--node=5" ∷ codes "t" ∷ codes "--interface" ∷ codes "can0" ∷ codes "--log=trc" ∷ codes "--format=html" ∷ codes "--held=2001:00,2010:00" ∷ codes "--choices" ∷ codes "--learned" ∷ codes "--tolerance" ∷ codes "0" ∷ codes "--drift=100" ∷ codes "--answer=4294967295" ∷ codes "--boot=1" ∷ [])
     ≡ Some (compare (record {
       sheet = codes "s";
       trace = codes "t";
       node = Some 5;
       interface = Some (codes "can0");
+      held = Some (codes "2001:00,2010:00");
+      choices = true;
+      learned = true;
       form = log_form.Trc;
       report_as = report_form.Html;
       timing = record { tolerance = 0; drift = 100; answer = 4294967295; boot = 1 };

@@ -146,11 +146,11 @@ unfoldable pub convert_command : App
 convert_command =
     with_rule (with_rule (new_app (codes "convert")) (wanted (codes "LOG"))) log_option
 
--- `stats TRACE [--sheet SHEET] [--bitrate RATE] [--format FORMAT] [--log FORM]`
+-- `stats TRACE [--sheet SHEET].. [--bitrate RATE] [--format FORMAT] [--log FORM]`
 unfoldable pub stats_command : App
 stats_command =
     with_rule (with_rule (with_rule (with_rule (with_rule (new_app (codes "stats")) (wanted (codes "TRACE")))
-    (valued (codes "sheet"))) (valued (codes "bitrate"))) (worded (codes "format") (codes "text"))) log_option
+    (repeated (codes "sheet"))) (valued (codes "bitrate"))) (worded (codes "format") (codes "text"))) log_option
 
 -- the most ms that an option takes
 abbrev pub most_ms : ℕ
@@ -164,12 +164,13 @@ with_timing app =
     (numbered (codes "drift") 0 100 (codes "1" ∷ []))) (numbered (codes "answer") 0 most_ms (codes "1000" ∷ [])))
     (numbered (codes "boot") 0 most_ms (codes "10000" ∷ []))
 
--- `compare SHEET TRACE [--node N] [--interface NAME] [--log FORM] [--format FORMAT]
--- [--tolerance MS] [--drift PERCENT] [--answer MS] [--boot MS]`
+-- `compare SHEET TRACE [--node N] [--interface NAME] [--held KEYS] [--choices] [--learned]
+-- [--log FORM] [--format FORMAT] [--tolerance MS] [--drift PERCENT] [--answer MS] [--boot MS]`
 unfoldable pub compare_command : App
 compare_command =
-    with_timing (with_rule (with_rule (with_rule (with_rule (with_rule (with_rule (new_app (codes "compare")) (wanted (codes "SHEET")))
-    (wanted (codes "TRACE"))) node_option) (valued (codes "interface"))) log_option) (worded (codes "format") (codes "text")))
+    with_timing (with_rule (with_rule (with_rule (with_rule (with_rule (with_rule (with_rule (with_rule (with_rule (new_app (codes "compare"))
+    (wanted (codes "SHEET"))) (wanted (codes "TRACE"))) node_option) (valued (codes "interface"))) (valued (codes "held")))
+    (flag (codes "choices"))) (flag (codes "learned"))) log_option) (worded (codes "format") (codes "text")))
 
 -- a command with `--version`
 abbrev pub versioned : App → App

@@ -85,10 +85,11 @@ AsksFor name rows (explain a) =
 AsksFor name rows (convert a) =
     (name ≡ codes "convert") × IsWord (codes "LOG") rows a.log × IsChoice log_form_of (codes "log") rows a.form
 AsksFor name rows (stats a) =
-    (name ≡ codes "stats") × IsWord (codes "TRACE") rows a.trace × (a.sheet ≡ first_of (codes "sheet") rows)
+    (name ≡ codes "stats") × IsWord (codes "TRACE") rows a.trace × (a.sheets ≡ words_for (codes "sheet") rows)
     × (a.bit_rate ≡ first_of (codes "bitrate") rows) × IsChoice lines_as_of (codes "format") rows a.lines_as
     × IsChoice log_form_of (codes "log") rows a.form
 AsksFor name rows (compare a) =
     (name ≡ codes "compare") × IsWord (codes "SHEET") rows a.sheet × IsWord (codes "TRACE") rows a.trace
-    × IsNode rows a.node × (a.interface ≡ first_of (codes "interface") rows)
+    × IsNode rows a.node × (a.interface ≡ first_of (codes "interface") rows) × (a.held ≡ first_of (codes "held") rows)
+    × (a.choices ≡ is_used (codes "choices") rows) × (a.learned ≡ is_used (codes "learned") rows)
     × IsChoice log_form_of (codes "log") rows a.form × IsChoice report_as_of (codes "format") rows a.report_as × GivesTiming rows a.timing

@@ -100,7 +100,7 @@ pub record AskedConvert : Type 0 where
 -- what the words after `stats` ask for
 pub record AskedStats : Type 0 where
   pub trace : Text
-  pub sheet : Option Text
+  pub sheets : List Text
   pub bit_rate : Option Text
   pub lines_as : LinesAs
   pub form : LogForm
@@ -111,6 +111,9 @@ pub record AskedCompare : Type 0 where
   pub trace : Text
   pub node : Option ℕ
   pub interface : Option Text
+  pub held : Option Text
+  pub choices : Bool
+  pub learned : Bool
   pub form : LogForm
   pub report_as : ReportAs
   pub timing : TimingWords
@@ -174,20 +177,23 @@ asked_by (Explain trace sheets stamps transfers changes lines_as form only signa
       signals = option_copied signals;
     })
 asked_by (Convert log form) = convert (record { log = log.now; form = form })
-asked_by (Stats trace sheet bit_rate lines_as form) =
+asked_by (Stats trace sheets bit_rate lines_as form) =
     stats (record {
       trace = trace.now;
-      sheet = option_copied sheet;
+      sheets = map (λ word. word.now) sheets.items;
       bit_rate = option_copied bit_rate;
       lines_as = lines_as;
       form = form;
     })
-asked_by (Compare sheet trace node interface form report_as timing) =
+asked_by (Compare sheet trace node interface held choices learned form report_as timing) =
     compare (record {
       sheet = sheet.now;
       trace = trace.now;
       node = node;
       interface = option_copied interface;
+      held = option_copied held;
+      choices = choices;
+      learned = learned;
       form = form;
       report_as = report_as;
       timing = timing;
@@ -323,18 +329,21 @@ asked_convert rows =
     option_and_then (λ log. option_map (λ form. convert (record { log = log; form = form })) (log_form_for rows))
     (first_of (codes "LOG") rows)
 
--- what the matches of `stats` ask for
-unfoldable pub asked_stats : List Row → Option Asked
-asked_stats rows =
+-- what the matches of `stats` ask for, with its sheets
+unfoldable pub asked_stats_of : List Text → List Row → Option Asked
+asked_stats_of sheets rows =
     option_and_then (λ trace. option_and_then (λ lines_as. option_map (λ form.
     stats (record {
       trace = trace;
-      sheet = first_of (codes "sheet") rows;
+      sheets = sheets;
       bit_rate = first_of (codes "bitrate") rows;
       lines_as = lines_as;
       form = form;
     }))
     (log_form_for rows)) (lines_as_for rows)) (first_of (codes "TRACE") rows)
+
+unfoldable pub asked_stats : List Row → Option Asked
+asked_stats rows = asked_stats_of (words_for (codes "sheet") rows) rows
 
 -- how far times may be off, by the matches
 unfoldable pub asked_timing : List Row → Option TimingWords
@@ -353,13 +362,16 @@ asked_compare rows =
       trace = trace;
       node = number_for 8 (codes "node") rows;
       interface = first_of (codes "interface") rows;
+      held = first_of (codes "held") rows;
+      choices = is_used (codes "choices") rows;
+      learned = is_used (codes "learned") rows;
       form = form;
       report_as = report_as;
       timing = timing;
     }))
     (asked_timing rows)) (report_as_for rows)) (log_form_for rows)) (first_of (codes "TRACE") rows)) (first_of (codes "SHEET") rows)
 
--- what the matches of a subcommand other than `lint` and `explain` ask for
+-- what the matches of a subcommand other than `lint`, `explain` and `stats` ask for
 unfoldable pub asked_other : Text → List Row → Option Asked
 asked_other name rows =
     if bytes_eq name (codes "check") then asked_check rows
@@ -369,14 +381,14 @@ asked_other name rows =
     else (if bytes_eq name (codes "show") then asked_show rows
     else (if bytes_eq name (codes "adapt") then asked_adapt rows
     else (if bytes_eq name (codes "convert") then asked_convert rows
-    else (if bytes_eq name (codes "stats") then asked_stats rows
-    else (if bytes_eq name (codes "compare") then asked_compare rows else None))))))))
+    else (if bytes_eq name (codes "compare") then asked_compare rows else None)))))))
 
 -- what the matches of a subcommand ask for
 unfoldable pub asked_in : Text → List Row → Option Asked
 asked_in name rows =
     if bytes_eq name (codes "lint") then asked_lint rows
-    else (if bytes_eq name (codes "explain") then asked_explain rows else asked_other name rows)
+    else (if bytes_eq name (codes "explain") then asked_explain rows
+    else (if bytes_eq name (codes "stats") then asked_stats rows else asked_other name rows))
 
 -- what the matches of the program's command ask for; nothing without a subcommand
 unfoldable pub asked_of : Option (Text × List Row) → Option Asked

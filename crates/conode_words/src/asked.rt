@@ -22,6 +22,7 @@ ghost use Rattle.conode_words.specs.Tasks.{
   asked_replay,
   asked_show,
   asked_stats,
+  asked_stats_of,
   asked_timing,
   lines_by,
 };
@@ -238,21 +239,33 @@ fn asked_convert<'a>(found: &ArgMatches<'a>) -> Option<Task<'a>>
     Some(Task::Convert { log, form })
 }
 
-// what the words after `stats` ask for
-#[tactic(auto, unfolding(crate::specs::Tasks::asked_stats))]
-fn asked_stats<'a>(found: &ArgMatches<'a>) -> Option<Task<'a>>
-    ensures { option_map asked_by result ≡ asked_stats (rows_of (found_of found.now)) }
+// what the words after `stats` ask for, with its sheets
+#[tactic(auto, unfolding(crate::specs::Tasks::asked_stats_of))]
+fn stats_of<'a>(found: &ArgMatches<'a>, sheets: Vec<&'a str>) -> Option<Task<'a>>
+    ensures { option_map asked_by result
+        ≡ asked_stats_of (map (λ word. word.now) sheets.entry.items)
+        (rows_of (found_of found.now)) }
 {
     let trace = word_for(found, "TRACE")?;
     let lines_as = lines_as_for(found)?;
     let form = log_form_for(found)?;
     Some(Task::Stats {
         trace,
-        sheet: word_for(found, "sheet"),
+        sheets,
         bit_rate: word_for(found, "bitrate"),
         lines_as,
         form,
     })
+}
+
+// what the words after `stats` ask for
+#[tactic(auto, unfolding(crate::specs::Tasks::asked_stats))]
+fn asked_stats<'a>(alloc: Global, found: &ArgMatches<'a>) -> Result<Option<Task<'a>>, AllocError>
+    ensures { IfOk result (λ task.
+        option_map asked_by task ≡ asked_stats (rows_of (found_of found.now))) }
+{
+    let sheets = words_for(alloc, found, "sheet")?;
+    Ok(stats_of(found, sheets))
 }
 
 // how far times may be off, by the words
@@ -287,13 +300,16 @@ fn asked_compare<'a>(found: &ArgMatches<'a>) -> Option<Task<'a>>
         trace,
         node: number_u8(found, "node"),
         interface: word_for(found, "interface"),
+        held: word_for(found, "held"),
+        choices: is_used(found, "choices"),
+        learned: is_used(found, "learned"),
         form,
         report_as,
         timing,
     })
 }
 
-// what the words after the name of a subcommand other than `lint` and `explain` ask for
+// what the words after the name of a subcommand other than `lint`, `explain` and `stats` ask for
 #[tactic(auto, unfolding(crate::specs::Tasks::asked_other))]
 fn asked_other<'a>(name: &str, found: &ArgMatches<'a>) -> Option<Task<'a>>
     ensures { option_map asked_by result ≡ asked_other name.now (rows_of (found_of found.now)) }
@@ -312,8 +328,6 @@ fn asked_other<'a>(name: &str, found: &ArgMatches<'a>) -> Option<Task<'a>>
         asked_adapt(found)
     } else if is(name, "convert") {
         asked_convert(found)
-    } else if is(name, "stats") {
-        asked_stats(found)
     } else if is(name, "compare") {
         asked_compare(found)
     } else {
@@ -335,6 +349,8 @@ pub(crate) fn asked_in<'a>(
         asked_lint(alloc, found)
     } else if is(name, "explain") {
         asked_explain(alloc, found)
+    } else if is(name, "stats") {
+        asked_stats(alloc, found)
     } else {
         Ok(asked_other(name, found))
     }

@@ -252,8 +252,8 @@ const STATS: [Word; 5] = [
     RECORDING,
     Word(
         "sheet",
-        Valued("SHEET"),
-        "A data sheet, for its Baudrate; 5=SHEET: of node 5",
+        Repeated("SHEET"),
+        "A data sheet; 5=SHEET: of node 5, can1:SHEET: of can1",
     ),
     Word(
         "bitrate",
@@ -264,7 +264,7 @@ const STATS: [Word; 5] = [
     RECORDING_FORM,
 ];
 
-const COMPARE: [Word; 10] = [
+const COMPARE: [Word; 13] = [
     DEVICE_SHEET,
     RECORDING,
     Word(
@@ -273,6 +273,17 @@ const COMPARE: [Word; 10] = [
         "The device's node-ID; if not given, the sheet's",
     ),
     Word("interface", Valued("NAME"), "The device's interface"),
+    Word(
+        "held",
+        Valued("KEYS"),
+        "Entries that keep what is written, as 2001:00,2010:00",
+    ),
+    Word("choices", Flag, "Lists what CiA 301 leaves to the device"),
+    Word(
+        "learned",
+        Flag,
+        "Lists the values of entries that are shown",
+    ),
     RECORDING_FORM,
     Word(
         "format",

@@ -286,7 +286,8 @@ pub const COUNTED: &str = "\
 Counts the frames of a recording and prints one page: what looks wrong, as
 restarts, silent nodes, failed SDO transfers and EMCY messages; the load; the
 states of each node; and the frames by interface and identifier, with their
-gaps. Of a sheet its Baudrate is taken. `-` as TRACE is standard input.
+gaps. Of a sheet its Baudrate and its producer heartbeat time are taken; it is
+named as for explain. `-` as TRACE is standard input.
 
   conode stats drive.log --bitrate 500k
 
@@ -306,9 +307,13 @@ Compares a recorded device with what CiA 301 prescribes for its data sheet, and
 prints what differs. Without --node the device has the node-ID of the sheet, a
 device configuration file (DCF). `-` as TRACE is standard input. Times may
 deviate by --tolerance plus --drift; --answer and --boot limit the wait for an
-answer or a boot-up.
+answer or a boot-up. An entry that --held names, an integer of up to four bytes
+as 2001:00, has to show the number that was written to it last. --choices lists
+what the device chose where CiA 301 leaves a choice, --learned at the end the
+numbers that expedited SDO transfers showed.
 
   conode compare sensor.eds drive.log --node 5
+  conode compare sensor.eds drive.log --node 5 --held 2001:00,2010:00
 
 --format json writes one document in place of the lines, junit one for build
 servers, and html a page, with the lines around each difference, what the

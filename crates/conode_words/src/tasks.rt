@@ -247,8 +247,8 @@ pub enum Task<'a> {
     Stats {
         /// The recording's path, `-` for standard input.
         trace: &'a str,
-        /// The path of a data sheet, perhaps after its node-ID, as `5=sensor.eds`.
-        sheet: Option<&'a str>,
+        /// The words that name data sheets, as those of `explain`.
+        sheets: Vec<&'a str>,
         /// The word for the bit rate of the bus; `None`: it isn't given.
         bit_rate: Option<&'a str>,
         /// How the page is written.
@@ -266,6 +266,12 @@ pub enum Task<'a> {
         node: Option<u8>,
         /// The interface that it is on; `None`: each.
         interface: Option<&'a str>,
+        /// The keys of the entries that are held to what was written; `None`: none.
+        held: Option<&'a str>,
+        /// Whether choices have lines.
+        choices: bool,
+        /// Whether the values of entries have lines.
+        learned: bool,
         /// In which form the recording is.
         form: LogForm,
         /// How it writes what it finds.

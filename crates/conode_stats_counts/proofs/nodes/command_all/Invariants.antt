@@ -1,5 +1,5 @@
 use Rattle.std.proofs.Common.{◌≡◌, ◌++◌, map, take, drop}
-use Rattle.conode_stats_counts.specs.States.{node_commanded}
+use Rattle.conode_stats_counts.specs.NodeCounts.{node_commanded}
 use Rattle.conode_stats_counts.proofs.nodes.command_all.Given as goal
 
 -- those so far are changed, and with the rest changed all are

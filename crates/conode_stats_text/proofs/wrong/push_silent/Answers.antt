@@ -1,8 +1,8 @@
 -- One part after another.
-use Rattle.conode_stats_text.specs.StatsLines.{silent_line}
-use Rattle.conode_stats_text.proofs.Appending.{six}
+use Rattle.conode_stats_text.specs.Paces.{silent_line}
+use Rattle.conode_stats_text.proofs.Appending.{four}
 use Rattle.conode_stats_text.proofs.wrong.push_silent.Goals as goal
 
 pub returns : goal.returns
 unfolding silent_line
-returns c = six c.push_words-3.result _ _ _ _ _ _ _ _ _ _ _ _ _ c.in_ok-push_node.ensures c.in_ok-push_words.ensures c.in_ok-push_seconds.ensures c.in_ok-push_words-2.ensures c.in_ok-push_mean.ensures c.push_words-3.ensures
+returns c = four c.push_pace.result _ _ _ _ _ _ _ _ _ c.in_ok-push_node.ensures c.in_ok-push_words.ensures c.in_ok-push_seconds.ensures c.push_pace.ensures

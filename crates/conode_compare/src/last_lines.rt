@@ -1,0 +1,106 @@
+//! The last lines of a comparison: how many frames have which verdict, and the values of entries.
+
+ghost use Rattle.std.specs.Prelude.{◌≡◌, ◌∷◌, [], OnOk, map};
+ghost use Rattle.co_sheet.specs.SheetViews.{row_view};
+ghost use Rattle.conode_io.specs.Written.{WritesLines};
+ghost use Rattle.conode_compare.specs.LastLines.{last_line, last_lines, value_lines, values_lines};
+ghost use Rattle.conode_compare.specs.Views.{comparison_view};
+
+use crate::comparing::Comparing;
+use crate::writes::Settings;
+use co_sheet::EntryRow;
+use conode_compare_notes::Learned;
+use conode_compare_pdos::number_of;
+use conode_compare_text::{set_choices_summary, set_learned_line, set_summary};
+use conode_decode::shown_name;
+use conode_explain_values::ValueType;
+use conode_io::{CmdFault, hand_over};
+use std::alloc::Global;
+use std::io::Write;
+
+// writes the line that counts the frames, with the number of choices, if that is asked for
+#[tactic(auto, using(conode_io::proofs::WriteLemmas::line_alone))]
+fn write_summary<O: Write>(
+    text: &mut String,
+    settings: &Settings<'_, '_>,
+    comparing: &Comparing,
+    out: &mut O,
+) -> Result<(), CmdFault>
+    ensures { OnOk result (WritesLines (O.contents out.old) (O.contents out.new)
+        (last_line (comparison_view settings.now) comparing.now ∷ [])) }
+{
+    let node = settings.subject.node;
+    let (tally, _) = comparing.ends();
+    if settings.choices {
+        set_choices_summary(text, node, tally, comparing.notes().choices)?;
+    } else {
+        set_summary(text, node, tally)?;
+    }
+    hand_over(text.as_bytes(), out)
+}
+
+// writes the line of an entry, if the recording showed a number of it
+#[tactic(auto, using(conode_io::proofs::WriteLemmas::line_alone))]
+fn write_value<O: Write>(
+    text: &mut String,
+    settings: &Settings<'_, '_>,
+    row: &EntryRow<'_>,
+    learned: &Learned,
+    out: &mut O,
+) -> Result<(), CmdFault>
+    ensures { OnOk result (WritesLines (O.contents out.old) (O.contents out.new)
+        (value_lines (comparison_view settings.now) learned.now (row_view row.now))) }
+{
+    let Some(width) = row.data_type.width() else {
+        return Ok(());
+    };
+    let Some(number) = learned.number(row.key) else {
+        return Ok(());
+    };
+    if width > 4 {
+        return Ok(());
+    }
+    let value_type = ValueType::of(settings.originals.at(row.line), row.data_type);
+    let sheet = number_of(settings.subject.node, row.default);
+    let name = shown_name(row);
+    set_learned_line(text, name, row.key, value_type, width, number, sheet)?;
+    hand_over(text.as_bytes(), out)
+}
+
+// writes the lines of the entries of which the recording showed a number
+fn write_values<O: Write>(
+    text: &mut String,
+    settings: &Settings<'_, '_>,
+    learned: &Learned,
+    out: &mut O,
+) -> Result<(), CmdFault>
+    ensures { OnOk result (WritesLines (O.contents out.old) (O.contents out.new)
+        (values_lines (comparison_view settings.now) learned.now
+        (map row_view settings.now.rows.now))) }
+{
+    for row in settings.rows {
+        write_value(text, settings, row, learned, out)?;
+    }
+    Ok(())
+}
+
+/// Writes the last line, then, if that is asked for, the values that the recording showed.
+///
+/// * `Write`: `out` failed. `Memory`: memory ran out.
+#[tactic(auto, using(conode_io::proofs::WriteLemmas::lines_after))]
+pub(crate) fn write_last_lines<O: Write>(
+    alloc: Global,
+    settings: &Settings<'_, '_>,
+    comparing: &Comparing,
+    out: &mut O,
+) -> Result<(), CmdFault>
+    ensures { OnOk result (WritesLines (O.contents out.old) (O.contents out.new)
+        (last_lines (comparison_view settings.now) comparing.now)) }
+{
+    let mut text = String::new(alloc);
+    write_summary(&mut text, settings, comparing, out)?;
+    if settings.learned {
+        write_values(&mut text, settings, &comparing.notes().learned, out)?;
+    }
+    Ok(())
+}

@@ -1,0 +1,114 @@
+-- What was written to the entries that are held, and where an upload shows another number.
+use Rattle.std.specs.Prelude.{ℕ, ◌==◌, Bool, true, false, ◌&&◌, if◌then◌else◌, List, length, replicate, slice_index_or, slice_set, Option, Some, None, is_some, option_and_then}
+use Rattle.co_value.specs.declared.key.Key.{Key}
+use Rattle.conode_explain_transfers.specs.declared.ended.Ended.{Ended}
+use Rattle.conode_explain_transfers.specs.declared.ended.Ending.{Ending}
+use Rattle.conode_explain_transfers.specs.declared.ended.Ending.TheVariants.{Done}
+use Rattle.conode_explain_transfers.specs.declared.kinds.Direction.{Direction}
+use Rattle.conode_explain_transfers.specs.declared.kinds.Direction.TheVariants.{Download, Upload}
+use Rattle.conode_explain_transfers.specs.declared.kinds.Protocol.{Protocol}
+use Rattle.conode_explain_transfers.specs.declared.kinds.Protocol.TheVariants.{Expedited}
+use Rattle.conode_compare_transfers.specs.declared.dialogue.Asked.{Asked}
+use Rattle.conode_compare_transfers.specs.Dialogues.{is_timed}
+use Rattle.conode_compare_values.specs.SheetValues.{shown_number}
+use Rattle.conode_compare_held.specs.declared.entries.HeldEntry.{HeldEntry}
+use Rattle.conode_compare_held.specs.declared.written.HeldMismatch.{HeldMismatch}
+use Rattle.conode_compare_held.specs.declared.written.Written.{Written}
+use Rattle.conode_compare_held.specs.HeldWords.{entry_of, place_of}
+
+-- ---- the numbers that are known
+
+unfoldable pub nothing_written : Written
+nothing_written = record { numbers = replicate 64 None }
+
+-- by the place of an entry among those that are held
+abbrev pub number_at : Written → Option ℕ → Option ℕ
+number_at written None = None
+number_at written (Some place) = slice_index_or written.numbers place None
+
+abbrev pub with_number : Written → Option ℕ → Option ℕ → Written
+with_number written None number = written
+with_number written (Some place) number = record { numbers = slice_set written.numbers place number }
+
+-- ---- what a transfer shows
+
+-- a transfer that is done, with all its bytes in one frame
+abbrev pub is_whole : Protocol → Ending → Bool
+is_whole Expedited (Done crc) = true
+is_whole protocol ending = false
+
+-- the number that a download wrote has as many bytes as the type of its entry
+abbrev pub number_written : ℕ → List ℕ → Option ℕ
+number_written width bytes = if length bytes == width then shown_number width bytes else None
+
+abbrev pub downloaded : List HeldEntry → Bool → Ended → Option ℕ
+downloaded entries certain ended =
+    if certain && is_whole ended.protocol ended.ending
+    then option_and_then (λ entry. number_written entry.width ended.first.items) (entry_of entries ended.key)
+    else None
+
+-- of an upload without its size the first bytes count
+abbrev pub uploaded : List HeldEntry → Bool → Ended → Option ℕ
+uploaded entries certain ended =
+    if certain && is_whole ended.protocol ended.ending
+    then option_and_then (λ entry. shown_number entry.width ended.first.items) (entry_of entries ended.key)
+    else None
+
+-- ---- differences
+
+abbrev pub differs : Key → Option ℕ → Option ℕ → Option HeldMismatch
+differs key None written = None
+differs key (Some shown) None = None
+differs key (Some shown) (Some number) = if shown == number then None else Some (record { key = key; shown = shown; written = number })
+
+abbrev pub upload_mismatch : List HeldEntry → Written → Bool → Ended → Option HeldMismatch
+upload_mismatch entries written certain ended =
+    differs ended.key (uploaded entries certain ended) (number_at written (place_of entries ended.key))
+
+abbrev pub mismatch_of : List HeldEntry → Written → Bool → Direction → Ended → Option HeldMismatch
+mismatch_of entries written certain Upload ended = upload_mismatch entries written certain ended
+mismatch_of entries written certain Download ended = None
+
+-- `value-held`: an upload shows another number than the last download wrote
+unfoldable pub held_mismatch : List HeldEntry → Written → Bool → Option Ended → Option HeldMismatch
+held_mismatch entries written certain ended = option_and_then (λ e. mismatch_of entries written certain e.direction e) ended
+
+-- an upload could show another number than was written, and doesn't: after a difference the number
+-- that was written is unknown
+abbrev pub is_known : Option ℕ → Option ℕ → Bool
+is_known shown written = is_some shown && is_some written
+
+abbrev pub is_kept_by : List HeldEntry → Written → Bool → Direction → Ended → Bool
+is_kept_by entries after certain Upload ended = is_known (uploaded entries certain ended) (number_at after (place_of entries ended.key))
+is_kept_by entries after certain Download ended = false
+
+abbrev pub is_kept : List HeldEntry → Written → Bool → Option Ended → Bool
+is_kept entries after certain None = false
+is_kept entries after certain (Some ended) = is_kept_by entries after certain ended.direction ended
+
+-- ---- frames of the channel
+
+-- a transfer ended: after a difference the number is unknown, so that it is one
+abbrev pub after_end_of : List HeldEntry → Written → Bool → Direction → Ended → Written
+after_end_of entries written certain Download ended = with_number written (place_of entries ended.key) (downloaded entries certain ended)
+after_end_of entries written certain Upload ended =
+    if is_some (upload_mismatch entries written certain ended) then with_number written (place_of entries ended.key) None else written
+
+abbrev pub after_end : List HeldEntry → Written → Bool → Ended → Written
+after_end entries written certain ended = after_end_of entries written certain ended.direction ended
+
+abbrev pub with_end : List HeldEntry → Written → Bool → Option Ended → Written
+with_end entries written certain None = written
+with_end entries written certain (Some ended) = after_end entries written certain ended
+
+-- A download is requested: what its entry has is unknown until it ends. A write that restores
+-- parameters, or loads a program, may change any entry.
+abbrev pub after_request : List HeldEntry → Written → Key → Written
+after_request entries written key = if is_timed key then with_number written (place_of entries key) None else nothing_written
+
+abbrev pub with_request : List HeldEntry → Written → Option Asked → Written
+with_request entries written None = written
+with_request entries written (Some asked) = if asked.writes then after_request entries written asked.key else written
+
+unfoldable pub written_heard : List HeldEntry → Written → Bool → Option Ended → Option Asked → Written
+written_heard entries written certain ended asked = with_request entries (with_end entries written certain ended) asked

@@ -1,0 +1,2 @@
+pub mod HeldNumbers
+pub mod HeldWords

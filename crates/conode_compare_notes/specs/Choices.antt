@@ -1,0 +1,108 @@
+-- What a device chose where CiA 301 leaves a choice (7.2.4.3).
+use Rattle.std.specs.Prelude.{ℕ, ◌-◌, ◌/◌, ◌%◌, ◌==◌, nat_le, nat_lt, Bool, true, false, not, ◌&&◌, if◌then◌else◌, Option, Some, None, option_and_then}
+use Rattle.co_frame.specs.AbortCodes.{timed_out}
+use Rattle.co_frame.specs.FrameContent.{FrameContent}
+use Rattle.co_frame.specs.declared.abort_code.AbortCode.{AbortCode}
+use Rattle.co_value.specs.declared.key.Key.{Key}
+use Rattle.conode_explain_transfers.specs.declared.ended.Ended.{Ended}
+use Rattle.conode_explain_transfers.specs.declared.ended.Ending.{Ending}
+use Rattle.conode_explain_transfers.specs.declared.ended.Ending.TheVariants.{Done, Aborted}
+use Rattle.conode_explain_transfers.specs.declared.kinds.Direction.{Direction}
+use Rattle.conode_explain_transfers.specs.declared.kinds.Direction.TheVariants.{Upload}
+use Rattle.conode_explain_transfers.specs.declared.kinds.Protocol.{Protocol}
+use Rattle.conode_explain_transfers.specs.declared.kinds.Protocol.TheVariants.{Expedited, Segmented}
+use Rattle.conode_explain_transfers.specs.declared.kinds.Side.TheVariants.{Server}
+use Rattle.conode_explain_transfers.specs.declared.kinds.What.{What}
+use Rattle.conode_explain_transfers.specs.declared.kinds.What.TheVariants.{Part, Stray}
+use Rattle.conode_compare_transfers.specs.declared.dialogue.Exchange.{Exchange}
+use Rattle.conode_compare_transfers.specs.Breaches.{byte_at, key_in}
+use Rattle.conode_compare_rules.specs.declared.kind.FrameKind.{FrameKind}
+use Rattle.conode_compare_rules.specs.declared.kind.FrameKind.TheVariants.{Sdo}
+use Rattle.conode_compare_notes.specs.declared.choice.Choice.{Choice}
+use Rattle.conode_compare_notes.specs.declared.choice.Choice.TheVariants.{Segments, NoSize, ShortSegment, NoCrc, BlockSize, Timeout}
+
+-- ---- the end of a transfer
+
+-- `choice-timeout`: a server may abort a transfer that timed out, or leave it
+abbrev pub aborted_choice : Key → AbortCode → Option Choice
+aborted_choice key code = if code.0 == timed_out then Some (Timeout key) else None
+
+-- `choice-segments`: up to four bytes could go in one frame
+abbrev pub segments_choice : Ended → Option Choice
+segments_choice ended = if nat_le 1 ended.bytes && nat_le ended.bytes 4 then Some (Segments ended.key ended.bytes) else None
+
+-- `choice-size`, of an expedited upload: s = 0
+abbrev pub expedited_choice : ℕ → Ended → Option Choice
+expedited_choice first ended = if first % 2 == 0 then Some (NoSize ended.key) else None
+
+abbrev pub ending_choice : ℕ → Ended → Direction → Protocol → Ending → Option Choice
+ending_choice first ended direction protocol (Aborted Server code) = aborted_choice ended.key code
+ending_choice first ended Upload Segmented (Done crc) = segments_choice ended
+ending_choice first ended Upload Expedited (Done crc) = expedited_choice first ended
+ending_choice first ended direction protocol ending = None
+
+-- with a frame that has this first byte
+abbrev pub ended_choice : ℕ → Ended → Option Choice
+ended_choice first ended = ending_choice first ended ended.direction ended.protocol ended.ending
+
+-- ---- an answer after which the transfer goes on
+
+-- `choice-short-segment`: scs = 0, c = 0, and n bytes are unused
+abbrev pub short_choice : ℕ → Key → Option Choice
+short_choice first key = if (first % 2 == 0) && nat_lt 0 (first / 2 % 8) then Some (ShortSegment key (7 - first / 2 % 8)) else None
+
+abbrev pub segment_choice : Option Key → ℕ → Option Choice
+segment_choice of first = option_and_then (short_choice first) of
+
+-- `choice-size`: scs = 2, e = 0, s = 0
+abbrev pub initiate_choice : Key → ℕ → Option Choice
+initiate_choice key first = if first % 4 == 0 then Some (NoSize key) else None
+
+-- `choice-crc`, `choice-block-size`: scs = 5, ss = 0
+abbrev pub block_download_choice : Key → ℕ → ℕ → Option Choice
+block_download_choice key first size =
+    if not (first % 4 == 0) then None
+    else (if first / 4 % 2 == 0 then Some (NoCrc key) else (if size == 127 then None else Some (BlockSize key size)))
+
+-- `choice-crc`, `choice-size`: scs = 6, ss = 0
+abbrev pub block_upload_choice : Key → ℕ → Option Choice
+block_upload_choice key first =
+    if not (first % 2 == 0) then None
+    else (if first / 4 % 2 == 0 then Some (NoCrc key) else (if first / 2 % 2 == 0 then Some (NoSize key) else None))
+
+-- by the server command specifier
+abbrev pub part_choice : Option Key → FrameContent → Option Choice
+part_choice of frame =
+    let first = byte_at frame 0 in
+    if first / 32 == 0 then segment_choice of first
+    else (if first / 32 == 2 then initiate_choice (key_in frame) first
+    else (if first / 32 == 5 then block_download_choice (key_in frame) first (byte_at frame 4)
+    else (if first / 32 == 6 then block_upload_choice (key_in frame) first
+    else None)))
+
+-- ---- a frame without an open transfer
+
+-- 05040000h: the transfer timed out
+abbrev pub is_abort : FrameContent → Bool
+is_abort frame =
+    (byte_at frame 0 == 0x80)
+    && ((byte_at frame 4 == 0) && ((byte_at frame 5 == 0) && ((byte_at frame 6 == 4) && (byte_at frame 7 == 5))))
+
+abbrev pub stray_choice : FrameContent → Option Choice
+stray_choice frame = if is_abort frame then Some (Timeout (key_in frame)) else None
+
+-- ---- every frame
+
+abbrev pub heard_choice : Exchange → FrameContent → What → Option Ended → Option Choice
+heard_choice exchange frame Part (Some ended) = ended_choice (byte_at frame 0) ended
+heard_choice exchange frame Part None = part_choice exchange.heard.of frame
+heard_choice exchange frame Stray None = stray_choice frame
+heard_choice exchange frame what ended = None
+
+abbrev pub exchange_choice : Exchange → FrameContent → Option Choice
+exchange_choice exchange frame = if exchange.certain then heard_choice exchange frame exchange.heard.what exchange.heard.ended else None
+
+-- what the device chose with a frame, by what that is to it, and on its SDO channel
+unfoldable pub choice_at : FrameKind → Option Exchange → Option Choice
+choice_at (Sdo Server frame) (Some exchange) = exchange_choice exchange frame
+choice_at kind exchange = None

@@ -1,0 +1,20 @@
+//! The kinds of choices.
+
+use co_value::Key;
+
+/// What a device chose where CiA 301 leaves a choice (7.2.4.3).
+#[derive(Clone, Copy)]
+pub enum Choice {
+    /// `choice-segments`: an upload of so many bytes, one to four, goes in segments.
+    Segments(Key, u64),
+    /// `choice-size`: an upload has no size.
+    NoSize(Key),
+    /// `choice-short-segment`: a segment of an upload before the last has so many bytes, not seven.
+    ShortSegment(Key, u8),
+    /// `choice-crc`: the device doesn't support the CRC of a block transfer.
+    NoCrc(Key),
+    /// `choice-block-size`: a block download has sub-blocks of so many segments, not of 127.
+    BlockSize(Key, u8),
+    /// `choice-timeout`: the device aborts a transfer since it timed out.
+    Timeout(Key),
+}

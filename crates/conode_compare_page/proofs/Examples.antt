@@ -1,0 +1,197 @@
+-- The parts of the page, evaluated.
+use Rattle.std.proofs.Common.{◌≡◌, ℕ, List, [], ◌∷◌, ◌++◌, true, false, None, Some, refl, codes, map}
+use Rattle.std.specs.Prelude.{◌^◌, ◌-◌}
+use Rattle.std.specs.Fmt.{digits}
+use Rattle.std.specs.List.{flat_map}
+use Rattle.std.specs.Str.{chars, is_utf8}
+use Rattle.co_text.specs.Printed.{digits_text}
+use Rattle.co_value.specs.declared.data_type.DataType.TheVariants.{Unsigned32}
+use Rattle.conode_compare_rules.specs.declared.finding.Finding.TheVariants.{HeartbeatLate}
+use Rattle.conode_compare_report.specs.declared.coverage.Covered.{Covered}
+use Rattle.conode_compare_report.specs.declared.kind.Counted.{Counted}
+use Rattle.conode_compare_report.specs.declared.kind.Kind.TheVariants as kind
+use Rattle.conode_compare_report.specs.declared.lanes.Bin.{Bin}
+use Rattle.conode_compare_report.specs.declared.lanes.Lane.TheVariants.{Heartbeats, Emergencies, Transfers, Tpdos, Rpdos}
+use Rattle.conode_compare_report.specs.declared.lanes.States.{States}
+use Rattle.conode_compare_report.specs.declared.noted.Noted.{Noted}
+use Rattle.conode_compare_report.specs.Contexts.{KeptLine}
+use Rattle.conode_compare_report.specs.Spans.{LanesView}
+use Rattle.conode_compare_text.specs.FindingTexts.{finding_text, millis_text, timed_number}
+use Rattle.conode_explain_values.specs.declared.value_type.ValueType.TheVariants.{Plain}
+use Rattle.conode_lint_text.specs.Characters.{characters_of}
+use Rattle.conode_markup.specs.Escapes.{escaped_character}
+use Rattle.conode_markup.specs.Pieces.{seconds_text}
+use Rattle.conode_compare_report.specs.declared.outcome.Outcome.TheVariants.{NoDifference, Differences, NoFrame, SeveralInterfaces}
+use Rattle.conode_compare_page.specs.declared.states.Shown.TheVariants.{Nothing, Initialising, PreOperational, Operational, Stopped, Several}
+use Rattle.conode_compare_page.specs.Coverage.{any_types, class_of, count_or, found_text, is_transferred, state_item, transferred_count, transfers_text, type_item}
+use Rattle.conode_compare_page.specs.Device.{identity_value, interface_row}
+use Rattle.conode_compare_page.specs.Differences.{context_line, numbered_line, said, unlisted_text}
+use Rattle.conode_compare_page.specs.Head.{headline}
+use Rattle.conode_compare_page.specs.Indexed.{indexed}
+use Rattle.conode_compare_page.specs.Picture.{across, areas, axis_text, corner, difference_mark, is_quiet, line_at, next_shown, outline, quarter_of, shown_of, span_of, state_area, top_of}
+
+-- ---- the verdict
+
+headlines : headline NoDifference 0 ∷ headline Differences 1 ∷ headline Differences 2 ∷ headline NoFrame 0 ∷ headline SeveralInterfaces 3 ∷ []
+    ≡ codes "No difference" ∷ codes "1 difference" ∷ codes "2 differences" ∷ codes "Not compared" ∷ codes "Not compared" ∷ []
+unfolding digits
+headlines = refl
+
+-- ---- the device
+
+identity_values : identity_value None ∷ identity_value (Some 0xF1A2) ∷ [] ≡ codes "not in the data sheet" ∷ codes "0000F1A2h" ∷ []
+unfolding digits_text
+identity_values = refl
+
+interfaces : interface_row None ∷ interface_row (Some (codes "c<0")) ∷ [] ≡ [] ∷ codes "<dt>Interface</dt><dd>c&lt;0</dd>\n" ∷ []
+unfolding escaped_character characters_of is_utf8 chars lib.Utf8.encode
+interfaces = refl
+
+-- ---- differences
+
+abbrev late : Noted
+late = record { line = 7; micros = 4120000; finding = HeartbeatLate 1021000 1000; value_type = Plain Unsigned32; first = 0 }
+
+without_kind : said late ≡ codes "1021.000 ms since the last one, 1017:00 has 1000 ms"
+unfolding finding_text timed_number millis_text digits_text digits
+without_kind = refl
+
+abbrev line : ℕ → KeptLine
+line number = record { number = number; bytes = codes "a&b" }
+
+context : flat_map (context_line 7) (line 6 ∷ line 7 ∷ line 8 ∷ []) ≡ codes "6: a&amp;b\n<mark>7: a&amp;b\n</mark>8: a&amp;b\n"
+unfolding numbered_line digits escaped_character characters_of is_utf8 chars lib.Utf8.encode
+context = refl
+
+unlisted : unlisted_text 0 ∷ unlisted_text 12 ∷ [] ≡ [] ∷ codes "<p>12 more came after these, and aren't listed.</p>\n" ∷ []
+unfolding digits
+unlisted = refl
+
+-- ---- frames
+
+-- none, one, 2 and 3, 4 to 7, more
+tops : map top_of (0 ∷ 1 ∷ 2 ∷ 3 ∷ 4 ∷ 7 ∷ 8 ∷ []) ≡ 100 ∷ 50 ∷ 35 ∷ 35 ∷ 20 ∷ 20 ∷ 5 ∷ []
+tops = refl
+
+abbrev in_states : States → Bin
+in_states states = record { states = states; heartbeats = 0; emergencies = 0; transfers = 0; tpdos = 0; rpdos = 0; differences = 0 }
+
+abbrev unknown : States
+unknown = record { initialising = false; pre_operational = false; operational = false; stopped = false }
+
+-- with so many heartbeats, and twice as many of the next, and so on
+abbrev frames : ℕ → Bin
+frames count = record (in_states unknown) { heartbeats = count; emergencies = 2; transfers = 4; tpdos = 8; rpdos = 1 }
+
+-- the outline of no frame, one, one, four and none: it ends where the last span does
+outlines : outline Heartbeats 0 100 (frames 0 ∷ frames 1 ∷ frames 1 ∷ frames 4 ∷ frames 0 ∷ []) ≡ codes "H1V50H3V20H4V100H5V100Z"
+unfolding corner digits
+outlines = refl
+
+other_lanes : outline Emergencies 0 100 (frames 0 ∷ []) ++ outline Transfers 0 100 (frames 0 ∷ []) ++ outline Tpdos 0 100 (frames 0 ∷ [])
+    ++ outline Rpdos 0 100 (frames 0 ∷ []) ≡ codes "H0V35H1V100ZH0V20H1V100ZH0V5H1V100ZH0V50H1V100Z"
+unfolding corner digits
+other_lanes = refl
+
+-- ---- states
+
+abbrev initialising : States
+initialising = record unknown { initialising = true }
+
+abbrev pre_operational : States
+pre_operational = record unknown { pre_operational = true }
+
+abbrev operational : States
+operational = record unknown { operational = true }
+
+abbrev stopped : States
+stopped = record unknown { stopped = true }
+
+single : map shown_of (unknown ∷ initialising ∷ pre_operational ∷ operational ∷ stopped ∷ []) ≡ Nothing ∷ Initialising ∷ PreOperational ∷ Operational ∷ Stopped ∷ []
+single = refl
+
+both : map shown_of (record initialising { pre_operational = true } ∷ record initialising { operational = true } ∷ record initialising { stopped = true } ∷ record pre_operational { operational = true } ∷ record pre_operational { stopped = true } ∷ record operational { stopped = true } ∷ [])
+    ≡ Several ∷ Several ∷ Several ∷ Several ∷ Several ∷ Several ∷ []
+both = refl
+
+-- nothing is known in the first span; neighbours in one state are one area
+state_areas : areas Nothing 0 0 (in_states unknown ∷ in_states pre_operational ∷ in_states pre_operational ∷ in_states operational ∷ [])
+    ≡ codes "<rect class=\"pre-operational\" x=\"1\" y=\"40\" width=\"2\" height=\"100\"><title>pre-operational</title></rect>\n<rect class=\"operational\" x=\"3\" y=\"0\" width=\"1\" height=\"100\"><title>operational</title></rect>\n"
+unfolding state_area digits
+state_areas = refl
+
+-- without a frame a state goes on, but of several none; with one whose state is unknown, nothing is shown
+after : map (λ bin. next_shown Operational bin) (in_states unknown ∷ in_states stopped ∷ record (in_states unknown) { rpdos = 1 } ∷ []) ≡ Operational ∷ Stopped ∷ Nothing ∷ []
+after = refl
+
+after_several : next_shown Several (in_states unknown) ≡ Nothing
+after_several = refl
+
+quiet : map is_quiet (in_states unknown ∷ record (in_states unknown) { heartbeats = 1 } ∷ record (in_states unknown) { emergencies = 1 } ∷ record (in_states unknown) { transfers = 1 } ∷ record (in_states unknown) { tpdos = 1 } ∷ record (in_states unknown) { rpdos = 1 } ∷ [])
+    ≡ true ∷ false ∷ false ∷ false ∷ false ∷ false ∷ []
+quiet = refl
+
+-- ---- marks
+
+abbrev with_differences : ℕ → Bin
+with_differences count = record (in_states unknown) { differences = count }
+
+lines_across : indexed across 0 (with_differences 1 ∷ with_differences 0 ∷ with_differences 9 ∷ []) ≡ codes "M0.5 0v100M2.5 0v100"
+unfolding line_at digits
+lines_across = refl
+
+abbrev three_spans : LanesView
+three_spans = record { begin = 4000000; width = 50000; bins = with_differences 0 ∷ with_differences 0 ∷ with_differences 1 ∷ [] }
+
+-- before the first frame, in the first span, at the begin of the second, after the last; without a width
+places : span_of three_spans 3000000 ∷ span_of three_spans 4049999 ∷ span_of three_spans 4050000 ∷ span_of three_spans 9000000 ∷ span_of (record three_spans { width = 0 }) 9000000 ∷ []
+    ≡ 0 ∷ 0 ∷ 1 ∷ 2 ∷ 0 ∷ []
+places = refl
+
+mark : difference_mark three_spans 5 late ≡ codes "<a href=\"#d5\"><path class=\"hit\" d=\"M2.5 0v100\"><title>line 7, 0.120000 s: heartbeat-late</title></path></a>\n"
+unfolding difference_mark seconds_text digits_text digits
+mark = refl
+
+axis : axis_text (quarter_of three_spans)
+    ≡ codes "<div class=\"axis\"><span>0.000000 s</span><span>0.037500 s</span><span>0.075000 s</span><span>0.112500 s</span><span>0.150000 s</span></div>\n"
+unfolding axis_text seconds_text digits_text digits
+axis = refl
+
+-- ---- what the recording tested
+
+abbrev came : ℕ → List ℕ
+came count = class_of count ++ codes ">" ++ count_or (codes "none") count ++ codes " " ++ found_text count
+
+counts : came 0 ∷ came 12 ∷ [] ≡ codes " class=\"not\">none 0" ∷ codes ">12 <span class=\"found\">12</span>" ∷ []
+unfolding digits
+counts = refl
+
+abbrev no_transfer : Covered
+no_transfer = record { read = false; written = false; refused = false }
+
+abbrev read : Covered
+read = record no_transfer { read = true }
+
+abbrev written : Covered
+written = record no_transfer { written = true }
+
+abbrev all_transfers : List Covered
+all_transfers =
+    no_transfer ∷ read ∷ written ∷ record no_transfer { refused = true } ∷ record read { written = true } ∷ record read { refused = true }
+    ∷ record written { refused = true } ∷ record { read = true; written = true; refused = true } ∷ []
+
+transfers : map transfers_text all_transfers
+    ≡ [] ∷ codes "read" ∷ codes "written" ∷ codes "refused" ∷ codes "read, written" ∷ codes "read, refused" ∷ codes "written, refused" ∷ codes "read, written, refused" ∷ []
+transfers = refl
+
+one_has_none : transferred_count all_transfers ≡ 7
+one_has_none = refl
+
+states_seen : state_item (codes "stopped") true ∷ state_item (codes "stopped") false ∷ []
+    ≡ codes "<li>stopped<b>seen</b></li>\n" ∷ codes "<li class=\"not\">stopped<b>not seen</b></li>\n" ∷ []
+states_seen = refl
+
+types : any_types [] ∷ any_types (record { number = 254; count = 3 } ∷ []) ∷ []
+    ≡ codes "<p class=\"not\">No TPDO was sent.</p>\n" ∷ codes "<ul>\n<li>type 254<b>3</b></li>\n</ul>\n" ∷ []
+unfolding type_item digits
+types = refl

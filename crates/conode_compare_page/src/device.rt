@@ -1,0 +1,198 @@
+//! What was compared, and how the page was made. Each function appends a text. `Err`: out of
+//! memory; a part of it may be there.
+
+ghost use Rattle.std.specs.Prelude.{◌≡◌, ◌++◌, OnOk, string_bytes};
+ghost use Rattle.std.specs.Option.{option_copied};
+ghost use Rattle.conode_compare_report.specs.Abouts.{about_view};
+ghost use Rattle.conode_compare_page.specs.Device.{
+  device,
+  foot,
+  identity,
+  identity_value,
+  interface_row,
+  limits_text,
+  recording_rows,
+  stamps_row,
+};
+
+use conode_compare_report::{About, Report};
+use conode_compare_rules::Limits;
+use conode_markup::{Piece, push_pieces};
+use std::alloc::{AllocError, Global};
+
+/// The page from its last word on.
+const CLOSING: &str = "</code>. Its page docs/COMPARE.md says what each kind of difference is, \
+    and what is unjudged.</footer>\n\
+    </body>\n\
+    </html>\n";
+
+fn push_identity_value(
+    alloc: Global,
+    text: &mut String,
+    value: Option<u64>,
+) -> Result<(), AllocError>
+    ensures { OnOk result (string_bytes text.new
+        ≡ string_bytes text.old ++ identity_value value) }
+{
+    match value {
+        None => text.push_str("not in the data sheet"),
+        Some(number) => push_pieces(
+            alloc,
+            text,
+            &[
+                Piece::Code((number % 0x1_0000_0000) as u32),
+                Piece::Markup("h"),
+            ],
+        ),
+    }
+}
+
+#[tactic(auto, unfolding(crate::specs::Device::identity))]
+fn push_identity(alloc: Global, text: &mut String, about: &About<'_, '_>) -> Result<(), AllocError>
+    ensures { OnOk result (string_bytes text.new
+        ≡ string_bytes text.old ++ identity (about_view about.now)) }
+{
+    text.push_str("<dt>Vendor-ID</dt><dd>")?;
+    push_identity_value(alloc, text, about.vendor)?;
+    text.push_str("</dd>\n<dt>Product code</dt><dd>")?;
+    push_identity_value(alloc, text, about.product)?;
+    text.push_str("</dd>\n<dt>Revision number</dt><dd>")?;
+    push_identity_value(alloc, text, about.revision)?;
+    text.push_str("</dd>\n")
+}
+
+fn push_interface(
+    alloc: Global,
+    text: &mut String,
+    interface: Option<&[u8]>,
+) -> Result<(), AllocError>
+    ensures { OnOk result (string_bytes text.new
+        ≡ string_bytes text.old ++ interface_row (option_copied interface.entry)) }
+{
+    match interface {
+        None => Ok(()),
+        Some(name) => push_pieces(
+            alloc,
+            text,
+            &[
+                Piece::Markup("<dt>Interface</dt><dd>"),
+                Piece::Text(name),
+                Piece::Markup("</dd>\n"),
+            ],
+        ),
+    }
+}
+
+fn push_stamps(alloc: Global, text: &mut String, report: &Report) -> Result<(), AllocError>
+    ensures { OnOk result (string_bytes text.new
+        ≡ string_bytes text.old ++ stamps_row report.now report.now.begin) }
+{
+    match report.begin {
+        None => Ok(()),
+        Some(begin) => push_pieces(
+            alloc,
+            text,
+            &[
+                Piece::Markup("<dt>Stamps</dt><dd>"),
+                Piece::Seconds(begin),
+                Piece::Markup(" to "),
+                Piece::Seconds(report.end),
+                Piece::Markup(" s</dd>\n"),
+            ],
+        ),
+    }
+}
+
+#[tactic(auto, unfolding(crate::specs::Device::recording_rows))]
+fn push_recording(
+    alloc: Global,
+    text: &mut String,
+    about: &About<'_, '_>,
+    report: &Report,
+) -> Result<(), AllocError>
+    ensures { OnOk result (string_bytes text.new
+        ≡ string_bytes text.old ++ recording_rows (about_view about.now) report.now) }
+{
+    push_pieces(
+        alloc,
+        text,
+        &[
+            Piece::Markup("<dt>Node-ID</dt><dd>"),
+            Piece::Number(u64::from(about.node)),
+            Piece::Markup("</dd>\n<dt>Data sheet</dt><dd>"),
+            Piece::Text(about.sheet.as_bytes()),
+            Piece::Markup(", "),
+            Piece::Number(about.rows.len() as u64),
+            Piece::Markup(" entries</dd>\n<dt>Recording</dt><dd>"),
+            Piece::Text(about.recording.as_bytes()),
+            Piece::Markup(", "),
+            Piece::Number(report.lines),
+            Piece::Markup(" lines, "),
+            Piece::Number(report.bad_lines),
+            Piece::Markup(" of them bad</dd>\n"),
+        ],
+    )
+}
+
+/// Appends what was compared.
+#[tactic(auto, unfolding(crate::specs::Device::device))]
+pub(crate) fn push_device(
+    alloc: Global,
+    text: &mut String,
+    about: &About<'_, '_>,
+    report: &Report,
+) -> Result<(), AllocError>
+    ensures { OnOk result (string_bytes text.new
+        ≡ string_bytes text.old ++ device (about_view about.now) report.now) }
+{
+    text.push_str("<section>\n<h2>Device</h2>\n<dl>\n")?;
+    push_identity(alloc, text, about)?;
+    push_recording(alloc, text, about, report)?;
+    push_interface(alloc, text, about.interface)?;
+    push_stamps(alloc, text, report)?;
+    text.push_str("</dl>\n</section>\n")
+}
+
+// how exactly the device was judged
+#[tactic(auto, unfolding(crate::specs::Device::limits_text))]
+fn push_limits(alloc: Global, text: &mut String, limits: Limits) -> Result<(), AllocError>
+    ensures { OnOk result (string_bytes text.new ≡ string_bytes text.old ++ limits_text limits) }
+{
+    push_pieces(
+        alloc,
+        text,
+        &[
+            Piece::Markup(" --tolerance "),
+            Piece::Number(u64::from(limits.tolerance)),
+            Piece::Markup(" --drift "),
+            Piece::Number(u64::from(limits.drift)),
+            Piece::Markup(" --answer "),
+            Piece::Number(u64::from(limits.answer)),
+            Piece::Markup(" --boot "),
+            Piece::Number(u64::from(limits.boot)),
+        ],
+    )
+}
+
+/// Appends how the page was made, and ends it.
+#[tactic(auto, unfolding(crate::specs::Device::foot))]
+pub(crate) fn push_foot(
+    alloc: Global,
+    text: &mut String,
+    about: &About<'_, '_>,
+) -> Result<(), AllocError>
+    ensures { OnOk result (string_bytes text.new
+        ≡ string_bytes text.old ++ foot (about_view about.now)) }
+{
+    push_pieces(
+        alloc,
+        text,
+        &[
+            Piece::Markup("<footer>Made by conode "),
+            Piece::Text(about.version.as_bytes()),
+            Piece::Markup(", as <code>conode compare --format html"),
+        ],
+    )?;
+    push_limits(alloc, text, about.limits)?;
+    text.push_str(CLOSING)
+}

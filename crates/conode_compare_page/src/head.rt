@@ -1,0 +1,175 @@
+//! The beginning of the page: how the comparison ended. Each function appends a text. `Err`: out of
+//! memory; a part of it may be there.
+
+ghost use Rattle.std.specs.Prelude.{◌≡◌, ◌++◌, OnOk, string_bytes};
+ghost use Rattle.conode_compare_report.specs.Abouts.{about_view};
+ghost use Rattle.conode_compare_page.specs.Head.{
+  count_text,
+  counts,
+  difference_count,
+  head,
+  headline,
+  outcome_class,
+  reason,
+  verdict,
+};
+
+use crate::style::STYLE;
+use conode_compare_report::{About, Outcome, Report};
+use conode_compare_text::Tally;
+use conode_markup::{Piece, push_pieces};
+use std::alloc::{AllocError, Global};
+
+/// The page up to its title.
+const OPENING: &str = "<!DOCTYPE html>\n\
+    <html xmlns=\"http://www.w3.org/1999/xhtml\" lang=\"en\">\n\
+    <head>\n\
+    <meta charset=\"utf-8\"/>\n\
+    <meta name=\"viewport\" content=\"width=device-width, initial-scale=1\"/>\n\
+    <title>";
+
+fn difference_count(report: &Report) -> u64
+    ensures { result ≡ difference_count report.now }
+{
+    (report.noted.len() as u64).saturating_add(report.unlisted)
+}
+
+fn push_count(alloc: Global, text: &mut String, count: u64) -> Result<(), AllocError>
+    ensures { OnOk result (string_bytes text.new ≡ string_bytes text.old ++ count_text count) }
+{
+    if count == 1 {
+        text.push_str("1 difference")
+    } else {
+        push_pieces(
+            alloc,
+            text,
+            &[Piece::Number(count), Piece::Markup(" differences")],
+        )
+    }
+}
+
+// how the comparison ended, with so many differences
+fn push_headline(
+    alloc: Global,
+    text: &mut String,
+    outcome: Outcome,
+    count: u64,
+) -> Result<(), AllocError>
+    ensures { OnOk result
+        (string_bytes text.new ≡ string_bytes text.old ++ headline outcome count) }
+{
+    match outcome {
+        Outcome::NoDifference => text.push_str("No difference"),
+        Outcome::Differences => push_count(alloc, text, count),
+        Outcome::NoFrame | Outcome::SeveralInterfaces => text.push_str("Not compared"),
+    }
+}
+
+fn outcome_class(outcome: Outcome) -> &'static str
+    ensures { result.now ≡ outcome_class outcome }
+{
+    match outcome {
+        Outcome::NoDifference => "good",
+        Outcome::Differences => "bad",
+        Outcome::NoFrame | Outcome::SeveralInterfaces => "open",
+    }
+}
+
+// why nothing was compared, if so
+fn reason(outcome: Outcome) -> &'static str
+    ensures { result.now ≡ reason outcome }
+{
+    match outcome {
+        Outcome::NoDifference | Outcome::Differences => "",
+        Outcome::NoFrame => "<p>It has no frame of this node.</p>\n",
+        Outcome::SeveralInterfaces => {
+            "<p>It has frames of several interfaces: name one with <code>--interface</code>.</p>\n"
+        }
+    }
+}
+
+/// Appends what comes before the page's body.
+#[tactic(auto, unfolding(crate::specs::Head::head))]
+pub(crate) fn push_head(
+    alloc: Global,
+    text: &mut String,
+    about: &About<'_, '_>,
+    report: &Report,
+) -> Result<(), AllocError>
+    ensures { OnOk result (string_bytes text.new
+        ≡ string_bytes text.old ++ head (about_view about.now) report.now) }
+{
+    text.push_str(OPENING)?;
+    push_headline(alloc, text, Outcome::of(about), difference_count(report))?;
+    push_pieces(
+        alloc,
+        text,
+        &[
+            Piece::Markup(": "),
+            Piece::Text(about.recording.as_bytes()),
+            Piece::Markup("</title>\n<style>\n"),
+            Piece::Markup(STYLE),
+            Piece::Markup("</style>\n</head>\n<body>\n"),
+        ],
+    )
+}
+
+// how many frames of the device have which verdict
+#[tactic(auto, unfolding(crate::specs::Head::counts))]
+fn push_counts(alloc: Global, text: &mut String, tally: Tally) -> Result<(), AllocError>
+    ensures { OnOk result (string_bytes text.new ≡ string_bytes text.old ++ counts tally) }
+{
+    push_pieces(
+        alloc,
+        text,
+        &[
+            Piece::Markup("<dl class=\"counts\">\n<div><dt>frames as prescribed</dt><dd>"),
+            Piece::Number(tally.prescribed),
+            Piece::Markup("</dd></div>\n<div><dt>with a difference</dt><dd>"),
+            Piece::Number(tally.different),
+            Piece::Markup("</dd></div>\n<div><dt>unjudged</dt><dd>"),
+            Piece::Number(tally.unjudged),
+            Piece::Markup("</dd></div>\n</dl>\n"),
+        ],
+    )
+}
+
+/// Appends how the comparison ended, of what.
+#[tactic(auto, unfolding(crate::specs::Head::verdict))]
+pub(crate) fn push_verdict(
+    alloc: Global,
+    text: &mut String,
+    about: &About<'_, '_>,
+    report: &Report,
+) -> Result<(), AllocError>
+    ensures { OnOk result (string_bytes text.new
+        ≡ string_bytes text.old ++ verdict (about_view about.now) report.now) }
+{
+    let outcome = Outcome::of(about);
+    push_pieces(
+        alloc,
+        text,
+        &[
+            Piece::Markup("<header class=\""),
+            Piece::Markup(outcome_class(outcome)),
+            Piece::Markup("\">\n<h1>"),
+        ],
+    )?;
+    push_headline(alloc, text, outcome, difference_count(report))?;
+    push_pieces(
+        alloc,
+        text,
+        &[
+            Piece::Markup("</h1>\n<p>Node "),
+            Piece::Number(u64::from(about.node)),
+            Piece::Markup(" in <code>"),
+            Piece::Text(about.recording.as_bytes()),
+            Piece::Markup("</code>, against its data sheet <code>"),
+            Piece::Text(about.sheet.as_bytes()),
+            Piece::Markup("</code> and CiA 301</p>\n"),
+            Piece::Markup(reason(outcome)),
+        ],
+    )?;
+    push_counts(alloc, text, about.tally)?;
+    text.push_str("</header>\n")
+}

@@ -1,0 +1,167 @@
+//! Lanes whose height is how many frames came. Each function appends a text. `Err`: out of memory;
+//! a part of it may be there.
+
+ghost use Rattle.std.specs.Prelude.{◌≡◌, ◌++◌, OnOk, string_bytes};
+ghost use Rattle.conode_compare_page.specs.Picture.{
+  corner,
+  count_in,
+  frames_lane,
+  lane_begin,
+  lane_end,
+  lane_name,
+  outline,
+  step,
+  top_of,
+};
+
+use conode_compare_report::{Bin, Lane};
+use conode_markup::{Piece, push_pieces};
+use std::alloc::{AllocError, Global};
+
+fn lane_name(lane: Lane) -> &'static str
+    ensures { result.now ≡ lane_name lane }
+{
+    match lane {
+        Lane::Heartbeats => "Heartbeat",
+        Lane::Emergencies => "EMCY",
+        Lane::Transfers => "SDO",
+        Lane::Tpdos => "TPDOs",
+        Lane::Rpdos => "RPDOs",
+    }
+}
+
+fn count_in(lane: Lane, bin: &Bin) -> u32
+    ensures { result ≡ count_in lane bin.now }
+{
+    match lane {
+        Lane::Heartbeats => bin.heartbeats,
+        Lane::Emergencies => bin.emergencies,
+        Lane::Transfers => bin.transfers,
+        Lane::Tpdos => bin.tpdos,
+        Lane::Rpdos => bin.rpdos,
+    }
+}
+
+// where the top of so many frames is: a second one shows, and many stay in the lane
+fn top_of(count: u32) -> u8
+    ensures { result ≡ top_of count }
+{
+    if count == 0 {
+        100
+    } else if count == 1 {
+        50
+    } else if count <= 3 {
+        35
+    } else if count <= 7 {
+        20
+    } else {
+        5
+    }
+}
+
+/// Appends a lane up to its picture.
+#[tactic(auto, unfolding(crate::specs::Picture::lane_begin))]
+pub(crate) fn begin_lane(
+    alloc: Global,
+    text: &mut String,
+    name: &str,
+    spans: usize,
+) -> Result<(), AllocError>
+    ensures { OnOk result (string_bytes text.new
+        ≡ string_bytes text.old ++ lane_begin name.now spans) }
+{
+    push_pieces(
+        alloc,
+        text,
+        &[
+            Piece::Markup("<div class=\"lane\"><span>"),
+            Piece::Markup(name),
+            Piece::Markup("</span><svg xmlns=\"http://www.w3.org/2000/svg\" viewBox=\"0 0 "),
+            Piece::Number(spans as u64),
+            Piece::Markup(" 100\" preserveAspectRatio=\"none\">"),
+        ],
+    )
+}
+
+/// Appends the end of a lane.
+pub(crate) fn end_lane(text: &mut String) -> Result<(), AllocError>
+    ensures { OnOk result (string_bytes text.new ≡ string_bytes text.old ++ lane_end) }
+{
+    text.push_str("<use href=\"#across\"/></svg></div>\n")
+}
+
+#[tactic(auto, unfolding(crate::specs::Picture::corner))]
+fn push_corner(alloc: Global, text: &mut String, at: usize, top: u8) -> Result<(), AllocError>
+    ensures { OnOk result (string_bytes text.new ≡ string_bytes text.old ++ corner at top) }
+{
+    push_pieces(
+        alloc,
+        text,
+        &[
+            Piece::Markup("H"),
+            Piece::Number(at as u64),
+            Piece::Markup("V"),
+            Piece::Number(u64::from(top)),
+        ],
+    )
+}
+
+fn push_step(
+    alloc: Global,
+    text: &mut String,
+    at: usize,
+    before: u8,
+    top: u8,
+) -> Result<(), AllocError>
+    ensures { OnOk result (string_bytes text.new ≡ string_bytes text.old ++ step at before top) }
+{
+    if top == before {
+        Ok(())
+    } else {
+        push_corner(alloc, text, at, top)
+    }
+}
+
+fn push_outline(
+    alloc: Global,
+    text: &mut String,
+    lane: Lane,
+    bins: &[Bin],
+) -> Result<(), AllocError>
+    ensures { OnOk result (string_bytes text.new
+        ≡ string_bytes text.old ++ outline lane 0 100 bins.now) }
+{
+    let mut before = 100;
+    for (at, bin) in bins.iter().enumerate() {
+        let top = top_of(count_in(lane, bin));
+        push_step(alloc, text, at, before, top)?;
+        before = top;
+    }
+    push_pieces(
+        alloc,
+        text,
+        &[
+            Piece::Markup("H"),
+            Piece::Number(bins.len() as u64),
+            Piece::Markup("V100Z"),
+        ],
+    )
+}
+
+/// Appends a lane of frames.
+#[tactic(auto, unfolding(crate::specs::Picture::frames_lane))]
+pub(crate) fn push_frames(
+    alloc: Global,
+    text: &mut String,
+    bins: &[Bin],
+    lane: Lane,
+) -> Result<(), AllocError>
+    ensures { OnOk result (string_bytes text.new
+        ≡ string_bytes text.old ++ frames_lane bins.now lane) }
+{
+    begin_lane(alloc, text, lane_name(lane), bins.len())?;
+    text.push_str("<path class=\"frames\" d=\"M0 100")?;
+    push_outline(alloc, text, lane, bins)?;
+    text.push_str("\"/>")?;
+    end_lane(text)
+}

@@ -1,0 +1,231 @@
+//! The bus over time, in lanes. Each function appends a text. `Err`: out of memory; a part of it
+//! may be there.
+
+ghost use Rattle.std.specs.Prelude.{◌≡◌, ◌++◌, ◌*◌, ◌≤◌, ◌^◌, OnOk, string_bytes};
+ghost use Rattle.conode_compare_page.specs.Indexed.{indexed};
+ghost use Rattle.conode_compare_page.specs.Picture.{
+  across,
+  any_picture,
+  axis_text,
+  difference_mark,
+  differences_lane,
+  frame_lanes,
+  lanes_picture,
+  legend,
+  line_at,
+  picture,
+  quarter_of,
+  span_of,
+};
+
+use crate::lane::{begin_lane, push_frames};
+use crate::states::push_states;
+use conode_compare_report::{Bin, Kind, Lane, Lanes, Noted, Report};
+use conode_markup::{Piece, push_pieces};
+use std::alloc::{AllocError, Global};
+
+#[tactic(auto, unfolding(crate::specs::Picture::line_at))]
+fn push_line(alloc: Global, text: &mut String, at: usize) -> Result<(), AllocError>
+    ensures { OnOk result (string_bytes text.new ≡ string_bytes text.old ++ line_at at) }
+{
+    push_pieces(
+        alloc,
+        text,
+        &[
+            Piece::Markup("M"),
+            Piece::Number(at as u64),
+            Piece::Markup(".5 0v100"),
+        ],
+    )
+}
+
+fn push_across(alloc: Global, text: &mut String, at: usize, bin: &Bin) -> Result<(), AllocError>
+    ensures { OnOk result (string_bytes text.new ≡ string_bytes text.old ++ across at bin.now) }
+{
+    if bin.differences == 0 {
+        Ok(())
+    } else {
+        push_line(alloc, text, at)
+    }
+}
+
+fn push_all_across(alloc: Global, text: &mut String, bins: &[Bin]) -> Result<(), AllocError>
+    ensures { OnOk result (string_bytes text.new
+        ≡ string_bytes text.old ++ indexed across 0 bins.now) }
+{
+    for (at, bin) in bins.iter().enumerate() {
+        push_across(alloc, text, at, bin)?;
+    }
+    Ok(())
+}
+
+// the span of a stamp
+fn span_of(lanes: &Lanes, micros: u64) -> u64
+    ensures { result ≡ span_of lanes.now micros }
+{
+    if lanes.width == 0 {
+        return 0;
+    }
+    let at = micros.saturating_sub(lanes.begin) / lanes.width;
+    at.min(lanes.bins.len().saturating_sub(1) as u64)
+}
+
+#[tactic(auto, unfolding(crate::specs::Picture::difference_mark))]
+fn push_mark(
+    alloc: Global,
+    text: &mut String,
+    lanes: &Lanes,
+    at: usize,
+    noted: &Noted,
+) -> Result<(), AllocError>
+    ensures { OnOk result (string_bytes text.new
+        ≡ string_bytes text.old ++ difference_mark lanes.now at noted.now) }
+{
+    push_pieces(
+        alloc,
+        text,
+        &[
+            Piece::Markup("<a href=\"#d"),
+            Piece::Number(at as u64),
+            Piece::Markup("\"><path class=\"hit\" d=\"M"),
+            Piece::Number(span_of(lanes, noted.micros)),
+            Piece::Markup(".5 0v100\"><title>line "),
+            Piece::Number(noted.line),
+            Piece::Markup(", "),
+            Piece::Seconds(noted.micros.saturating_sub(lanes.begin)),
+            Piece::Markup(" s: "),
+            Piece::Markup(Kind::of(noted.finding).name()),
+            Piece::Markup("</title></path></a>\n"),
+        ],
+    )
+}
+
+fn push_marks(
+    alloc: Global,
+    text: &mut String,
+    lanes: &Lanes,
+    noted: &[Noted],
+) -> Result<(), AllocError>
+    ensures { OnOk result (string_bytes text.new
+        ≡ string_bytes text.old ++ indexed (difference_mark lanes.now) 0 noted.now) }
+{
+    for (at, difference) in noted.iter().enumerate() {
+        push_mark(alloc, text, lanes, at, difference)?;
+    }
+    Ok(())
+}
+
+#[tactic(auto, unfolding(crate::specs::Picture::differences_lane))]
+fn push_differences_lane(
+    alloc: Global,
+    text: &mut String,
+    report: &Report,
+) -> Result<(), AllocError>
+    ensures { OnOk result (string_bytes text.new
+        ≡ string_bytes text.old ++ differences_lane report.now) }
+{
+    let bins = report.lanes.bins.as_slice();
+    begin_lane(alloc, text, "Differences", bins.len())?;
+    text.push_str("<defs><path id=\"across\" class=\"across\" d=\"")?;
+    push_all_across(alloc, text, bins)?;
+    text.push_str("\"/></defs>\n")?;
+    push_marks(alloc, text, &report.lanes, report.noted.as_slice())?;
+    text.push_str("</svg></div>\n")
+}
+
+fn quarter_of(lanes: &Lanes) -> u64
+    ensures value { result ≡ quarter_of lanes.now }
+    ensures bound { result * 4 ≤ 2 ^ 64 - 1 }
+{
+    (lanes.bins.len() as u64).saturating_mul(lanes.width) / 4
+}
+
+// the times below the lanes, since the first frame
+#[tactic(auto, unfolding(crate::specs::Picture::axis_text))]
+fn push_axis(alloc: Global, text: &mut String, quarter: u64) -> Result<(), AllocError>
+    requires { quarter * 4 ≤ 2 ^ 64 - 1 }
+    ensures { OnOk result (string_bytes text.new ≡ string_bytes text.old ++ axis_text quarter) }
+{
+    push_pieces(
+        alloc,
+        text,
+        &[
+            Piece::Markup("<div class=\"axis\"><span>"),
+            Piece::Seconds(0),
+            Piece::Markup(" s</span><span>"),
+            Piece::Seconds(quarter),
+            Piece::Markup(" s</span><span>"),
+            Piece::Seconds(quarter * 2),
+            Piece::Markup(" s</span><span>"),
+            Piece::Seconds(quarter * 3),
+            Piece::Markup(" s</span><span>"),
+            Piece::Seconds(quarter * 4),
+            Piece::Markup(" s</span></div>\n"),
+        ],
+    )
+}
+
+/// The colours of the states.
+const LEGEND: &str = "<ul class=\"key\">\n\
+    <li><i class=\"initialising\"></i>initialising</li>\n\
+    <li><i class=\"pre-operational\"></i>pre-operational</li>\n\
+    <li><i class=\"operational\"></i>operational</li>\n\
+    <li><i class=\"stopped\"></i>stopped</li>\n\
+    <li><i class=\"several\"></i>several</li>\n\
+    </ul>\n";
+
+fn push_legend(text: &mut String) -> Result<(), AllocError>
+    ensures { OnOk result (string_bytes text.new ≡ string_bytes text.old ++ legend) }
+{
+    text.push_str(LEGEND)
+}
+
+#[tactic(auto, unfolding(crate::specs::Picture::frame_lanes))]
+fn push_frame_lanes(alloc: Global, text: &mut String, bins: &[Bin]) -> Result<(), AllocError>
+    ensures { OnOk result
+        (string_bytes text.new ≡ string_bytes text.old ++ frame_lanes bins.now) }
+{
+    push_frames(alloc, text, bins, Lane::Heartbeats)?;
+    push_frames(alloc, text, bins, Lane::Emergencies)?;
+    push_frames(alloc, text, bins, Lane::Transfers)?;
+    push_frames(alloc, text, bins, Lane::Tpdos)?;
+    push_frames(alloc, text, bins, Lane::Rpdos)
+}
+
+#[tactic(auto, unfolding(crate::specs::Picture::lanes_picture))]
+fn push_lanes(alloc: Global, text: &mut String, report: &Report) -> Result<(), AllocError>
+    ensures { OnOk result (string_bytes text.new
+        ≡ string_bytes text.old ++ lanes_picture report.now) }
+{
+    let bins = report.lanes.bins.as_slice();
+    push_differences_lane(alloc, text, report)?;
+    push_states(alloc, text, bins)?;
+    push_frame_lanes(alloc, text, bins)?;
+    push_axis(alloc, text, quarter_of(&report.lanes))?;
+    push_legend(text)
+}
+
+fn push_any(alloc: Global, text: &mut String, report: &Report) -> Result<(), AllocError>
+    ensures { OnOk result (string_bytes text.new
+        ≡ string_bytes text.old ++ any_picture report.now) }
+{
+    if report.lanes.bins.is_empty() {
+        text.push_str("<p>No frame was compared.</p>\n")
+    } else {
+        push_lanes(alloc, text, report)
+    }
+}
+
+/// Appends the picture.
+#[tactic(auto, unfolding(crate::specs::Picture::picture))]
+pub(crate) fn push_picture(
+    alloc: Global,
+    text: &mut String,
+    report: &Report,
+) -> Result<(), AllocError>
+    ensures { OnOk result (string_bytes text.new ≡ string_bytes text.old ++ picture report.now) }
+{
+    text.push_str("<section>\n<h2>The bus over time</h2>\n")?;
+    push_any(alloc, text, report)?;
+    text.push_str("</section>\n")
+}

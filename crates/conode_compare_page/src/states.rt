@@ -1,0 +1,199 @@
+//! The lane of the NMT states. Each function appends a text. `Err`: out of memory; a part of it may
+//! be there.
+
+ghost use Rattle.std.specs.Prelude.{◌≡◌, ◌++◌, OnOk, string_bytes};
+ghost use Rattle.conode_compare_page.specs.Picture.{
+  any_area,
+  areas,
+  going_on,
+  is_quiet,
+  next_shown,
+  shown_of,
+  state_area,
+  state_class,
+  state_top,
+  states_lane,
+};
+
+use crate::lane::{begin_lane, end_lane};
+use conode_compare_report::{Bin, States};
+use conode_markup::{Piece, push_pieces};
+use std::alloc::{AllocError, Global};
+
+/// What a span shows of the states.
+#[derive(Clone, Copy)]
+pub(crate) enum Shown {
+    Nothing,
+    Initialising,
+    Stopped,
+    PreOperational,
+    Operational,
+    Several,
+}
+
+fn shown_of(states: States) -> Shown
+    ensures { result ≡ shown_of states }
+{
+    if states.initialising {
+        if states.pre_operational || states.operational || states.stopped {
+            Shown::Several
+        } else {
+            Shown::Initialising
+        }
+    } else if states.pre_operational {
+        if states.operational || states.stopped {
+            Shown::Several
+        } else {
+            Shown::PreOperational
+        }
+    } else if states.operational {
+        if states.stopped {
+            Shown::Several
+        } else {
+            Shown::Operational
+        }
+    } else if states.stopped {
+        Shown::Stopped
+    } else {
+        Shown::Nothing
+    }
+}
+
+// whether no frame of the device came in a span
+fn is_quiet(bin: &Bin) -> bool
+    ensures { result ≡ is_quiet bin.now }
+{
+    bin.heartbeats == 0
+        && bin.emergencies == 0
+        && bin.transfers == 0
+        && bin.tpdos == 0
+        && bin.rpdos == 0
+}
+
+fn going_on(shown: Shown) -> Shown
+    ensures { result ≡ going_on shown }
+{
+    match shown {
+        Shown::Several => Shown::Nothing,
+        shown => shown,
+    }
+}
+
+// what a span shows after one that showed this: without a frame of the device its state goes on
+fn next_shown(shown: Shown, bin: &Bin) -> Shown
+    ensures { result ≡ next_shown shown bin.now }
+{
+    match shown_of(bin.states) {
+        Shown::Nothing => {
+            if is_quiet(bin) {
+                going_on(shown)
+            } else {
+                Shown::Nothing
+            }
+        }
+        own => own,
+    }
+}
+
+// where its top is: the more a device does in a state, the higher
+fn state_top(shown: Shown) -> u8
+    ensures { result ≡ state_top shown }
+{
+    match shown {
+        Shown::Nothing => 100,
+        Shown::Initialising => 85,
+        Shown::Stopped => 65,
+        Shown::PreOperational => 40,
+        Shown::Operational => 0,
+        Shown::Several => 20,
+    }
+}
+
+fn state_class(shown: Shown) -> &'static str
+    ensures { result.now ≡ state_class shown }
+{
+    match shown {
+        Shown::Nothing => "",
+        Shown::Initialising => "initialising",
+        Shown::Stopped => "stopped",
+        Shown::PreOperational => "pre-operational",
+        Shown::Operational => "operational",
+        Shown::Several => "several",
+    }
+}
+
+#[tactic(auto, unfolding(crate::specs::Picture::state_area))]
+fn push_area(
+    alloc: Global,
+    text: &mut String,
+    shown: Shown,
+    from: usize,
+    to: usize,
+) -> Result<(), AllocError>
+    ensures { OnOk result (string_bytes text.new
+        ≡ string_bytes text.old ++ state_area shown from to) }
+{
+    let class = state_class(shown);
+    push_pieces(
+        alloc,
+        text,
+        &[
+            Piece::Markup("<rect class=\""),
+            Piece::Markup(class),
+            Piece::Markup("\" x=\""),
+            Piece::Number(from as u64),
+            Piece::Markup("\" y=\""),
+            Piece::Number(u64::from(state_top(shown))),
+            Piece::Markup("\" width=\""),
+            Piece::Number(to.saturating_sub(from) as u64),
+            Piece::Markup("\" height=\"100\"><title>"),
+            Piece::Markup(class),
+            Piece::Markup("</title></rect>\n"),
+        ],
+    )
+}
+
+fn push_any_area(
+    alloc: Global,
+    text: &mut String,
+    shown: Shown,
+    from: usize,
+    to: usize,
+) -> Result<(), AllocError>
+    ensures { OnOk result (string_bytes text.new
+        ≡ string_bytes text.old ++ any_area shown from to) }
+{
+    if state_top(shown) == 100 {
+        Ok(())
+    } else {
+        push_area(alloc, text, shown, from, to)
+    }
+}
+
+fn push_areas(alloc: Global, text: &mut String, bins: &[Bin]) -> Result<(), AllocError>
+    ensures { OnOk result (string_bytes text.new
+        ≡ string_bytes text.old ++ areas Shown.Nothing 0 0 bins.now) }
+{
+    let mut shown = Shown::Nothing;
+    let mut from = 0;
+    for (at, bin) in bins.iter().enumerate() {
+        let next = next_shown(shown, bin);
+        if state_top(next) != state_top(shown) {
+            push_any_area(alloc, text, shown, from, at)?;
+            shown = next;
+            from = at;
+        }
+    }
+    push_any_area(alloc, text, shown, from, bins.len())
+}
+
+/// Appends the lane.
+#[tactic(auto, unfolding(crate::specs::Picture::states_lane))]
+pub(crate) fn push_states(alloc: Global, text: &mut String, bins: &[Bin]) -> Result<(), AllocError>
+    ensures { OnOk result
+        (string_bytes text.new ≡ string_bytes text.old ++ states_lane bins.now) }
+{
+    begin_lane(alloc, text, "NMT state", bins.len())?;
+    push_areas(alloc, text, bins)?;
+    end_lane(text)
+}

@@ -1,0 +1,92 @@
+//! The line of a choice, and the last line with their number.
+
+ghost use Rattle.std.specs.Prelude.{◌≡◌, ◌++◌, OnOk, string_bytes};
+ghost use Rattle.conode_compare_text.specs.ChoiceTexts.{choice_line, choice_text, choices_summary};
+
+use crate::parts::{push_key, push_key_number, push_number, push_words};
+use crate::tally::{Tally, push_tally};
+use conode_compare_notes::Choice;
+use std::alloc::AllocError;
+
+// the name of the kind, and what was chosen
+#[tactic(auto, unfolding(crate::specs::ChoiceTexts::choice_text))]
+fn push_choice(text: &mut String, choice: Choice) -> Result<(), AllocError>
+    ensures { OnOk result (string_bytes text.new ≡ string_bytes text.old ++ choice_text choice) }
+{
+    match choice {
+        Choice::Segments(key, bytes) => push_key_number(
+            text,
+            "choice-segments: ",
+            key,
+            " has ",
+            bytes,
+            " bytes, and is uploaded in segments",
+        ),
+        Choice::NoSize(key) => {
+            push_key(text, "choice-size: ", key, " is uploaded without its size")
+        }
+        Choice::ShortSegment(key, bytes) => push_key_number(
+            text,
+            "choice-short-segment: ",
+            key,
+            " is uploaded, a segment before the last has ",
+            u64::from(bytes),
+            " bytes",
+        ),
+        Choice::NoCrc(key) => push_key(
+            text,
+            "choice-crc: ",
+            key,
+            " is transferred in blocks without a CRC",
+        ),
+        Choice::BlockSize(key, segments) => push_key_number(
+            text,
+            "choice-block-size: ",
+            key,
+            " is downloaded in sub-blocks of ",
+            u64::from(segments),
+            " segments",
+        ),
+        Choice::Timeout(key) => push_key(
+            text,
+            "choice-timeout: the transfer of ",
+            key,
+            " is aborted since it timed out",
+        ),
+    }
+}
+
+/// Sets a text to the line of a choice, with its line feed: the name of the recording, and the
+/// number of its line. On an `Err` memory ran out, and a part of it may be there.
+#[tactic(auto, unfolding(crate::specs::ChoiceTexts::choice_line))]
+pub fn set_choice_line(
+    text: &mut String,
+    recording: &str,
+    line: u64,
+    choice: Choice,
+) -> Result<(), AllocError>
+    ensures { OnOk result (string_bytes text.new ≡ choice_line recording.now line choice) }
+{
+    text.clear();
+    push_words(text, recording)?;
+    push_number(text, ":", line, ": ")?;
+    push_choice(text, choice)?;
+    text.push('\n')
+}
+
+/// Sets a text to the line that ends a comparison with the number of choices, with its line feed.
+/// On an `Err` memory ran out, and a part of it may be there.
+#[tactic(auto, unfolding(crate::specs::ChoiceTexts::choices_summary))]
+pub fn set_choices_summary(
+    text: &mut String,
+    node: u8,
+    tally: Tally,
+    choices: u64,
+) -> Result<(), AllocError>
+    ensures { OnOk result (string_bytes text.new ≡ choices_summary node tally choices) }
+{
+    text.clear();
+    push_tally(text, node, tally)?;
+    push_number(text, ", ", choices, " choices")?;
+    text.push('\n')
+}

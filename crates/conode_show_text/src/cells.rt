@@ -1,0 +1,86 @@
+//! A line by its cells. Each function appends to a text, or sets a line. `Err`: out of memory; a part
+//! may be there.
+
+ghost use Rattle.std.specs.Prelude.{◌≡◌, ◌++◌, map, OnOk, string_bytes};
+ghost use Rattle.conode_show_text.specs.Cells.{cell_part, cell_text};
+ghost use Rattle.conode_show_text.specs.Layout.{line_of};
+
+use crate::entries::push_type;
+use crate::format::Format;
+use crate::layout::{begin, place};
+use crate::meaning::{Meaning, push_said};
+use crate::numbers::push_words;
+use crate::pdos::push_pdo_name;
+use crate::service::{Service, push_service_name};
+use crate::texts::push_property;
+use crate::values::{push_default, push_limits};
+use co_sheet_text::TextSection;
+use co_text::push_u16;
+use co_value::Key;
+use std::alloc::AllocError;
+
+/// What a cell has.
+#[derive(Clone, Copy)]
+pub(crate) enum Content<'p> {
+    Words(&'static str),
+    Key(Key),
+    Index(u16),
+    /// A text of the sheet, nothing if the section has none.
+    Property(&'static [u8], &'p TextSection<'p, 'p>),
+    /// The type of an object or an entry.
+    TypeOf(&'p TextSection<'p, 'p>),
+    /// The value of a device configuration file, and the default.
+    Default(&'p TextSection<'p, 'p>),
+    Limits(&'p TextSection<'p, 'p>),
+    /// The name of a PDO, by the index of its communication parameter.
+    Pdo(u16),
+    Service(Service),
+    /// The value of an entry in words.
+    Said(Meaning, &'p TextSection<'p, 'p>),
+}
+
+/// A cell of a line: the column where it begins, and what it has.
+#[derive(Clone, Copy)]
+pub(crate) struct Cell<'p>(pub(crate) usize, pub(crate) Content<'p>);
+
+fn push_content(
+    text: &mut String,
+    node: Option<u8>,
+    content: &Content<'_>,
+) -> Result<(), AllocError>
+    ensures { OnOk result
+        (string_bytes text.new ≡ string_bytes text.old ++ cell_text node content.now) }
+{
+    match *content {
+        Content::Words(words) => push_words(text, words),
+        Content::Key(key) => push_words(text, key.text().as_str()),
+        Content::Index(index) => push_u16(text, index),
+        Content::Property(name, section) => push_property(text, section, name),
+        Content::TypeOf(section) => push_type(text, section),
+        Content::Default(section) => push_default(text, node, section),
+        Content::Limits(section) => push_limits(text, section),
+        Content::Pdo(index) => push_pdo_name(text, index),
+        Content::Service(service) => push_service_name(text, service),
+        Content::Said(meaning, section) => push_said(text, meaning, node, section),
+    }
+}
+
+/// Sets a line; `part` is for each of its cells in turn.
+pub(crate) fn set_line(
+    line: &mut Vec<u8>,
+    part: &mut String,
+    format: Format,
+    node: Option<u8>,
+    cells: &[Cell<'_>],
+) -> Result<(), AllocError>
+    ensures { OnOk result (line.new.items ≡ line_of format (map (cell_part node) cells.now)) }
+{
+    begin(line, format)?;
+    for cell in cells {
+        part.clear();
+        push_content(part, node, &cell.1)?;
+        place(line, format, cell.0, part.as_bytes())?;
+    }
+    line.push(b'\n')?;
+    Ok(())
+}

@@ -1,0 +1,42 @@
+//! The producer heartbeat time of a data sheet.
+
+use co_sheet::{EntryRow, Preset, Sheet};
+use conode_sheet_words::SheetWord;
+use conode_stats_text::SheetTime;
+
+/// The index of the producer heartbeat time (CiA 301, 7.5.2.20).
+const PRODUCER_HEARTBEAT: u16 = 0x1017;
+
+// the number that a sheet has for an entry, if it has 16 bits
+fn number_in(entry: &EntryRow<'_>) -> Option<u16> {
+    match entry.default {
+        Preset::Number(number) if 0 <= number && number < 0x1_0000 => Some(number as u16),
+        _ => None,
+    }
+}
+
+// the number that a sheet has for the producer heartbeat time, if it has one
+fn time_in(sheet: &Sheet<'_>) -> Option<u16> {
+    for entry in sheet.entries() {
+        if entry.key.index == PRODUCER_HEARTBEAT && entry.key.sub == 0 {
+            return number_in(entry);
+        }
+    }
+    None
+}
+
+/// The producer heartbeat time of a sheet, if it has one: ParameterValue, or else DefaultValue. It
+/// is for the node and the interface that a word names; without a node for that of the sheet, a
+/// device configuration file; else for each.
+pub(crate) fn sheet_time<'a>(sheet: &Sheet<'_>, word: &SheetWord<'a>) -> Option<SheetTime<'a>> {
+    let time = time_in(sheet)?;
+    let node = match word.node {
+        Some(node) => Some(node),
+        None => sheet.node_id(),
+    };
+    Some(SheetTime {
+        interface: word.interface,
+        node,
+        time,
+    })
+}

@@ -1,0 +1,101 @@
+-- How often a node should send a heartbeat, and which waits were too long. Times are in
+-- microseconds, producer heartbeat times in milliseconds.
+use Rattle.std.specs.Prelude.{ℕ, ◌+◌, ◌-◌, ◌*◌, ◌/◌, ◌^◌, Bool, false, nat_le, nat_lt, min, fold, if◌then◌else◌, List, [], ◌++◌, codes, decimal, length, Option, Some, None}
+use Rattle.std.specs.List.{count_by}
+use Rattle.conode_stats_counts.specs.declared.heartbeats.Heartbeats.{Heartbeats}
+use Rattle.conode_stats_counts.specs.Heartbeats.{is_late}
+use Rattle.conode_stats_text.specs.declared.pace.Pace.{Pace}
+use Rattle.conode_stats_text.specs.declared.pace.Pace.TheVariants.{Written, Sheet, Median}
+use Rattle.conode_stats_text.specs.Cells.{seconds, thousandths}
+use Rattle.conode_stats_text.specs.StatsLines.{node_front}
+
+-- ---- the median
+
+-- whether half of the gaps, or more, are no longer than this one
+abbrev pub is_half : List ℕ → ℕ → Bool
+is_half gaps gap = nat_le (length gaps) (2 * count_by (λ other. nat_le other gap) gaps)
+
+-- the shorter one, if the new one passes
+abbrev pub shorter_if : List ℕ → ℕ → ℕ → ℕ
+shorter_if gaps least gap = if is_half gaps gap then min least gap else least
+
+-- the median: the shortest gap such that half of the gaps, or more, are no longer
+abbrev pub median_of : List ℕ → ℕ
+median_of gaps = fold (shorter_if gaps) (2 ^ 64 - 1) gaps
+
+-- of fewer than two gaps there is none
+unfoldable pub median : List ℕ → Option ℕ
+median gaps = if nat_lt (length gaps) 2 then None else Some (median_of gaps)
+
+-- ---- how often
+
+abbrev pub median_pace : Option ℕ → Option Pace
+median_pace None = None
+median_pace (Some gap) = Some (Median gap)
+
+-- while no download shows the time: that of the sheet, or else the median of the first gaps
+abbrev pub usual_pace : Option ℕ → Heartbeats → Option Pace
+usual_pace (Some time) heartbeats = Some (Sheet time)
+usual_pace None heartbeats = median_pace (median heartbeats.first)
+
+-- at the end
+abbrev pub pace_by : Option ℕ → Option ℕ → Heartbeats → Option Pace
+pace_by (Some time) sheet heartbeats = Some (Written time)
+pace_by None sheet heartbeats = usual_pace sheet heartbeats
+
+abbrev pub pace_of : Option ℕ → Heartbeats → Option Pace
+pace_of sheet heartbeats = pace_by heartbeats.written sheet heartbeats
+
+-- whether a wait is more than 1.5 times as long
+abbrev pub is_long : Pace → ℕ → Bool
+is_long (Written time) gap = is_late time gap
+is_long (Sheet time) gap = is_late time gap
+is_long (Median median) gap = nat_lt (median + median / 2) gap
+
+-- ---- the lines
+
+unfoldable pub time_words : List ℕ → ℕ → List ℕ
+time_words of time = of ++ decimal time ++ codes " ms\n"
+
+unfoldable pub median_words : ℕ → List ℕ
+median_words median = codes ", median " ++ thousandths median ++ codes " ms\n"
+
+abbrev pub pace_words : Pace → List ℕ
+pace_words (Written time) = time_words (codes ", 1017h as downloaded ") time
+pace_words (Sheet time) = time_words (codes ", 1017h of the sheet ") time
+pace_words (Median median) = median_words median
+
+unfoldable pub silent_line : List ℕ → ℕ → ℕ → Pace → List ℕ
+silent_line interface node since pace =
+    node_front interface node ++ codes " silent since " ++ seconds since ++ pace_words pace
+
+unfoldable pub lost_line : List ℕ → ℕ → ℕ → Pace → List ℕ
+lost_line interface node gap pace =
+    node_front interface node ++ codes " heartbeats up to " ++ thousandths gap ++ codes " ms apart" ++ pace_words pace
+
+unfoldable pub late_line : List ℕ → ℕ → Heartbeats → List ℕ
+late_line interface node heartbeats =
+    node_front interface node ++ codes " heartbeats later than 1.5 times 1017h as downloaded: " ++ decimal heartbeats.late
+    ++ codes ", up to " ++ thousandths heartbeats.longest_late ++ codes " ms\n"
+
+-- ---- what looks wrong
+
+-- a node of which no heartbeat is known to be awaited isn't silent
+abbrev pub silent_in : List ℕ → ℕ → ℕ → Option Pace → Option ℕ → List ℕ
+silent_in interface end node (Some pace) (Some since) =
+    if is_long pace (end - since) then silent_line interface node since pace else []
+silent_in interface end node _ _ = []
+
+abbrev pub lost_in : List ℕ → ℕ → Option Pace → ℕ → List ℕ
+lost_in interface node (Some pace) gap = if is_long pace gap then lost_line interface node gap pace else []
+lost_in interface node None gap = []
+
+abbrev pub late_in : List ℕ → ℕ → Heartbeats → List ℕ
+late_in interface node heartbeats = if nat_lt 0 heartbeats.late then late_line interface node heartbeats else []
+
+-- what looks wrong with the heartbeats of a node, if the bus's last frame has this stamp, and a
+-- sheet this time
+unfoldable pub wrong_in : List ℕ → ℕ → Option ℕ → ℕ → Heartbeats → List ℕ
+wrong_in interface end sheet node heartbeats =
+    silent_in interface end node (pace_of sheet heartbeats) heartbeats.since
+    ++ late_in interface node heartbeats ++ lost_in interface node (usual_pace sheet heartbeats) heartbeats.longest
