@@ -1,5 +1,5 @@
 -- The lines around a difference that is listed are those of the recording from the third before it to the third after it.
-use Rattle.std.proofs.Common.{◌≡◌, ℕ, zero, suc, ◌+◌, ◌-◌, ◌^◌, ◌<◌, ◌≤◌, min, Bool, true, false, ltb, List, [], ◌∷◌, ◌++◌, length, take, drop, Option, Some, None, refl, sym, ap, ap₂, subst, ◌∙◌, arith, append_assoc, append-nil}
+use Rattle.std.proofs.Common.{◌≡◌, ℕ, zero, suc, ◌+◌, ◌-◌, ◌^◌, ◌<◌, ◌≤◌, min, Bool, true, false, ltb, List, [], ◌∷◌, ◌++◌, length, take, drop, refl, sym, ap, ap₂, subst, ◌∙◌, arith, append_assoc, append-nil}
 use Rattle.std.specs.Prelude.{position, nat_lt, if◌then◌else◌, ⊤}
 use Rattle.std.specs.List.{Contains, position_or_len, slice_index_or}
 use Rattle.std.specs.Option.{option_map_or}
@@ -12,8 +12,8 @@ use Rattle.conode_compare_report.specs.Contexts.{KeptLine, around, greatest_arou
 use Rattle.conode_compare_report.specs.Counts.{one_more}
 use Rattle.conode_compare_report.specs.Kinds.{kind_of}
 use Rattle.conode_compare_report.specs.Occasions.{counts_found}
-use Rattle.conode_compare_report.specs.Histories.{Happening, Came, WasBad, Framed, Found, happened, kept_of, line_in, lines_of, near, numbered_from}
-use Rattle.conode_compare_report.specs.Reports.{if_listed, line_kept, line_of, listed_in, most_listed, newest_with, noted_at, nothing_kept, with_bad_line, with_finding, with_frame, with_line}
+use Rattle.conode_compare_report.specs.Histories.{Happening, Came, WasBad, Framed, Passed, Found, happened, kept_of, line_in, lines_of, near, numbered_from}
+use Rattle.conode_compare_report.specs.Reports.{if_listed, line_kept, line_of, listed_in, most_listed, newest_with, noted_at, nothing_kept, with_bad_line, with_finding, with_frame, with_line, with_passed}
 use Rattle.conode_compare_report.specs.Views.{Kept}
 use Rattle.conode_explain_values.specs.declared.value_type.ValueType.{ValueType}
 use Rattle.conode_compare_rules.specs.declared.finding.Finding.{Finding}
@@ -466,6 +466,7 @@ step lines kept (Came bytes) few h =
 step lines kept WasBad few h = subst (λ (all : List (List ℕ)). Stands (numbered_from 1 all) (with_bad_line kept)) (sym (append-nil lines)) h
 step lines kept (Framed rows micros kind before state found) few h =
     subst (λ (all : List (List ℕ)). Stands (numbered_from 1 all) (with_frame rows kept micros kind before state found)) (sym (append-nil lines)) h
+step lines kept (Passed kind) few h = subst (λ (all : List (List ℕ)). Stands (numbered_from 1 all) (with_passed kept kind)) (sym (append-nil lines)) h
 step lines kept (Found micros value_type finding) few h =
     let size : length (numbered_from 1 lines) ≡ length lines = numbered_length 1 lines in
     subst (λ (all : List (List ℕ)). Stands (numbered_from 1 all) (with_finding kept micros value_type finding)) (sym (append-nil lines))

@@ -1,5 +1,5 @@
 -- What happens in a comparison, and what is kept of it: the law about the lines around differences.
-use Rattle.std.specs.Prelude.{◌≡◌, ℕ, ◌+◌, ◌-◌, ◌^◌, ◌<◌, List, [], ◌∷◌, ◌++◌, drop, length, take}
+use Rattle.std.specs.Prelude.{ℕ, ◌+◌, ◌-◌, List, [], ◌∷◌, ◌++◌, drop, take}
 use Rattle.co_sheet.specs.Content.{Row}
 use Rattle.conode_explain_values.specs.declared.value_type.ValueType.{ValueType}
 use Rattle.conode_compare_rules.specs.declared.finding.Finding.{Finding}
@@ -7,21 +7,25 @@ use Rattle.conode_compare_rules.specs.declared.finding.NmtState.{NmtState}
 use Rattle.conode_compare_rules.specs.declared.kind.FrameKind.{FrameKind}
 use Rattle.conode_compare_rules.specs.declared.verdict.Findings.{Findings}
 use Rattle.conode_compare_report.specs.declared.before.Before.{Before}
+use Rattle.conode_compare_report.specs.declared.kind.Kind.{Kind}
 use Rattle.conode_compare_report.specs.Contexts.{KeptLine}
-use Rattle.conode_compare_report.specs.Reports.{line_of, nothing_kept, with_bad_line, with_finding, with_frame, with_line}
+use Rattle.conode_compare_report.specs.Reports.{line_of, nothing_kept, with_bad_line, with_finding, with_frame, with_line, with_passed}
 use Rattle.conode_compare_report.specs.Views.{Kept}
 
--- a line comes, and may be bad; a frame is compared; a difference is found, as the calls say it
+-- a line comes, and may be bad; a frame is compared, or could have shown a difference of a kind; a
+-- difference is found; as the calls say it
 pub data Happening : Type 0 where
   Came : List ℕ → Happening
   WasBad : Happening
   Framed : List Row → ℕ → FrameKind → Before → NmtState → Findings → Happening
+  Passed : Kind → Happening
   Found : ℕ → ValueType → Finding → Happening
 
 abbrev pub happened : Kept → Happening → Kept
 happened kept (Came line) = with_line kept line
 happened kept WasBad = with_bad_line kept
 happened kept (Framed rows micros kind before state found) = with_frame rows kept micros kind before state found
+happened kept (Passed kind) = with_passed kept kind
 happened kept (Found micros value_type finding) = with_finding kept micros value_type finding
 
 -- what is kept after all that happened, the newest first

@@ -54,7 +54,7 @@ pub(crate) fn around<'r>(context: &'r [ContextLine], noted: &Noted) -> &'r [Cont
     ensures { result.now ≡ around context.now noted.now }
 {
     let first = noted.first.min(context.len());
-    let rest = &context[first..];
+    let (_, rest) = context.split_at(first);
     let greatest = noted.line.saturating_add(3);
     match place_past(rest, greatest) {
         Some(count) => &rest[..count],

@@ -1,11 +1,13 @@
 //! What is kept of a comparison.
 
-ghost use Rattle.std.specs.Prelude.{◌≡◌, ◌++◌, true, map, OnOk, IfOk};
-ghost use Rattle.std.specs.List.{AllPairs};
+ghost use Rattle.std.specs.Prelude.{◌≡◌, ℕ, ◌++◌, ◌-◌, ◌^◌, ◌<◌, true, map, length, List, OnOk, IfOk};
+ghost use Rattle.std.specs.List.{AllPairs, Contains};
+ghost use Rattle.co_sheet.specs.Content.{Row};
 ghost use Rattle.co_sheet.specs.SheetViews.{row_view};
 ghost use Rattle.co_value.specs.Keys.{is_key_before};
 ghost use Rattle.conode_compare_report.specs.Befores.{before_at};
 ghost use Rattle.conode_compare_report.specs.Contexts.{around};
+ghost use Rattle.conode_compare_report.specs.Histories.{Happening, kept_of, lines_of, near};
 ghost use Rattle.conode_compare_report.specs.Reports.{
   begin_with,
   channel_after,
@@ -288,11 +290,23 @@ impl Report {
         Ok(())
     }
 
-    /// The lines around a difference that is listed: up to three before it, its own, and up to
-    /// three after it.
-    pub fn around(&self, noted: &Noted) -> &[ContextLine]
+    fn kept_around(&self, noted: &Noted) -> &[ContextLine]
         ensures { result.now ≡ around self.now.context noted.now }
     {
         around(self.context.as_slice(), noted)
+    }
+
+    /// The lines around a difference that is listed: up to three before it, its own, and up to
+    /// three after it.
+    pub fn around(&self, noted: &Noted) -> &[ContextLine]
+        ensures kept { result.now ≡ around self.now.context noted.now }
+        // Holds after all that happened, of each difference that is listed: of all lines that came
+        // these are those from the third before it to the third after it.
+        ensures lines { (rows : List Row) → (node : ℕ) → (happenings : List Happening)
+            → self.now ≡ kept_of rows node happenings
+            → length (lines_of happenings) < 2 ^ 64 - 4 → Contains self.now.noted noted.now
+            → result.now ≡ near noted.now.line (lines_of happenings) }
+    {
+        self.kept_around(noted)
     }
 }
