@@ -143,6 +143,12 @@ fn push_suite(
     push_tag(alloc, text, about.recording, numbers, span_of(report))
 }
 
+fn push_words(text: &mut String, words: &str) -> Result<(), AllocError>
+    ensures { OnOk result (string_bytes text.new ≡ string_bytes text.old ++ words.now) }
+{
+    text.push_str(words)
+}
+
 #[tactic(auto, unfolding(crate::specs::JunitDocument::property_markup))]
 fn push_property(
     alloc: Global,
@@ -191,12 +197,12 @@ fn push_properties(
     ensures { OnOk result (string_bytes text.new
         ≡ string_bytes text.old ++ properties_markup (about_view about.now)) }
 {
-    text.push_str("<properties>\n")?;
+    push_words(text, "<properties>\n")?;
     push_property(alloc, text, "version", about.version)?;
     push_property(alloc, text, "sheet", about.sheet)?;
     push_property(alloc, text, "recording", about.recording)?;
     push_node(alloc, text, about.node)?;
-    text.push_str("</properties>\n")
+    push_words(text, "</properties>\n")
 }
 
 fn push_cases(
@@ -224,12 +230,12 @@ fn push_document(
     ensures { OnOk result (string_bytes text.new
         ≡ string_bytes text.old ++ junit_document (about_view about.now) report.now) }
 {
-    text.push_str("<?xml version=\"1.0\" encoding=\"UTF-8\"?>\n<testsuites>\n")?;
+    push_words(text, "<?xml version=\"1.0\" encoding=\"UTF-8\"?>\n<testsuites>\n")?;
     push_suite(alloc, text, about, report)?;
     push_properties(alloc, text, about)?;
     push_cases(alloc, text, about.recording, report)?;
     push_outcome(alloc, text, about)?;
-    text.push_str("</testsuite>\n</testsuites>\n")
+    push_words(text, "</testsuite>\n</testsuites>\n")
 }
 
 /// The comparison as a document of JUnit: a test case a kind of difference, with the recording's span
