@@ -13,7 +13,7 @@ use Rattle.conode_compare_text.specs.Tallies.{no_frames}
 use Rattle.conode_compare_report.specs.Reports.{nothing_kept}
 use Rattle.conode_compare_report.specs.declared.outcome.Outcome.TheVariants.{NoDifference, Differences, NoFrame, SeveralInterfaces}
 use Rattle.conode_compare_report.specs.Outcomes.{of_tally, outcome_name, outcome_of}
-use Rattle.conode_compare_json.specs.CoverageTokens.{abort_tokens, aborts_member, coverage_member, entries_member, entry_tokens, name_member, served_tokens, services_member, states_member, type_tokens, types_member}
+use Rattle.conode_compare_json.specs.CoverageTokens.{abort_tokens, aborts_member, coverage_member, covered_members, entries_member, entry_tokens, key_members, name_member, served_tokens, services_member, states_member, type_tokens, types_member}
 use Rattle.conode_compare_json.specs.NotedTokens.{context_member, context_tokens, findings_member, noted_tokens, said_members}
 use Rattle.conode_compare_json.specs.JsonDocument.{compared_members, device_member, ended_members, document_tokens, frames_member, head_members, json_document, kind_tokens, kinds_member, limits_member, recording_members}
 use Rattle.conode_compare_json.proofs.Reported.{about, report}
@@ -63,5 +63,5 @@ document : json_document about report
     ++ codes "\"coverage\":{\"entries\":[{\"index\":4119,\"subIndex\":0,\"name\":\"<Heartbeat>\",\"read\":false,\"written\":true,\"refused\":false}],"
     ++ codes "\"services\":[{\"name\":\"boot-up\",\"count\":1}],\"states\":{\"initialising\":false,\"preOperational\":true,\"operational\":false,\"stopped\":false},"
     ++ codes "\"tpdoTypes\":[{\"type\":254,\"count\":7}],\"abortCodes\":[{\"code\":\"06020000\",\"count\":2}]}}\n"
-unfolding json_document document_tokens head_members compared_members ended_members device_member limits_member frames_member recording_members findings_member noted_tokens said_members context_member context_tokens kinds_member kind_tokens coverage_member entries_member entry_tokens services_member served_tokens states_member types_member type_tokens aborts_member abort_tokens finding_text timed_number millis_text array_begin object_begin text_member number_member flag_member characters_of windows_1252 is_utf8 chars encode digits_text digits print_from escape_byte
+unfolding json_document document_tokens head_members compared_members ended_members device_member limits_member frames_member recording_members findings_member noted_tokens said_members context_member context_tokens kinds_member kind_tokens coverage_member entries_member entry_tokens key_members covered_members services_member served_tokens states_member types_member type_tokens aborts_member abort_tokens finding_text timed_number millis_text array_begin object_begin text_member number_member flag_member characters_of windows_1252 is_utf8 chars encode digits_text digits print_from escape_byte
 document = refl

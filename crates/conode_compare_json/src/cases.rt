@@ -144,12 +144,12 @@ fn differences_word(count: u64) -> &'static str
 
 // the tag that begins a failure
 #[tactic(auto, unfolding(crate::specs::JunitCases::failure_begin))]
-fn push_failure(
+fn push_failure<'t>(
     alloc: Global,
     text: &mut String,
-    kind: &str,
+    kind: &'t str,
     found: u64,
-    rule: &str,
+    rule: &'t str,
 ) -> Result<(), AllocError>
     ensures { OnOk result (string_bytes text.new
         ≡ string_bytes text.old ++ failure_begin kind.now found rule.now) }

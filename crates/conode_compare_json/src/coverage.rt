@@ -8,8 +8,10 @@ ghost use Rattle.conode_compare_json.specs.CoverageTokens.{
   abort_tokens,
   aborts_member,
   coverage_member,
+  covered_members,
   entries_member,
   entry_tokens,
+  key_members,
   name_member,
   served_tokens,
   services_member,
@@ -20,6 +22,7 @@ ghost use Rattle.conode_compare_json.specs.CoverageTokens.{
 
 use co_sheet::EntryRow;
 use co_text::push_u32;
+use co_value::Key;
 use conode_compare_report::{Coverage, Covered, Numbered, Served, States};
 use conode_json::JsonWriter;
 use std::alloc::{AllocError, Global};
@@ -38,6 +41,23 @@ fn put_name(
     }
 }
 
+#[tactic(auto, unfolding(crate::specs::CoverageTokens::key_members))]
+fn put_key(alloc: Global, writer: &mut JsonWriter, key: Key) -> Result<(), AllocError>
+    ensures { OnOk result (writer.new ≡ writer.old ++ key_members key) }
+{
+    writer.put_number(alloc, "index", i128::from(key.index))?;
+    writer.put_number(alloc, "subIndex", i128::from(key.sub))
+}
+
+#[tactic(auto, unfolding(crate::specs::CoverageTokens::covered_members))]
+fn put_covered(writer: &mut JsonWriter, covered: Covered) -> Result<(), AllocError>
+    ensures { OnOk result (writer.new ≡ writer.old ++ covered_members covered) }
+{
+    writer.put_flag("read", covered.read)?;
+    writer.put_flag("written", covered.written)?;
+    writer.put_flag("refused", covered.refused)
+}
+
 #[tactic(auto, unfolding(crate::specs::CoverageTokens::entry_tokens))]
 fn put_entry(
     alloc: Global,
@@ -48,12 +68,9 @@ fn put_entry(
     ensures { OnOk result (writer.new ≡ writer.old ++ entry_tokens (row_view row.now, covered)) }
 {
     writer.begin_object()?;
-    writer.put_number(alloc, "index", i128::from(row.key.index))?;
-    writer.put_number(alloc, "subIndex", i128::from(row.key.sub))?;
+    put_key(alloc, writer, row.key)?;
     put_name(alloc, writer, row.name)?;
-    writer.put_flag("read", covered.read)?;
-    writer.put_flag("written", covered.written)?;
-    writer.put_flag("refused", covered.refused)?;
+    put_covered(writer, covered)?;
     writer.end_object()
 }
 

@@ -88,7 +88,7 @@ fn span_of(report: &Report) -> u64
 fn push_tag(
     alloc: Global,
     text: &mut String,
-    name: &str,
+    name: &[u8],
     numbers: Numbers,
     micros: u64,
 ) -> Result<(), AllocError>
@@ -100,7 +100,7 @@ fn push_tag(
         text,
         &[
             Piece::Markup("<testsuite name=\""),
-            Piece::Text(name.as_bytes()),
+            Piece::Text(name),
             Piece::Markup("\" tests=\""),
             Piece::Number(numbers.tests),
             Piece::Markup("\" failures=\""),
@@ -140,7 +140,8 @@ fn push_suite(
         ≡ string_bytes text.old ++ suite_begin (about_view about.now) report.now) }
 {
     let numbers = numbers_of(about, report);
-    push_tag(alloc, text, about.recording, numbers, span_of(report))
+    let name = about.recording.as_bytes();
+    push_tag(alloc, text, name, numbers, span_of(report))
 }
 
 fn push_words(text: &mut String, words: &str) -> Result<(), AllocError>
@@ -150,11 +151,11 @@ fn push_words(text: &mut String, words: &str) -> Result<(), AllocError>
 }
 
 #[tactic(auto, unfolding(crate::specs::JunitDocument::property_markup))]
-fn push_property(
+fn push_property<'t>(
     alloc: Global,
     text: &mut String,
-    name: &str,
-    value: &str,
+    name: &'t str,
+    value: &'t str,
 ) -> Result<(), AllocError>
     ensures { OnOk result (string_bytes text.new
         ≡ string_bytes text.old ++ property_markup name.now value.now) }
