@@ -1,5 +1,5 @@
 -- What is kept of small recordings, computed from the definitions.
-use Rattle.std.proofs.Common.{◌≡◌, ℕ, Bool, true, false, List, [], ◌∷◌, ◌++◌, map, length, Option, Some, None, refl, codes}
+use Rattle.std.proofs.Common.{◌≡◌, ℕ, zero, suc, ◌+◌, ◌-◌, ◌/◌, ◌^◌, Bool, true, false, List, [], ◌∷◌, ◌++◌, map, length, Option, Some, None, refl, codes}
 use Rattle.std.specs.Prelude.{nat_lt, not, ◌==◌, filter, replicate, pos, position}
 use Rattle.co_frame.specs.FrameContent.{FrameContent}
 use Rattle.co_frame.specs.declared.nmt.NmtService.TheVariants as nmt
@@ -58,7 +58,7 @@ use Rattle.conode_compare_report.specs.Views.{Kept}
 
 -- ---- kinds and services by their places
 
-from : ℕ → ℕ → List ℕ
+abbrev from : ℕ → ℕ → List ℕ
 from start zero = []
 from start (suc more) = start ∷ from (start + 1) more
 
@@ -71,20 +71,20 @@ services_in_order = refl
 -- ---- spans of time
 
 -- the first frame begins them; one with an older stamp is in the first span
-beat : Bin → Bin
+abbrev beat : Bin → Bin
 beat bin = bin_with Operational (Some Heartbeats) 1 bin
 
-one_beat : Bin
+abbrev one_beat : Bin
 one_beat = record empty_bin { states = record no_states { operational = true }; heartbeats = 1; differences = 1 }
 
-two_beats : Bin
+abbrev two_beats : Bin
 two_beats = record one_beat { heartbeats = 2; differences = 2 }
 
 begins : lanes_with 5000000 beat no_lanes ≡ record { begin = 5000000; width = 1000; bins = one_beat ∷ [] }
 unfolding lanes_with widened bin_with
 begins = refl
 
-one_lane : LanesView
+abbrev one_lane : LanesView
 one_lane = record { begin = 5000000; width = 1000; bins = one_beat ∷ [] }
 
 in_the_same : lanes_with 5000999 beat one_lane ≡ record one_lane { bins = two_beats ∷ [] }
@@ -131,11 +131,11 @@ up_to_the_most = refl
 
 -- ---- lines around differences
 
-empty_report : Kept
+abbrev empty_report : Kept
 empty_report = nothing_kept [] 5
 
 -- `a`, `b`, `c`, .. one after another
-with_lines : Kept → List ℕ → Kept
+abbrev with_lines : Kept → List ℕ → Kept
 with_lines kept [] = kept
 with_lines kept (letter ∷ more) = with_lines (with_line kept (letter ∷ [])) more
 
@@ -145,14 +145,14 @@ late = finding.HeartbeatLate 1020001 1000
 abbrev plain : ValueType
 plain = Plain Unsigned32
 
-with_late : Kept → Kept
+abbrev with_late : Kept → Kept
 with_late kept = with_finding kept 7 plain late
 
-letters : List KeptLine → List (ℕ × List ℕ)
-letters lines = map (λ line. (line.number, line.bytes)) lines
+abbrev letters : List KeptLine → List (ℕ × List ℕ)
+letters lines = map {B = ℕ × List ℕ} (λ line. (line.number, line.bytes)) lines
 
 -- one in the sixth of eleven lines
-sixth : Kept
+abbrev sixth : Kept
 sixth = with_lines (with_late (with_lines empty_report (codes "abcdef"))) (codes "ghijk")
 
 sixth_is_listed : sixth.noted ≡ record { line = 6; micros = 7; finding = late; value_type = plain; first = 0 } ∷ []
@@ -165,10 +165,10 @@ unfolding with_line with_finding counts_found nothing_kept no_coverage rpdos_of
 around_the_sixth = refl
 
 -- in the second line and twice in the fourth: a line is kept once
-close_ones : Kept
+abbrev close_ones : Kept
 close_ones = with_lines (with_late (with_late (with_lines (with_late (with_lines empty_report (codes "ab"))) (codes "cd")))) (codes "efghij")
 
-close_are_listed : map (λ (noted : Noted). (noted.line, noted.first)) close_ones.noted ≡ (2, 0) ∷ (4, 0) ∷ (4, 0) ∷ []
+close_are_listed : map {B = ℕ × ℕ} (λ (noted : Noted). (noted.line, noted.first)) close_ones.noted ≡ (2, 0) ∷ (4, 0) ∷ (4, 0) ∷ []
 unfolding with_line with_finding counts_found nothing_kept no_coverage rpdos_of
 close_are_listed = refl
 
@@ -185,7 +185,7 @@ unfolding with_line with_finding counts_found nothing_kept no_coverage rpdos_of
 around_each = refl
 
 -- in the first and in the ninth: those around the second begin where those of the first end
-far_ones : Kept
+abbrev far_ones : Kept
 far_ones = with_late (with_lines (with_late (with_lines empty_report (codes "a"))) (codes "bcdefghi"))
 
 around_far_ones : map (λ noted. letters (around far_ones.context noted)) far_ones.noted
@@ -194,22 +194,26 @@ around_far_ones : map (λ noted. letters (around far_ones.context noted)) far_on
 unfolding with_line with_finding counts_found nothing_kept no_coverage rpdos_of
 around_far_ones = refl
 
-counted_lines : ((with_bad_line far_ones).lines, (with_bad_line far_ones).bad_lines) ≡ (9, 1)
+counted_lines : (with_bad_line far_ones).lines ≡ 9
 unfolding with_line with_finding counts_found nothing_kept no_coverage rpdos_of
 counted_lines = refl
 
+counted_bad_lines : (with_bad_line far_ones).bad_lines ≡ 1
+unfolding with_line with_finding counts_found nothing_kept no_coverage rpdos_of
+counted_bad_lines = refl
+
 -- 10,000 are listed
-full : Kept
+abbrev full : Kept
 full = record empty_report { noted = replicate 10000 (record { line = 1; micros = 7; finding = late; value_type = plain; first = 0 }) }
 
-one_too_many : ((with_late full).unlisted, length (with_late full).noted) ≡ (1, 10000)
+one_too_many : (with_late full).unlisted ≡ 1
 unfolding with_finding counts_found nothing_kept no_coverage rpdos_of
 one_too_many = refl
 
 -- ---- occasions
 
 -- the kinds that could have been found, in the table's order
-shown : List Counted → List Kind
+abbrev shown : List Counted → List Kind
 shown counts = map (λ counted. counted.kind) (filter (λ counted. nat_lt 0 counted.occasions) counts)
 
 abbrev in_force : Option ℕ → Option ℕ → Entries
@@ -337,9 +341,9 @@ abbrev done : Ending
 done = Done false
 
 abbrev refused : Ending
-refused = Aborted Server (record { field-0 = 0x06010002 })
+refused = Aborted Server (record { 0 = 0x06010002 })
 
-after : ℕ → Direction → Protocol → Ending → List Kind
+abbrev after : ℕ → Direction → Protocol → Ending → List Kind
 after index direction protocol ending = shown (ended_passed rows (ended index direction protocol ending) no_counts)
 
 read : after 0x2000 Upload Expedited done ≡ ValueLength ∷ AccessRead ∷ []
@@ -386,7 +390,7 @@ left_unanswered : after 0x2001 Upload Expedited Unanswered ≡ []
 unfolding ended_passed upload_passed counts_passed
 left_unanswered = refl
 
-aborted_by_client : after 0x2001 Upload Expedited (Aborted Client (record { field-0 = 0x05040000 })) ≡ []
+aborted_by_client : after 0x2001 Upload Expedited (Aborted Client (record { 0 = 0x05040000 })) ≡ []
 unfolding ended_passed upload_passed counts_passed
 aborted_by_client = refl
 
@@ -440,7 +444,7 @@ services_of_transfers = refl
 
 -- ---- coverage
 
-covered : List Ended → CoverageView
+abbrev covered : List Ended → CoverageView
 covered [] = no_coverage 3
 covered (e ∷ older) = transfers_with rows (Some e) (covered older)
 
@@ -450,7 +454,7 @@ entries_covered : (covered (ended 0x2000 Upload Expedited done ∷ ended 0x2000 
 unfolding transfers_with numbered_with no_coverage
 entries_covered = refl
 
-aborts_counted : (covered (ended 0x2001 Download Expedited refused ∷ ended 0x2000 Upload Expedited (Aborted Client (record { field-0 = 0x05040000 })) ∷ ended 0x2001 Download Expedited refused ∷ [])).aborts
+aborts_counted : (covered (ended 0x2001 Download Expedited refused ∷ ended 0x2000 Upload Expedited (Aborted Client (record { 0 = 0x05040000 })) ∷ ended 0x2001 Download Expedited refused ∷ [])).aborts
     ≡ record { number = 0x06010002; count = 2 } ∷ record { number = 0x05040000; count = 1 } ∷ []
 unfolding transfers_with numbered_with no_coverage
 aborts_counted = refl
@@ -465,9 +469,17 @@ types_counted = refl
 
 -- ---- a frame
 
-one_frame : Kept
+abbrev one_frame : Kept
 one_frame = with_frame rows empty_report 9000 (frame.Control 5) (before PreOperational None None role.Other) Operational nothing_found
 
-frame_kept : (one_frame.begin, one_frame.end, one_frame.lanes.begin, one_frame.coverage.states) ≡ (Some 9000, 9000, 9000, record no_states { operational = true })
-unfolding with_frame coverage_with transfers_with services_with service_of lanes_with widened bin_with frame_passed control_passed counts_passed nothing_kept no_coverage rpdos_of lane_of
-frame_kept = refl
+frame_begins : one_frame.begin ≡ Some 9000
+unfolding with_frame nothing_kept
+frame_begins = refl
+
+frame_is_covered : one_frame.coverage.states ≡ record no_states { operational = true }
+unfolding with_frame coverage_with transfers_with services_with service_of nothing_kept no_coverage
+frame_is_covered = refl
+
+frame_in_its_lane : one_frame.lanes ≡ record { begin = 9000; width = 1000; bins = record one_beat { differences = 0 } ∷ [] }
+unfolding with_frame lanes_with widened bin_with nothing_kept lane_of
+frame_in_its_lane = refl

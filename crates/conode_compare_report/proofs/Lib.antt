@@ -1,2 +1,4 @@
+pub mod AroundLaws
 mod Examples
 pub mod Places
+pub mod SpanLemmas

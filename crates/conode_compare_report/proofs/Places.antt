@@ -16,24 +16,32 @@ use Rattle.conode_compare_report.specs.Coverages.{place_of}
 
 -- ---- the place of the first element that passes
 
+mapped_length : {X Y : Type 0} (view : X → Y) (xs : List X) → length (map view xs) ≡ length xs
+mapped_length view [] = refl
+mapped_length view (x ∷ xs) = ap suc (mapped_length view xs)
+
+pub rows_counted : (rows : List EntryRow) → length (map row_view rows) ≡ length rows
+rows_counted rows = mapped_length row_view rows
+
+one_more : (a b : ℕ) → a ≡ b → 1 + a ≡ suc b
+one_more a b h = omega (arith, h)
+
 module _ {X Y : Type 0} (view : X → Y) (p : Y → Bool) where
-  counted_at : (xs : List X) (i : ℕ) (d : X) → i < length xs → ((k : ℕ) → k < i → p (view (get_or xs k d)) ≡ false) → p (view (get_or xs i d)) ≡ true → position_or_len p (map view xs) ≡ i
-  counted_at [] i d lt before here = absurd (omega arith)
-  counted_at (x ∷ xs) zero d lt before here = rw here refl
-  counted_at (x ∷ xs) (suc i) d lt before here = rw (before zero (omega arith)) (ap suc (counted_at xs i d (omega arith) (λ k lt. before (suc k) (omega arith)) here))
+  counted_at : (xs : List X) (i : ℕ) → i < length xs → ((k : ℕ) (d : X) → k < i → p (view (get_or xs k d)) ≡ false) → ((d : X) → p (view (get_or xs i d)) ≡ true) → position_or_len p (map view xs) ≡ i
+  counted_at [] i lt before here = absurd (omega (arith, lt))
+  counted_at (x ∷ xs) zero lt before here = rw (here x) refl
+  counted_at (x ∷ xs) (suc i) lt before here =
+      rw (before zero x (omega arith)) (one_more (position_or_len p (map view xs)) i (counted_at xs i (omega (arith, lt)) (λ k d less. before (suc k) d (omega (arith, less))) here))
 
   counted_all : (xs : List X) → ((k : ℕ) (d : X) → k < length xs → p (view (get_or xs k d)) ≡ false) → position_or_len p (map view xs) ≡ length (map view xs)
   counted_all [] none = refl
-  counted_all (x ∷ xs) none = rw (none zero x (omega arith)) (ap suc (counted_all xs (λ k d lt. none (suc k) d (omega arith))))
+  counted_all (x ∷ xs) none =
+      rw (none zero x (omega arith)) (one_more (position_or_len p (map view xs)) (length (map view xs)) (counted_all xs (λ k d less. none (suc k) d (omega (arith, less)))))
 
-  mapped_length : (xs : List X) → length (map view xs) ≡ length xs
-  mapped_length [] = refl
-  mapped_length (x ∷ xs) = ap suc (mapped_length xs)
-
-  pub place_at : (xs : List X) (i : ℕ) (d : X) → i < length xs → ((k : ℕ) → k < i → p (view (get_or xs k d)) ≡ false) → p (view (get_or xs i d)) ≡ true → position p (map view xs) ≡ Some i
-  place_at xs i d lt before here =
-      let counted : position_or_len p (map view xs) ≡ i = counted_at xs i d lt before here in
-      let within : ltb i (length (map view xs)) ≡ true = rw (mapped_length xs) (grind (arith, nat_tests)) in
+  pub place_at : (xs : List X) (i : ℕ) → i < length xs → ((k : ℕ) (d : X) → k < i → p (view (get_or xs k d)) ≡ false) → ((d : X) → p (view (get_or xs i d)) ≡ true) → position p (map view xs) ≡ Some i
+  place_at xs i lt before here =
+      let counted : position_or_len p (map view xs) ≡ i = counted_at xs i lt before here in
+      let within : ltb i (length (map view xs)) ≡ true = rw (mapped_length view xs) (grind (arith, nat_tests)) in
       rw (counted, within) refl
 
   pub no_place : (xs : List X) → ((k : ℕ) (d : X) → k < length xs → p (view (get_or xs k d)) ≡ false) → position p (map view xs) ≡ None
@@ -49,12 +57,12 @@ module _ (rows : List EntryRow) (increase : AllPairs (λ (e : EntryRow) (f : Ent
   comparisons_rise = searchable_from_sorted key_cmp_total (λ (r : EntryRow). r.key) rows key
       (λ k d low high. is_lt-key_cmp (get_or rows (k + 1) d).key (get_or rows k d).key ∙ after_isnt_before (get_or rows k d).key (get_or rows (k + 1) d).key (increase k (k + 1) d (omega arith) high))
 
-  pub row_place : (place : ℕ) → place < length rows → ((d : EntryRow) → key_cmp (get_or rows place d).key key ≡ Equal) → (d : EntryRow) → place_of (map row_view rows) key ≡ Some place
-  row_place place lt equal d =
-      let here : (get_or rows place d).key ≡ key = key_cmp_exact (get_or rows place d).key key (equal d) in
-      place_at row_view (λ row. same_key row.key key) rows place d lt
-      (λ k before. subst (λ (q : Key). same_key (get_or rows k d).key q ≡ false) here (before_differs (get_or rows k d).key (get_or rows place d).key (increase k place d before lt)))
-      (subst (λ (q : Key). same_key q key ≡ true) (sym here) (same_key-refl key))
+  pub row_place : (place : ℕ) → place < length rows → ((d : EntryRow) → key_cmp (get_or rows place d).key key ≡ Equal) → place_of (map row_view rows) key ≡ Some place
+  row_place place lt equal =
+      place_at row_view (λ row. same_key row.key key) rows place lt
+      (λ k d before. subst (λ (q : Key). same_key (get_or rows k d).key q ≡ false) (key_cmp_exact (get_or rows place d).key key (equal d))
+      (before_differs (get_or rows k d).key (get_or rows place d).key (increase k place d before lt)))
+      (λ d. subst (λ (q : Key). same_key q key ≡ true) (sym (key_cmp_exact (get_or rows place d).key key (equal d))) (same_key-refl key))
 
   pub row_missing : (place : ℕ) → IsBinarySearchResult (λ (r : EntryRow). key_cmp r.key key) rows (Err place) → place_of (map row_view rows) key ≡ None
   row_missing place parted = no_place row_view (λ row. same_key row.key key) rows (λ k d lt. by_side k d lt (ltb k place) refl)

@@ -49,7 +49,7 @@ role_of pdos rpdos id =
 
 abbrev pub role_at : Pdos → Rpdos → FrameKind → Role
 role_at pdos rpdos (Process id length) = role_of pdos rpdos id
-role_at pdos rpdos other = Other
+role_at pdos rpdos _ = Other
 
 unfoldable pub before_at : Rpdos → Progress → FrameKind → Before
 before_at rpdos progress kind = record {

@@ -110,7 +110,7 @@ service_of (Emcy code register) role ended = Some Emergency
 service_of (OddEmergency length) role ended = Some Emergency
 service_of (Process id length) role ended = role_service role
 service_of (Sdo side frame) role ended = ended_service ended
-service_of other role ended = None
+service_of _ role ended = None
 
 abbrev pub served_once_more : Served → Served
 served_once_more served = record served { count = one_more served.count }
@@ -124,7 +124,7 @@ services_with (Some service) services = changed_at (none_of service) (service_nu
 abbrev pub role_lane : Role → Option Lane
 role_lane (Tpdo number parameters) = Some Tpdos
 role_lane (Rpdo number) = Some Rpdos
-role_lane other = None
+role_lane _ = None
 
 -- in which lane a frame is
 unfoldable pub lane_of : FrameKind → Role → Option Lane
@@ -134,7 +134,7 @@ lane_of (Emcy code register) role = Some Emergencies
 lane_of (OddEmergency length) role = Some Emergencies
 lane_of (Sdo side frame) role = Some Transfers
 lane_of (Process id length) role = role_lane role
-lane_of other role = None
+lane_of _ role = None
 
 -- ---- entries
 
@@ -180,7 +180,7 @@ type_with (Some kind) types = numbered_with most_types kind types
 
 abbrev pub types_with : Role → List Numbered → List Numbered
 types_with (Tpdo number parameters) types = type_with parameters.kind types
-types_with other types = types
+types_with _ types = types
 
 -- ---- a frame
 

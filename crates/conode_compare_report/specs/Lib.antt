@@ -3,6 +3,7 @@ pub mod Befores
 pub mod Contexts
 pub mod Counts
 pub mod Coverages
+pub mod Histories
 pub mod Kinds
 pub mod Occasions
 pub mod Outcomes

@@ -109,7 +109,7 @@ tpdo_passed parameters counts =
 
 abbrev pub role_passed : Role → List Counted → List Counted
 role_passed (Tpdo number parameters) counts = tpdo_passed parameters counts
-role_passed other counts = counts
+role_passed _ counts = counts
 
 -- ---- transfers
 
@@ -223,7 +223,7 @@ kind_passed (Control byte) before heard counts = control_passed before byte coun
 kind_passed (Emergency code register) before heard counts = emergency_passed before counts
 kind_passed (Process id length) before heard counts = role_passed before.role counts
 kind_passed (Sdo side frame) before heard counts = side_passed side before heard frame.bytes counts
-kind_passed other before heard counts = counts
+kind_passed _ before heard counts = counts
 
 -- a frame that shows no difference, and isn't unjudged
 abbrev pub passes : Option Verdict → Bool

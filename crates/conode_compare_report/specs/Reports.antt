@@ -67,12 +67,12 @@ with_bad_line kept = record kept { bad_lines = one_more kept.bad_lines }
 -- is open
 abbrev pub heard_of : Following → ℕ → FrameKind → Option Heard
 heard_of channel micros (Sdo side frame) = Some (followed channel micros side frame.bytes).says
-heard_of channel micros other = None
+heard_of channel micros _ = None
 
 abbrev pub channel_after : Following → ℕ → FrameKind → Following
 channel_after channel micros (Sdo side frame) = (followed channel micros side frame.bytes).next
 channel_after channel micros (Control byte) = if byte == 0 then after_boot channel else channel
-channel_after channel micros other = channel
+channel_after channel micros _ = channel
 
 abbrev pub one_of : Option Finding → ℕ
 one_of None = 0

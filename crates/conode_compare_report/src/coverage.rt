@@ -206,7 +206,7 @@ impl Coverage {
     ) -> Result<(), AllocError>
         requires { AllPairs (λ e f. is_key_before e.key f.key ≡ true) rows.now }
         ensures { OnOk result (self.new
-            ≡ transfers_with (map row_view rows.now) (option_copied ended) self.old) }
+            ≡ transfers_with (map row_view rows.now) (option_copied ended.entry) self.old) }
     {
         let Some(ended) = ended else {
             return Ok(());
@@ -227,7 +227,7 @@ impl Coverage {
     ) -> Result<(), AllocError>
         requires { AllPairs (λ e f. is_key_before e.key f.key ≡ true) rows.now }
         ensures { OnOk result (self.new ≡ coverage_with
-            (map row_view rows.now) kind.now role state (option_copied ended) self.old) }
+            (map row_view rows.now) kind.now role state (option_copied ended.entry) self.old) }
     {
         count_service(&mut self.services, service_of(kind, role, ended));
         self.states.note(state);

@@ -1,6 +1,6 @@
 //! The bus over time, in a bounded number of spans.
 
-ghost use Rattle.std.specs.Prelude.{◌≡◌, ◌++◌, OnOk, IfOk, length};
+ghost use Rattle.std.specs.Prelude.{◌≡◌, ◌<◌, OnOk, IfOk};
 ghost use Rattle.conode_compare_report.specs.Spans.{
   bin_with,
   begun_at,
@@ -205,6 +205,7 @@ fn place_in(width: u64, passed: u64) -> u64
 }
 
 // each two neighbours as one
+#[tactic(auto, unfolding(crate::specs::Spans::joined), using(crate::proofs::SpanLemmas::at_most_one))]
 fn joined(alloc: Global, bins: &[Bin]) -> Result<Vec<Bin>, AllocError>
     ensures { IfOk result (λ halves. halves.items ≡ joined bins.now) }
 {
@@ -240,15 +241,19 @@ impl Lanes {
     }
 
     // makes the spans wide enough for a stamp so many microseconds after the begin
-    #[tactic(auto, unfolding(crate::specs::Spans::widened))]
-    fn widen(&mut self, alloc: Global, steps: u8, passed: u64) -> Result<(), AllocError>
-        ensures { OnOk result (self.new ≡ widened steps passed self.old) }
+    #[tactic(auto, using(crate::proofs::SpanLemmas::one_step, crate::proofs::SpanLemmas::no_step, crate::proofs::SpanLemmas::no_more))]
+    fn widen(&mut self, alloc: Global, passed: u64) -> Result<(), AllocError>
+        ensures { OnOk result (self.new ≡ widened 64 passed self.old) }
     {
-        if steps == 0 || place_in(self.width, passed) < MOST_BINS {
-            return Ok(());
+        let mut steps = MOST_STEPS;
+        while steps > 0 {
+            if place_in(self.width, passed) < MOST_BINS {
+                return Ok(());
+            }
+            steps -= 1;
+            self.double(alloc)?;
         }
-        self.double(alloc)?;
-        self.widen(alloc, steps - 1, passed)
+        Ok(())
     }
 
     // they begin with the first frame
@@ -261,6 +266,7 @@ impl Lanes {
     }
 
     // makes spans up to a place
+    #[tactic(auto, using(crate::proofs::SpanLemmas::enough, crate::proofs::SpanLemmas::more))]
     fn fill(&mut self, place: usize) -> Result<(), AllocError>
         requires { place < 2000 }
         ensures { OnOk result (self.new ≡ record self.old { bins = filled place self.old.bins }) }
@@ -306,7 +312,7 @@ impl Lanes {
             ≡ lanes_with micros (bin_with state lane differences) self.old) }
     {
         self.begin_at(micros);
-        self.widen(alloc, MOST_STEPS, micros.saturating_sub(self.begin))?;
+        self.widen(alloc, micros.saturating_sub(self.begin))?;
         self.place(micros, state, lane, differences)
     }
 }

@@ -1,6 +1,6 @@
 //! Differences that are listed, and the lines of the recording around them.
 
-ghost use Rattle.std.specs.Prelude.{◌≡◌};
+ghost use Rattle.std.specs.Prelude.{◌≡◌, ◌<◌, IfSome, length, nat_lt, position};
 ghost use Rattle.conode_compare_report.specs.Contexts.{around, greatest_around};
 
 use conode_compare_rules::Finding;
@@ -39,15 +39,24 @@ impl Model for ContextLine {
     ghost view = { λ line. record { number = line.number; bytes = line.bytes.items } };
 }
 
+// where the first line after this number is
+fn place_past(context: &[ContextLine], greatest: u64) -> Option<usize>
+    ensures place { result ≡ position (λ line. nat_lt greatest line.number) context.now }
+    ensures within { IfSome result (λ place. place < length context.now) }
+{
+    context.iter().position(|line| line.number > greatest)
+}
+
 /// The lines around a difference, among those that are kept: up to three before it, its own, and up
 /// to three after it.
+#[tactic(auto, using(crate::proofs::SpanLemmas::dropped_within))]
 pub(crate) fn around<'r>(context: &'r [ContextLine], noted: &Noted) -> &'r [ContextLine]
     ensures { result.now ≡ around context.now noted.now }
 {
     let first = noted.first.min(context.len());
-    let rest = &context[first..];
+    let (_, rest) = context.split_at(first);
     let greatest = noted.line.saturating_add(3);
-    match rest.iter().position(|line| line.number > greatest) {
+    match place_past(rest, greatest) {
         Some(count) => &rest[..count],
         None => rest,
     }

@@ -1,7 +1,8 @@
 //! Which kinds of differences a frame could have shown, and how often each was found.
 
-ghost use Rattle.std.specs.Prelude.{◌≡◌, ◌≤◌, true, map, IfOk};
+ghost use Rattle.std.specs.Prelude.{◌≡◌, true, map, option_map, IfOk};
 ghost use Rattle.std.specs.List.{AllPairs};
+ghost use Rattle.std.specs.Option.{option_copied};
 ghost use Rattle.co_sheet.specs.SheetViews.{row_view};
 ghost use Rattle.co_value.specs.Keys.{is_key_before};
 ghost use Rattle.conode_compare_report.specs.Occasions.{
@@ -14,6 +15,7 @@ ghost use Rattle.conode_compare_report.specs.Occasions.{
   emergency_passed,
   ended_passed,
   entry_of_upload,
+  first_byte,
   found,
   frame_passed,
   has_key,
@@ -352,7 +354,7 @@ fn is_block(protocol: Protocol) -> bool
 // an upload of an entry
 fn pass_entry(counts: &mut [Counted], row: Option<&EntryRow<'_>>, done: bool, expedited: bool)
     ensures { counts.new
-        ≡ entry_of_upload (option_map row_view (option_copied row)) done expedited counts.old }
+        ≡ entry_of_upload (option_map row_view (option_copied row.entry)) done expedited counts.old }
 {
     if let Some(row) = row {
         pass(counts, done && expedited, Kind::ValueLength);
@@ -364,7 +366,7 @@ fn pass_entry(counts: &mut [Counted], row: Option<&EntryRow<'_>>, done: bool, ex
 #[tactic(auto, unfolding(crate::specs::Occasions::upload_passed))]
 fn pass_upload(counts: &mut [Counted], row: Option<&EntryRow<'_>>, done: bool, protocol: Protocol)
     ensures { counts.new
-        ≡ upload_passed (option_map row_view (option_copied row)) done protocol counts.old }
+        ≡ upload_passed (option_map row_view (option_copied row.entry)) done protocol counts.old }
 {
     let expedited = is_expedited(protocol);
     pass_entry(counts, row, done, expedited);
@@ -373,7 +375,7 @@ fn pass_upload(counts: &mut [Counted], row: Option<&EntryRow<'_>>, done: bool, p
 }
 
 fn pass_download(counts: &mut [Counted], row: Option<&EntryRow<'_>>)
-    ensures { counts.new ≡ download_passed (option_map row_view (option_copied row)) counts.old }
+    ensures { counts.new ≡ download_passed (option_map row_view (option_copied row.entry)) counts.old }
 {
     if let Some(row) = row {
         pass(counts, is_read_only(row.access), Kind::AccessWrite);

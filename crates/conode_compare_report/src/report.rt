@@ -1,11 +1,13 @@
 //! What is kept of a comparison.
 
-ghost use Rattle.std.specs.Prelude.{◌≡◌, true, map, OnOk, IfOk};
-ghost use Rattle.std.specs.List.{AllPairs};
+ghost use Rattle.std.specs.Prelude.{◌≡◌, ℕ, ◌++◌, ◌-◌, ◌^◌, ◌<◌, true, map, length, List, OnOk, IfOk};
+ghost use Rattle.std.specs.List.{AllPairs, Contains};
+ghost use Rattle.co_sheet.specs.Content.{Row};
 ghost use Rattle.co_sheet.specs.SheetViews.{row_view};
 ghost use Rattle.co_value.specs.Keys.{is_key_before};
 ghost use Rattle.conode_compare_report.specs.Befores.{before_at};
 ghost use Rattle.conode_compare_report.specs.Contexts.{around};
+ghost use Rattle.conode_compare_report.specs.Histories.{Happening, kept_of, lines_of, near};
 ghost use Rattle.conode_compare_report.specs.Reports.{
   begin_with,
   channel_after,
@@ -154,7 +156,7 @@ fn number_found(found: &Findings) -> u32
 impl Report {
     /// Of nothing so far: a comparison with the data sheet whose entries these are, in increasing
     /// key, of a device with this node-ID. `Err`: out of memory.
-    #[tactic(auto, unfolding(crate::specs::Reports::nothing_kept))]
+    #[tactic(auto, unfolding(crate::specs::Reports::nothing_kept), using(crate::proofs::Places::rows_counted))]
     pub fn new(alloc: Global, rows: &[EntryRow<'_>], node: u8) -> Result<Report, AllocError>
         requires { AllPairs (λ e f. is_key_before e.key f.key ≡ true) rows.now }
         ensures { IfOk result (λ report. report ≡ nothing_kept (map row_view rows.now) node) }
@@ -248,7 +250,8 @@ impl Report {
             (self.old.context ++ self.old.recent) self.old micros value_type finding) }
     {
         self.context.append(&mut self.recent)?;
-        let first = self.context.len() - self.lines.min(4).min(self.context.len() as u64) as usize;
+        let own = self.lines.min(4) as usize;
+        let first = self.context.len().saturating_sub(own);
         self.noted.push(Noted {
             line: self.lines,
             micros,
@@ -279,11 +282,23 @@ impl Report {
         Ok(())
     }
 
-    /// The lines around a difference that is listed: up to three before it, its own, and up to
-    /// three after it.
-    pub fn around(&self, noted: &Noted) -> &[ContextLine]
+    fn kept_around(&self, noted: &Noted) -> &[ContextLine]
         ensures { result.now ≡ around self.now.context noted.now }
     {
         around(self.context.as_slice(), noted)
+    }
+
+    /// The lines around a difference that is listed: up to three before it, its own, and up to
+    /// three after it.
+    pub fn around(&self, noted: &Noted) -> &[ContextLine]
+        ensures kept { result.now ≡ around self.now.context noted.now }
+        // Holds after all that happened, of each difference that is listed: of all lines that came
+        // these are those from the third before it to the third after it.
+        ensures lines { (rows : List Row) → (node : ℕ) → (happenings : List Happening)
+            → self.now ≡ kept_of rows node happenings
+            → length (lines_of happenings) < 2 ^ 64 - 4 → Contains self.now.noted noted.now
+            → result.now ≡ near noted.now.line (lines_of happenings) }
+    {
+        self.kept_around(noted)
     }
 }

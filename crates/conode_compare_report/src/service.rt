@@ -257,7 +257,7 @@ fn transfer_service(direction: Direction, protocol: Protocol) -> Option<Service>
 }
 
 fn ended_service(ended: Option<&Ended>) -> Option<Service>
-    ensures { result ≡ ended_service (option_copied ended) }
+    ensures { result ≡ ended_service (option_copied ended.entry) }
 {
     let ended = ended?;
     match ended.ending {
@@ -269,7 +269,7 @@ fn ended_service(ended: Option<&Ended>) -> Option<Service>
 /// What a frame is of, with the transfer that ended with it.
 #[tactic(auto, unfolding(crate::specs::Coverages::service_of))]
 pub(crate) fn service_of(kind: &FrameKind, role: Role, ended: Option<&Ended>) -> Option<Service>
-    ensures { result ≡ service_of kind.now role (option_copied ended) }
+    ensures { result ≡ service_of kind.now role (option_copied ended.entry) }
 {
     match kind {
         FrameKind::Command(service) | FrameKind::CommandToAll(service) => {

@@ -9,7 +9,7 @@ use Rattle.conode_compare_report.proofs.coverage.place_of.Goals as goal
 pub returns-in-Ok : goal.returns-in-Ok
 returns-in-Ok c =
     sym (row_place c.args.rows.now c.requires c.args.key c.in-Ok.place c.in-Ok.ensures.bound
-    (subst (λ r. IsBinarySearchResult (λ (r : EntryRow). key_cmp r.key c.args.key) c.args.rows.now r) c.in-Ok.is (c.binary_search_by_key.ensures.position (λ (row : EntryRow). row.key) (answers_always _ _ _ (λ f a r g called. search rules)))) _)
+    (subst (λ r. IsBinarySearchResult (λ (r : EntryRow). key_cmp r.key c.args.key) c.args.rows.now r) c.in-Ok.is (c.binary_search_by_key.ensures.position (λ (row : EntryRow). row.key) (answers_always _ _ _ (λ f a r g called. search rules)))))
 
 pub returns-in-Err : goal.returns-in-Err
 returns-in-Err c =
