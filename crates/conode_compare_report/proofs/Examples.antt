@@ -1,15 +1,13 @@
 -- What is kept of small recordings, computed from the definitions.
-use Rattle.std.proofs.Common.{◌≡◌, ℕ, zero, suc, ◌+◌, ◌-◌, ◌/◌, ◌^◌, Bool, true, false, List, [], ◌∷◌, ◌++◌, map, length, Option, Some, None, refl, codes}
-use Rattle.std.specs.Prelude.{nat_lt, not, ◌==◌, filter, replicate, pos, position}
+use Rattle.std.proofs.Common.{◌≡◌, ℕ, zero, suc, ◌+◌, ◌-◌, ◌/◌, ◌^◌, true, false, List, [], ◌∷◌, map, length, Option, Some, None, refl, codes}
+use Rattle.std.specs.Prelude.{nat_lt, filter, replicate, pos}
 use Rattle.co_frame.specs.FrameContent.{FrameContent}
 use Rattle.co_frame.specs.declared.nmt.NmtService.TheVariants as nmt
 use Rattle.co_profile.specs.declared.access.Access.{Access}
-use Rattle.co_profile.specs.declared.access.Access.TheVariants.{Ro, Wo, Rw, Constant}
+use Rattle.co_profile.specs.declared.access.Access.TheVariants.{Wo, Rw, Constant}
 use Rattle.co_sheet.specs.Content.{Row}
-use Rattle.co_sheet.specs.Limits.{absent, number, node_id}
-use Rattle.co_value.specs.declared.data_type.DataType.{DataType}
+use Rattle.co_sheet.specs.Limits.{absent, node_id}
 use Rattle.co_value.specs.declared.data_type.DataType.TheVariants.{Unsigned8, Unsigned32}
-use Rattle.co_value.specs.declared.key.Key.{Key}
 use Rattle.conode_explain_transfers.specs.declared.ended.Ended.{Ended}
 use Rattle.conode_explain_transfers.specs.declared.ended.Ending.{Ending}
 use Rattle.conode_explain_transfers.specs.declared.ended.Ending.TheVariants.{Done, Aborted, Unanswered}
@@ -18,7 +16,6 @@ use Rattle.conode_explain_transfers.specs.declared.kinds.Direction.TheVariants.{
 use Rattle.conode_explain_transfers.specs.declared.kinds.Protocol.{Protocol}
 use Rattle.conode_explain_transfers.specs.declared.kinds.Protocol.TheVariants.{Expedited, Segmented, Block}
 use Rattle.conode_explain_transfers.specs.declared.kinds.Side.TheVariants.{Client, Server}
-use Rattle.conode_explain_transfers.specs.Followed.{nothing_heard}
 use Rattle.conode_explain_values.specs.declared.value_type.ValueType.{ValueType}
 use Rattle.conode_explain_values.specs.declared.value_type.ValueType.TheVariants.{Plain}
 use Rattle.conode_compare_pdos.specs.declared.parameters.Parameters.{Parameters}
@@ -28,7 +25,6 @@ use Rattle.conode_compare_rules.specs.declared.finding.Finding.{Finding}
 use Rattle.conode_compare_rules.specs.declared.finding.Finding.TheVariants as finding
 use Rattle.conode_compare_rules.specs.declared.finding.NmtState.{NmtState}
 use Rattle.conode_compare_rules.specs.declared.finding.NmtState.TheVariants.{Unknown, Initialising, PreOperational, Operational, Stopped}
-use Rattle.conode_compare_rules.specs.declared.kind.FrameKind.{FrameKind}
 use Rattle.conode_compare_rules.specs.declared.kind.FrameKind.TheVariants as frame
 use Rattle.conode_compare_rules.specs.declared.verdict.Verdict.TheVariants.{Prescribed, Different, Unjudged}
 use Rattle.conode_compare_rules.specs.Verdicts.{nothing_found}
@@ -36,24 +32,22 @@ use Rattle.conode_compare_report.specs.declared.before.Before.{Before}
 use Rattle.conode_compare_report.specs.declared.before.Role.{Role}
 use Rattle.conode_compare_report.specs.declared.before.Role.TheVariants as role
 use Rattle.conode_compare_report.specs.declared.before.Rpdos.{Rpdos}
-use Rattle.conode_compare_report.specs.declared.coverage.Covered.{Covered}
-use Rattle.conode_compare_report.specs.declared.coverage.Numbered.{Numbered}
 use Rattle.conode_compare_report.specs.declared.kind.Counted.{Counted}
 use Rattle.conode_compare_report.specs.declared.kind.Kind.{Kind}
 use Rattle.conode_compare_report.specs.declared.kind.Kind.TheVariants.{HeartbeatLate, HeartbeatState, HeartbeatLength, PdoLength, PdoState, PdoSync, PdoInhibit, PdoLate, BootMissing, SecondSender, EmergencyLength, EmergencyState, EmergencyRegister, EmergencyInhibit, NoAnswer, AnswerKey, AnswerForm, AnswerToggle, AnswerSize, AnswerCrc, AnswerState, AbortKey, ValueLength, ValueConst, AccessRead, AccessWrite, AccessLimits}
 use Rattle.conode_compare_report.specs.declared.lanes.Bin.{Bin}
-use Rattle.conode_compare_report.specs.declared.lanes.Lane.TheVariants.{Heartbeats, Transfers, Tpdos}
+use Rattle.conode_compare_report.specs.declared.lanes.Lane.TheVariants.{Heartbeats, Tpdos}
 use Rattle.conode_compare_report.specs.declared.noted.Noted.{Noted}
 use Rattle.conode_compare_report.specs.declared.service.Service.TheVariants as service
 use Rattle.conode_compare_report.specs.Befores.{role_of, rpdos_of}
 use Rattle.conode_compare_report.specs.Contexts.{KeptLine, around}
 use Rattle.conode_compare_report.specs.Counts.{numbered_with}
 use Rattle.conode_compare_report.specs.Coverages.{CoverageView, coverage_with, lane_of, no_coverage, no_services, service_of, services_with, transfers_with}
-use Rattle.conode_compare_report.specs.Kinds.{kind_number, kind_of}
+use Rattle.conode_compare_report.specs.Kinds.{kind_number}
 use Rattle.conode_compare_report.specs.Occasions.{answer_passed, command_passed, control_passed, counts_found, counts_passed, emergency_passed, ended_passed, frame_passed, no_counts, side_passed, tpdo_passed, upload_passed}
 use Rattle.conode_compare_report.specs.Reports.{nothing_kept, with_bad_line, with_finding, with_frame, with_line}
 use Rattle.conode_compare_report.specs.Services.{service_number}
-use Rattle.conode_compare_report.specs.Spans.{LanesView, bin_with, both_bins, empty_bin, joined, lanes_with, no_lanes, no_states, states_with, widened}
+use Rattle.conode_compare_report.specs.Spans.{LanesView, bin_with, both_bins, empty_bin, joined, lanes_with, no_lanes, no_states, widened}
 use Rattle.conode_compare_report.specs.Views.{Kept}
 
 -- ---- kinds and services by their places

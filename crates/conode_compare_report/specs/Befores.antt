@@ -1,8 +1,6 @@
 -- What is known of the device before a frame, and what the frame is to it.
-use Rattle.std.specs.Prelude.{ℕ, ◌+◌, ◌==◌, if◌then◌else◌, Bool, false, List, Option, Some, None, option_and_then}
-use Rattle.std.specs.Option.{option_map_or}
+use Rattle.std.specs.Prelude.{ℕ, ◌+◌, ◌==◌, if◌then◌else◌, List, Option, option_and_then}
 use Rattle.co_sheet.specs.Content.{Row}
-use Rattle.conode_compare_pdos.specs.declared.parameters.Parameters.{Parameters}
 use Rattle.conode_compare_pdos.specs.declared.pdos.Pdos.{Pdos}
 use Rattle.conode_compare_pdos.specs.PdoParameters.{identifier_of, key_of}
 use Rattle.conode_compare_pdos.specs.SheetNumbers.{preset_at}

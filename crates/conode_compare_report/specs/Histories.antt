@@ -1,5 +1,5 @@
 -- What happens in a comparison, and what is kept of it: the law about the lines around differences.
-use Rattle.std.specs.Prelude.{◌≡◌, ℕ, ◌+◌, ◌-◌, ◌^◌, ◌<◌, List, [], ◌∷◌, ◌++◌, drop, length, take}
+use Rattle.std.specs.Prelude.{ℕ, ◌+◌, ◌-◌, List, [], ◌∷◌, ◌++◌, drop, take}
 use Rattle.co_sheet.specs.Content.{Row}
 use Rattle.conode_explain_values.specs.declared.value_type.ValueType.{ValueType}
 use Rattle.conode_compare_rules.specs.declared.finding.Finding.{Finding}

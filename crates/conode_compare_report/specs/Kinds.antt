@@ -1,5 +1,5 @@
 -- The kinds of differences, in the order of the table in docs/COMPARE.md.
-use Rattle.std.specs.Prelude.{ℕ, List, [], ◌∷◌, codes}
+use Rattle.std.specs.Prelude.{ℕ, List, codes}
 use Rattle.conode_compare_pdos.specs.declared.deviation.Deviation.{Deviation}
 use Rattle.conode_compare_pdos.specs.declared.deviation.Deviation.TheVariants.{Length, NotOperational, WithoutSync, Inhibit, Timer}
 use Rattle.conode_compare_transfers.specs.declared.breach.Breach.{Breach}
@@ -10,7 +10,6 @@ use Rattle.conode_compare_rules.specs.declared.finding.Finding.{Finding}
 use Rattle.conode_compare_rules.specs.declared.finding.Finding.TheVariants.{SecondBootUp, NoState, WrongState, EmergencyStopped, Unasked, AnswerStopped, Transfer, Value, Pdo}
 use Rattle.conode_compare_report.specs.declared.kind.Kind.{Kind}
 use Rattle.conode_compare_report.specs.declared.kind.Kind.TheVariants.{HeartbeatLate, HeartbeatState, HeartbeatLength, PdoLength, PdoState, PdoSync, PdoInhibit, PdoLate, BootMissing, SecondSender, EmergencyLength, EmergencyState, EmergencyRegister, EmergencyInhibit, NoAnswer, AnswerKey, AnswerForm, AnswerToggle, AnswerSize, AnswerCrc, AnswerState, AbortKey, ValueLength, ValueConst, AccessRead, AccessWrite, AccessLimits}
-use Rattle.conode_compare_report.specs.declared.kind.Counted.{Counted}
 
 abbrev pub of_deviation : Deviation → Kind
 of_deviation (Length length mapped) = PdoLength

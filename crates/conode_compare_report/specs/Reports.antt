@@ -1,9 +1,7 @@
 -- What is kept of a comparison: line by line, frame by frame, and difference by difference.
-use Rattle.std.specs.Prelude.{ℕ, ◌+◌, ◌-◌, ◌^◌, ◌==◌, min, nat_lt, Bool, if◌then◌else◌, List, [], ◌∷◌, ◌++◌, length, drop, Option, Some, None}
-use Rattle.std.specs.Option.{option_map_or}
+use Rattle.std.specs.Prelude.{ℕ, ◌+◌, ◌-◌, ◌^◌, ◌==◌, min, nat_lt, if◌then◌else◌, List, [], ◌∷◌, ◌++◌, length, drop, Option, Some, None}
 use Rattle.co_sheet.specs.Content.{Row}
 use Rattle.conode_explain_transfers.specs.declared.channel.Heard.{Heard}
-use Rattle.conode_explain_transfers.specs.declared.ended.Ending.TheVariants.{Interrupted}
 use Rattle.conode_explain_transfers.specs.Followed.{Following, after_boot, followed, nothing_heard}
 use Rattle.conode_explain_values.specs.declared.value_type.ValueType.{ValueType}
 use Rattle.conode_compare_rules.specs.declared.finding.Finding.{Finding}

@@ -2,13 +2,8 @@
 use Rattle.std.specs.Prelude.{ℕ, List, Option}
 use Rattle.conode_explain_transfers.specs.Followed.{Following}
 use Rattle.conode_compare_report.specs.declared.before.Rpdos.{Rpdos}
-use Rattle.conode_compare_report.specs.declared.coverage.Covered.{Covered}
-use Rattle.conode_compare_report.specs.declared.coverage.Numbered.{Numbered}
 use Rattle.conode_compare_report.specs.declared.kind.Counted.{Counted}
-use Rattle.conode_compare_report.specs.declared.lanes.Bin.{Bin}
-use Rattle.conode_compare_report.specs.declared.lanes.States.{States}
 use Rattle.conode_compare_report.specs.declared.noted.Noted.{Noted}
-use Rattle.conode_compare_report.specs.declared.service.Served.{Served}
 use Rattle.conode_compare_report.specs.Contexts.{KeptLine}
 use Rattle.conode_compare_report.specs.Coverages.{CoverageView}
 use Rattle.conode_compare_report.specs.Spans.{LanesView}
