@@ -1,6 +1,6 @@
 -- A comparison as a document of JUnit, the form of test results that build servers read.
-use Rattle.std.specs.Prelude.{ℕ, ◌+◌, ◌-◌, ◌==◌, nat_lt, Bool, ◌&&◌, List, ◌++◌, length, codes, decimal, count_by}
-use Rattle.std.specs.List.{flat_map}
+use Rattle.std.specs.Prelude.{ℕ, ◌+◌, ◌-◌, ◌==◌, nat_lt, Bool, ◌&&◌, List, [], ◌∷◌, ◌++◌, length, codes, decimal, count_by}
+use Rattle.std.specs.List.{concat, flat_map}
 use Rattle.std.specs.Option.{option_map_or}
 use Rattle.conode_compare_report.specs.Abouts.{Described}
 use Rattle.conode_compare_report.specs.declared.kind.Counted.{Counted}
@@ -40,20 +40,20 @@ numbers_of about report = record {
 
 -- the tag that begins the test cases: a name, their numbers, and a time in seconds
 unfoldable pub suite_tag : List ℕ → Numbers → ℕ → List ℕ
-suite_tag name numbers micros =
-    codes "<testsuite name=\"" ++ escaped name ++ codes "\" tests=\"" ++ decimal numbers.tests
-    ++ codes "\" failures=\"" ++ decimal numbers.failures ++ codes "\" errors=\"" ++ decimal numbers.errors
-    ++ codes "\" skipped=\"" ++ decimal numbers.skipped ++ codes "\" time=\"" ++ seconds_text micros ++ codes "\">\n"
+suite_tag name numbers micros = concat (
+    codes "<testsuite name=\"" ∷ escaped name ∷ codes "\" tests=\"" ∷ decimal numbers.tests
+    ∷ codes "\" failures=\"" ∷ decimal numbers.failures ∷ codes "\" errors=\"" ∷ decimal numbers.errors
+    ∷ codes "\" skipped=\"" ∷ decimal numbers.skipped ∷ codes "\" time=\"" ∷ seconds_text micros ∷ codes "\">\n" ∷ [])
 
 abbrev pub suite_begin : Described → Kept → List ℕ
 suite_begin about report = suite_tag about.recording (numbers_of about report) (span_of report)
 
 unfoldable pub property_markup : List ℕ → List ℕ → List ℕ
-property_markup name value =
-    codes "<property name=\"" ++ name ++ codes "\" value=\"" ++ escaped value ++ codes "\"/>\n"
+property_markup name value = concat (
+    codes "<property name=\"" ∷ name ∷ codes "\" value=\"" ∷ escaped value ∷ codes "\"/>\n" ∷ [])
 
 unfoldable pub node_property : ℕ → List ℕ
-node_property node = codes "<property name=\"node\" value=\"" ++ decimal node ++ codes "\"/>\n"
+node_property node = concat (codes "<property name=\"node\" value=\"" ∷ decimal node ∷ codes "\"/>\n" ∷ [])
 
 -- what was compared, and the version of the program
 unfoldable pub properties_markup : Described → List ℕ
