@@ -4,6 +4,7 @@ use Rattle.std.specs.List.{flat_map}
 use Rattle.std.specs.Option.{option_map_or}
 use Rattle.json.specs.Token.{Token, begin_object, end_object, end_array}
 use Rattle.co_text.specs.Printed.{digits_text}
+use Rattle.co_value.specs.declared.key.Key.{Key}
 use Rattle.co_sheet.specs.Content.{Row}
 use Rattle.conode_lint_text.specs.JsonForm.{utf8_of}
 use Rattle.conode_json.specs.Members.{array_begin, flag_member, number_member, object_begin, text_member}
@@ -14,6 +15,15 @@ use Rattle.conode_compare_report.specs.declared.lanes.States.{States}
 use Rattle.conode_compare_report.specs.declared.service.Served.{Served}
 use Rattle.conode_compare_report.specs.Services.{service_name}
 
+unfoldable pub key_members : Key → List Token
+key_members k = number_member (codes "index") (pos k.index) ++ number_member (codes "subIndex") (pos k.sub)
+
+-- which transfers the recording has
+unfoldable pub covered_members : Covered → List Token
+covered_members covered =
+    flag_member (codes "read") covered.read ++ flag_member (codes "written") covered.written
+    ++ flag_member (codes "refused") covered.refused
+
 -- the name of an entry, left out if it has none
 abbrev pub name_member : Option (List ℕ) → List Token
 name_member name = option_map_or (λ n. text_member (codes "name") (utf8_of n)) name []
@@ -22,9 +32,7 @@ name_member name = option_map_or (λ n. text_member (codes "name") (utf8_of n)) 
 unfoldable pub entry_tokens : Row × Covered → List Token
 entry_tokens (row, covered) =
     begin_object
-    ∷ (number_member (codes "index") (pos row.key.index) ++ number_member (codes "subIndex") (pos row.key.sub)
-    ++ name_member row.name ++ flag_member (codes "read") covered.read ++ flag_member (codes "written") covered.written
-    ++ flag_member (codes "refused") covered.refused ++ end_object ∷ [])
+    ∷ (key_members row.key ++ name_member row.name ++ covered_members covered ++ end_object ∷ [])
 
 unfoldable pub entries_member : List Row → List Covered → List Token
 entries_member rows covered =
@@ -56,7 +64,7 @@ type_tokens numbered =
     ++ end_object ∷ [])
 
 unfoldable pub types_member : List Numbered → List Token
-types_member types = array_begin (codes "transmissionTypes") ++ flat_map type_tokens types ++ end_array ∷ []
+types_member types = array_begin (codes "tpdoTypes") ++ flat_map type_tokens types ++ end_array ∷ []
 
 -- an abort code in hexadecimal digits, and how often it came
 unfoldable pub abort_tokens : Numbered → List Token
