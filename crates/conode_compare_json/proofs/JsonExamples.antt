@@ -14,8 +14,8 @@ use Rattle.conode_compare_report.specs.Reports.{nothing_kept}
 use Rattle.conode_compare_report.specs.declared.outcome.Outcome.TheVariants.{NoDifference, Differences, NoFrame, SeveralInterfaces}
 use Rattle.conode_compare_report.specs.Outcomes.{of_tally, outcome_name, outcome_of}
 use Rattle.conode_compare_json.specs.CoverageTokens.{abort_tokens, aborts_member, coverage_member, entries_member, entry_tokens, name_member, served_tokens, services_member, states_member, type_tokens, types_member}
-use Rattle.conode_compare_json.specs.NotedTokens.{context_member, context_tokens, findings_member, noted_tokens}
-use Rattle.conode_compare_json.specs.JsonDocument.{device_member, document_tokens, frames_member, head_members, json_document, kind_tokens, kinds_member, limits_member, recording_members}
+use Rattle.conode_compare_json.specs.NotedTokens.{context_member, context_tokens, findings_member, noted_tokens, said_members}
+use Rattle.conode_compare_json.specs.JsonDocument.{compared_members, device_member, ended_members, document_tokens, frames_member, head_members, json_document, kind_tokens, kinds_member, limits_member, recording_members}
 use Rattle.conode_compare_json.proofs.Reported.{about, report}
 
 -- ---- how it ended
@@ -51,7 +51,7 @@ no_stamps = refl
 -- ---- the document
 
 document : json_document about report
-    ≡ codes "{\"version\":1,\"program\":\"0.12.0\",\"sheet\":\"a&b.eds\",\"recording\":\"a.log\",\"device\":{\"node\":5,\"vendorId\":69,\"revisionNumber\":4294967295},"
+    ≡ codes "{\"version\":1,\"program\":\"0.12.0\",\"sheet\":\"a&b.eds\",\"recording\":\"a.log\",\"device\":{\"node\":5,\"vendor\":69,\"revision\":4294967295},"
     ++ codes "\"limits\":{\"tolerance\":10,\"drift\":1,\"answer\":1000,\"boot\":10000},\"verdict\":\"differences\",\"frames\":{\"prescribed\":2,\"different\":1,\"unjudged\":0},"
     ++ codes "\"lines\":8,\"badLines\":1,\"begin\":1000000,\"end\":3020001,\"unlisted\":0,"
     ++ codes "\"findings\":[{\"line\":3,\"stamp\":3020001,\"kind\":\"heartbeat-late\",\"text\":\"heartbeat-late: 1020.001 ms since the last one, 1017:00 has 1000 ms\","
@@ -62,6 +62,6 @@ document : json_document about report
     ++ codes "{\"name\":\"answer-crc\",\"rule\":\"a block upload ends with the CRC of its bytes (CiA 301, 7.2.4.3.16)\",\"found\":0,\"occasions\":0}],"
     ++ codes "\"coverage\":{\"entries\":[{\"index\":4119,\"subIndex\":0,\"name\":\"<Heartbeat>\",\"read\":false,\"written\":true,\"refused\":false}],"
     ++ codes "\"services\":[{\"name\":\"boot-up\",\"count\":1}],\"states\":{\"initialising\":false,\"preOperational\":true,\"operational\":false,\"stopped\":false},"
-    ++ codes "\"transmissionTypes\":[{\"type\":254,\"count\":7}],\"abortCodes\":[{\"code\":\"06020000\",\"count\":2}]}}\n"
-unfolding json_document document_tokens head_members device_member limits_member frames_member recording_members findings_member noted_tokens context_member context_tokens kinds_member kind_tokens coverage_member entries_member entry_tokens services_member served_tokens states_member types_member type_tokens aborts_member abort_tokens finding_text timed_number millis_text array_begin object_begin text_member number_member flag_member characters_of windows_1252 is_utf8 chars encode digits_text digits print_from escape_byte
+    ++ codes "\"tpdoTypes\":[{\"type\":254,\"count\":7}],\"abortCodes\":[{\"code\":\"06020000\",\"count\":2}]}}\n"
+unfolding json_document document_tokens head_members compared_members ended_members device_member limits_member frames_member recording_members findings_member noted_tokens said_members context_member context_tokens kinds_member kind_tokens coverage_member entries_member entry_tokens services_member served_tokens states_member types_member type_tokens aborts_member abort_tokens finding_text timed_number millis_text array_begin object_begin text_member number_member flag_member characters_of windows_1252 is_utf8 chars encode digits_text digits print_from escape_byte
 document = refl

@@ -1,5 +1,5 @@
 -- A document of JUnit, evaluated, and its parts on both sides of each edge.
-use Rattle.std.proofs.Common.{◌≡◌, true, [], ◌∷◌, ◌++◌, Some, None, codes, refl, replicate}
+use Rattle.std.proofs.Common.{◌≡◌, true, [], ◌∷◌, ◌++◌, Some, None, codes, refl, replicate, append-nil}
 use Rattle.std.specs.Fmt.{digits}
 use Rattle.std.specs.List.{flat_map}
 use Rattle.std.specs.Str.{chars, is_utf8}
@@ -13,8 +13,8 @@ use Rattle.conode_compare_text.specs.Tallies.{no_frames}
 use Rattle.conode_compare_report.specs.declared.kind.Kind.TheVariants.{HeartbeatLate, HeartbeatState}
 use Rattle.conode_compare_report.specs.Reports.{nothing_kept}
 use Rattle.conode_compare_report.specs.declared.outcome.Outcome.TheVariants.{NoFrame, SeveralInterfaces}
-use Rattle.conode_compare_json.specs.JunitCases.{case_begin, case_markup, differences_word, failed_markup, is_of_kind, line_markup, lines_markup, outcome_case}
-use Rattle.conode_compare_json.specs.JunitDocument.{junit_document, properties_markup, span_of, suite_begin}
+use Rattle.conode_compare_json.specs.JunitCases.{case_begin, case_markup, differences_word, failed_markup, failure_begin, is_of_kind, line_markup, lines_markup, outcome_case}
+use Rattle.conode_compare_json.specs.JunitDocument.{junit_document, node_property, properties_markup, property_markup, span_of, suite_begin, suite_tag}
 use Rattle.conode_compare_json.proofs.Reported.{about, late, report}
 
 -- ---- the lines of a case
@@ -25,7 +25,7 @@ own_kind = refl
 -- a hundred have a line, and what is found beyond them is counted
 hundred : lines_markup (codes "a.log") 100 (replicate 100 late) ≡ flat_map (line_markup (codes "a.log")) (replicate 100 late)
 unfolding lines_markup
-hundred = refl
+hundred = append-nil (flat_map (line_markup (codes "a.log")) (replicate 100 late))
 
 hundred_and_one : lines_markup (codes "a.log") 101 (replicate 101 late) ≡ flat_map (line_markup (codes "a.log")) (replicate 100 late) ++ codes "and 1 more\n"
 unfolding lines_markup digits
@@ -65,7 +65,7 @@ unfolding outcome_case case_begin
 several_interfaces = refl
 
 one_more_case : suite_begin (record about { tally = no_frames }) report ≡ codes "<testsuite name=\"a.log\" tests=\"4\" failures=\"1\" errors=\"1\" skipped=\"1\" time=\"2.020001\">\n"
-unfolding suite_begin seconds_text escaped_character characters_of is_utf8 chars encode digits_text digits
+unfolding suite_tag seconds_text escaped_character characters_of is_utf8 chars encode digits_text digits
 one_more_case = refl
 
 -- ---- the document
@@ -81,5 +81,5 @@ document : junit_document about report
     ++ codes "<testcase classname=\"conode.compare\" name=\"pdo-sync\"/>\n"
     ++ codes "<testcase classname=\"conode.compare\" name=\"answer-crc\"><skipped message=\"no occasion in this recording\"/></testcase>\n"
     ++ codes "</testsuite>\n</testsuites>\n"
-unfolding junit_document suite_begin properties_markup case_markup case_begin failed_markup lines_markup line_markup outcome_case finding_line finding_text timed_number millis_text numbered seconds_text escaped_character characters_of is_utf8 chars encode digits_text digits
+unfolding junit_document suite_tag properties_markup property_markup node_property case_markup case_begin failed_markup failure_begin lines_markup line_markup outcome_case finding_line finding_text timed_number millis_text numbered seconds_text escaped_character characters_of is_utf8 chars encode digits_text digits
 document = refl

@@ -1,3 +1,6 @@
-mod Reported
+pub mod Appending
+pub mod Firsts
+pub mod Pairs
+pub mod Reported
 mod JsonExamples
 mod JunitExamples

@@ -56,7 +56,7 @@ type_tokens numbered =
     ++ end_object ∷ [])
 
 unfoldable pub types_member : List Numbered → List Token
-types_member types = array_begin (codes "transmissionTypes") ++ flat_map type_tokens types ++ end_array ∷ []
+types_member types = array_begin (codes "tpdoTypes") ++ flat_map type_tokens types ++ end_array ∷ []
 
 -- an abort code in hexadecimal digits, and how often it came
 unfoldable pub abort_tokens : Numbered → List Token

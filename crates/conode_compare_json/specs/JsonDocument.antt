@@ -1,5 +1,5 @@
 -- A comparison as one document of JSON, in tokens (RFC 8259). Stamps are in microseconds.
-use Rattle.std.specs.Prelude.{ℕ, List, [], ◌∷◌, ◌++◌, pos, codes, option_map}
+use Rattle.std.specs.Prelude.{ℕ, List, [], ◌∷◌, ◌++◌, pos, codes, Option, option_map}
 use Rattle.std.specs.List.{flat_map}
 use Rattle.json.specs.Token.{Token, begin_object, end_object, end_array}
 use Rattle.json.specs.Print.{print}
@@ -18,9 +18,9 @@ use Rattle.conode_compare_report.specs.Outcomes.{outcome_name, outcome_of}
 unfoldable pub device_member : Described → List Token
 device_member about =
     object_begin (codes "device") ++ number_member (codes "node") (pos about.node)
-    ++ number_if (codes "vendorId") (option_map pos about.vendor)
-    ++ number_if (codes "productCode") (option_map pos about.product)
-    ++ number_if (codes "revisionNumber") (option_map pos about.revision) ++ end_object ∷ []
+    ++ number_if (codes "vendor") (option_map pos about.vendor)
+    ++ number_if (codes "product") (option_map pos about.product)
+    ++ number_if (codes "revision") (option_map pos about.revision) ++ end_object ∷ []
 
 -- how exactly the device is judged: in ms, and in percent
 unfoldable pub limits_member : Limits → List Token
@@ -36,21 +36,31 @@ frames_member tally =
     ++ number_member (codes "different") (pos tally.different)
     ++ number_member (codes "unjudged") (pos tally.unjudged) ++ end_object ∷ []
 
--- what was compared, how, and how it ended
-unfoldable pub head_members : Described → List Token
-head_members about =
+-- what was compared, and how
+unfoldable pub compared_members : Described → List Token
+compared_members about =
     number_member (codes "version") (pos 1) ++ text_member (codes "program") about.version
     ++ text_member (codes "sheet") about.sheet ++ text_member (codes "recording") about.recording
     ++ device_member about ++ limits_member about.limits
-    ++ text_member (codes "verdict") (outcome_name (outcome_of about)) ++ frames_member about.tally
 
--- the lines of the recording, the stamps of its first and its last frame, and how many differences
+-- how it ended
+unfoldable pub ended_members : Described → List Token
+ended_members about = text_member (codes "verdict") (outcome_name (outcome_of about)) ++ frames_member about.tally
+
+unfoldable pub head_members : Described → List Token
+head_members about = compared_members about ++ ended_members about
+
+-- the stamp of the newest frame, if there is one
+abbrev pub end_of : Kept → Option ℕ
+end_of report = option_map (λ begin. report.end) report.begin
+
+-- the lines of the recording, the stamps of its first and its newest frame, and how many differences
 -- aren't listed
 unfoldable pub recording_members : Kept → List Token
 recording_members report =
     number_member (codes "lines") (pos report.lines) ++ number_member (codes "badLines") (pos report.bad_lines)
     ++ number_if (codes "begin") (option_map pos report.begin)
-    ++ number_if (codes "end") (option_map (λ begin. pos report.end) report.begin)
+    ++ number_if (codes "end") (option_map pos (end_of report))
     ++ number_member (codes "unlisted") (pos report.unlisted)
 
 -- a kind of difference: how often it was found, and how often it could have been

@@ -1,5 +1,5 @@
 -- A comparison as a document of JUnit, the form of test results that build servers read.
-use Rattle.std.specs.Prelude.{ℕ, ◌+◌, ◌-◌, ◌==◌, ◌^◌, nat_lt, Bool, ◌&&◌, List, ◌++◌, length, min, codes, decimal, count_by}
+use Rattle.std.specs.Prelude.{ℕ, ◌+◌, ◌-◌, ◌==◌, nat_lt, Bool, ◌&&◌, List, ◌++◌, length, codes, decimal, count_by}
 use Rattle.std.specs.List.{flat_map}
 use Rattle.std.specs.Option.{option_map_or}
 use Rattle.conode_compare_report.specs.Abouts.{Described}
@@ -9,6 +9,7 @@ use Rattle.conode_markup.specs.Escapes.{escaped}
 use Rattle.conode_markup.specs.Pieces.{seconds_text}
 use Rattle.conode_compare_report.specs.declared.outcome.Outcome.{Outcome}
 use Rattle.conode_compare_report.specs.declared.outcome.Outcome.TheVariants.{NoDifference, Differences, NoFrame, SeveralInterfaces}
+use Rattle.conode_compare_json.specs.declared.junit.Numbers.{Numbers}
 use Rattle.conode_compare_json.specs.JunitCases.{case_markup, outcome_case}
 use Rattle.conode_compare_report.specs.Outcomes.{outcome_of}
 
@@ -28,25 +29,38 @@ error_count SeveralInterfaces = 1
 abbrev pub span_of : Kept → ℕ
 span_of report = option_map_or (λ begin. report.end - begin) report.begin 0
 
--- the tag that begins the test cases: the recording, their numbers, and how many seconds it has
-unfoldable pub suite_begin : Described → Kept → List ℕ
-suite_begin about report =
-    let errors = error_count (outcome_of about) in
-    codes "<testsuite name=\"" ++ escaped about.recording
-    ++ codes "\" tests=\"" ++ decimal (length report.kinds + errors)
-    ++ codes "\" failures=\"" ++ decimal (count_by is_failed report.kinds)
-    ++ codes "\" errors=\"" ++ decimal errors
-    ++ codes "\" skipped=\"" ++ decimal (count_by is_skipped report.kinds)
-    ++ codes "\" time=\"" ++ seconds_text (span_of report) ++ codes "\">\n"
+-- how many test cases there are, and how they ended
+abbrev pub numbers_of : Described → Kept → Numbers
+numbers_of about report = record {
+  tests = length report.kinds + error_count (outcome_of about);
+  failures = count_by is_failed report.kinds;
+  errors = error_count (outcome_of about);
+  skipped = count_by is_skipped report.kinds;
+}
+
+-- the tag that begins the test cases: a name, their numbers, and a time in seconds
+unfoldable pub suite_tag : List ℕ → Numbers → ℕ → List ℕ
+suite_tag name numbers micros =
+    codes "<testsuite name=\"" ++ escaped name ++ codes "\" tests=\"" ++ decimal numbers.tests
+    ++ codes "\" failures=\"" ++ decimal numbers.failures ++ codes "\" errors=\"" ++ decimal numbers.errors
+    ++ codes "\" skipped=\"" ++ decimal numbers.skipped ++ codes "\" time=\"" ++ seconds_text micros ++ codes "\">\n"
+
+abbrev pub suite_begin : Described → Kept → List ℕ
+suite_begin about report = suite_tag about.recording (numbers_of about report) (span_of report)
+
+unfoldable pub property_markup : List ℕ → List ℕ → List ℕ
+property_markup name value =
+    codes "<property name=\"" ++ name ++ codes "\" value=\"" ++ escaped value ++ codes "\"/>\n"
+
+unfoldable pub node_property : ℕ → List ℕ
+node_property node = codes "<property name=\"node\" value=\"" ++ decimal node ++ codes "\"/>\n"
 
 -- what was compared, and the version of the program
 unfoldable pub properties_markup : Described → List ℕ
 properties_markup about =
-    codes "<properties>\n<property name=\"version\" value=\"" ++ escaped about.version
-    ++ codes "\"/>\n<property name=\"sheet\" value=\"" ++ escaped about.sheet
-    ++ codes "\"/>\n<property name=\"recording\" value=\"" ++ escaped about.recording
-    ++ codes "\"/>\n<property name=\"node\" value=\"" ++ decimal about.node
-    ++ codes "\"/>\n</properties>\n"
+    codes "<properties>\n" ++ property_markup (codes "version") about.version
+    ++ property_markup (codes "sheet") about.sheet ++ property_markup (codes "recording") about.recording
+    ++ node_property about.node ++ codes "</properties>\n"
 
 unfoldable pub junit_document : Described → Kept → List ℕ
 junit_document about report =

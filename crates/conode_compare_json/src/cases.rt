@@ -10,6 +10,7 @@ ghost use Rattle.conode_compare_json.specs.JunitCases.{
   case_markup,
   differences_word,
   failed_markup,
+  failure_begin,
   is_of_kind,
   line_markup,
   lines_markup,
@@ -17,7 +18,7 @@ ghost use Rattle.conode_compare_json.specs.JunitCases.{
   outcome_case,
 };
 
-use conode_compare_report::{About, Counted, Kind, Noted, Outcome};
+use conode_compare_report::{About, Counted, Kind, Noted, Outcome, Report};
 use conode_compare_text::set_finding_line;
 use conode_markup::{Piece, push_pieces};
 use std::alloc::{AllocError, Global};
@@ -32,11 +33,11 @@ fn is_of_kind(kind: Kind, noted: &Noted) -> bool
 }
 
 // the differences of a kind
-fn of_kind(alloc: Global, kind: Kind, noted: &[Noted]) -> Result<Vec<Noted>, AllocError>
-    ensures { IfOk result (λ own. own.items ≡ filter (is_of_kind kind) noted.now) }
+fn of_kind(alloc: Global, kind: Kind, report: &Report) -> Result<Vec<Noted>, AllocError>
+    ensures { IfOk result (λ own. own.items ≡ filter (is_of_kind kind) report.now.noted) }
 {
     let mut own = Vec::new(alloc);
-    for one in noted {
+    for one in &report.noted {
         if is_of_kind(kind, one) {
             own.push(*one)?;
         }
@@ -99,7 +100,7 @@ fn push_more(alloc: Global, text: &mut String, count: u64) -> Result<(), AllocEr
 }
 
 // the first lines of the differences of a kind, of which so many were found
-#[tactic(auto, unfolding(crate::specs::JunitCases::lines_markup))]
+#[tactic(auto, using(crate::proofs::Firsts::take_min), unfolding(crate::specs::JunitCases::lines_markup))]
 fn push_first_lines(
     alloc: Global,
     text: &mut String,
@@ -141,6 +142,33 @@ fn differences_word(count: u64) -> &'static str
     }
 }
 
+// the tag that begins a failure
+#[tactic(auto, unfolding(crate::specs::JunitCases::failure_begin))]
+fn push_failure(
+    alloc: Global,
+    text: &mut String,
+    kind: &str,
+    found: u64,
+    rule: &str,
+) -> Result<(), AllocError>
+    ensures { OnOk result (string_bytes text.new
+        ≡ string_bytes text.old ++ failure_begin kind.now found rule.now) }
+{
+    push_pieces(
+        alloc,
+        text,
+        &[
+            Piece::Markup("><failure type=\""),
+            Piece::Markup(kind),
+            Piece::Markup("\" message=\""),
+            Piece::Number(found),
+            Piece::Markup(differences_word(found)),
+            Piece::Text(rule.as_bytes()),
+            Piece::Markup("\">"),
+        ],
+    )
+}
+
 // what a failed test case has
 #[tactic(auto, unfolding(crate::specs::JunitCases::failed_markup))]
 fn push_failed(
@@ -148,25 +176,14 @@ fn push_failed(
     text: &mut String,
     recording: &str,
     counted: Counted,
-    noted: &[Noted],
+    report: &Report,
 ) -> Result<(), AllocError>
     ensures { OnOk result (string_bytes text.new
-        ≡ string_bytes text.old ++ failed_markup recording.now counted noted.now) }
+        ≡ string_bytes text.old ++ failed_markup recording.now counted report.now.noted) }
 {
-    let own = of_kind(alloc, counted.kind, noted)?;
-    push_pieces(
-        alloc,
-        text,
-        &[
-            Piece::Markup("><failure type=\""),
-            Piece::Markup(counted.kind.name()),
-            Piece::Markup("\" message=\""),
-            Piece::Number(counted.found),
-            Piece::Markup(differences_word(counted.found)),
-            Piece::Text(counted.kind.rule().as_bytes()),
-            Piece::Markup("\">"),
-        ],
-    )?;
+    let kind = counted.kind;
+    let own = of_kind(alloc, kind, report)?;
+    push_failure(alloc, text, kind.name(), counted.found, kind.rule())?;
     push_first_lines(alloc, text, recording, counted.found, own.as_slice())?;
     text.push_str("</failure></testcase>\n")
 }
@@ -178,14 +195,14 @@ pub(crate) fn push_case(
     text: &mut String,
     recording: &str,
     counted: Counted,
-    noted: &[Noted],
+    report: &Report,
 ) -> Result<(), AllocError>
     ensures { OnOk result (string_bytes text.new
-        ≡ string_bytes text.old ++ case_markup recording.now noted.now counted) }
+        ≡ string_bytes text.old ++ case_markup recording.now report.now.noted counted) }
 {
     push_begin(alloc, text, counted.kind.name())?;
     if counted.found > 0 {
-        push_failed(alloc, text, recording, counted, noted)
+        push_failed(alloc, text, recording, counted, report)
     } else if counted.occasions == 0 {
         text.push_str("><skipped message=\"no occasion in this recording\"/></testcase>\n")
     } else {

@@ -30,7 +30,7 @@ fn put_name(
     writer: &mut JsonWriter,
     name: Option<&[u8]>,
 ) -> Result<(), AllocError>
-    ensures { OnOk result (writer.new ≡ writer.old ++ name_member (option_copied name)) }
+    ensures { OnOk result (writer.new ≡ writer.old ++ name_member (option_copied name.entry)) }
 {
     match name {
         Some(name) => writer.put_bytes(alloc, "name", name),
@@ -63,14 +63,14 @@ fn put_entries(
     alloc: Global,
     writer: &mut JsonWriter,
     rows: &[EntryRow<'_>],
-    covered: &[Covered],
+    coverage: &Coverage,
 ) -> Result<(), AllocError>
     ensures { OnOk result
-        (writer.new ≡ writer.old ++ entries_member (map row_view rows.now) covered.now) }
+        (writer.new ≡ writer.old ++ entries_member (map row_view rows.now) coverage.now.entries) }
 {
     writer.begin_array_of("entries")?;
     for (place, row) in rows.iter().enumerate() {
-        if let Some(covered) = covered.get(place) {
+        if let Some(covered) = coverage.entries.get(place) {
             put_entry(alloc, writer, row, *covered)?;
         }
     }
@@ -91,12 +91,12 @@ fn put_served(alloc: Global, writer: &mut JsonWriter, served: Served) -> Result<
 fn put_services(
     alloc: Global,
     writer: &mut JsonWriter,
-    services: &[Served],
+    coverage: &Coverage,
 ) -> Result<(), AllocError>
-    ensures { OnOk result (writer.new ≡ writer.old ++ services_member services.now) }
+    ensures { OnOk result (writer.new ≡ writer.old ++ services_member coverage.now.services) }
 {
     writer.begin_array_of("services")?;
-    for served in services {
+    for served in &coverage.services {
         put_served(alloc, writer, *served)?;
     }
     writer.end_array()
@@ -114,6 +114,12 @@ fn put_states(writer: &mut JsonWriter, states: States) -> Result<(), AllocError>
     writer.end_object()
 }
 
+fn put_all_states(writer: &mut JsonWriter, coverage: &Coverage) -> Result<(), AllocError>
+    ensures { OnOk result (writer.new ≡ writer.old ++ states_member coverage.now.states) }
+{
+    put_states(writer, coverage.states)
+}
+
 #[tactic(auto, unfolding(crate::specs::CoverageTokens::type_tokens))]
 fn put_type(alloc: Global, writer: &mut JsonWriter, numbered: Numbered) -> Result<(), AllocError>
     ensures { OnOk result (writer.new ≡ writer.old ++ type_tokens numbered) }
@@ -128,12 +134,12 @@ fn put_type(alloc: Global, writer: &mut JsonWriter, numbered: Numbered) -> Resul
 fn put_types(
     alloc: Global,
     writer: &mut JsonWriter,
-    types: &[Numbered],
+    coverage: &Coverage,
 ) -> Result<(), AllocError>
-    ensures { OnOk result (writer.new ≡ writer.old ++ types_member types.now) }
+    ensures { OnOk result (writer.new ≡ writer.old ++ types_member coverage.now.types) }
 {
-    writer.begin_array_of("transmissionTypes")?;
-    for numbered in types {
+    writer.begin_array_of("tpdoTypes")?;
+    for numbered in &coverage.types {
         put_type(alloc, writer, *numbered)?;
     }
     writer.end_array()
@@ -155,12 +161,12 @@ fn put_abort(alloc: Global, writer: &mut JsonWriter, numbered: Numbered) -> Resu
 fn put_aborts(
     alloc: Global,
     writer: &mut JsonWriter,
-    aborts: &[Numbered],
+    coverage: &Coverage,
 ) -> Result<(), AllocError>
-    ensures { OnOk result (writer.new ≡ writer.old ++ aborts_member aborts.now) }
+    ensures { OnOk result (writer.new ≡ writer.old ++ aborts_member coverage.now.aborts) }
 {
     writer.begin_array_of("abortCodes")?;
-    for numbered in aborts {
+    for numbered in &coverage.aborts {
         put_abort(alloc, writer, *numbered)?;
     }
     writer.end_array()
@@ -178,10 +184,10 @@ pub(crate) fn put_coverage(
         (writer.new ≡ writer.old ++ coverage_member (map row_view rows.now) coverage.now) }
 {
     writer.begin_object_of("coverage")?;
-    put_entries(alloc, writer, rows, coverage.entries.as_slice())?;
-    put_services(alloc, writer, coverage.services.as_slice())?;
-    put_states(writer, coverage.states)?;
-    put_types(alloc, writer, coverage.types.as_slice())?;
-    put_aborts(alloc, writer, coverage.aborts.as_slice())?;
+    put_entries(alloc, writer, rows, coverage)?;
+    put_services(alloc, writer, coverage)?;
+    put_all_states(writer, coverage)?;
+    put_types(alloc, writer, coverage)?;
+    put_aborts(alloc, writer, coverage)?;
     writer.end_object()
 }

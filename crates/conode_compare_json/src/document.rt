@@ -2,10 +2,14 @@
 //! some tokens may be there.
 
 ghost use Rattle.std.specs.Prelude.{◌≡◌, ◌++◌, option_map, pos, IfOk, OnOk};
+ghost use Rattle.conode_json.specs.Members.{number_if};
 ghost use Rattle.conode_compare_report.specs.Abouts.{about_view};
 ghost use Rattle.conode_compare_json.specs.JsonDocument.{
+  compared_members,
   device_member,
   document_tokens,
+  end_of,
+  ended_members,
   frames_member,
   head_members,
   json_document,
@@ -26,10 +30,20 @@ use std::alloc::{AllocError, Global};
 /// The version of the document's form.
 const VERSION: i128 = 1;
 
-fn number_of(number: Option<u64>) -> Option<i128>
-    ensures { result ≡ option_map pos number }
+// a number that there may be
+fn put_any(
+    alloc: Global,
+    writer: &mut JsonWriter,
+    name: &str,
+    number: Option<u64>,
+) -> Result<(), AllocError>
+    ensures { OnOk result
+        (writer.new ≡ writer.old ++ number_if name.now (option_map pos number)) }
 {
-    Some(i128::from(number?))
+    match number {
+        Some(number) => writer.put_number(alloc, name, i128::from(number)),
+        None => Ok(()),
+    }
 }
 
 // the node-ID, and the identity that the sheet has
@@ -43,9 +57,9 @@ fn put_device(
 {
     writer.begin_object_of("device")?;
     writer.put_number(alloc, "node", i128::from(about.node))?;
-    writer.put_number_if(alloc, "vendorId", number_of(about.vendor))?;
-    writer.put_number_if(alloc, "productCode", number_of(about.product))?;
-    writer.put_number_if(alloc, "revisionNumber", number_of(about.revision))?;
+    put_any(alloc, writer, "vendor", about.vendor)?;
+    put_any(alloc, writer, "product", about.product)?;
+    put_any(alloc, writer, "revision", about.revision)?;
     writer.end_object()
 }
 
@@ -72,7 +86,36 @@ fn put_frames(alloc: Global, writer: &mut JsonWriter, tally: Tally) -> Result<()
     writer.end_object()
 }
 
-// what was compared, how, and how it ended
+// what was compared, and how
+#[tactic(auto, unfolding(crate::specs::JsonDocument::compared_members))]
+fn put_compared(
+    alloc: Global,
+    writer: &mut JsonWriter,
+    about: &About<'_, '_>,
+) -> Result<(), AllocError>
+    ensures { OnOk result (writer.new ≡ writer.old ++ compared_members (about_view about.now)) }
+{
+    writer.put_number(alloc, "version", VERSION)?;
+    writer.put_text("program", about.version)?;
+    writer.put_text("sheet", about.sheet)?;
+    writer.put_text("recording", about.recording)?;
+    put_device(alloc, writer, about)?;
+    put_limits(alloc, writer, about.limits)
+}
+
+// how it ended
+#[tactic(auto, unfolding(crate::specs::JsonDocument::ended_members))]
+fn put_ended(
+    alloc: Global,
+    writer: &mut JsonWriter,
+    about: &About<'_, '_>,
+) -> Result<(), AllocError>
+    ensures { OnOk result (writer.new ≡ writer.old ++ ended_members (about_view about.now)) }
+{
+    writer.put_text("verdict", Outcome::of(about).name())?;
+    put_frames(alloc, writer, about.tally)
+}
+
 #[tactic(auto, unfolding(crate::specs::JsonDocument::head_members))]
 fn put_head(
     alloc: Global,
@@ -81,25 +124,19 @@ fn put_head(
 ) -> Result<(), AllocError>
     ensures { OnOk result (writer.new ≡ writer.old ++ head_members (about_view about.now)) }
 {
-    writer.put_number(alloc, "version", VERSION)?;
-    writer.put_text("program", about.version)?;
-    writer.put_text("sheet", about.sheet)?;
-    writer.put_text("recording", about.recording)?;
-    put_device(alloc, writer, about)?;
-    put_limits(alloc, writer, about.limits)?;
-    writer.put_text("verdict", Outcome::of(about).name())?;
-    put_frames(alloc, writer, about.tally)
+    put_compared(alloc, writer, about)?;
+    put_ended(alloc, writer, about)
 }
 
-// the stamp of the last frame, if there is one
-fn end_of(report: &Report) -> Option<i128>
-    ensures { result ≡ option_map (λ begin. pos report.now.end) report.now.begin }
+// the stamp of the newest frame, if there is one
+fn end_of(report: &Report) -> Option<u64>
+    ensures { result ≡ end_of report.now }
 {
     let _begin = report.begin?;
-    Some(i128::from(report.end))
+    Some(report.end)
 }
 
-// the lines of the recording, and the stamps of its first and its last frame
+// the lines of the recording, and the stamps of its first and its newest frame
 #[tactic(auto, unfolding(crate::specs::JsonDocument::recording_members))]
 fn put_recording(
     alloc: Global,
@@ -110,8 +147,8 @@ fn put_recording(
 {
     writer.put_number(alloc, "lines", i128::from(report.lines))?;
     writer.put_number(alloc, "badLines", i128::from(report.bad_lines))?;
-    writer.put_number_if(alloc, "begin", number_of(report.begin))?;
-    writer.put_number_if(alloc, "end", end_of(report))?;
+    put_any(alloc, writer, "begin", report.begin)?;
+    put_any(alloc, writer, "end", end_of(report))?;
     writer.put_number(alloc, "unlisted", i128::from(report.unlisted))
 }
 
@@ -131,12 +168,12 @@ fn put_kind(alloc: Global, writer: &mut JsonWriter, counted: Counted) -> Result<
 fn put_kinds(
     alloc: Global,
     writer: &mut JsonWriter,
-    kinds: &[Counted],
+    report: &Report,
 ) -> Result<(), AllocError>
-    ensures { OnOk result (writer.new ≡ writer.old ++ kinds_member kinds.now) }
+    ensures { OnOk result (writer.new ≡ writer.old ++ kinds_member report.now.kinds) }
 {
     writer.begin_array_of("kinds")?;
-    for counted in kinds {
+    for counted in &report.kinds {
         put_kind(alloc, writer, *counted)?;
     }
     writer.end_array()
@@ -156,7 +193,7 @@ fn put_document(
     put_head(alloc, writer, about)?;
     put_recording(alloc, writer, report)?;
     put_findings(alloc, writer, report)?;
-    put_kinds(alloc, writer, report.kinds.as_slice())?;
+    put_kinds(alloc, writer, report)?;
     put_coverage(alloc, writer, about.rows, &report.coverage)?;
     writer.end_object()
 }

@@ -10,15 +10,28 @@ ghost use Rattle.conode_compare_json.specs.JunitDocument.{
   is_failed,
   is_skipped,
   junit_document,
+  node_property,
+  numbers_of,
   properties_markup,
+  property_markup,
   span_of,
   suite_begin,
+  suite_tag,
 };
 
 use crate::cases::{push_case, push_outcome};
-use conode_compare_report::{About, Counted, Noted, Outcome, Report};
+use conode_compare_report::{About, Counted, Outcome, Report};
 use conode_markup::{Piece, push_pieces};
 use std::alloc::{AllocError, Global};
+
+/// How many test cases there are, and how many of them are failed, have an error, or are skipped.
+#[derive(Clone, Copy)]
+struct Numbers {
+    tests: u64,
+    failures: u64,
+    errors: u64,
+    skipped: u64,
+}
 
 fn is_failed(counted: &Counted) -> bool
     ensures { result ≡ is_failed counted.now }
@@ -33,13 +46,13 @@ fn is_skipped(counted: &Counted) -> bool
 }
 
 // how many test cases are failed, and how many are skipped
-fn counts_of(kinds: &[Counted]) -> (usize, usize)
-    ensures failed { result.0 ≡ count_by is_failed kinds.now }
-    ensures skipped { result.1 ≡ count_by is_skipped kinds.now }
+fn counts_of(report: &Report) -> (usize, usize)
+    ensures failed { result.0 ≡ count_by is_failed report.now.kinds }
+    ensures skipped { result.1 ≡ count_by is_skipped report.now.kinds }
 {
     let mut failed = 0;
     let mut skipped = 0;
-    for counted in kinds {
+    for counted in &report.kinds {
         if is_failed(counted) {
             failed += 1;
         }
@@ -71,7 +84,52 @@ fn span_of(report: &Report) -> u64
 }
 
 // the tag that begins the test cases, with their numbers
-#[tactic(auto, unfolding(crate::specs::JunitDocument::suite_begin))]
+#[tactic(auto, unfolding(crate::specs::JunitDocument::suite_tag))]
+fn push_tag(
+    alloc: Global,
+    text: &mut String,
+    name: &str,
+    numbers: Numbers,
+    micros: u64,
+) -> Result<(), AllocError>
+    ensures { OnOk result (string_bytes text.new
+        ≡ string_bytes text.old ++ suite_tag name.now numbers micros) }
+{
+    push_pieces(
+        alloc,
+        text,
+        &[
+            Piece::Markup("<testsuite name=\""),
+            Piece::Text(name.as_bytes()),
+            Piece::Markup("\" tests=\""),
+            Piece::Number(numbers.tests),
+            Piece::Markup("\" failures=\""),
+            Piece::Number(numbers.failures),
+            Piece::Markup("\" errors=\""),
+            Piece::Number(numbers.errors),
+            Piece::Markup("\" skipped=\""),
+            Piece::Number(numbers.skipped),
+            Piece::Markup("\" time=\""),
+            Piece::Seconds(micros),
+            Piece::Markup("\">\n"),
+        ],
+    )
+}
+
+// how many test cases there are, and how they ended
+fn numbers_of(about: &About<'_, '_>, report: &Report) -> Numbers
+    ensures { result ≡ numbers_of (about_view about.now) report.now }
+{
+    let errors = error_count(Outcome::of(about));
+    let (failed, skipped) = counts_of(report);
+    Numbers {
+        tests: (report.kinds.len() + errors) as u64,
+        failures: failed as u64,
+        errors: errors as u64,
+        skipped: skipped as u64,
+    }
+}
+
 fn push_suite(
     alloc: Global,
     text: &mut String,
@@ -81,25 +139,50 @@ fn push_suite(
     ensures { OnOk result (string_bytes text.new
         ≡ string_bytes text.old ++ suite_begin (about_view about.now) report.now) }
 {
-    let errors = error_count(Outcome::of(about));
-    let (failed, skipped) = counts_of(report.kinds.as_slice());
+    let numbers = numbers_of(about, report);
+    push_tag(alloc, text, about.recording, numbers, span_of(report))
+}
+
+fn push_words(text: &mut String, words: &str) -> Result<(), AllocError>
+    ensures { OnOk result (string_bytes text.new ≡ string_bytes text.old ++ words.now) }
+{
+    text.push_str(words)
+}
+
+#[tactic(auto, unfolding(crate::specs::JunitDocument::property_markup))]
+fn push_property(
+    alloc: Global,
+    text: &mut String,
+    name: &str,
+    value: &str,
+) -> Result<(), AllocError>
+    ensures { OnOk result (string_bytes text.new
+        ≡ string_bytes text.old ++ property_markup name.now value.now) }
+{
     push_pieces(
         alloc,
         text,
         &[
-            Piece::Markup("<testsuite name=\""),
-            Piece::Text(about.recording.as_bytes()),
-            Piece::Markup("\" tests=\""),
-            Piece::Number((report.kinds.len() + errors) as u64),
-            Piece::Markup("\" failures=\""),
-            Piece::Number(failed as u64),
-            Piece::Markup("\" errors=\""),
-            Piece::Number(errors as u64),
-            Piece::Markup("\" skipped=\""),
-            Piece::Number(skipped as u64),
-            Piece::Markup("\" time=\""),
-            Piece::Seconds(span_of(report)),
-            Piece::Markup("\">\n"),
+            Piece::Markup("<property name=\""),
+            Piece::Markup(name),
+            Piece::Markup("\" value=\""),
+            Piece::Text(value.as_bytes()),
+            Piece::Markup("\"/>\n"),
+        ],
+    )
+}
+
+#[tactic(auto, unfolding(crate::specs::JunitDocument::node_property))]
+fn push_node(alloc: Global, text: &mut String, node: u8) -> Result<(), AllocError>
+    ensures { OnOk result (string_bytes text.new ≡ string_bytes text.old ++ node_property node) }
+{
+    push_pieces(
+        alloc,
+        text,
+        &[
+            Piece::Markup("<property name=\"node\" value=\""),
+            Piece::Number(u64::from(node)),
+            Piece::Markup("\"/>\n"),
         ],
     )
 }
@@ -114,35 +197,25 @@ fn push_properties(
     ensures { OnOk result (string_bytes text.new
         ≡ string_bytes text.old ++ properties_markup (about_view about.now)) }
 {
-    push_pieces(
-        alloc,
-        text,
-        &[
-            Piece::Markup("<properties>\n<property name=\"version\" value=\""),
-            Piece::Text(about.version.as_bytes()),
-            Piece::Markup("\"/>\n<property name=\"sheet\" value=\""),
-            Piece::Text(about.sheet.as_bytes()),
-            Piece::Markup("\"/>\n<property name=\"recording\" value=\""),
-            Piece::Text(about.recording.as_bytes()),
-            Piece::Markup("\"/>\n<property name=\"node\" value=\""),
-            Piece::Number(u64::from(about.node)),
-            Piece::Markup("\"/>\n</properties>\n"),
-        ],
-    )
+    push_words(text, "<properties>\n")?;
+    push_property(alloc, text, "version", about.version)?;
+    push_property(alloc, text, "sheet", about.sheet)?;
+    push_property(alloc, text, "recording", about.recording)?;
+    push_node(alloc, text, about.node)?;
+    push_words(text, "</properties>\n")
 }
 
 fn push_cases(
     alloc: Global,
     text: &mut String,
     recording: &str,
-    noted: &[Noted],
-    kinds: &[Counted],
+    report: &Report,
 ) -> Result<(), AllocError>
     ensures { OnOk result (string_bytes text.new ≡ string_bytes text.old
-        ++ flat_map (case_markup recording.now noted.now) kinds.now) }
+        ++ flat_map (case_markup recording.now report.now.noted) report.now.kinds) }
 {
-    for counted in kinds {
-        push_case(alloc, text, recording, *counted, noted)?;
+    for counted in &report.kinds {
+        push_case(alloc, text, recording, *counted, report)?;
     }
     Ok(())
 }
@@ -157,14 +230,12 @@ fn push_document(
     ensures { OnOk result (string_bytes text.new
         ≡ string_bytes text.old ++ junit_document (about_view about.now) report.now) }
 {
-    let noted = report.noted.as_slice();
-    let kinds = report.kinds.as_slice();
-    text.push_str("<?xml version=\"1.0\" encoding=\"UTF-8\"?>\n<testsuites>\n")?;
+    push_words(text, "<?xml version=\"1.0\" encoding=\"UTF-8\"?>\n<testsuites>\n")?;
     push_suite(alloc, text, about, report)?;
     push_properties(alloc, text, about)?;
-    push_cases(alloc, text, about.recording, noted, kinds)?;
+    push_cases(alloc, text, about.recording, report)?;
     push_outcome(alloc, text, about)?;
-    text.push_str("</testsuite>\n</testsuites>\n")
+    push_words(text, "</testsuite>\n</testsuites>\n")
 }
 
 /// The comparison as a document of JUnit: a test case a kind of difference, with the recording's span

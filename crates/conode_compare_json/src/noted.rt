@@ -10,6 +10,7 @@ ghost use Rattle.conode_compare_json.specs.NotedTokens.{
   context_tokens,
   findings_member,
   noted_tokens,
+  said_members,
 };
 
 use conode_compare_report::{ContextLine, Kind, Noted, Report};
@@ -55,6 +56,16 @@ fn text_of(alloc: Global, noted: &Noted) -> Result<String, AllocError>
     Ok(text)
 }
 
+// what was found: its kind, and what CiA 301 prescribes
+#[tactic(auto, unfolding(crate::specs::NotedTokens::said_members))]
+fn put_said(writer: &mut JsonWriter, kind: Kind, text: &str) -> Result<(), AllocError>
+    ensures { OnOk result (writer.new ≡ writer.old ++ said_members kind text.now) }
+{
+    writer.put_text("kind", kind.name())?;
+    writer.put_text("text", text)?;
+    writer.put_text("rule", kind.rule())
+}
+
 #[tactic(auto, unfolding(crate::specs::NotedTokens::noted_tokens))]
 fn put_noted(
     alloc: Global,
@@ -65,14 +76,11 @@ fn put_noted(
     ensures { OnOk result
         (writer.new ≡ writer.old ++ noted_tokens report.now.context noted.now) }
 {
-    let kind = Kind::of(noted.finding);
     let text = text_of(alloc, noted)?;
     writer.begin_object()?;
     writer.put_number(alloc, "line", i128::from(noted.line))?;
     writer.put_number(alloc, "stamp", i128::from(noted.micros))?;
-    writer.put_text("kind", kind.name())?;
-    writer.put_text("text", text.as_str())?;
-    writer.put_text("rule", kind.rule())?;
+    put_said(writer, Kind::of(noted.finding), text.as_str())?;
     put_context(alloc, writer, report.around(noted))?;
     writer.end_object()
 }

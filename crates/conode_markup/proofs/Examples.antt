@@ -1,12 +1,12 @@
 -- What is escaped, evaluated, on both sides of each edge.
-use Rattle.std.proofs.Common.{◌≡◌, true, false, [], ◌∷◌, ◌++◌, refl}
+use Rattle.std.proofs.Common.{◌≡◌, true, false, [], ◌∷◌, refl}
 use Rattle.std.specs.Prelude.{codes}
 use Rattle.std.specs.Fmt.{digits}
 use Rattle.std.specs.List.{flat_map}
 use Rattle.std.specs.Str.{chars, is_utf8}
 use Rattle.co_text.specs.Printed.{digits_text}
 use Rattle.conode_lint_text.specs.Characters.{characters_of, windows_1252}
-use Rattle.conode_markup.specs.declared.pieces.Piece.TheVariants.{Markup, Text, Number, Seconds, Key, Code}
+use Rattle.conode_markup.specs.declared.pieces.Piece.TheVariants.{Number, Seconds, Key, Code}
 use Rattle.conode_markup.specs.Escapes.{escaped, escaped_character, is_character_data, is_plain}
 use Rattle.conode_markup.specs.Pieces.{piece_markup, seconds_text}
 

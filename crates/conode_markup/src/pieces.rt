@@ -66,11 +66,7 @@ fn push_piece(alloc: Global, text: &mut String, piece: &Piece<'_>) -> Result<(),
 }
 
 /// Appends pieces, one after another.
-pub fn push_pieces(
-    alloc: Global,
-    text: &mut String,
-    pieces: &[Piece<'_>],
-) -> Result<(), AllocError>
+pub fn push_pieces(alloc: Global, text: &mut String, pieces: &[Piece<'_>]) -> Result<(), AllocError>
     ensures { OnOk result
         (string_bytes text.new ≡ string_bytes text.old ++ flat_map piece_markup pieces.now) }
 {

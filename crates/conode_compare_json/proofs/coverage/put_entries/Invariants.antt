@@ -5,4 +5,4 @@ use Rattle.conode_compare_json.specs.CoverageTokens.{entry_tokens}
 use Rattle.conode_compare_json.proofs.coverage.put_entries.Given as goal
 
 abbrev pub invariant-loop-place : goal.invariant-loop-place
-invariant-loop-place l = l.writer ≡ l.initial.writer ++ flat_map entry_tokens (zip (map row_view (take l.place l.rows)) (take l.place l.covered))
+invariant-loop-place l = l.writer ≡ l.initial.writer ++ flat_map entry_tokens (zip (map row_view (take l.place l.rows)) (take l.place l.coverage.entries))

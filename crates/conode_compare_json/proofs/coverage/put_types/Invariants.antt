@@ -4,4 +4,4 @@ use Rattle.conode_compare_json.specs.CoverageTokens.{type_tokens}
 use Rattle.conode_compare_json.proofs.coverage.put_types.Given as goal
 
 abbrev pub invariant-loop-numbered : goal.invariant-loop-numbered
-invariant-loop-numbered l = l.writer ≡ l.initial.writer ++ flat_map type_tokens (take l.numbered-index l.types)
+invariant-loop-numbered l = l.writer ≡ l.initial.writer ++ flat_map type_tokens (take l.numbered-index l.coverage.types)
