@@ -16,15 +16,15 @@ use Rattle.conode_compare_report.specs.declared.lanes.States.{States}
 use Rattle.conode_compare_report.specs.declared.noted.Noted.{Noted}
 use Rattle.conode_compare_report.specs.Contexts.{KeptLine}
 use Rattle.conode_compare_report.specs.Spans.{LanesView}
-use Rattle.conode_compare_text.specs.FindingTexts.{finding_text, millis_text, timed_number}
+use Rattle.conode_compare_text.specs.FindingTexts.{finding_text}
 use Rattle.conode_explain_values.specs.declared.value_type.ValueType.TheVariants.{Plain}
 use Rattle.conode_lint_text.specs.Characters.{characters_of}
 use Rattle.conode_markup.specs.Escapes.{escaped_character}
 use Rattle.conode_markup.specs.Pieces.{seconds_text}
 use Rattle.conode_compare_report.specs.declared.outcome.Outcome.TheVariants.{NoDifference, Differences, NoFrame, SeveralInterfaces}
 use Rattle.conode_compare_page.specs.declared.states.Shown.TheVariants.{Nothing, Initialising, PreOperational, Operational, Stopped, Several}
-use Rattle.conode_compare_page.specs.Coverage.{any_types, class_of, count_or, found_text, is_transferred, state_item, transferred_count, transfers_text, type_item}
-use Rattle.conode_compare_page.specs.Device.{identity_value, interface_row}
+use Rattle.conode_compare_page.specs.Coverage.{class_of, count_or, found_cell, state_item, transferred_count, transfers_text, type_item, types_text}
+use Rattle.conode_compare_page.specs.Device.{identity_row, interface_row}
 use Rattle.conode_compare_page.specs.Differences.{context_line, numbered_line, said, unlisted_text}
 use Rattle.conode_compare_page.specs.Head.{headline}
 use Rattle.conode_compare_page.specs.Indexed.{indexed}
@@ -39,7 +39,8 @@ headlines = refl
 
 -- ---- the device
 
-identity_values : identity_value None ∷ identity_value (Some 0xF1A2) ∷ [] ≡ codes "not in the data sheet" ∷ codes "0000F1A2h" ∷ []
+identity_values : identity_row (codes "A") None ∷ identity_row (codes "A") (Some 0xF1A2) ∷ []
+    ≡ codes "<dt>A</dt><dd>not in the data sheet</dd>\n" ∷ codes "<dt>A</dt><dd>0000F1A2h</dd>\n" ∷ []
 unfolding digits_text
 identity_values = refl
 
@@ -53,7 +54,7 @@ abbrev late : Noted
 late = record { line = 7; micros = 4120000; finding = HeartbeatLate 1021000 1000; value_type = Plain Unsigned32; first = 0 }
 
 without_kind : said late ≡ codes "1021.000 ms since the last one, 1017:00 has 1000 ms"
-unfolding finding_text timed_number millis_text digits_text digits
+unfolding finding_text
 without_kind = refl
 
 abbrev line : ℕ → KeptLine
@@ -160,9 +161,11 @@ axis = refl
 -- ---- what the recording tested
 
 abbrev came : ℕ → List ℕ
-came count = class_of count ++ codes ">" ++ count_or (codes "none") count ++ codes " " ++ found_text count
+came count = class_of count ++ codes ">" ++ count_or (codes "none") count ++ found_cell count
 
-counts : came 0 ∷ came 12 ∷ [] ≡ codes " class=\"not\">none 0" ∷ codes ">12 <span class=\"found\">12</span>" ∷ []
+counts : came 0 ∷ came 12 ∷ []
+    ≡ codes " class=\"not\">none</td><td class=\"n\" data-is=\"Found\">0</td></tr>\n"
+    ∷ codes ">12</td><td class=\"n\" data-is=\"Found\"><span class=\"found\">12</span></td></tr>\n" ∷ []
 unfolding digits
 counts = refl
 
@@ -191,7 +194,8 @@ states_seen : state_item (codes "stopped") true ∷ state_item (codes "stopped")
     ≡ codes "<li>stopped<b>seen</b></li>\n" ∷ codes "<li class=\"not\">stopped<b>not seen</b></li>\n" ∷ []
 states_seen = refl
 
-types : any_types [] ∷ any_types (record { number = 254; count = 3 } ∷ []) ∷ []
-    ≡ codes "<p class=\"not\">No TPDO was sent.</p>\n" ∷ codes "<ul>\n<li>type 254<b>3</b></li>\n</ul>\n" ∷ []
+types : types_text [] ∷ types_text (record { number = 254; count = 3 } ∷ []) ∷ []
+    ≡ codes "<h3>Transmission types</h3>\n<p class=\"not\">No TPDO was sent.</p>\n"
+    ∷ codes "<h3>Transmission types of the TPDOs that were sent</h3>\n<ul>\n<li>type 254<b>3</b></li>\n</ul>\n" ∷ []
 unfolding type_item digits
 types = refl

@@ -31,8 +31,8 @@ pub same_area : (bins : List Bin) (shown : Shown) (from at : ℕ) (d : Bin) (old
 same_area bins shown from at d old all lt same so_far =
     let rest = drop (at + 1) bins in
     let next = next_shown shown (get_or bins at d) in
-    let as = λ (b : Bool). if b then areas shown from (at + 1) rest else any_area shown from at ++ areas next at (at + 1) rest in
-    ap (λ (l : List ℕ). old ++ l) (sym (at_drop_more (λ (l : List Bin). areas shown from at l) bins at d lt ∙ ap as same)) ∙ so_far
+    let to = λ (b : Bool). if b then areas shown from (at + 1) rest else any_area shown from at ++ areas next at (at + 1) rest in
+    ap (λ (l : List ℕ). old ++ l) (sym (at_drop_more (λ (l : List Bin). areas shown from at l) bins at d lt ∙ ap to same)) ∙ so_far
 
 -- it shows another state, whose area begins
 pub next_area : (bins : List Bin) (shown : Shown) (from at : ℕ) (d : Bin) (old new all : List ℕ)
@@ -42,9 +42,9 @@ pub next_area : (bins : List Bin) (shown : Shown) (from at : ℕ) (d : Bin) (old
 next_area bins shown from at d old new all lt other is so_far =
     let rest = drop (at + 1) bins in
     let next = next_shown shown (get_or bins at d) in
-    let as = λ (b : Bool). if b then areas shown from (at + 1) rest else any_area shown from at ++ areas next at (at + 1) rest in
+    let to = λ (b : Bool). if b then areas shown from (at + 1) rest else any_area shown from at ++ areas next at (at + 1) rest in
     appended old new (any_area shown from at) (areas next at (at + 1) rest) all is
-    (ap (λ (l : List ℕ). old ++ l) (sym (at_drop_more (λ (l : List Bin). areas shown from at l) bins at d lt ∙ ap as other)) ∙ so_far)
+    (ap (λ (l : List ℕ). old ++ l) (sym (at_drop_more (λ (l : List Bin). areas shown from at l) bins at d lt ∙ ap to other)) ∙ so_far)
 
 pub all_areas : (bins : List Bin) (shown : Shown) (from at : ℕ) (old all : List ℕ)
     → length bins ≤ at → old ++ areas shown from at (drop at bins) ≡ all → old ++ any_area shown from at ≡ all

@@ -1,6 +1,7 @@
 -- What the recording tested, and what it didn't.
 use Rattle.std.specs.Prelude.{ℕ, ◌==◌, Bool, true, false, not, ◌||◌, if◌then◌else◌, List, [], ◌∷◌, ◌++◌, filter, length, codes, decimal, Option, Some, None}
-use Rattle.std.specs.List.{flat_map, get_or}
+use Rattle.std.specs.List.{concat, flat_map, slice_get}
+use Rattle.std.specs.Option.{option_map_or}
 use Rattle.co_text.specs.Printed.{digits_text}
 use Rattle.co_value.specs.KeyTexts.{key_text}
 use Rattle.co_sheet.specs.Content.{Row}
@@ -28,15 +29,21 @@ class_of count = if count == 0 then codes " class=\"not\"" else []
 abbrev pub count_or : List ℕ → ℕ → List ℕ
 count_or none count = if count == 0 then none else decimal count
 
-abbrev pub found_text : ℕ → List ℕ
-found_text count = if count == 0 then codes "0" else codes "<span class=\"found\">" ++ decimal count ++ codes "</span>"
+-- the cell of how often a kind was found, and the end of its row
+abbrev pub found_cell : ℕ → List ℕ
+found_cell count =
+    if count == 0 then codes "</td><td class=\"n\" data-is=\"Found\">0</td></tr>\n"
+    else concat (
+    codes "</td><td class=\"n\" data-is=\"Found\"><span class=\"found\">" ∷ decimal count ∷ codes "</span></td></tr>\n" ∷ [])
+
+unfoldable pub kind_begin : Counted → List ℕ
+kind_begin counted = concat (
+    codes "<tr" ∷ class_of counted.occasions ∷ codes "><td>" ∷ kind_name counted.kind ∷ codes "</td><td>" ∷ kind_rule counted.kind
+    ∷ codes "</td><td class=\"n\" data-is=\"Occasions\">" ∷ [])
 
 -- the row of a kind: how often it could have shown, and how often it did
 unfoldable pub kind_row : Counted → List ℕ
-kind_row counted =
-    codes "<tr" ++ class_of counted.occasions ++ codes "><td>" ++ kind_name counted.kind ++ codes "</td><td>" ++ kind_rule counted.kind
-    ++ codes "</td><td class=\"n\" data-is=\"Occasions\">" ++ count_or (codes "none") counted.occasions
-    ++ codes "</td><td class=\"n\" data-is=\"Found\">" ++ found_text counted.found ++ codes "</td></tr>\n"
+kind_row counted = kind_begin counted ++ count_or (codes "none") counted.occasions ++ found_cell counted.found
 
 unfoldable pub kinds_table : List Counted → List ℕ
 kinds_table kinds = OPENING.now ++ flat_map kind_row kinds ++ codes "</tbody>\n</table>\n"
@@ -60,7 +67,7 @@ is_transferred covered = covered.read || covered.written || covered.refused
 
 -- the transfers of the entry of this row
 abbrev pub covered_at : List Covered → ℕ → Covered
-covered_at entries at = get_or entries at no_transfer
+covered_at entries at = option_map_or (λ covered. covered) (slice_get entries at) no_transfer
 
 abbrev pub transferred_count : List Covered → ℕ
 transferred_count entries = length (filter is_transferred entries)
@@ -72,10 +79,13 @@ name_of (Some name) = name
 
 -- an entry with its name
 unfoldable pub entry_text : Row → List ℕ
-entry_text row = codes "<li><code>" ++ key_text row.key ++ codes "</code>" ++ escaped (name_of row.name)
+entry_text row = concat (codes "<li><code>" ∷ key_text row.key ∷ codes "</code>" ∷ escaped (name_of row.name) ∷ [])
+
+unfoldable pub transferred_end : Covered → List ℕ
+transferred_end covered = concat (codes "<b>" ∷ transfers_text covered ∷ codes "</b></li>\n" ∷ [])
 
 unfoldable pub transferred_text : Covered → Row → List ℕ
-transferred_text covered row = entry_text row ++ codes "<b>" ++ transfers_text covered ++ codes "</b></li>\n"
+transferred_text covered row = entry_text row ++ transferred_end covered
 
 unfoldable pub other_text : Row → List ℕ
 other_text row = entry_text row ++ codes "</li>\n"
@@ -88,55 +98,72 @@ transferred_item entries at row =
 abbrev pub other_item : List Covered → ℕ → Row → List ℕ
 other_item entries at row = if is_transferred (covered_at entries at) then [] else other_text row
 
-unfoldable pub entries_text : List Row → List Covered → List ℕ
-entries_text rows entries =
-    codes "<h3>Entries that were transferred by SDO: " ++ decimal (transferred_count entries) ++ codes " of " ++ decimal (length rows)
-    ++ codes "</h3>\n<ul>\n" ++ indexed (transferred_item entries) 0 rows
-    ++ codes "</ul>\n<h3>Entries that weren't</h3>\n<ul class=\"not\">\n" ++ indexed (other_item entries) 0 rows ++ codes "</ul>\n"
+unfoldable pub entries_begin : List Row → List Covered → List ℕ
+entries_begin rows entries = concat (
+    codes "<h3>Entries that were transferred by SDO: " ∷ decimal (transferred_count entries) ∷ codes " of " ∷ decimal (length rows)
+    ∷ codes "</h3>\n<ul>\n" ∷ [])
+
+unfoldable pub transferred_list : List Row → List Covered → List ℕ
+transferred_list rows entries = entries_begin rows entries ++ indexed (transferred_item entries) 0 rows ++ codes "</ul>\n"
+
+unfoldable pub other_list : List Row → List Covered → List ℕ
+other_list rows entries =
+    codes "<h3>Entries that weren't</h3>\n<ul class=\"not\">\n" ++ indexed (other_item entries) 0 rows ++ codes "</ul>\n"
 
 -- ---- services, states, numbers
 
+unfoldable pub service_begin : Served → List ℕ
+service_begin served = concat (codes "<li" ∷ class_of served.count ∷ codes ">" ∷ service_name served.service ∷ codes "<b>" ∷ [])
+
 unfoldable pub service_item : Served → List ℕ
-service_item served =
-    codes "<li" ++ class_of served.count ++ codes ">" ++ service_name served.service ++ codes "<b>" ++ count_or (codes "not seen") served.count ++ codes "</b></li>\n"
+service_item served = service_begin served ++ count_or (codes "not seen") served.count ++ codes "</b></li>\n"
 
 unfoldable pub services_text : List Served → List ℕ
 services_text services = codes "<h3>Services</h3>\n<ul>\n" ++ flat_map service_item services ++ codes "</ul>\n"
 
 abbrev pub state_item : List ℕ → Bool → List ℕ
 state_item name seen =
-    if seen then codes "<li>" ++ name ++ codes "<b>seen</b></li>\n" else codes "<li class=\"not\">" ++ name ++ codes "<b>not seen</b></li>\n"
+    if seen then concat (codes "<li>" ∷ name ∷ codes "<b>seen</b></li>\n" ∷ [])
+    else concat (codes "<li class=\"not\">" ∷ name ∷ codes "<b>not seen</b></li>\n" ∷ [])
+
+unfoldable pub state_items : States → List ℕ
+state_items states =
+    state_item (codes "initialising") states.initialising ++ state_item (codes "pre-operational") states.pre_operational
+    ++ state_item (codes "operational") states.operational ++ state_item (codes "stopped") states.stopped
 
 unfoldable pub states_text : States → List ℕ
-states_text states =
-    codes "<h3>NMT states</h3>\n<ul>\n" ++ state_item (codes "initialising") states.initialising
-    ++ state_item (codes "pre-operational") states.pre_operational ++ state_item (codes "operational") states.operational
-    ++ state_item (codes "stopped") states.stopped ++ codes "</ul>\n"
+states_text states = codes "<h3>NMT states</h3>\n<ul>\n" ++ state_items states ++ codes "</ul>\n"
 
 -- a transmission type with its TPDOs, an abort code with its transfers
 unfoldable pub type_item : Numbered → List ℕ
-type_item numbered = codes "<li>type " ++ decimal numbered.number ++ codes "<b>" ++ decimal numbered.count ++ codes "</b></li>\n"
+type_item numbered = concat (
+    codes "<li>type " ∷ decimal numbered.number ∷ codes "<b>" ∷ decimal numbered.count ∷ codes "</b></li>\n" ∷ [])
 
 unfoldable pub abort_item : Numbered → List ℕ
-abort_item numbered = codes "<li><code>" ++ digits_text 16 8 numbered.number ++ codes "h</code><b>" ++ decimal numbered.count ++ codes "</b></li>\n"
+abort_item numbered = concat (
+    codes "<li><code>" ∷ digits_text 16 8 numbered.number ∷ codes "h</code><b>" ∷ decimal numbered.count ∷ codes "</b></li>\n" ∷ [])
 
-abbrev pub any_types : List Numbered → List ℕ
-any_types types =
-    if length types == 0 then codes "<p class=\"not\">No TPDO was sent.</p>\n"
-    else codes "<ul>\n" ++ flat_map type_item types ++ codes "</ul>\n"
+abbrev pub types_text : List Numbered → List ℕ
+types_text types =
+    if length types == 0 then codes "<h3>Transmission types</h3>\n<p class=\"not\">No TPDO was sent.</p>\n"
+    else codes "<h3>Transmission types of the TPDOs that were sent</h3>\n<ul>\n" ++ flat_map type_item types ++ codes "</ul>\n"
 
-abbrev pub any_aborts : List Numbered → List ℕ
-any_aborts aborts =
-    if length aborts == 0 then codes "<p class=\"not\">No transfer was aborted.</p>\n"
-    else codes "<ul>\n" ++ flat_map abort_item aborts ++ codes "</ul>\n"
+abbrev pub aborts_text : List Numbered → List ℕ
+aborts_text aborts =
+    if length aborts == 0 then codes "<h3>SDO abort codes</h3>\n<p class=\"not\">No transfer was aborted.</p>\n"
+    else codes "<h3>SDO abort codes</h3>\n<ul>\n" ++ flat_map abort_item aborts ++ codes "</ul>\n"
 
-unfoldable pub numbers_text : CoverageView → List ℕ
-numbers_text coverage =
-    codes "<h3>Transmission types of the TPDOs that were sent</h3>\n" ++ any_types coverage.types
-    ++ codes "<h3>SDO abort codes</h3>\n" ++ any_aborts coverage.aborts
+-- ---- all of it
+
+unfoldable pub entries_text : List Row → List Covered → List ℕ
+entries_text rows entries = transferred_list rows entries ++ other_list rows entries
+
+unfoldable pub seen_text : CoverageView → List ℕ
+seen_text coverage =
+    services_text coverage.services ++ states_text coverage.states ++ types_text coverage.types ++ aborts_text coverage.aborts
 
 -- what the recording tested
 unfoldable pub tested : Described → Kept → List ℕ
 tested about report =
-    codes "<section>\n<h2>What this recording tested</h2>\n" ++ kinds_table report.kinds ++ entries_text about.rows report.coverage.entries
-    ++ services_text report.coverage.services ++ states_text report.coverage.states ++ numbers_text report.coverage ++ codes "</section>\n"
+    codes "<section>\n<h2>What this recording tested</h2>\n" ++ kinds_table report.kinds
+    ++ entries_text about.rows report.coverage.entries ++ seen_text report.coverage ++ codes "</section>\n"

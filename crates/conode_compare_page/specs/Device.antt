@@ -1,5 +1,6 @@
 -- What was compared, and how the page was made.
-use Rattle.std.specs.Prelude.{ℕ, ◌%◌, List, [], ◌++◌, length, codes, decimal, Option, Some, None}
+use Rattle.std.specs.Prelude.{ℕ, ◌%◌, List, [], ◌∷◌, ◌++◌, length, codes, decimal, Option, Some, None}
+use Rattle.std.specs.List.{concat}
 use Rattle.co_text.specs.Printed.{digits_text}
 use Rattle.conode_compare_rules.specs.declared.limits.Limits.{Limits}
 use Rattle.conode_compare_report.specs.Abouts.{Described}
@@ -8,49 +9,54 @@ use Rattle.conode_markup.specs.Escapes.{escaped}
 use Rattle.conode_markup.specs.Pieces.{seconds_text}
 use Rattle.conode_compare_page.specs.declared.device.TheConstants.{CLOSING}
 
--- a number of the identity, 1018h
-abbrev pub identity_value : Option ℕ → List ℕ
-identity_value None = codes "not in the data sheet"
-identity_value (Some number) = digits_text 16 8 (number % 0x100000000) ++ codes "h"
+-- a number of the identity, 1018h, with its name
+abbrev pub identity_row : List ℕ → Option ℕ → List ℕ
+identity_row name None = concat (codes "<dt>" ∷ name ∷ codes "</dt><dd>not in the data sheet</dd>\n" ∷ [])
+identity_row name (Some number) = concat (
+    codes "<dt>" ∷ name ∷ codes "</dt><dd>" ∷ digits_text 16 8 (number % 0x100000000) ∷ codes "h</dd>\n" ∷ [])
 
 unfoldable pub identity : Described → List ℕ
 identity about =
-    codes "<dt>Vendor-ID</dt><dd>" ++ identity_value about.vendor
-    ++ codes "</dd>\n<dt>Product code</dt><dd>" ++ identity_value about.product
-    ++ codes "</dd>\n<dt>Revision number</dt><dd>" ++ identity_value about.revision ++ codes "</dd>\n"
+    identity_row (codes "Vendor-ID") about.vendor ++ identity_row (codes "Product code") about.product
+    ++ identity_row (codes "Revision number") about.revision
 
 -- the interface, if one is named
 abbrev pub interface_row : Option (List ℕ) → List ℕ
 interface_row None = []
-interface_row (Some name) = codes "<dt>Interface</dt><dd>" ++ escaped name ++ codes "</dd>\n"
+interface_row (Some name) = concat (codes "<dt>Interface</dt><dd>" ∷ escaped name ∷ codes "</dd>\n" ∷ [])
 
 -- the stamps of the first and of the newest frame
 abbrev pub stamps_row : Kept → Option ℕ → List ℕ
 stamps_row report None = []
-stamps_row report (Some begin) =
-    codes "<dt>Stamps</dt><dd>" ++ seconds_text begin ++ codes " to " ++ seconds_text report.end ++ codes " s</dd>\n"
+stamps_row report (Some begin) = concat (
+    codes "<dt>Stamps</dt><dd>" ∷ seconds_text begin ∷ codes " to " ∷ seconds_text report.end ∷ codes " s</dd>\n" ∷ [])
 
 unfoldable pub recording_rows : Described → Kept → List ℕ
-recording_rows about report =
-    codes "<dt>Node-ID</dt><dd>" ++ decimal about.node
-    ++ codes "</dd>\n<dt>Data sheet</dt><dd>" ++ escaped about.sheet ++ codes ", " ++ decimal (length about.rows)
-    ++ codes " entries</dd>\n<dt>Recording</dt><dd>" ++ escaped about.recording ++ codes ", " ++ decimal report.lines
-    ++ codes " lines, " ++ decimal report.bad_lines ++ codes " of them bad</dd>\n"
+recording_rows about report = concat (
+    codes "<dt>Node-ID</dt><dd>" ∷ decimal about.node
+    ∷ codes "</dd>\n<dt>Data sheet</dt><dd>" ∷ escaped about.sheet ∷ codes ", " ∷ decimal (length about.rows)
+    ∷ codes " entries</dd>\n<dt>Recording</dt><dd>" ∷ escaped about.recording ∷ codes ", " ∷ decimal report.lines
+    ∷ codes " lines, " ∷ decimal report.bad_lines ∷ codes " of them bad</dd>\n" ∷ [])
+
+unfoldable pub device_rows : Described → Kept → List ℕ
+device_rows about report =
+    identity about ++ recording_rows about report ++ interface_row about.interface ++ stamps_row report report.begin
 
 -- the device and its recording
 unfoldable pub device : Described → Kept → List ℕ
 device about report =
-    codes "<section>\n<h2>Device</h2>\n<dl>\n" ++ identity about ++ recording_rows about report
-    ++ interface_row (about.interface) ++ stamps_row report report.begin ++ codes "</dl>\n</section>\n"
+    codes "<section>\n<h2>Device</h2>\n<dl>\n" ++ device_rows about report ++ codes "</dl>\n</section>\n"
 
 -- how exactly the device was judged
 unfoldable pub limits_text : Limits → List ℕ
-limits_text limits =
-    codes " --tolerance " ++ decimal limits.tolerance ++ codes " --drift " ++ decimal limits.drift
-    ++ codes " --answer " ++ decimal limits.answer ++ codes " --boot " ++ decimal limits.boot
+limits_text limits = concat (
+    codes " --tolerance " ∷ decimal limits.tolerance ∷ codes " --drift " ∷ decimal limits.drift
+    ∷ codes " --answer " ∷ decimal limits.answer ∷ codes " --boot " ∷ decimal limits.boot ∷ [])
+
+unfoldable pub made_by : List ℕ → List ℕ
+made_by version = concat (
+    codes "<footer>Made by conode " ∷ escaped version ∷ codes ", as <code>conode compare --format html" ∷ [])
 
 -- how the page was made
 unfoldable pub foot : Described → List ℕ
-foot about =
-    codes "<footer>Made by conode " ++ escaped about.version ++ codes ", as <code>conode compare --format html"
-    ++ limits_text about.limits ++ CLOSING.now
+foot about = made_by about.version ++ limits_text about.limits ++ CLOSING.now

@@ -1,6 +1,6 @@
 -- The differences, each with the lines of the recording around it.
 use Rattle.std.specs.Prelude.{ℕ, ◌+◌, ◌-◌, ◌==◌, if◌then◌else◌, List, [], ◌∷◌, ◌++◌, length, drop, codes, decimal}
-use Rattle.std.specs.List.{flat_map}
+use Rattle.std.specs.List.{concat, flat_map}
 use Rattle.conode_compare_text.specs.FindingTexts.{finding_text}
 use Rattle.conode_compare_report.specs.declared.noted.Noted.{Noted}
 use Rattle.conode_compare_report.specs.Views.{Kept}
@@ -11,39 +11,51 @@ use Rattle.conode_markup.specs.Pieces.{seconds_text}
 use Rattle.conode_compare_page.specs.declared.differences.TheConstants.{OPENING}
 use Rattle.conode_compare_page.specs.Indexed.{indexed}
 
+-- a text without the name that it begins with, and `: `
+abbrev pub after_name : List ℕ → List ℕ → List ℕ
+after_name name text = drop (length name + 2) text
+
 -- what differs, without the name of its kind
-abbrev pub said : Noted → List ℕ
-said noted =
-    drop (length (kind_name (kind_of noted.finding)) + 2) (finding_text noted.value_type noted.finding)
+unfoldable pub said : Noted → List ℕ
+said noted = after_name (kind_name (kind_of noted.finding)) (finding_text noted.value_type noted.finding)
 
 -- a line of the recording, with its number
 unfoldable pub numbered_line : KeptLine → List ℕ
-numbered_line line = decimal line.number ++ codes ": " ++ escaped line.bytes ++ codes "\n"
+numbered_line line = concat (decimal line.number ∷ codes ": " ∷ escaped line.bytes ∷ codes "\n" ∷ [])
 
 -- marked, if it is that of the difference
 abbrev pub context_line : ℕ → KeptLine → List ℕ
 context_line number line =
     if line.number == number then codes "<mark>" ++ numbered_line line ++ codes "</mark>" else numbered_line line
 
--- the row of a difference: its line, its time since the first frame, what differs, and what is prescribed
+-- the row of a difference up to the name of its kind: its line, and its time since the first frame
+unfoldable pub row_begin : Kept → ℕ → Noted → List ℕ
+row_begin report at noted = concat (
+    codes "<tbody class=\"one\" id=\"d" ∷ decimal at
+    ∷ codes "\">\n<tr><td class=\"n\" data-is=\"Line\">" ∷ decimal noted.line
+    ∷ codes "</td><td class=\"n\" data-is=\"Seconds\">" ∷ seconds_text (noted.micros - report.lanes.begin)
+    ∷ codes "</td><td><span class=\"found\">" ∷ kind_name (kind_of noted.finding) ∷ codes "</span> " ∷ [])
+
+-- what is prescribed, up to the lines around the difference
+unfoldable pub row_end : Noted → List ℕ
+row_end noted = concat (
+    codes "</td><td data-is=\"Prescribed:\">" ∷ kind_rule (kind_of noted.finding)
+    ∷ codes "</td></tr>\n<tr class=\"around\"><td colspan=\"4\"><pre>" ∷ [])
+
 unfoldable pub difference_row : Kept → ℕ → Noted → List ℕ
-difference_row report at noted =
-    codes "<tbody class=\"one\" id=\"d" ++ decimal at
-    ++ codes "\">\n<tr><td class=\"n\" data-is=\"Line\">" ++ decimal noted.line
-    ++ codes "</td><td class=\"n\" data-is=\"Seconds\">" ++ seconds_text (noted.micros - report.lanes.begin)
-    ++ codes "</td><td><span class=\"found\">" ++ kind_name (kind_of noted.finding) ++ codes "</span> " ++ escaped (said noted)
-    ++ codes "</td><td data-is=\"Prescribed:\">" ++ kind_rule (kind_of noted.finding) ++ codes "</td></tr>\n"
+difference_row report at noted = row_begin report at noted ++ escaped (said noted) ++ row_end noted
 
 -- a difference
 unfoldable pub difference : Kept → ℕ → Noted → List ℕ
 difference report at noted =
-    difference_row report at noted ++ codes "<tr class=\"around\"><td colspan=\"4\"><pre>"
-    ++ flat_map (context_line noted.line) (around report.context noted) ++ codes "</pre></td></tr>\n</tbody>\n"
+    difference_row report at noted ++ flat_map (context_line noted.line) (around report.context noted)
+    ++ codes "</pre></td></tr>\n</tbody>\n"
 
 -- how many came after those that are listed
 abbrev pub unlisted_text : ℕ → List ℕ
 unlisted_text count =
-    if count == 0 then [] else codes "<p>" ++ decimal count ++ codes " more came after these, and aren't listed.</p>\n"
+    if count == 0 then []
+    else concat (codes "<p>" ∷ decimal count ∷ codes " more came after these, and aren't listed.</p>\n" ∷ [])
 
 unfoldable pub difference_table : Kept → List ℕ
 difference_table report =

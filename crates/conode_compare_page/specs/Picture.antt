@@ -1,5 +1,6 @@
 -- The bus over time, in lanes: a picture (SVG) for each, all in the same scale, one unit a span of time.
 use Rattle.std.specs.Prelude.{ℕ, ◌+◌, ◌-◌, ◌*◌, ◌/◌, ◌^◌, ◌==◌, nat_le, min, Bool, ◌&&◌, ◌||◌, if◌then◌else◌, List, [], ◌∷◌, ◌++◌, length, codes, decimal}
+use Rattle.std.specs.List.{concat}
 use Rattle.conode_compare_report.specs.declared.lanes.Bin.{Bin}
 use Rattle.conode_compare_report.specs.Spans.{LanesView}
 use Rattle.conode_compare_report.specs.declared.lanes.States.{States}
@@ -16,10 +17,10 @@ use Rattle.conode_compare_page.specs.Indexed.{indexed}
 
 -- a lane up to its picture, with its name, of so many spans
 unfoldable pub lane_begin : List ℕ → ℕ → List ℕ
-lane_begin name spans =
-    codes "<div class=\"lane\"><span>" ++ name
-    ++ codes "</span><svg xmlns=\"http://www.w3.org/2000/svg\" viewBox=\"0 0 " ++ decimal spans
-    ++ codes " 100\" preserveAspectRatio=\"none\">"
+lane_begin name spans = concat (
+    codes "<div class=\"lane\"><span>" ∷ name
+    ∷ codes "</span><svg xmlns=\"http://www.w3.org/2000/svg\" viewBox=\"0 0 " ∷ decimal spans
+    ∷ codes " 100\" preserveAspectRatio=\"none\">" ∷ [])
 
 -- the end of a lane, with the lines of the differences
 abbrev pub lane_end : List ℕ
@@ -49,21 +50,22 @@ top_of count =
 
 -- a step of the outline
 unfoldable pub corner : ℕ → ℕ → List ℕ
-corner at top = codes "H" ++ decimal at ++ codes "V" ++ decimal top
+corner at top = concat (codes "H" ∷ decimal at ∷ codes "V" ∷ decimal top ∷ [])
 
 abbrev pub step : ℕ → ℕ → ℕ → List ℕ
 step at before top = if top == before then [] else corner at top
 
 -- the outline of spans, from this one on, where the one before it has its top there
 abbrev pub outline : Lane → ℕ → ℕ → List Bin → List ℕ
-outline lane at before [] = codes "H" ++ decimal at ++ codes "V100Z"
+outline lane at before [] = concat (codes "H" ∷ decimal at ∷ codes "V100Z" ∷ [])
 outline lane at before (bin ∷ rest) =
     step at before (top_of (count_in lane bin)) ++ outline lane (at + 1) (top_of (count_in lane bin)) rest
 
+unfoldable pub frames_path : List Bin → Lane → List ℕ
+frames_path bins lane = codes "<path class=\"frames\" d=\"M0 100" ++ outline lane 0 100 bins ++ codes "\"/>"
+
 unfoldable pub frames_lane : List Bin → Lane → List ℕ
-frames_lane bins lane =
-    lane_begin (lane_name lane) (length bins) ++ codes "<path class=\"frames\" d=\"M0 100"
-    ++ outline lane 0 100 bins ++ codes "\"/>" ++ lane_end
+frames_lane bins lane = lane_begin (lane_name lane) (length bins) ++ frames_path bins lane ++ lane_end
 
 -- ---- NMT states
 
@@ -112,9 +114,10 @@ state_class Several = codes "several"
 
 -- the spans in one state
 unfoldable pub state_area : Shown → ℕ → ℕ → List ℕ
-state_area shown from to =
-    codes "<rect class=\"" ++ state_class shown ++ codes "\" x=\"" ++ decimal from ++ codes "\" y=\"" ++ decimal (state_top shown)
-    ++ codes "\" width=\"" ++ decimal (to - from) ++ codes "\" height=\"100\"><title>" ++ state_class shown ++ codes "</title></rect>\n"
+state_area shown from to = concat (
+    codes "<rect class=\"" ∷ state_class shown ∷ codes "\" x=\"" ∷ decimal from ∷ codes "\" y=\"" ∷ decimal (state_top shown)
+    ∷ codes "\" width=\"" ∷ decimal (to - from) ∷ codes "\" height=\"100\"><title>" ∷ state_class shown
+    ∷ codes "</title></rect>\n" ∷ [])
 
 abbrev pub any_area : Shown → ℕ → ℕ → List ℕ
 any_area shown from to = if state_top shown == 100 then [] else state_area shown from to
@@ -133,7 +136,7 @@ states_lane bins = lane_begin (codes "NMT state") (length bins) ++ areas Nothing
 
 -- a line across the lanes where a span has differences
 unfoldable pub line_at : ℕ → List ℕ
-line_at at = codes "M" ++ decimal at ++ codes ".5 0v100"
+line_at at = concat (codes "M" ∷ decimal at ∷ codes ".5 0v100" ∷ [])
 
 abbrev pub across : ℕ → Bin → List ℕ
 across at bin = if bin.differences == 0 then [] else line_at at
@@ -145,25 +148,28 @@ span_of lanes micros =
 
 -- the mark of a difference, which leads to its row
 unfoldable pub difference_mark : LanesView → ℕ → Noted → List ℕ
-difference_mark lanes at noted =
-    codes "<a href=\"#d" ++ decimal at ++ codes "\"><path class=\"hit\" d=\"M" ++ decimal (span_of lanes noted.micros)
-    ++ codes ".5 0v100\"><title>line " ++ decimal noted.line ++ codes ", " ++ seconds_text (noted.micros - lanes.begin)
-    ++ codes " s: " ++ kind_name (kind_of noted.finding) ++ codes "</title></path></a>\n"
+difference_mark lanes at noted = concat (
+    codes "<a href=\"#d" ∷ decimal at ∷ codes "\"><path class=\"hit\" d=\"M" ∷ decimal (span_of lanes noted.micros)
+    ∷ codes ".5 0v100\"><title>line " ∷ decimal noted.line ∷ codes ", " ∷ seconds_text (noted.micros - lanes.begin)
+    ∷ codes " s: " ∷ kind_name (kind_of noted.finding) ∷ codes "</title></path></a>\n" ∷ [])
+
+-- the lines, under the name by which each lane shows them
+unfoldable pub across_path : List Bin → List ℕ
+across_path bins = codes "<defs><path id=\"across\" class=\"across\" d=\"" ++ indexed across 0 bins ++ codes "\"/></defs>\n"
 
 unfoldable pub differences_lane : Kept → List ℕ
 differences_lane report =
-    lane_begin (codes "Differences") (length report.lanes.bins) ++ codes "<defs><path id=\"across\" class=\"across\" d=\""
-    ++ indexed across 0 report.lanes.bins ++ codes "\"/></defs>\n"
+    lane_begin (codes "Differences") (length report.lanes.bins) ++ across_path report.lanes.bins
     ++ indexed (difference_mark report.lanes) 0 report.noted ++ codes "</svg></div>\n"
 
 -- ---- the picture
 
 -- times since the first frame: at the begin, after each quarter, at the end
 unfoldable pub axis_text : ℕ → List ℕ
-axis_text quarter =
-    codes "<div class=\"axis\"><span>" ++ seconds_text 0 ++ codes " s</span><span>" ++ seconds_text quarter
-    ++ codes " s</span><span>" ++ seconds_text (quarter * 2) ++ codes " s</span><span>" ++ seconds_text (quarter * 3)
-    ++ codes " s</span><span>" ++ seconds_text (quarter * 4) ++ codes " s</span></div>\n"
+axis_text quarter = concat (
+    codes "<div class=\"axis\"><span>" ∷ seconds_text 0 ∷ codes " s</span><span>" ∷ seconds_text quarter
+    ∷ codes " s</span><span>" ∷ seconds_text (quarter * 2) ∷ codes " s</span><span>" ∷ seconds_text (quarter * 3)
+    ∷ codes " s</span><span>" ∷ seconds_text (quarter * 4) ∷ codes " s</span></div>\n" ∷ [])
 
 abbrev pub quarter_of : LanesView → ℕ
 quarter_of lanes = min (length lanes.bins * lanes.width) (2 ^ 64 - 1) / 4

@@ -6,15 +6,17 @@ ghost use Rattle.std.specs.List.{flat_map};
 ghost use Rattle.conode_compare_report.specs.Abouts.{about_view};
 ghost use Rattle.conode_compare_page.specs.Coverage.{
   abort_item,
-  any_aborts,
-  any_types,
-  numbers_text,
+  aborts_text,
+  seen_text,
+  service_begin,
   service_item,
   services_text,
   state_item,
+  state_items,
   states_text,
   tested,
   type_item,
+  types_text,
 };
 
 use crate::entries::push_entries;
@@ -23,10 +25,15 @@ use conode_compare_report::{About, Coverage, Numbered, Report, Served, States};
 use conode_markup::{Piece, push_pieces};
 use std::alloc::{AllocError, Global};
 
-#[tactic(auto, unfolding(crate::specs::Coverage::service_item))]
-fn push_service(alloc: Global, text: &mut String, served: &Served) -> Result<(), AllocError>
+/// What stands in place of an empty list.
+const NO_TYPES: &str = "<h3>Transmission types</h3>\n<p class=\"not\">No TPDO was sent.</p>\n";
+
+const NO_ABORTS: &str = "<h3>SDO abort codes</h3>\n<p class=\"not\">No transfer was aborted.</p>\n";
+
+#[tactic(auto, unfolding(crate::specs::Coverage::service_begin))]
+fn begin_service(alloc: Global, text: &mut String, served: &Served) -> Result<(), AllocError>
     ensures { OnOk result
-        (string_bytes text.new ≡ string_bytes text.old ++ service_item served.now) }
+        (string_bytes text.new ≡ string_bytes text.old ++ service_begin served.now) }
 {
     push_pieces(
         alloc,
@@ -38,7 +45,15 @@ fn push_service(alloc: Global, text: &mut String, served: &Served) -> Result<(),
             Piece::Markup(served.service.name()),
             Piece::Markup("<b>"),
         ],
-    )?;
+    )
+}
+
+#[tactic(auto, unfolding(crate::specs::Coverage::service_item))]
+fn push_service(alloc: Global, text: &mut String, served: &Served) -> Result<(), AllocError>
+    ensures { OnOk result
+        (string_bytes text.new ≡ string_bytes text.old ++ service_item served.now) }
+{
+    begin_service(alloc, text, served)?;
     push_count_or(alloc, text, "not seen", served.count)?;
     text.push_str("</b></li>\n")
 }
@@ -94,15 +109,22 @@ fn push_state(alloc: Global, text: &mut String, name: &str, seen: bool) -> Resul
     }
 }
 
+#[tactic(auto, unfolding(crate::specs::Coverage::state_items))]
+fn push_state_items(alloc: Global, text: &mut String, states: States) -> Result<(), AllocError>
+    ensures { OnOk result (string_bytes text.new ≡ string_bytes text.old ++ state_items states) }
+{
+    push_state(alloc, text, "initialising", states.initialising)?;
+    push_state(alloc, text, "pre-operational", states.pre_operational)?;
+    push_state(alloc, text, "operational", states.operational)?;
+    push_state(alloc, text, "stopped", states.stopped)
+}
+
 #[tactic(auto, unfolding(crate::specs::Coverage::states_text))]
 fn push_states(alloc: Global, text: &mut String, states: States) -> Result<(), AllocError>
     ensures { OnOk result (string_bytes text.new ≡ string_bytes text.old ++ states_text states) }
 {
     text.push_str("<h3>NMT states</h3>\n<ul>\n")?;
-    push_state(alloc, text, "initialising", states.initialising)?;
-    push_state(alloc, text, "pre-operational", states.pre_operational)?;
-    push_state(alloc, text, "operational", states.operational)?;
-    push_state(alloc, text, "stopped", states.stopped)?;
+    push_state_items(alloc, text, states)?;
     text.push_str("</ul>\n")
 }
 
@@ -134,13 +156,13 @@ fn push_types(alloc: Global, text: &mut String, types: &[Numbered]) -> Result<()
     Ok(())
 }
 
-fn push_any_types(alloc: Global, text: &mut String, types: &[Numbered]) -> Result<(), AllocError>
-    ensures { OnOk result (string_bytes text.new ≡ string_bytes text.old ++ any_types types.now) }
+fn push_types_text(alloc: Global, text: &mut String, types: &[Numbered]) -> Result<(), AllocError>
+    ensures { OnOk result (string_bytes text.new ≡ string_bytes text.old ++ types_text types.now) }
 {
     if types.is_empty() {
-        return text.push_str("<p class=\"not\">No TPDO was sent.</p>\n");
+        return text.push_str(NO_TYPES);
     }
-    text.push_str("<ul>\n")?;
+    text.push_str("<h3>Transmission types of the TPDOs that were sent</h3>\n<ul>\n")?;
     push_types(alloc, text, types)?;
     text.push_str("</ul>\n")
 }
@@ -173,27 +195,27 @@ fn push_aborts(alloc: Global, text: &mut String, aborts: &[Numbered]) -> Result<
     Ok(())
 }
 
-fn push_any_aborts(alloc: Global, text: &mut String, aborts: &[Numbered]) -> Result<(), AllocError>
+fn push_aborts_text(alloc: Global, text: &mut String, aborts: &[Numbered]) -> Result<(), AllocError>
     ensures { OnOk result
-        (string_bytes text.new ≡ string_bytes text.old ++ any_aborts aborts.now) }
+        (string_bytes text.new ≡ string_bytes text.old ++ aborts_text aborts.now) }
 {
     if aborts.is_empty() {
-        return text.push_str("<p class=\"not\">No transfer was aborted.</p>\n");
+        return text.push_str(NO_ABORTS);
     }
-    text.push_str("<ul>\n")?;
+    text.push_str("<h3>SDO abort codes</h3>\n<ul>\n")?;
     push_aborts(alloc, text, aborts)?;
     text.push_str("</ul>\n")
 }
 
-#[tactic(auto, unfolding(crate::specs::Coverage::numbers_text))]
-fn push_numbers(alloc: Global, text: &mut String, coverage: &Coverage) -> Result<(), AllocError>
-    ensures { OnOk result (string_bytes text.new
-        ≡ string_bytes text.old ++ numbers_text coverage.now) }
+#[tactic(auto, unfolding(crate::specs::Coverage::seen_text))]
+fn push_seen(alloc: Global, text: &mut String, coverage: &Coverage) -> Result<(), AllocError>
+    ensures { OnOk result
+        (string_bytes text.new ≡ string_bytes text.old ++ seen_text coverage.now) }
 {
-    text.push_str("<h3>Transmission types of the TPDOs that were sent</h3>\n")?;
-    push_any_types(alloc, text, coverage.types.as_slice())?;
-    text.push_str("<h3>SDO abort codes</h3>\n")?;
-    push_any_aborts(alloc, text, coverage.aborts.as_slice())
+    push_services(alloc, text, coverage.services.as_slice())?;
+    push_states(alloc, text, coverage.states)?;
+    push_types_text(alloc, text, coverage.types.as_slice())?;
+    push_aborts_text(alloc, text, coverage.aborts.as_slice())
 }
 
 /// Appends what the recording tested.
@@ -210,8 +232,6 @@ pub(crate) fn push_coverage(
     text.push_str("<section>\n<h2>What this recording tested</h2>\n")?;
     push_kinds(alloc, text, report.kinds.as_slice())?;
     push_entries(alloc, text, about.rows, report.coverage.entries.as_slice())?;
-    push_services(alloc, text, report.coverage.services.as_slice())?;
-    push_states(alloc, text, report.coverage.states)?;
-    push_numbers(alloc, text, &report.coverage)?;
+    push_seen(alloc, text, &report.coverage)?;
     text.push_str("</section>\n")
 }

@@ -6,11 +6,13 @@ ghost use Rattle.std.specs.Option.{option_copied};
 ghost use Rattle.conode_compare_report.specs.Abouts.{about_view};
 ghost use Rattle.conode_compare_page.specs.Device.{
   device,
+  device_rows,
   foot,
   identity,
-  identity_value,
+  identity_row,
   interface_row,
   limits_text,
+  made_by,
   recording_rows,
   stamps_row,
 };
@@ -26,22 +28,34 @@ const CLOSING: &str = "</code>. Its page docs/COMPARE.md says what each kind of 
     </body>\n\
     </html>\n";
 
-fn push_identity_value(
+fn push_identity_row(
     alloc: Global,
     text: &mut String,
+    name: &str,
     value: Option<u64>,
 ) -> Result<(), AllocError>
     ensures { OnOk result (string_bytes text.new
-        ≡ string_bytes text.old ++ identity_value value) }
+        ≡ string_bytes text.old ++ identity_row name.now value) }
 {
     match value {
-        None => text.push_str("not in the data sheet"),
+        None => push_pieces(
+            alloc,
+            text,
+            &[
+                Piece::Markup("<dt>"),
+                Piece::Markup(name),
+                Piece::Markup("</dt><dd>not in the data sheet</dd>\n"),
+            ],
+        ),
         Some(number) => push_pieces(
             alloc,
             text,
             &[
+                Piece::Markup("<dt>"),
+                Piece::Markup(name),
+                Piece::Markup("</dt><dd>"),
                 Piece::Code((number % 0x1_0000_0000) as u32),
-                Piece::Markup("h"),
+                Piece::Markup("h</dd>\n"),
             ],
         ),
     }
@@ -52,13 +66,9 @@ fn push_identity(alloc: Global, text: &mut String, about: &About<'_, '_>) -> Res
     ensures { OnOk result (string_bytes text.new
         ≡ string_bytes text.old ++ identity (about_view about.now)) }
 {
-    text.push_str("<dt>Vendor-ID</dt><dd>")?;
-    push_identity_value(alloc, text, about.vendor)?;
-    text.push_str("</dd>\n<dt>Product code</dt><dd>")?;
-    push_identity_value(alloc, text, about.product)?;
-    text.push_str("</dd>\n<dt>Revision number</dt><dd>")?;
-    push_identity_value(alloc, text, about.revision)?;
-    text.push_str("</dd>\n")
+    push_identity_row(alloc, text, "Vendor-ID", about.vendor)?;
+    push_identity_row(alloc, text, "Product code", about.product)?;
+    push_identity_row(alloc, text, "Revision number", about.revision)
 }
 
 fn push_interface(
@@ -134,6 +144,22 @@ fn push_recording(
     )
 }
 
+#[tactic(auto, unfolding(crate::specs::Device::device_rows))]
+fn push_device_rows(
+    alloc: Global,
+    text: &mut String,
+    about: &About<'_, '_>,
+    report: &Report,
+) -> Result<(), AllocError>
+    ensures { OnOk result (string_bytes text.new
+        ≡ string_bytes text.old ++ device_rows (about_view about.now) report.now) }
+{
+    push_identity(alloc, text, about)?;
+    push_recording(alloc, text, about, report)?;
+    push_interface(alloc, text, about.interface)?;
+    push_stamps(alloc, text, report)
+}
+
 /// Appends what was compared.
 #[tactic(auto, unfolding(crate::specs::Device::device))]
 pub(crate) fn push_device(
@@ -146,10 +172,7 @@ pub(crate) fn push_device(
         ≡ string_bytes text.old ++ device (about_view about.now) report.now) }
 {
     text.push_str("<section>\n<h2>Device</h2>\n<dl>\n")?;
-    push_identity(alloc, text, about)?;
-    push_recording(alloc, text, about, report)?;
-    push_interface(alloc, text, about.interface)?;
-    push_stamps(alloc, text, report)?;
+    push_device_rows(alloc, text, about, report)?;
     text.push_str("</dl>\n</section>\n")
 }
 
@@ -174,6 +197,22 @@ fn push_limits(alloc: Global, text: &mut String, limits: Limits) -> Result<(), A
     )
 }
 
+#[tactic(auto, unfolding(crate::specs::Device::made_by))]
+fn push_made_by(alloc: Global, text: &mut String, version: &str) -> Result<(), AllocError>
+    ensures { OnOk result
+        (string_bytes text.new ≡ string_bytes text.old ++ made_by version.now) }
+{
+    push_pieces(
+        alloc,
+        text,
+        &[
+            Piece::Markup("<footer>Made by conode "),
+            Piece::Text(version.as_bytes()),
+            Piece::Markup(", as <code>conode compare --format html"),
+        ],
+    )
+}
+
 /// Appends how the page was made, and ends it.
 #[tactic(auto, unfolding(crate::specs::Device::foot))]
 pub(crate) fn push_foot(
@@ -184,15 +223,7 @@ pub(crate) fn push_foot(
     ensures { OnOk result (string_bytes text.new
         ≡ string_bytes text.old ++ foot (about_view about.now)) }
 {
-    push_pieces(
-        alloc,
-        text,
-        &[
-            Piece::Markup("<footer>Made by conode "),
-            Piece::Text(about.version.as_bytes()),
-            Piece::Markup(", as <code>conode compare --format html"),
-        ],
-    )?;
+    push_made_by(alloc, text, about.version)?;
     push_limits(alloc, text, about.limits)?;
     text.push_str(CLOSING)
 }

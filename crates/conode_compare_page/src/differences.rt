@@ -3,7 +3,9 @@
 
 ghost use Rattle.std.specs.Prelude.{◌≡◌, ◌++◌, OnOk, IfOk, string_bytes};
 ghost use Rattle.std.specs.List.{flat_map};
+ghost use Rattle.conode_markup.specs.Escapes.{escaped};
 ghost use Rattle.conode_compare_page.specs.Differences.{
+  after_name,
   any_differences,
   context_line,
   difference,
@@ -11,6 +13,8 @@ ghost use Rattle.conode_compare_page.specs.Differences.{
   difference_table,
   differences,
   numbered_line,
+  row_begin,
+  row_end,
   said,
   unlisted_text,
 };
@@ -18,7 +22,7 @@ ghost use Rattle.conode_compare_page.specs.Indexed.{indexed};
 
 use conode_compare_report::{ContextLine, Kind, Noted, Report};
 use conode_compare_text::push_finding;
-use conode_markup::{Piece, push_pieces};
+use conode_markup::{Piece, push_escaped, push_pieces};
 use std::alloc::{AllocError, Global};
 
 /// The table up to its rows.
@@ -26,18 +30,24 @@ const OPENING: &str = "<table class=\"differences\">\n\
     <thead><tr><th class=\"n\">Line</th><th class=\"n\">Seconds</th>\
     <th>Difference</th><th>Prescribed</th></tr></thead>\n";
 
-// appends what differs, without the name of its kind
+// a text without the name that it begins with
+fn after_name<'t>(name: &str, text: &'t [u8]) -> &'t [u8]
+    ensures { result.now ≡ after_name name.now text.now }
+{
+    let begin = (name.len() + 2).min(text.len());
+    &text[begin..]
+}
+
+// what differs, without the name of its kind
+#[tactic(auto, unfolding(crate::specs::Differences::said))]
 fn push_said(alloc: Global, text: &mut String, noted: &Noted) -> Result<(), AllocError>
-    ensures { OnOk result (string_bytes text.new ≡ string_bytes text.old ++ said noted.now) }
+    ensures { OnOk result
+        (string_bytes text.new ≡ string_bytes text.old ++ escaped (said noted.now)) }
 {
     let mut whole = String::new(alloc);
     push_finding(&mut whole, noted.value_type, noted.finding)?;
-    let bytes = whole.as_bytes();
-    let name = Kind::of(noted.finding).name().len();
-    match bytes.get(name + 2..) {
-        Some(rest) => push_pieces(alloc, text, &[Piece::Text(rest)]),
-        None => Ok(()),
-    }
+    let name = Kind::of(noted.finding).name();
+    push_escaped(alloc, text, after_name(name, whole.as_bytes()))
 }
 
 #[tactic(auto, unfolding(crate::specs::Differences::numbered_line))]
@@ -91,8 +101,8 @@ fn push_context(
     Ok(())
 }
 
-#[tactic(auto, unfolding(crate::specs::Differences::difference_row))]
-fn push_row(
+#[tactic(auto, unfolding(crate::specs::Differences::row_begin))]
+fn begin_row(
     alloc: Global,
     text: &mut String,
     report: &Report,
@@ -100,9 +110,8 @@ fn push_row(
     noted: &Noted,
 ) -> Result<(), AllocError>
     ensures { OnOk result (string_bytes text.new
-        ≡ string_bytes text.old ++ difference_row report.now at noted.now) }
+        ≡ string_bytes text.old ++ row_begin report.now at noted.now) }
 {
-    let kind = Kind::of(noted.finding);
     push_pieces(
         alloc,
         text,
@@ -114,20 +123,41 @@ fn push_row(
             Piece::Markup("</td><td class=\"n\" data-is=\"Seconds\">"),
             Piece::Seconds(noted.micros.saturating_sub(report.lanes.begin)),
             Piece::Markup("</td><td><span class=\"found\">"),
-            Piece::Markup(kind.name()),
+            Piece::Markup(Kind::of(noted.finding).name()),
             Piece::Markup("</span> "),
         ],
-    )?;
-    push_said(alloc, text, noted)?;
+    )
+}
+
+#[tactic(auto, unfolding(crate::specs::Differences::row_end))]
+fn end_row(alloc: Global, text: &mut String, noted: &Noted) -> Result<(), AllocError>
+    ensures { OnOk result (string_bytes text.new ≡ string_bytes text.old ++ row_end noted.now) }
+{
     push_pieces(
         alloc,
         text,
         &[
             Piece::Markup("</td><td data-is=\"Prescribed:\">"),
-            Piece::Markup(kind.rule()),
-            Piece::Markup("</td></tr>\n"),
+            Piece::Markup(Kind::of(noted.finding).rule()),
+            Piece::Markup("</td></tr>\n<tr class=\"around\"><td colspan=\"4\"><pre>"),
         ],
     )
+}
+
+#[tactic(auto, unfolding(crate::specs::Differences::difference_row))]
+fn push_row(
+    alloc: Global,
+    text: &mut String,
+    report: &Report,
+    at: usize,
+    noted: &Noted,
+) -> Result<(), AllocError>
+    ensures { OnOk result (string_bytes text.new
+        ≡ string_bytes text.old ++ difference_row report.now at noted.now) }
+{
+    begin_row(alloc, text, report, at, noted)?;
+    push_said(alloc, text, noted)?;
+    end_row(alloc, text, noted)
 }
 
 #[tactic(auto, unfolding(crate::specs::Differences::difference))]
@@ -142,7 +172,6 @@ fn push_difference(
         ≡ string_bytes text.old ++ difference report.now at noted.now) }
 {
     push_row(alloc, text, report, at, noted)?;
-    text.push_str("<tr class=\"around\"><td colspan=\"4\"><pre>")?;
     push_context(alloc, text, noted.line, report.around(noted))?;
     text.push_str("</pre></td></tr>\n</tbody>\n")
 }

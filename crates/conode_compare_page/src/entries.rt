@@ -5,13 +5,17 @@ ghost use Rattle.std.specs.Prelude.{◌≡◌, ◌++◌, OnOk, map, string_bytes
 ghost use Rattle.co_sheet.specs.SheetViews.{row_view};
 ghost use Rattle.conode_compare_page.specs.Coverage.{
   covered_at,
+  entries_begin,
   entries_text,
   entry_text,
   is_transferred,
   other_item,
+  other_list,
   other_text,
   transferred_count,
+  transferred_end,
   transferred_item,
+  transferred_list,
   transferred_text,
   transfers_text,
 };
@@ -103,6 +107,22 @@ fn push_entry(alloc: Global, text: &mut String, row: &EntryRow<'_>) -> Result<()
     )
 }
 
+#[tactic(auto, unfolding(crate::specs::Coverage::transferred_end))]
+fn end_transferred(alloc: Global, text: &mut String, covered: Covered) -> Result<(), AllocError>
+    ensures { OnOk result
+        (string_bytes text.new ≡ string_bytes text.old ++ transferred_end covered) }
+{
+    push_pieces(
+        alloc,
+        text,
+        &[
+            Piece::Markup("<b>"),
+            Piece::Markup(transfers_text(covered)),
+            Piece::Markup("</b></li>\n"),
+        ],
+    )
+}
+
 #[tactic(auto, unfolding(crate::specs::Coverage::transferred_text))]
 fn push_transferred(
     alloc: Global,
@@ -114,15 +134,7 @@ fn push_transferred(
         ≡ string_bytes text.old ++ transferred_text covered (row_view row.now)) }
 {
     push_entry(alloc, text, row)?;
-    push_pieces(
-        alloc,
-        text,
-        &[
-            Piece::Markup("<b>"),
-            Piece::Markup(transfers_text(covered)),
-            Piece::Markup("</b></li>\n"),
-        ],
-    )
+    end_transferred(alloc, text, covered)
 }
 
 #[tactic(auto, unfolding(crate::specs::Coverage::other_text))]
@@ -199,16 +211,15 @@ fn push_all_others(
     Ok(())
 }
 
-/// Appends the entries: those that were transferred, and the others.
-#[tactic(auto, unfolding(crate::specs::Coverage::entries_text))]
-pub(crate) fn push_entries(
+#[tactic(auto, unfolding(crate::specs::Coverage::entries_begin))]
+fn begin_entries(
     alloc: Global,
     text: &mut String,
     rows: &[EntryRow<'_>],
     entries: &[Covered],
 ) -> Result<(), AllocError>
     ensures { OnOk result (string_bytes text.new
-        ≡ string_bytes text.old ++ entries_text (map row_view rows.now) entries.now) }
+        ≡ string_bytes text.old ++ entries_begin (map row_view rows.now) entries.now) }
 {
     push_pieces(
         alloc,
@@ -220,9 +231,50 @@ pub(crate) fn push_entries(
             Piece::Number(rows.len() as u64),
             Piece::Markup("</h3>\n<ul>\n"),
         ],
-    )?;
+    )
+}
+
+#[tactic(auto, unfolding(crate::specs::Coverage::transferred_list))]
+fn push_transferred_list(
+    alloc: Global,
+    text: &mut String,
+    rows: &[EntryRow<'_>],
+    entries: &[Covered],
+) -> Result<(), AllocError>
+    ensures { OnOk result (string_bytes text.new
+        ≡ string_bytes text.old ++ transferred_list (map row_view rows.now) entries.now) }
+{
+    begin_entries(alloc, text, rows, entries)?;
     push_all_transferred(alloc, text, entries, rows)?;
-    text.push_str("</ul>\n<h3>Entries that weren't</h3>\n<ul class=\"not\">\n")?;
+    text.push_str("</ul>\n")
+}
+
+#[tactic(auto, unfolding(crate::specs::Coverage::other_list))]
+fn push_other_list(
+    alloc: Global,
+    text: &mut String,
+    rows: &[EntryRow<'_>],
+    entries: &[Covered],
+) -> Result<(), AllocError>
+    ensures { OnOk result (string_bytes text.new
+        ≡ string_bytes text.old ++ other_list (map row_view rows.now) entries.now) }
+{
+    text.push_str("<h3>Entries that weren't</h3>\n<ul class=\"not\">\n")?;
     push_all_others(alloc, text, entries, rows)?;
     text.push_str("</ul>\n")
+}
+
+/// Appends the entries: those that were transferred, and the others.
+#[tactic(auto, unfolding(crate::specs::Coverage::entries_text))]
+pub(crate) fn push_entries(
+    alloc: Global,
+    text: &mut String,
+    rows: &[EntryRow<'_>],
+    entries: &[Covered],
+) -> Result<(), AllocError>
+    ensures { OnOk result (string_bytes text.new
+        ≡ string_bytes text.old ++ entries_text (map row_view rows.now) entries.now) }
+{
+    push_transferred_list(alloc, text, rows, entries)?;
+    push_other_list(alloc, text, rows, entries)
 }

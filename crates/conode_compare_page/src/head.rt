@@ -4,14 +4,17 @@
 ghost use Rattle.std.specs.Prelude.{◌≡◌, ◌++◌, OnOk, string_bytes};
 ghost use Rattle.conode_compare_report.specs.Abouts.{about_view};
 ghost use Rattle.conode_compare_page.specs.Head.{
+  compared,
   count_text,
   counts,
   difference_count,
   head,
+  head_end,
   headline,
   outcome_class,
   reason,
   verdict,
+  verdict_begin,
 };
 
 use crate::style::STYLE;
@@ -88,6 +91,25 @@ fn reason(outcome: Outcome) -> &'static str
     }
 }
 
+// from the recording's name in the title to the page's body
+#[tactic(auto, unfolding(crate::specs::Head::head_end))]
+fn push_head_end(alloc: Global, text: &mut String, recording: &str) -> Result<(), AllocError>
+    ensures { OnOk result
+        (string_bytes text.new ≡ string_bytes text.old ++ head_end recording.now) }
+{
+    push_pieces(
+        alloc,
+        text,
+        &[
+            Piece::Markup(": "),
+            Piece::Text(recording.as_bytes()),
+            Piece::Markup("</title>\n<style>\n"),
+            Piece::Markup(STYLE),
+            Piece::Markup("</style>\n</head>\n<body>\n"),
+        ],
+    )
+}
+
 /// Appends what comes before the page's body.
 #[tactic(auto, unfolding(crate::specs::Head::head))]
 pub(crate) fn push_head(
@@ -101,17 +123,7 @@ pub(crate) fn push_head(
 {
     text.push_str(OPENING)?;
     push_headline(alloc, text, Outcome::of(about), difference_count(report))?;
-    push_pieces(
-        alloc,
-        text,
-        &[
-            Piece::Markup(": "),
-            Piece::Text(about.recording.as_bytes()),
-            Piece::Markup("</title>\n<style>\n"),
-            Piece::Markup(STYLE),
-            Piece::Markup("</style>\n</head>\n<body>\n"),
-        ],
-    )
+    push_head_end(alloc, text, about.recording)
 }
 
 // how many frames of the device have which verdict
@@ -129,7 +141,49 @@ fn push_counts(alloc: Global, text: &mut String, tally: Tally) -> Result<(), All
             Piece::Number(tally.different),
             Piece::Markup("</dd></div>\n<div><dt>unjudged</dt><dd>"),
             Piece::Number(tally.unjudged),
-            Piece::Markup("</dd></div>\n</dl>\n"),
+            Piece::Markup("</dd></div>\n</dl>\n</header>\n"),
+        ],
+    )
+}
+
+#[tactic(auto, unfolding(crate::specs::Head::verdict_begin))]
+fn begin_verdict(alloc: Global, text: &mut String, outcome: Outcome) -> Result<(), AllocError>
+    ensures { OnOk result (string_bytes text.new ≡ string_bytes text.old ++ verdict_begin outcome) }
+{
+    push_pieces(
+        alloc,
+        text,
+        &[
+            Piece::Markup("<header class=\""),
+            Piece::Markup(outcome_class(outcome)),
+            Piece::Markup("\">\n<h1>"),
+        ],
+    )
+}
+
+// what was compared with what, and why nothing was
+#[tactic(auto, unfolding(crate::specs::Head::compared))]
+fn push_compared(
+    alloc: Global,
+    text: &mut String,
+    about: &About<'_, '_>,
+    outcome: Outcome,
+) -> Result<(), AllocError>
+    ensures { OnOk result (string_bytes text.new
+        ≡ string_bytes text.old ++ compared (about_view about.now) outcome) }
+{
+    push_pieces(
+        alloc,
+        text,
+        &[
+            Piece::Markup("</h1>\n<p>Node "),
+            Piece::Number(u64::from(about.node)),
+            Piece::Markup(" in <code>"),
+            Piece::Text(about.recording.as_bytes()),
+            Piece::Markup("</code>, against its data sheet <code>"),
+            Piece::Text(about.sheet.as_bytes()),
+            Piece::Markup("</code> and CiA 301</p>\n"),
+            Piece::Markup(reason(outcome)),
         ],
     )
 }
@@ -146,30 +200,8 @@ pub(crate) fn push_verdict(
         ≡ string_bytes text.old ++ verdict (about_view about.now) report.now) }
 {
     let outcome = Outcome::of(about);
-    push_pieces(
-        alloc,
-        text,
-        &[
-            Piece::Markup("<header class=\""),
-            Piece::Markup(outcome_class(outcome)),
-            Piece::Markup("\">\n<h1>"),
-        ],
-    )?;
+    begin_verdict(alloc, text, outcome)?;
     push_headline(alloc, text, outcome, difference_count(report))?;
-    push_pieces(
-        alloc,
-        text,
-        &[
-            Piece::Markup("</h1>\n<p>Node "),
-            Piece::Number(u64::from(about.node)),
-            Piece::Markup(" in <code>"),
-            Piece::Text(about.recording.as_bytes()),
-            Piece::Markup("</code>, against its data sheet <code>"),
-            Piece::Text(about.sheet.as_bytes()),
-            Piece::Markup("</code> and CiA 301</p>\n"),
-            Piece::Markup(reason(outcome)),
-        ],
-    )?;
-    push_counts(alloc, text, about.tally)?;
-    text.push_str("</header>\n")
+    push_compared(alloc, text, about, outcome)?;
+    push_counts(alloc, text, about.tally)
 }

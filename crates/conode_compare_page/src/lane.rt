@@ -6,6 +6,7 @@ ghost use Rattle.conode_compare_page.specs.Picture.{
   corner,
   count_in,
   frames_lane,
+  frames_path,
   lane_begin,
   lane_end,
   lane_name,
@@ -148,6 +149,16 @@ fn push_outline(
     )
 }
 
+#[tactic(auto, unfolding(crate::specs::Picture::frames_path))]
+fn push_path(alloc: Global, text: &mut String, bins: &[Bin], lane: Lane) -> Result<(), AllocError>
+    ensures { OnOk result (string_bytes text.new
+        ≡ string_bytes text.old ++ frames_path bins.now lane) }
+{
+    text.push_str("<path class=\"frames\" d=\"M0 100")?;
+    push_outline(alloc, text, lane, bins)?;
+    text.push_str("\"/>")
+}
+
 /// Appends a lane of frames.
 #[tactic(auto, unfolding(crate::specs::Picture::frames_lane))]
 pub(crate) fn push_frames(
@@ -160,8 +171,6 @@ pub(crate) fn push_frames(
         ≡ string_bytes text.old ++ frames_lane bins.now lane) }
 {
     begin_lane(alloc, text, lane_name(lane), bins.len())?;
-    text.push_str("<path class=\"frames\" d=\"M0 100")?;
-    push_outline(alloc, text, lane, bins)?;
-    text.push_str("\"/>")?;
+    push_path(alloc, text, bins, lane)?;
     end_lane(text)
 }

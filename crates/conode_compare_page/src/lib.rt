@@ -4,13 +4,13 @@
 mod coverage;
 mod device;
 mod differences;
+mod document;
 mod entries;
 mod head;
 mod kinds;
 mod lane;
-mod page;
 mod picture;
 mod states;
 mod style;
 
-pub use page::page;
+pub use document::page;

@@ -1,10 +1,11 @@
 //! The bus over time, in lanes. Each function appends a text. `Err`: out of memory; a part of it
 //! may be there.
 
-ghost use Rattle.std.specs.Prelude.{◌≡◌, ◌++◌, ◌*◌, ◌≤◌, ◌^◌, OnOk, string_bytes};
+ghost use Rattle.std.specs.Prelude.{◌≡◌, ◌++◌, ◌-◌, ◌*◌, ◌≤◌, ◌^◌, OnOk, string_bytes};
 ghost use Rattle.conode_compare_page.specs.Indexed.{indexed};
 ghost use Rattle.conode_compare_page.specs.Picture.{
   across,
+  across_path,
   any_picture,
   axis_text,
   difference_mark,
@@ -57,6 +58,16 @@ fn push_all_across(alloc: Global, text: &mut String, bins: &[Bin]) -> Result<(),
         push_across(alloc, text, at, bin)?;
     }
     Ok(())
+}
+
+#[tactic(auto, unfolding(crate::specs::Picture::across_path))]
+fn push_across_path(alloc: Global, text: &mut String, bins: &[Bin]) -> Result<(), AllocError>
+    ensures { OnOk result
+        (string_bytes text.new ≡ string_bytes text.old ++ across_path bins.now) }
+{
+    text.push_str("<defs><path id=\"across\" class=\"across\" d=\"")?;
+    push_all_across(alloc, text, bins)?;
+    text.push_str("\"/></defs>\n")
 }
 
 // the span of a stamp
@@ -126,9 +137,7 @@ fn push_differences_lane(
 {
     let bins = report.lanes.bins.as_slice();
     begin_lane(alloc, text, "Differences", bins.len())?;
-    text.push_str("<defs><path id=\"across\" class=\"across\" d=\"")?;
-    push_all_across(alloc, text, bins)?;
-    text.push_str("\"/></defs>\n")?;
+    push_across_path(alloc, text, bins)?;
     push_marks(alloc, text, &report.lanes, report.noted.as_slice())?;
     text.push_str("</svg></div>\n")
 }
