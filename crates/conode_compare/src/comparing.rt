@@ -1,12 +1,13 @@
 //! Frames of a recording, compared one after another.
 
-ghost use Rattle.std.specs.Prelude.{◌≡◌, ◌⊎◌, ◌≤◌, length, OnOk, IfErr, true};
+ghost use Rattle.std.specs.Prelude.{◌≡◌, ◌⊎◌, ◌≤◌, length, OnOk, IfOk, IfErr, true};
 ghost use Rattle.std.specs.List.{AllPairs};
 ghost use Rattle.std.specs.Option.{option_copied};
 ghost use Rattle.co_value.specs.Keys.{is_key_before};
 ghost use Rattle.conode_io.specs.Written.{WritesLines};
 ghost use Rattle.conode_record.specs.Grammar.{IsIdentifier};
 ghost use Rattle.conode_compare.specs.Compared.{
+  chosen_at,
   first_with,
   found_at,
   frame_lines,
@@ -19,13 +20,14 @@ ghost use Rattle.conode_compare.specs.Compared.{
 ghost use Rattle.conode_compare.specs.Views.{comparison_view};
 
 use crate::notes::Notes;
-use crate::writes::{Settings, write_findings};
+use crate::writes::{Settings, write_shown};
 use arrayvec::ArrayVec;
+use conode_compare_notes::Choice;
 use conode_compare_rules::{Findings, FrameKind, Progress, Subject, kind_of};
 use conode_compare_text::Tally;
 use conode_io::CmdFault;
 use conode_record::Record;
-use std::alloc::Global;
+use std::alloc::{AllocError, Global};
 use std::io::Write;
 
 /// How far a recording is compared.
@@ -101,26 +103,30 @@ impl Comparing {
         }
     }
 
-    // what is found at a frame of the interface, by what it is to the device
+    // What is found at a frame of the interface, by what it is to the device, and what the device
+    // chose with it. On an `Err` memory ran out.
     #[tactic(auto, unfolding(crate::specs::Compared::frame_taken))]
     fn take(
         &mut self,
         settings: &Settings<'_, '_>,
         frame: &Record<'_>,
         kind: &FrameKind,
-    ) -> Findings
-        requires rows { AllPairs (λ e f. is_key_before e.key f.key ≡ true) settings.now.rows.now }
-        ensures found { result ≡ found_at
-            (comparison_view settings.now) self.old frame.now kind.now }
-        ensures next { self.new
-            ≡ frame_taken (comparison_view settings.now) self.old frame.now kind.now }
+    ) -> Result<(Findings, Option<Choice>), AllocError>
+        requires { AllPairs (λ e f. is_key_before e.key f.key ≡ true) settings.now.rows.now }
+        ensures found { IfOk result (λ shown. shown.0
+            ≡ found_at (comparison_view settings.now) self.old frame.now kind.now) }
+        ensures choice { IfOk result (λ shown. shown.1
+            ≡ chosen_at (comparison_view settings.now) self.old frame.now kind.now) }
+        ensures next { OnOk result (self.new
+            ≡ frame_taken (comparison_view settings.now) self.old frame.now kind.now) }
     {
         let found = self
             .progress
             .take(&settings.subject, settings.rows, frame.micros, kind);
         self.tally.count(found.verdict);
         self.note_first(frame.interface.bytes());
-        found
+        let choice = self.notes.take(settings, kind, &self.progress.exchange)?;
+        Ok((found, choice))
     }
 
     /// Takes a frame, and writes the lines of what is found at it.
@@ -147,10 +153,7 @@ impl Comparing {
             return Ok(());
         }
         let kind = kind_of(settings.subject.node, frame.id, &frame.content);
-        let found = self.take(settings, frame, &kind);
-        write_findings(text, settings, number, found, out)?;
-        let exchange = &self.progress.exchange;
-        self.notes
-            .take(text, settings, number, &kind, exchange, out)
+        let (found, choice) = self.take(settings, frame, &kind)?;
+        write_shown(text, settings, number, found, choice, out)
     }
 }
