@@ -26,6 +26,7 @@ use Rattle.conode_compare_rules.specs.declared.finding.Finding.TheVariants.{Valu
 use Rattle.conode_compare_values.specs.declared.mismatch.Mismatch.TheVariants.{ValueConst}
 use Rattle.conode_compare_rules.specs.declared.limits.Subject.{Subject}
 use Rattle.conode_compare_rules.specs.declared.verdict.Findings.{Findings}
+use Rattle.conode_compare_notes.specs.declared.choice.Choice.{Choice}
 use Rattle.conode_compare_rules.specs.declared.kind.FrameKind.{FrameKind}
 use Rattle.conode_compare_rules.specs.declared.progress.Progress.{Progress}
 use Rattle.conode_compare_rules.specs.FrameKinds.{kind_of}
@@ -126,11 +127,15 @@ found_at c so_far frame kind = findings_at c.subject c.rows so_far.progress fram
 abbrev pub progress_at : Comparison → Comparing → Record → FrameKind → Progress
 progress_at c so_far frame kind = progress_with c.subject so_far.progress frame.micros kind
 
+abbrev pub chosen_at : Comparison → Comparing → Record → FrameKind → Option Choice
+chosen_at c so_far frame kind = noted_choice c.choices kind (progress_at c so_far frame kind).exchange
+
 -- its differences, then what the device chose with it
-unfoldable pub taken_lines : Comparison → ℕ → Comparing → Record → FrameKind → List (List ℕ)
-taken_lines c number so_far frame kind =
-    findings_lines c number (found_at c so_far frame kind)
-    ++ choice_lines c.recording number (noted_choice c.choices kind (progress_at c so_far frame kind).exchange)
+unfoldable pub shown_lines : Comparison → ℕ → Findings → Option Choice → List (List ℕ)
+shown_lines c number found choice = findings_lines c number found ++ choice_lines c.recording number choice
+
+abbrev pub taken_lines : Comparison → ℕ → Comparing → Record → FrameKind → List (List ℕ)
+taken_lines c number so_far frame kind = shown_lines c number (found_at c so_far frame kind) (chosen_at c so_far frame kind)
 
 abbrev pub kind_at : Comparison → Record → FrameKind
 kind_at c frame = kind_of c.subject.node frame.id frame.content
@@ -150,18 +155,9 @@ frame_taken c so_far frame kind = record {
   tally = tally_with so_far.tally (found_at c so_far frame kind).verdict;
   first = first_with so_far.first frame.interface;
   several = so_far.several;
-  notes = so_far.notes;
+  notes = notes_with c.choices c.learned c.rows so_far.notes kind (progress_at c so_far frame kind).exchange;
   report = option_map (kind_noted c so_far.progress frame.micros kind) so_far.report;
 }
-
--- with what is noted beside differences, in lines; a document has none of it
-unfoldable pub with_notes : Comparison → Comparing → Record → FrameKind → Comparing
-with_notes c so_far frame kind =
-    if is_none so_far.report
-    then record (frame_taken c so_far frame kind) {
-      notes = notes_with c.choices c.learned c.rows so_far.notes kind (progress_at c so_far frame kind).exchange;
-    }
-    else frame_taken c so_far frame kind
 
 -- where none is named, there is another one
 abbrev pub other_seen : Option (List ℕ) → Comparing → Comparing
@@ -169,7 +165,7 @@ other_seen interface so_far = record so_far { several = so_far.several || is_non
 
 abbrev pub frame_with : Comparison → Comparing → Record → Comparing
 frame_with c so_far frame =
-    if is_compared c.interface so_far.first.items frame.interface then with_notes c so_far frame (kind_at c frame) else other_seen c.interface so_far
+    if is_compared c.interface so_far.first.items frame.interface then frame_taken c so_far frame (kind_at c frame) else other_seen c.interface so_far
 
 -- ---- lines of the recording
 

@@ -9,6 +9,7 @@ ghost use Rattle.conode_record.specs.Grammar.{IsIdentifier};
 ghost use Rattle.conode_compare_rules.specs.Progresses.{findings_at, progress_with};
 ghost use Rattle.conode_compare.specs.Compared.{
   bad_noted,
+  chosen_at,
   first_with,
   found_at,
   frame_lines,
@@ -24,8 +25,9 @@ ghost use Rattle.conode_compare.specs.Views.{comparison_view};
 
 use crate::kept::note_findings;
 use crate::notes::Notes;
-use crate::writes::{Settings, write_findings};
+use crate::writes::{Settings, write_shown};
 use arrayvec::ArrayVec;
+use conode_compare_notes::Choice;
 use conode_compare_report::{Kind, Report};
 use conode_compare_rules::{Findings, FrameKind, Progress, Subject, kind_of};
 use conode_compare_text::Tally;
@@ -168,17 +170,20 @@ impl Comparing {
         }
     }
 
-    // what is found at a frame of the interface, by what it is to the device
+    // What is found at a frame of the interface, by what it is to the device, and what the device
+    // chose with it. On an `Err` memory ran out.
     #[tactic(auto, unfolding(crate::specs::Compared::frame_taken))]
     fn take(
         &mut self,
         settings: &Settings<'_, '_>,
         frame: &Record<'_>,
         kind: &FrameKind,
-    ) -> Result<Findings, AllocError>
-        requires rows { AllPairs (λ e f. is_key_before e.key f.key ≡ true) settings.now.rows.now }
-        ensures found { IfOk result (λ found. found ≡ found_at
-            (comparison_view settings.now) self.old frame.now kind.now) }
+    ) -> Result<(Findings, Option<Choice>), AllocError>
+        requires { AllPairs (λ e f. is_key_before e.key f.key ≡ true) settings.now.rows.now }
+        ensures found { IfOk result (λ shown. shown.0
+            ≡ found_at (comparison_view settings.now) self.old frame.now kind.now) }
+        ensures choice { IfOk result (λ shown. shown.1
+            ≡ chosen_at (comparison_view settings.now) self.old frame.now kind.now) }
         ensures next { OnOk result (self.new
             ≡ frame_taken (comparison_view settings.now) self.old frame.now kind.now) }
     {
@@ -191,7 +196,8 @@ impl Comparing {
         )?;
         self.tally.count(found.verdict);
         self.note_first(frame.interface.bytes());
-        Ok(found)
+        let choice = self.notes.take(settings, kind, &self.progress.exchange)?;
+        Ok((found, choice))
     }
 
     /// Takes a frame, and writes the lines of what is found at it, unless a document is wanted.
@@ -219,13 +225,10 @@ impl Comparing {
         }
         let is_documented = self.report.is_some();
         let kind = kind_of(settings.subject.node, frame.id, &frame.content);
-        let found = self.take(settings, frame, &kind)?;
+        let (found, choice) = self.take(settings, frame, &kind)?;
         if is_documented {
             return Ok(());
         }
-        write_findings(text, settings, number, found, out)?;
-        let exchange = &self.progress.exchange;
-        self.notes
-            .take(text, settings, number, &kind, exchange, out)
+        write_shown(text, settings, number, found, choice, out)
     }
 }

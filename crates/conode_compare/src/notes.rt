@@ -1,6 +1,6 @@
 //! What is noted of a device beside differences: its choices, and the values of its entries.
 
-ghost use Rattle.std.specs.Prelude.{◌≡◌, ◌⊎◌, OnOk, IfErr, true};
+ghost use Rattle.std.specs.Prelude.{◌≡◌, ◌⊎◌, OnOk, IfOk, IfErr, true};
 ghost use Rattle.std.specs.List.{AllPairs};
 ghost use Rattle.co_value.specs.Keys.{is_key_before};
 ghost use Rattle.conode_io.specs.Written.{WritesLines};
@@ -43,9 +43,9 @@ fn noted_choice(wanted: bool, kind: &FrameKind, exchange: &Option<Exchange>) -> 
     }
 }
 
-// Writes the line of a choice, if there is one.
+/// Writes the line of a choice, if there is one.
 #[tactic(auto, using(conode_io::proofs::WriteLemmas::line_alone))]
-fn write_choice<W: Write>(
+pub(crate) fn write_choice<W: Write>(
     text: &mut String,
     recording: &str,
     number: u64,
@@ -101,31 +101,25 @@ impl Notes {
         Ok(())
     }
 
-    /// Takes a frame, by what it is to the device, and on its SDO channel, and writes the line of
-    /// what the device chose with it.
+    /// Takes a frame, by what it is to the device, and on its SDO channel. Returns what the device
+    /// chose with it, if that is asked for. On an `Err` memory ran out.
     #[tactic(auto, unfolding(crate::specs::Noted::notes_with))]
-    pub(crate) fn take<W: Write>(
+    pub(crate) fn take(
         &mut self,
-        text: &mut String,
         settings: &Settings<'_, '_>,
-        number: u64,
         kind: &FrameKind,
         exchange: &Option<Exchange>,
-        out: &mut W,
-    ) -> Result<(), CmdFault>
+    ) -> Result<Option<Choice>, AllocError>
         requires { AllPairs (λ e f. is_key_before e.key f.key ≡ true) settings.now.rows.now }
-        ensures lines { OnOk result (WritesLines (W.contents out.old) (W.contents out.new)
-            (choice_lines settings.now.recording.now number
-            (noted_choice settings.now.choices kind.now exchange.now))) }
+        ensures choice { IfOk result (λ choice.
+            choice ≡ noted_choice settings.now.choices kind.now exchange.now) }
         ensures next { OnOk result (self.new ≡ notes_with (comparison_view settings.now).choices
             (comparison_view settings.now).learned (comparison_view settings.now).rows
             self.old kind.now exchange.now) }
-        ensures err { IfErr result
-            (λ fault. (fault ≡ CmdFault.Write) ⊎ (fault ≡ CmdFault.Memory)) }
     {
         let choice = noted_choice(settings.choices, kind, exchange);
         self.count(choice);
         self.learn(settings, exchange)?;
-        write_choice(text, settings.recording, number, choice, out)
+        Ok(choice)
     }
 }

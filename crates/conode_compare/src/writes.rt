@@ -4,12 +4,14 @@ ghost use Rattle.std.specs.Prelude.{◌≡◌, ◌⊎◌, OnOk, IfErr, true};
 ghost use Rattle.std.specs.List.{AllPairs};
 ghost use Rattle.co_value.specs.Keys.{is_key_before};
 ghost use Rattle.conode_io.specs.Written.{WritesLines};
-ghost use Rattle.conode_compare.specs.Compared.{findings_lines, listed, shown_type, type_at};
+ghost use Rattle.conode_compare.specs.Compared.{findings_lines, listed, shown_lines, shown_type, type_at};
 ghost use Rattle.conode_compare.specs.Views.{comparison_view};
 
+use crate::notes::write_choice;
 use co_sheet::EntryRow;
 use co_sheet_changes::Originals;
 use co_value::{DataType, Key};
+use conode_compare_notes::Choice;
 use conode_compare_rules::{Finding, Findings, Subject};
 use conode_compare_text::set_finding_line;
 use conode_compare_values::Mismatch;
@@ -84,9 +86,9 @@ fn write_listed<W: Write>(
     }
 }
 
-/// Writes the lines of what is found at a line of the recording.
+// Writes the lines of what is found at a line of the recording.
 #[tactic(auto, unfolding(crate::specs::Compared::findings_lines), using(crate::proofs::WriteLemmas::four))]
-pub(crate) fn write_findings<W: Write>(
+fn write_findings<W: Write>(
     text: &mut String,
     settings: &Settings<'_, '_>,
     number: u64,
@@ -102,4 +104,23 @@ pub(crate) fn write_findings<W: Write>(
     write_listed(text, settings, number, found.heartbeat, out)?;
     write_listed(text, settings, number, found.answer, out)?;
     write_listed(text, settings, number, found.frame, out)
+}
+
+/// Writes the lines of what is found at a line of the recording, then that of what the device chose.
+#[tactic(auto, unfolding(crate::specs::Compared::shown_lines), using(conode_io::proofs::WriteLemmas::lines_after))]
+pub(crate) fn write_shown<W: Write>(
+    text: &mut String,
+    settings: &Settings<'_, '_>,
+    number: u64,
+    found: Findings,
+    choice: Option<Choice>,
+    out: &mut W,
+) -> Result<(), CmdFault>
+    requires { AllPairs (λ e f. is_key_before e.key f.key ≡ true) settings.now.rows.now }
+    ensures lines { OnOk result (WritesLines (W.contents out.old) (W.contents out.new)
+        (shown_lines (comparison_view settings.now) number found choice)) }
+    ensures err { IfErr result (λ fault. (fault ≡ CmdFault.Write) ⊎ (fault ≡ CmdFault.Memory)) }
+{
+    write_findings(text, settings, number, found, out)?;
+    write_choice(text, settings.recording, number, choice, out)
 }

@@ -1,6 +1,5 @@
 -- What is a choice, and what is learned, on both sides of each edge, computed from the definitions.
 use Rattle.std.proofs.Common.{◌≡◌, ℕ, Bool, true, false, List, [], ◌∷◌, map, Option, Some, None, refl}
-use Rattle.co_frame.specs.FrameContent.{FrameContent}
 use Rattle.co_profile.specs.declared.access.Access.TheVariants.{Rw}
 use Rattle.co_sheet.specs.Content.{Row}
 use Rattle.co_sheet.specs.Limits.{absent}

@@ -1,5 +1,5 @@
 -- What a device chose where CiA 301 leaves a choice (7.2.4.3).
-use Rattle.std.specs.Prelude.{ℕ, ◌-◌, ◌/◌, ◌%◌, ◌==◌, nat_le, nat_lt, Bool, true, false, not, ◌&&◌, if◌then◌else◌, Option, Some, None, option_and_then}
+use Rattle.std.specs.Prelude.{ℕ, ◌-◌, ◌/◌, ◌%◌, ◌==◌, nat_le, nat_lt, Bool, not, ◌&&◌, if◌then◌else◌, Option, Some, None, option_and_then}
 use Rattle.co_frame.specs.AbortCodes.{timed_out}
 use Rattle.co_frame.specs.FrameContent.{FrameContent}
 use Rattle.co_frame.specs.declared.abort_code.AbortCode.{AbortCode}

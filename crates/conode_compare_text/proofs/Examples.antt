@@ -1,19 +1,23 @@
 -- Lines of differences, computed from the definitions.
-use Rattle.std.proofs.Common.{◌≡◌, [], ◌∷◌, ◌++◌, refl, codes}
+use Rattle.std.proofs.Common.{◌≡◌, [], ◌∷◌, ◌++◌, Some, None, refl, codes}
 use Rattle.std.specs.Fmt.{digits}
 use Rattle.co_text.specs.Printed.{digits_text}
-use Rattle.co_value.specs.declared.data_type.DataType.TheVariants.{Unsigned32}
+use Rattle.co_value.specs.declared.data_type.DataType.TheVariants.{Integer16, Unsigned8, Unsigned16, Unsigned32}
 use Rattle.co_value.specs.declared.key.Key.{Key}
 use Rattle.conode_explain_values.specs.declared.value_type.ValueType.{ValueType}
 use Rattle.conode_explain_values.specs.declared.value_type.ValueType.TheVariants.{Plain, Real32, TimeOfDay}
+use Rattle.conode_explain_values.specs.Numbers.{number_text}
 use Rattle.conode_explain_values.specs.Values.{value_text}
 use Rattle.conode_compare_pdos.specs.declared.deviation.Deviation.TheVariants.{Length, NotOperational, WithoutSync, Inhibit, Timer}
 use Rattle.conode_compare_transfers.specs.declared.breach.Breach.TheVariants.{Toggle, Form, AbortKey, Size, Crc}
 use Rattle.conode_compare_values.specs.declared.mismatch.Mismatch.TheVariants.{ValueLength, ValueConst, ReadRefused, Written, AboveLimit, BelowLimit}
-use Rattle.conode_compare_rules.specs.declared.finding.Finding.TheVariants.{BootMissing, SecondBootUp, HeartbeatLength, NoState, WrongState, HeartbeatLate, EmergencyLength, EmergencyRegister, EmergencyInhibit, NoAnswer, AnswerKey, AnswerForm, AnswerStopped, Transfer, Value, Pdo}
+use Rattle.conode_compare_rules.specs.declared.finding.Finding.TheVariants.{BootMissing, SecondBootUp, HeartbeatLength, NoState, WrongState, HeartbeatLate, EmergencyLength, EmergencyRegister, EmergencyInhibit, NoAnswer, AnswerKey, AnswerForm, AnswerStopped, Transfer, Value, Held, Pdo}
 use Rattle.conode_compare_rules.specs.declared.finding.NmtState.TheVariants.{PreOperational, Operational}
-use Rattle.conode_compare_text.specs.FindingTexts.{coded, finding_line, finding_text, hexadecimal, keyed, keyed_code, keyed_codes, keyed_numbers, keyed_time, keyed_values, millis_text, mismatch_text, named, numbered, numbered_time, numbered_times, pdo_text, shown_value, three_numbers, timed, timed_number, transfer_text, two_codes, two_times}
-use Rattle.conode_compare_text.specs.Tallies.{summary}
+use Rattle.conode_compare_notes.specs.declared.choice.Choice.TheVariants.{Segments, NoSize, ShortSegment, NoCrc, BlockSize, Timeout}
+use Rattle.conode_compare_text.specs.ChoiceTexts.{choice_line, choice_text, choices_summary}
+use Rattle.conode_compare_text.specs.FindingTexts.{coded, finding_line, finding_text, hexadecimal, keyed, keyed_code, keyed_codes, keyed_number, keyed_numbers, keyed_time, keyed_values, millis_text, mismatch_text, named, numbered, numbered_time, numbered_times, pdo_text, shown_value, three_numbers, timed, timed_number, transfer_text, two_codes, two_times}
+use Rattle.conode_compare_text.specs.LearnedTexts.{learned_line, other_text, typed_text}
+use Rattle.conode_compare_text.specs.Tallies.{summary, tally_text}
 
 abbrev key : Key
 key = record { index = 0x1018; sub = 1 }
@@ -198,13 +202,13 @@ sums_choices = refl
 -- ---- learned values
 
 learned_same : learned_line (Some (codes "Interval")) key (Plain Unsigned16) 2 1000 (Some 1000) ≡ codes "learned: Interval 1018:01 = 1000" ++ 10 ∷ []
-unfolding learned_line number_text value_text digits_text digits
+unfolding learned_line other_text typed_text value_text number_text digits_text digits
 learned_same = refl
 
 learned_other : learned_line None key (Plain Integer16) 2 0xFFFE (Some 5) ≡ codes "learned: 1018:01 = -2, the sheet has 5" ++ 10 ∷ []
-unfolding learned_line number_text value_text digits_text digits
+unfolding learned_line other_text typed_text value_text number_text digits_text digits
 learned_other = refl
 
 learned_alone : learned_line None key (Plain Unsigned8) 1 7 None ≡ codes "learned: 1018:01 = 7" ++ 10 ∷ []
-unfolding learned_line number_text value_text digits_text digits
+unfolding learned_line other_text typed_text value_text number_text digits_text digits
 learned_alone = refl

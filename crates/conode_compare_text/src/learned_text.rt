@@ -2,7 +2,7 @@
 
 ghost use Rattle.std.specs.Prelude.{◌≡◌, ◌++◌, ◌≤◌, OnOk, string_bytes};
 ghost use Rattle.std.specs.Option.{option_copied};
-ghost use Rattle.conode_compare_text.specs.LearnedTexts.{learned_line, number_text, sheet_text};
+ghost use Rattle.conode_compare_text.specs.LearnedTexts.{learned_line, other_text, sheet_text, typed_text};
 
 use crate::parts::push_words;
 use co_value::{Key, bytes_of_u32};
@@ -10,7 +10,7 @@ use conode_explain_values::{ValueType, push_named_key, push_value};
 use std::alloc::AllocError;
 
 // a number of up to four bytes, of this type
-#[tactic(auto, unfolding(crate::specs::LearnedTexts::number_text))]
+#[tactic(auto, unfolding(crate::specs::LearnedTexts::typed_text))]
 fn push_number(
     text: &mut String,
     value_type: ValueType,
@@ -19,10 +19,26 @@ fn push_number(
 ) -> Result<(), AllocError>
     requires { width ≤ 4 }
     ensures { OnOk result (string_bytes text.new
-        ≡ string_bytes text.old ++ number_text value_type width number) }
+        ≡ string_bytes text.old ++ typed_text value_type width number) }
 {
     let bytes = bytes_of_u32((number % 0x1_0000_0000) as u32);
     push_value(text, value_type, 8 * width, &bytes[..width])
+}
+
+// the number of the data sheet
+#[tactic(auto, unfolding(crate::specs::LearnedTexts::other_text))]
+fn push_other(
+    text: &mut String,
+    value_type: ValueType,
+    width: usize,
+    sheet: u64,
+) -> Result<(), AllocError>
+    requires { width ≤ 4 }
+    ensures { OnOk result (string_bytes text.new
+        ≡ string_bytes text.old ++ other_text value_type width sheet) }
+{
+    push_words(text, ", the sheet has ")?;
+    push_number(text, value_type, width, sheet)
 }
 
 // the number of the data sheet, where it is another one
@@ -38,10 +54,7 @@ fn push_sheet(
         ≡ string_bytes text.old ++ sheet_text value_type width number sheet) }
 {
     match sheet {
-        Some(sheet) if sheet != number => {
-            push_words(text, ", the sheet has ")?;
-            push_number(text, value_type, width, sheet)
-        }
+        Some(sheet) if sheet != number => push_other(text, value_type, width, sheet),
         _ => Ok(()),
     }
 }
