@@ -75,7 +75,7 @@ pub(crate) fn put(frames: &[Frame], places: &mut [CanFrame])
 }
 
 // Puts a frame into an array, if it has room.
-#[tactic(auto, using(crate::proofs::Put::{one_put, one_without_room}))]
+#[tactic(auto, using(crate::proofs::Put::one_put, crate::proofs::Put::one_without_room))]
 #[inline(always)]
 fn put_one(frame: &Frame, places: &mut [CanFrame])
     ensures { ArePut (frame.now ∷ []) places.old places.new }

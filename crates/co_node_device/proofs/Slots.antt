@@ -1,6 +1,6 @@
 -- Slots of the RPDOs of a dictionary alone: no frame of another is received.
 use Rattle.std.proofs.Common.{◌≡◌, ℕ, zero, suc, ◌+◌, ◌<◌, ◌≤◌, Bool, true, false, cond, eqb, List, [], ◌∷◌, length, refl, sym, ap, ◌∙◌, subst, arith}
-use Rattle.std.specs.Prelude.{◌&&◌, ◌||◌, Option, Some, None, IfSome, is_some}
+use Rattle.std.specs.Prelude.{◌&&◌, ◌||◌, Option, Some, None, IfSome, is_some, Result, Ok, Err, IfOk}
 use Rattle.std.specs.List.{filter_map, cons_option, find, range_with_len}
 use Rattle.std.proofs.lemmas.Bool.Decides.{nat_tests}
 use Rattle.co_value.specs.declared.key.Key.{Key}
@@ -33,7 +33,7 @@ use Rattle.co_node_device.specs.SlotTables.{AreSlotsOf}
 
 -- ---- the build
 
-pub slots_begin : (d : Description) (count : ℕ) (content : SlotContent) → Covers Rpdo d count → count ≤ 512 → SlotsStand count content []
+slots_begin : (d : Description) (count : ℕ) (content : SlotContent) → Covers Rpdo d count → count ≤ 512 → SlotsStand count content []
     → AreSlotsOf d content []
 slots_begin d count content covers few stand = record {
   covers = subst (λ (n : ℕ). Covers Rpdo d n) (sym stand.size) covers;
@@ -41,6 +41,16 @@ slots_begin d count content covers few stand = record {
   stand = subst (λ (n : ℕ). SlotsStand n content []) (sym stand.size) stand;
   others = λ k past. refl;
 }
+
+if_ok : {T E : Type 0} (r : Result T E) (P Q : T → Type 0) → ((x : T) → P x → Q x) → IfOk r P → IfOk r Q
+if_ok (Ok x) P Q f p = f x p
+if_ok (Err e) P Q f p = p
+
+-- they may be out of memory
+pub slots_begun : {E : Type 0} (d : Description) (count : ℕ) (made : Result SlotContent E) → Covers Rpdo d count → count ≤ 512
+    → IfOk made (λ content. SlotsStand count content []) → IfOk made (λ content. AreSlotsOf d content [])
+slots_begun d count made covers few =
+    if_ok made (λ content. SlotsStand count content []) (λ content. AreSlotsOf d content []) (λ content. slots_begin d count content covers few)
 
 -- ---- what an event takes
 
@@ -136,13 +146,13 @@ slots_after d c before after log mark t s small there stand =
 
 -- ---- the RPDO of a received frame is one of the dictionary
 
+first_passes : (p : ℕ → Bool) (x n : ℕ) (rest : Option ℕ) (b : Bool) → p x ≡ b → (rest ≡ Some n → p n ≡ true) → cond b (Some x) rest ≡ Some n → p n ≡ true
+first_passes p x n rest true h later e = let same : x ≡ n = cc in subst (λ (k : ℕ). p k ≡ true) same h
+first_passes p x n rest false h later e = later e
+
 find_passes : (p : ℕ → Bool) (xs : List ℕ) (n : ℕ) → find p xs ≡ Some n → p n ≡ true
 find_passes p [] n e = absurd (cc)
-find_passes p (x ∷ xs) n e = by (p x) refl e
-  where
-    by : (b : Bool) → p x ≡ b → cond b (Some x) (find p xs) ≡ Some n → p n ≡ true
-    by true h e = let same : x ≡ n = cc in subst (λ (k : ℕ). p k ≡ true) same h
-    by false h e = find_passes p xs n e
+find_passes p (x ∷ xs) n e = first_passes p x n (find p xs) (p x) refl (find_passes p xs n) e
 
 both : (a b : Bool) → a && b ≡ true → a ≡ true
 both true b e = refl

@@ -121,7 +121,7 @@ module _ (g : given.Over) (c : After-mappings_stay g) (k : Constants) (inputs : 
   slots =
       subst (λ (d : Description). AreSlotsOf d c.take_pdos.new.slots (slot_log k (m ∷ h))) (sym c.take_pdos.ensures.description)
       (steps.slots k h m is _ _ _ _ d2 r.mark watched transition _ (c.take_pdos.ensures.slots (slot_log k h) mappings_watched.rpdos slots_watched
-      (each_there k inputs input c.args.mark.now _ _ r.mark watched (λ n on. c.active_is_there.ensures Rpdo n on))))
+      (each_there k inputs input c.args.mark.now (g.S.ObjectStore.description c.watch-loss.new.store) _ r.mark watched (λ n on. c.active_is_there.ensures Rpdo n on))))
 
   queued_by_loss : EmergenciesStand c.watch-loss.new.emergencies (with_queued m.raised_by_loss (with_queued m.raised_by_app (emergency_log h)))
   queued_by_loss = steps.lost_queued k h m is _ _ _ r.description r.mark r.contents _ _ (c.watch-loss.ensures.emergencies (consumers_log k h) _ r.consumers r.emergencies)
