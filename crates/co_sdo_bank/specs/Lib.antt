@@ -1,4 +1,3 @@
-pub mod MaybePlaces
 pub mod Channels
 pub mod Banks
 pub mod Events

@@ -29,7 +29,6 @@ use crate::channels::{
     NumberedChannel, drop_each, existing_channels, expired_place, idle_among, place_of,
     places_by_id, tick_each,
 };
-use crate::maybe_place::MaybePlace;
 use co_dict::ObjectStore;
 use co_frame::{Frame, Outbox};
 use co_value::Key;
@@ -44,7 +43,7 @@ pub struct Bank {
     channels: BoxedSlice<NumberedChannel>,
     // the place of the first channel whose requests have an identifier, by identifier: no frame
     // costs a search
-    places: BoxedSlice<MaybePlace>,
+    places: BoxedSlice<Option<u8>>,
 }
 
 impl Model for Bank {
@@ -94,7 +93,7 @@ impl Bank {
             BankStands d channels self.now logs → result ≡ number_for channels id }
         ensures below { IfSome result (λ number. number < 128) }
     {
-        match self.places[usize::from(id)].get() {
+        match self.places[usize::from(id)] {
             Some(place) => Some(self.channels[usize::from(place)].number),
             None => None,
         }
@@ -133,7 +132,7 @@ impl Bank {
             BankStands (S.description store.old) channels self.new (logs_after (exchange_of
             channels (S.description store.old) (S.contents store.old) logs frame.now) logs) }
     {
-        match self.places[usize::from(frame.id())].get() {
+        match self.places[usize::from(frame.id())] {
             Some(place) => {
                 let receiver = &mut self.channels[usize::from(place)];
                 receiver.channel.take(store, frame, outbox)

@@ -8,7 +8,6 @@ ghost use Rattle.co_sdo_bank.specs.Channels.{ChannelSettings, channels_below, ch
 ghost use Rattle.co_sdo_bank.specs.Banks.{AreInTimeFor, BankStands, all_settings, places_below};
 ghost use Rattle.co_sdo_bank.specs.Events.{with_each};
 
-use crate::maybe_place::MaybePlace;
 use co_dict::{ObjectStore, sdo_channel};
 use co_sdo::{Channel, Ids};
 use std::alloc::{AllocError, Global};
@@ -129,13 +128,13 @@ fn receiver_place(bank: &[NumberedChannel], id: u16) -> Option<usize>
 }
 
 /// The same as a byte.
-fn receiver_byte(bank: &[NumberedChannel], id: u16) -> MaybePlace
+fn receiver_byte(bank: &[NumberedChannel], id: u16) -> Option<u8>
     requires { length bank.now ≤ 128 }
     ensures { result ≡ position (λ c. c.channel.request == id) bank.now }
 {
     match receiver_place(bank, id) {
-        Some(place) => MaybePlace::some(place as u8),
-        None => MaybePlace::none(),
+        Some(place) => Some(place as u8),
+        None => None,
     }
 }
 
@@ -143,7 +142,7 @@ fn receiver_byte(bank: &[NumberedChannel], id: u16) -> MaybePlace
 pub(crate) fn places_by_id(
     alloc: Global,
     bank: &[NumberedChannel],
-) -> Result<Vec<MaybePlace>, AllocError>
+) -> Result<Vec<Option<u8>>, AllocError>
     requires { length bank.now ≤ 128 }
     ensures { IfOk result (λ places. places.items ≡ places_below 2048 (all_settings bank.now)) }
 {

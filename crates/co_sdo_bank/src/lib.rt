@@ -5,6 +5,5 @@
 mod bank;
 mod channels;
 mod laws;
-mod maybe_place;
 
 pub use bank::Bank;

@@ -13,13 +13,13 @@ index-requires g c = omega (arith, table_length c.self.inside.places.items.items
 pub index_mut-receiver-requires : goal.index_mut-receiver-requires
 index_mut-receiver-requires g c =
     let at : position (λ e. eqb e.channel.request c.args.frame.now.id) c.self.inside.channels.items.items ≡ Some c.from-in-Some.result =
-    place_at c.self.inside.places.items.items 2048 c.self.inside.channels.items.items c.args.frame.now.id c.index.result.now c.self.invariant.places (omega (arith, c.id.ensures.id, c.id.ensures.small)) (c.index.ensures ∙ ap (λ n. get_or c.self.inside.places.items.items n c.index.result.now) (c.from.ensures ∙ c.id.ensures.id)) ∙ sym c.get.ensures ∙ c.in-Some.is ∙ ap (λ n. Some n) (sym c.from-in-Some.ensures) in
+    place_at c.self.inside.places.items.items 2048 c.self.inside.channels.items.items c.args.frame.now.id c.index.result.now c.self.invariant.places (omega (arith, c.id.ensures.id, c.id.ensures.small)) (c.index.ensures ∙ ap (λ n. get_or c.self.inside.places.items.items n c.index.result.now) (c.from.ensures ∙ c.id.ensures.id)) ∙ c.in-Some.is ∙ ap (λ n. Some n) (sym c.from-in-Some.ensures) in
     omega (arith, place_within (λ e. eqb e.channel.request c.args.frame.now.id) c.self.inside.channels.items.items c.from-in-Some.result at)
 
 pub take-requires-clause-greatest : goal.take-requires-clause-greatest
 take-requires-clause-greatest g c =
     let at : position (λ e. eqb e.channel.request c.args.frame.now.id) c.self.inside.channels.items.items ≡ Some c.from-in-Some.result =
-    place_at c.self.inside.places.items.items 2048 c.self.inside.channels.items.items c.args.frame.now.id c.index.result.now c.self.invariant.places (omega (arith, c.id.ensures.id, c.id.ensures.small)) (c.index.ensures ∙ ap (λ n. get_or c.self.inside.places.items.items n c.index.result.now) (c.from.ensures ∙ c.id.ensures.id)) ∙ sym c.get.ensures ∙ c.in-Some.is ∙ ap (λ n. Some n) (sym c.from-in-Some.ensures) in
+    place_at c.self.inside.places.items.items 2048 c.self.inside.channels.items.items c.args.frame.now.id c.index.result.now c.self.invariant.places (omega (arith, c.id.ensures.id, c.id.ensures.small)) (c.index.ensures ∙ ap (λ n. get_or c.self.inside.places.items.items n c.index.result.now) (c.from.ensures ∙ c.id.ensures.id)) ∙ c.in-Some.is ∙ ap (λ n. Some n) (sym c.from-in-Some.ensures) in
     room_at (g.S.ObjectStore.description c.args.store.now).rows c.args.self.now c.self.inside.channels.items.items c.from-in-Some.result c.index_mut-receiver.result.now c.self.view_is c.requires.room
     (within (λ e. eqb e.channel.request c.args.frame.now.id) c.self.inside.channels.items.items c.from-in-Some.result c.index_mut-receiver.result.now at) c.index_mut-receiver.ensures.value
 
@@ -32,48 +32,48 @@ returns-in-Some-clause-settings g c = settings_kept c.args.self.now c.self.insid
 pub returns-in-Some-clause-responses : goal.returns-in-Some-clause-responses
 returns-in-Some-clause-responses g c = λ channels logs all.
     let at : position (λ e. eqb e.channel.request c.args.frame.now.id) c.self.inside.channels.items.items ≡ Some c.from-in-Some.result =
-    place_at c.self.inside.places.items.items 2048 c.self.inside.channels.items.items c.args.frame.now.id c.index.result.now c.self.invariant.places (omega (arith, c.id.ensures.id, c.id.ensures.small)) (c.index.ensures ∙ ap (λ n. get_or c.self.inside.places.items.items n c.index.result.now) (c.from.ensures ∙ c.id.ensures.id)) ∙ sym c.get.ensures ∙ c.in-Some.is ∙ ap (λ n. Some n) (sym c.from-in-Some.ensures) in
+    place_at c.self.inside.places.items.items 2048 c.self.inside.channels.items.items c.args.frame.now.id c.index.result.now c.self.invariant.places (omega (arith, c.id.ensures.id, c.id.ensures.small)) (c.index.ensures ∙ ap (λ n. get_or c.self.inside.places.items.items n c.index.result.now) (c.from.ensures ∙ c.id.ensures.id)) ∙ c.in-Some.is ∙ ap (λ n. Some n) (sym c.from-in-Some.ensures) in
     responses_found (g.S.ObjectStore.description c.args.store.now) channels c.args.self.now c.self.inside.channels.items.items c.self.view_is logs all (g.S.ObjectStore.contents c.args.store.now) c.args.frame.now c.from-in-Some.result c.index_mut-receiver.result.now at c.index_mut-receiver.ensures.value _ _ c.take.ensures.answers
 
 pub returns-in-Some-clause-key : goal.returns-in-Some-clause-key
 returns-in-Some-clause-key g c = λ channels logs all.
     let at : position (λ e. eqb e.channel.request c.args.frame.now.id) c.self.inside.channels.items.items ≡ Some c.from-in-Some.result =
-    place_at c.self.inside.places.items.items 2048 c.self.inside.channels.items.items c.args.frame.now.id c.index.result.now c.self.invariant.places (omega (arith, c.id.ensures.id, c.id.ensures.small)) (c.index.ensures ∙ ap (λ n. get_or c.self.inside.places.items.items n c.index.result.now) (c.from.ensures ∙ c.id.ensures.id)) ∙ sym c.get.ensures ∙ c.in-Some.is ∙ ap (λ n. Some n) (sym c.from-in-Some.ensures) in
+    place_at c.self.inside.places.items.items 2048 c.self.inside.channels.items.items c.args.frame.now.id c.index.result.now c.self.invariant.places (omega (arith, c.id.ensures.id, c.id.ensures.small)) (c.index.ensures ∙ ap (λ n. get_or c.self.inside.places.items.items n c.index.result.now) (c.from.ensures ∙ c.id.ensures.id)) ∙ c.in-Some.is ∙ ap (λ n. Some n) (sym c.from-in-Some.ensures) in
     key_found (g.S.ObjectStore.description c.args.store.now) channels c.args.self.now c.self.inside.channels.items.items c.self.view_is logs all (g.S.ObjectStore.contents c.args.store.now) c.args.frame.now c.from-in-Some.result c.index_mut-receiver.result.now at c.index_mut-receiver.ensures.value _ c.take.ensures.key
 
 pub returns-in-Some-clause-contents : goal.returns-in-Some-clause-contents
 returns-in-Some-clause-contents g c = λ channels logs all.
     let at : position (λ e. eqb e.channel.request c.args.frame.now.id) c.self.inside.channels.items.items ≡ Some c.from-in-Some.result =
-    place_at c.self.inside.places.items.items 2048 c.self.inside.channels.items.items c.args.frame.now.id c.index.result.now c.self.invariant.places (omega (arith, c.id.ensures.id, c.id.ensures.small)) (c.index.ensures ∙ ap (λ n. get_or c.self.inside.places.items.items n c.index.result.now) (c.from.ensures ∙ c.id.ensures.id)) ∙ sym c.get.ensures ∙ c.in-Some.is ∙ ap (λ n. Some n) (sym c.from-in-Some.ensures) in
+    place_at c.self.inside.places.items.items 2048 c.self.inside.channels.items.items c.args.frame.now.id c.index.result.now c.self.invariant.places (omega (arith, c.id.ensures.id, c.id.ensures.small)) (c.index.ensures ∙ ap (λ n. get_or c.self.inside.places.items.items n c.index.result.now) (c.from.ensures ∙ c.id.ensures.id)) ∙ c.in-Some.is ∙ ap (λ n. Some n) (sym c.from-in-Some.ensures) in
     contents_found (g.S.ObjectStore.description c.args.store.now) channels c.args.self.now c.self.inside.channels.items.items c.self.view_is logs all (g.S.ObjectStore.contents c.args.store.now) c.args.frame.now c.from-in-Some.result c.index_mut-receiver.result.now at c.index_mut-receiver.ensures.value _ c.take.ensures.contents
 
 pub returns-in-Some-clause-stands : goal.returns-in-Some-clause-stands
 returns-in-Some-clause-stands g c = λ channels logs all.
     let at : position (λ e. eqb e.channel.request c.args.frame.now.id) c.self.inside.channels.items.items ≡ Some c.from-in-Some.result =
-    place_at c.self.inside.places.items.items 2048 c.self.inside.channels.items.items c.args.frame.now.id c.index.result.now c.self.invariant.places (omega (arith, c.id.ensures.id, c.id.ensures.small)) (c.index.ensures ∙ ap (λ n. get_or c.self.inside.places.items.items n c.index.result.now) (c.from.ensures ∙ c.id.ensures.id)) ∙ sym c.get.ensures ∙ c.in-Some.is ∙ ap (λ n. Some n) (sym c.from-in-Some.ensures) in
+    place_at c.self.inside.places.items.items 2048 c.self.inside.channels.items.items c.args.frame.now.id c.index.result.now c.self.invariant.places (omega (arith, c.id.ensures.id, c.id.ensures.small)) (c.index.ensures ∙ ap (λ n. get_or c.self.inside.places.items.items n c.index.result.now) (c.from.ensures ∙ c.id.ensures.id)) ∙ c.in-Some.is ∙ ap (λ n. Some n) (sym c.from-in-Some.ensures) in
     stands_found (g.S.ObjectStore.description c.args.store.now) channels c.args.self.now c.self.inside.channels.items.items c.self.view_is logs all (g.S.ObjectStore.contents c.args.store.now) c.args.frame.now c.from-in-Some.result c.index_mut-receiver.result.now at c.index_mut-receiver.ensures.value (record { number = c.index_mut-receiver.result.now.number; channel = c.take.new.self }) c.self.invariant.order
     (ap (λ (ch : Standing). settings_of (record { number = c.index_mut-receiver.result.now.number; channel = ch })) c.take.ensures.same) c.take.ensures.stands
 
 pub returns-in-None-clause-responses : goal.returns-in-None-clause-responses
 returns-in-None-clause-responses g c = λ channels logs all.
     let at : position (λ e. eqb e.channel.request c.args.frame.now.id) c.self.inside.channels.items.items ≡ None =
-    place_at c.self.inside.places.items.items 2048 c.self.inside.channels.items.items c.args.frame.now.id c.index.result.now c.self.invariant.places (omega (arith, c.id.ensures.id, c.id.ensures.small)) (c.index.ensures ∙ ap (λ n. get_or c.self.inside.places.items.items n c.index.result.now) (c.from.ensures ∙ c.id.ensures.id)) ∙ sym c.get.ensures ∙ c.in-None.is in
+    place_at c.self.inside.places.items.items 2048 c.self.inside.channels.items.items c.args.frame.now.id c.index.result.now c.self.invariant.places (omega (arith, c.id.ensures.id, c.id.ensures.small)) (c.index.ensures ∙ ap (λ n. get_or c.self.inside.places.items.items n c.index.result.now) (c.from.ensures ∙ c.id.ensures.id)) ∙ c.in-None.is in
     responses_none (g.S.ObjectStore.description c.args.store.now) channels c.args.self.now c.self.inside.channels.items.items c.self.view_is logs all (g.S.ObjectStore.contents c.args.store.now) c.args.frame.now at _
 
 pub returns-in-None-clause-key : goal.returns-in-None-clause-key
 returns-in-None-clause-key g c = λ channels logs all.
     let at : position (λ e. eqb e.channel.request c.args.frame.now.id) c.self.inside.channels.items.items ≡ None =
-    place_at c.self.inside.places.items.items 2048 c.self.inside.channels.items.items c.args.frame.now.id c.index.result.now c.self.invariant.places (omega (arith, c.id.ensures.id, c.id.ensures.small)) (c.index.ensures ∙ ap (λ n. get_or c.self.inside.places.items.items n c.index.result.now) (c.from.ensures ∙ c.id.ensures.id)) ∙ sym c.get.ensures ∙ c.in-None.is in
+    place_at c.self.inside.places.items.items 2048 c.self.inside.channels.items.items c.args.frame.now.id c.index.result.now c.self.invariant.places (omega (arith, c.id.ensures.id, c.id.ensures.small)) (c.index.ensures ∙ ap (λ n. get_or c.self.inside.places.items.items n c.index.result.now) (c.from.ensures ∙ c.id.ensures.id)) ∙ c.in-None.is in
     key_none (g.S.ObjectStore.description c.args.store.now) channels c.args.self.now c.self.inside.channels.items.items c.self.view_is logs all (g.S.ObjectStore.contents c.args.store.now) c.args.frame.now at
 
 pub returns-in-None-clause-contents : goal.returns-in-None-clause-contents
 returns-in-None-clause-contents g c = λ channels logs all.
     let at : position (λ e. eqb e.channel.request c.args.frame.now.id) c.self.inside.channels.items.items ≡ None =
-    place_at c.self.inside.places.items.items 2048 c.self.inside.channels.items.items c.args.frame.now.id c.index.result.now c.self.invariant.places (omega (arith, c.id.ensures.id, c.id.ensures.small)) (c.index.ensures ∙ ap (λ n. get_or c.self.inside.places.items.items n c.index.result.now) (c.from.ensures ∙ c.id.ensures.id)) ∙ sym c.get.ensures ∙ c.in-None.is in
+    place_at c.self.inside.places.items.items 2048 c.self.inside.channels.items.items c.args.frame.now.id c.index.result.now c.self.invariant.places (omega (arith, c.id.ensures.id, c.id.ensures.small)) (c.index.ensures ∙ ap (λ n. get_or c.self.inside.places.items.items n c.index.result.now) (c.from.ensures ∙ c.id.ensures.id)) ∙ c.in-None.is in
     contents_none (g.S.ObjectStore.description c.args.store.now) channels c.args.self.now c.self.inside.channels.items.items c.self.view_is logs all (g.S.ObjectStore.contents c.args.store.now) c.args.frame.now at
 
 pub returns-in-None-clause-stands : goal.returns-in-None-clause-stands
 returns-in-None-clause-stands g c = λ channels logs all.
     let at : position (λ e. eqb e.channel.request c.args.frame.now.id) c.self.inside.channels.items.items ≡ None =
-    place_at c.self.inside.places.items.items 2048 c.self.inside.channels.items.items c.args.frame.now.id c.index.result.now c.self.invariant.places (omega (arith, c.id.ensures.id, c.id.ensures.small)) (c.index.ensures ∙ ap (λ n. get_or c.self.inside.places.items.items n c.index.result.now) (c.from.ensures ∙ c.id.ensures.id)) ∙ sym c.get.ensures ∙ c.in-None.is in
+    place_at c.self.inside.places.items.items 2048 c.self.inside.channels.items.items c.args.frame.now.id c.index.result.now c.self.invariant.places (omega (arith, c.id.ensures.id, c.id.ensures.small)) (c.index.ensures ∙ ap (λ n. get_or c.self.inside.places.items.items n c.index.result.now) (c.from.ensures ∙ c.id.ensures.id)) ∙ c.in-None.is in
     stands_none (g.S.ObjectStore.description c.args.store.now) channels c.args.self.now c.self.inside.channels.items.items c.self.view_is logs all (g.S.ObjectStore.contents c.args.store.now) c.args.frame.now at
