@@ -11,7 +11,7 @@ both : {X : Type 0} (old first now a b : List X) → first ≡ old ++ a → now 
 both old first now a b e f = f ∙ ap (λ xs. xs ++ b) e ∙ append_assoc old a b
 
 module _ {X A E : Type 0} (r : Result A E) (old : List X) where
-  two : (t now a b : List X) → t ≡ old ++ a → OnOk r (now ≡ t ++ b) → OnOk r (now ≡ old ++ (a ++ b))
+  pub two : (t now a b : List X) → t ≡ old ++ a → OnOk r (now ≡ t ++ b) → OnOk r (now ≡ old ++ (a ++ b))
   two t now a b e last = follows r (both old t now a b e) last
 
   pub three : (t u now a b c : List X) → t ≡ old ++ a → u ≡ t ++ b → OnOk r (now ≡ u ++ c) → OnOk r (now ≡ old ++ (a ++ b ++ c))

@@ -1,5 +1,7 @@
 -- Two lists side by side, one pair more.
-use Rattle.std.proofs.Common.{◌≡◌, ℕ, zero, suc, ◌+◌, ◌<◌, ◌≤◌, List, [], ◌∷◌, ◌++◌, length, take, map, get_or, zip, refl, ap, arith, add-one, ◌∙◌, append-nil}
+use Rattle.std.proofs.Common.{◌≡◌, ℕ, zero, suc, ◌+◌, ◌<◌, ◌≤◌, List, [], ◌∷◌, ◌++◌, length, take, map, get_or, zip, refl, ap, sym, arith, add-one, ◌∙◌, append-nil, append_assoc}
+use Rattle.std.specs.List.{flat_map}
+use Rattle.std.proofs.lemmas.Grind.{flat_map-append}
 
 next_pair : {A B C : Type 0} (view : A → C) (xs : List A) (ys : List B) (k : ℕ) (x : A) (y : B) → k < length xs → k < length ys
     → zip (map view (take (suc k) xs)) (take (suc k) ys) ≡ zip (map view (take k xs)) (take k ys) ++ (view (get_or xs k x), get_or ys k y) ∷ []
@@ -23,3 +25,27 @@ no_next_pair view (a ∷ xs) (b ∷ ys) (suc k) h i = ap (λ ps. (view a, b) ∷
 pub pairs_end : {A B C : Type 0} (view : A → C) (xs : List A) (ys : List B) (k : ℕ) → k < length xs → length ys ≤ k
     → zip (map view (take (k + 1) xs)) (take (k + 1) ys) ≡ zip (map view (take k xs)) (take k ys)
 pairs_end view xs ys k h i = rw add-one (no_next_pair view xs ys k h i)
+
+pub all_pairs : {A B C : Type 0} (view : A → C) (xs : List A) (ys : List B) (k : ℕ) → length xs ≤ k
+    → zip (map view (take k xs)) (take k ys) ≡ zip (map view xs) ys
+all_pairs view [] ys zero h = refl
+all_pairs view [] ys (suc k) h = refl
+all_pairs view (a ∷ xs) ys zero h = absurd (omega arith)
+all_pairs view (a ∷ xs) [] (suc k) h = refl
+all_pairs view (a ∷ xs) (b ∷ ys) (suc k) h = ap (λ ps. (view a, b) ∷ ps) (all_pairs view xs ys k (omega arith))
+
+-- what is written of the pairs so far, and of the next one
+module _ {A B C T : Type 0} (tokens : C × B → List T) (view : A → C) (xs : List A) (ys : List B) (k : ℕ) where
+  pub one_more : (x : A) (y : B) (old before after : List T) → k < length xs → k < length ys → y ≡ get_or ys k y
+      → before ≡ old ++ flat_map tokens (zip (map view (take k xs)) (take k ys)) → after ≡ before ++ tokens (view (get_or xs k x), y)
+      → after ≡ old ++ flat_map tokens (zip (map view (take (k + 1) xs)) (take (k + 1) ys))
+  one_more x y old before after h i is e f =
+      let Pairs = zip (map view (take k xs)) (take k ys) in
+      let Next = (view (get_or xs k x), get_or ys k y) in
+      let added : flat_map tokens (Pairs ++ Next ∷ []) ≡ flat_map tokens Pairs ++ tokens Next = flat_map-append tokens Pairs (Next ∷ []) ∙ ap (λ ts. flat_map tokens Pairs ++ ts) (append-nil (tokens Next)) in
+      f ∙ ap (λ z. before ++ tokens (view (get_or xs k x), z)) is ∙ ap (λ ts. ts ++ tokens Next) e ∙ append_assoc old (flat_map tokens Pairs) (tokens Next)
+      ∙ ap (λ ts. old ++ ts) (sym (ap (flat_map tokens) (pair_more view xs ys k x y h i) ∙ added))
+
+  pub no_more : (old before : List T) → k < length xs → length ys ≤ k → before ≡ old ++ flat_map tokens (zip (map view (take k xs)) (take k ys))
+      → before ≡ old ++ flat_map tokens (zip (map view (take (k + 1) xs)) (take (k + 1) ys))
+  no_more old before h i e = e ∙ ap (λ ps. old ++ flat_map tokens ps) (sym (pairs_end view xs ys k h i))

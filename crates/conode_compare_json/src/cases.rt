@@ -32,6 +32,12 @@ fn is_of_kind(kind: Kind, noted: &Noted) -> bool
     Kind::of(noted.finding).number() == kind.number()
 }
 
+pub(crate) fn push_words(text: &mut String, words: &str) -> Result<(), AllocError>
+    ensures { OnOk result (string_bytes text.new ≡ string_bytes text.old ++ words.now) }
+{
+    text.push_str(words)
+}
+
 // the differences of a kind
 fn of_kind(alloc: Global, kind: Kind, report: &Report) -> Result<Vec<Noted>, AllocError>
     ensures { IfOk result (λ own. own.items ≡ filter (is_of_kind kind) report.now.noted) }
@@ -100,7 +106,6 @@ fn push_more(alloc: Global, text: &mut String, count: u64) -> Result<(), AllocEr
 }
 
 // the first lines of the differences of a kind, of which so many were found
-#[tactic(auto, using(crate::proofs::Firsts::take_min), unfolding(crate::specs::JunitCases::lines_markup))]
 fn push_first_lines(
     alloc: Global,
     text: &mut String,
@@ -185,7 +190,7 @@ fn push_failed(
     let own = of_kind(alloc, kind, report)?;
     push_failure(alloc, text, kind.name(), counted.found, kind.rule())?;
     push_first_lines(alloc, text, recording, counted.found, own.as_slice())?;
-    text.push_str("</failure></testcase>\n")
+    push_words(text, "</failure></testcase>\n")
 }
 
 /// The test case of a kind: failed with its differences, skipped if there was no occasion for one.
@@ -204,9 +209,12 @@ pub(crate) fn push_case(
     if counted.found > 0 {
         push_failed(alloc, text, recording, counted, report)
     } else if counted.occasions == 0 {
-        text.push_str("><skipped message=\"no occasion in this recording\"/></testcase>\n")
+        push_words(
+            text,
+            "><skipped message=\"no occasion in this recording\"/></testcase>\n",
+        )
     } else {
-        text.push_str("/>\n")
+        push_words(text, "/>\n")
     }
 }
 

@@ -1,7 +1,8 @@
 //! What a recording covers, in JSON. Each function writes tokens. `Err`: out of memory; some tokens
 //! may be there.
 
-ghost use Rattle.std.specs.Prelude.{◌≡◌, ◌++◌, map, OnOk};
+ghost use Rattle.std.specs.Prelude.{◌≡◌, ◌++◌, map, zip, OnOk};
+ghost use Rattle.std.specs.List.{flat_map};
 ghost use Rattle.std.specs.Option.{option_copied};
 ghost use Rattle.co_sheet.specs.SheetViews.{row_view};
 ghost use Rattle.conode_compare_json.specs.CoverageTokens.{
@@ -75,6 +76,23 @@ fn put_entry(
 }
 
 // the entries of the sheet, each with what the recording has of it
+fn put_rows(
+    alloc: Global,
+    writer: &mut JsonWriter,
+    rows: &[EntryRow<'_>],
+    covered: &[Covered],
+) -> Result<(), AllocError>
+    ensures { OnOk result (writer.new ≡ writer.old
+        ++ flat_map entry_tokens (zip (map row_view rows.now) covered.now)) }
+{
+    for (place, row) in rows.iter().enumerate() {
+        if let Some(covered) = covered.get(place) {
+            put_entry(alloc, writer, row, *covered)?;
+        }
+    }
+    Ok(())
+}
+
 #[tactic(auto, unfolding(crate::specs::CoverageTokens::entries_member))]
 fn put_entries(
     alloc: Global,
@@ -86,11 +104,7 @@ fn put_entries(
         (writer.new ≡ writer.old ++ entries_member (map row_view rows.now) coverage.now.entries) }
 {
     writer.begin_array_of("entries")?;
-    for (place, row) in rows.iter().enumerate() {
-        if let Some(covered) = coverage.entries.get(place) {
-            put_entry(alloc, writer, row, *covered)?;
-        }
-    }
+    put_rows(alloc, writer, rows, coverage.entries.as_slice())?;
     writer.end_array()
 }
 

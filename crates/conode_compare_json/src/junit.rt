@@ -19,7 +19,7 @@ ghost use Rattle.conode_compare_json.specs.JunitDocument.{
   suite_tag,
 };
 
-use crate::cases::{push_case, push_outcome};
+use crate::cases::{push_case, push_outcome, push_words};
 use conode_compare_report::{About, Counted, Outcome, Report};
 use conode_markup::{Piece, push_pieces};
 use std::alloc::{AllocError, Global};
@@ -142,12 +142,6 @@ fn push_suite(
     let numbers = numbers_of(about, report);
     let name = about.recording.as_bytes();
     push_tag(alloc, text, name, numbers, span_of(report))
-}
-
-fn push_words(text: &mut String, words: &str) -> Result<(), AllocError>
-    ensures { OnOk result (string_bytes text.new ≡ string_bytes text.old ++ words.now) }
-{
-    text.push_str(words)
 }
 
 #[tactic(auto, unfolding(crate::specs::JunitDocument::property_markup))]

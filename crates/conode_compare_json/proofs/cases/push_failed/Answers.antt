@@ -1,0 +1,10 @@
+-- One part after another.
+use Rattle.conode_compare_json.specs.JunitCases.{failed_markup}
+use Rattle.conode_compare_json.proofs.Appending.{three}
+use Rattle.conode_compare_json.proofs.cases.push_failed.Goals as goal
+
+pub returns : goal.returns
+unfolding failed_markup
+returns c =
+    three c.push_words.result _ _ _ _ _ _ _ (rw (c.name.ensures, c.rule.ensures) at c.in_ok-push_failure.ensures)
+    (rw (c.as_slice.ensures.value, c.in_ok-own.ensures) at c.in_ok-push_first_lines.ensures) c.push_words.ensures
