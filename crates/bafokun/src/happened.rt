@@ -178,9 +178,8 @@ impl Events {
             Seen::Nothing => {}
             Seen::Sync => self.sync = 1,
             Seen::Rpdo => self.rpdo = 1,
-            Seen::ResetNode | Seen::ResetCommunication | Seen::Heartbeat(_) => {
-                self.note_any(seen)
-            }
+            // not by name, so that three tests are compiled and no table
+            _ => self.note_any(seen),
         }
     }
 
