@@ -45,7 +45,7 @@ bool say(struct client *client, enum kind kind, const char *format, ...)
     bool is_trace = reader == &standard && in_stdio;
     size_t number = client->number + 1;
     va_list values;
-    if (is_trace && reader->unread > MOST_UNREAD) flush(reader);
+    if (reader->unread > MOST_UNREAD) flush(reader);
     if (reader->unread > MOST_UNREAD) return false;
     char *end = reader->answers + reader->unread;
     if (is_trace && kind != FRAME) end = stpcpy(end, "; ");
@@ -177,6 +177,13 @@ static size_t read_text(struct client *client)
     return client->used > 0;
 }
 
+/* Watched entries that changed are said, to each client. */
+static void say_changes(void)
+{
+    for (struct client *at = clients; at; at = at->next)
+        for (size_t i = 0; i < at->watch_count; i++) say_value(at, &at->watches[i]);
+}
+
 /* Reads what there is, and does the lines that are due. Of a line that is too long the rest isn't kept. */
 bool take_lines(struct client *client)
 {
@@ -194,6 +201,7 @@ bool take_lines(struct client *client)
             *last = cut;
             break;
         }
+        say_changes();
         client->number++;
     }
     client->used = (size_t)(end - line);
@@ -257,10 +265,10 @@ void open_clients(const char *play, const char *socket)
 bool tend_clients(void)
 {
     bool is_busy = false;
+    say_changes();
     for (struct client **at = &clients, *client; (client = *at); ) {
         bool stays = client == &standard || client == &player;
         is_busy |= take_lines(client);
-        for (size_t i = 0; i < client->watch_count; i++) say_value(client, &client->watches[i]);
         flush(client);
         bool is_full = client->unread > MOST_UNREAD, is_lost = is_full || client->is_broken;
         const char *name = stays ? "standard output" : "a client";
