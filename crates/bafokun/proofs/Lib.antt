@@ -3,7 +3,7 @@ pub mod AsBox
 pub mod AsLoss
 pub mod GivenBus
 pub mod KnownSoFar
-pub mod Nothing
+pub mod Put
 pub mod Refused
 pub mod Terminated
 pub mod Ticks

@@ -1,6 +1,6 @@
 //! CAN frames for C.
 
-ghost use Rattle.std.specs.Prelude.{◌≡◌, ◌≤◌, IfSome, Some, None, length};
+ghost use Rattle.std.specs.Prelude.{◌≡◌, ◌≤◌, ◌∷◌, [], IfSome, Some, None, length};
 ghost use Rattle.bafokun.specs.Frames.{ArePut, IsCan, c_frame, content_of};
 
 use co_frame::Frame;
@@ -60,10 +60,34 @@ fn packed(bytes: &[u8]) -> PackedBytes
     packed
 }
 
-/// Puts frames into an array, as many as it has room for. It is not inlined, since most inputs send
-/// no frame: its callers then keep less across the call of the device.
-#[inline(never)]
+/// Puts frames into an array, as many as it has room for. None, or one, as most inputs send, cost
+/// no call.
+#[tactic(auto, using(crate::proofs::Put::none_put))]
+#[inline(always)]
 pub(crate) fn put(frames: &[Frame], places: &mut [CanFrame])
+    ensures { ArePut frames.now places.old places.new }
+{
+    match frames {
+        [] => {}
+        [frame] => put_one(frame, places),
+        _ => put_all(frames, places),
+    }
+}
+
+// Puts a frame into an array, if it has room.
+#[tactic(auto, using(crate::proofs::Put::one_put, crate::proofs::Put::one_without_room))]
+#[inline(always)]
+fn put_one(frame: &Frame, places: &mut [CanFrame])
+    ensures { ArePut (frame.now ∷ []) places.old places.new }
+{
+    if !places.is_empty() {
+        places[0] = CanFrame::of(frame);
+    }
+}
+
+// Puts frames into an array, as many as it has room for.
+#[inline(never)]
+fn put_all(frames: &[Frame], places: &mut [CanFrame])
     ensures { ArePut frames.now places.old places.new }
 {
     for i in 0..frames.len().min(places.len()) {

@@ -69,7 +69,6 @@ impl Handle {
         replace(self, Handle::empty(alloc)).into_box(alloc)
     }
 
-    #[tactic(auto, using(crate::proofs::Nothing::nothing_put))]
     /// Puts the device back after an input. Its frames are put into the array, as many as it has
     /// room for; returns how many there are.
     #[inline(always)]
@@ -79,9 +78,7 @@ impl Handle {
         ensures count { result ≡ length held.value.sent.items }
     {
         let count = held.sent.len();
-        if count > 0 {
-            put(&held.sent, frames);
-        }
+        put(&held.sent, frames);
         *self = Handle::of(held);
         count
     }

@@ -2,7 +2,7 @@ use Rattle.std.proofs.Common.{◌≡◌, ◌≤◌, ◌<◌, ℕ, length, get_or
 use Rattle.co_frame.specs.FrameContent.{FrameContent}
 use Rattle.bafokun.specs.declared.frames.CanFrame.{CanFrame}
 use Rattle.bafokun.specs.Frames.{c_frame}
-use Rattle.bafokun.proofs.frames.put.Given as goal
+use Rattle.bafokun.proofs.frames.put_all.Given as goal
 
 -- the places before the index have their frames, the others what they had
 abbrev pub invariant-loop-i : goal.invariant-loop-i
