@@ -44,7 +44,7 @@ module _ {A B C T : Type 0} (tokens : C × B → List T) (view : A → C) (xs : 
       → after ≡ old ++ flat_map tokens (zip (map view (take (k + 1) xs)) (take (k + 1) ys))
   one_more x y old before after h i is e f =
       let added : flat_map tokens (zip (map view (take (k + 1) xs)) (take (k + 1) ys)) ≡ flat_map tokens (zip (map view (take k xs)) (take k ys)) ++ tokens (view (get_or xs k x), get_or ys k y) =
-        ap (flat_map tokens) (pair_more view xs ys k x y h i) ∙ with_next (view (get_or xs k x), get_or ys k y) (zip (map view (take k xs)) (take k ys)) in
+      ap (flat_map tokens) (pair_more view xs ys k x y h i) ∙ with_next (view (get_or xs k x), get_or ys k y) (zip (map view (take k xs)) (take k ys)) in
       f ∙ ap (λ z. before ++ tokens (view (get_or xs k x), z)) is ∙ ap (λ ts. ts ++ tokens (view (get_or xs k x), get_or ys k y)) e
       ∙ append_assoc old (flat_map tokens (zip (map view (take k xs)) (take k ys))) (tokens (view (get_or xs k x), get_or ys k y)) ∙ ap (λ ts. old ++ ts) (sym added)
 

@@ -225,7 +225,10 @@ fn push_document(
     ensures { OnOk result (string_bytes text.new
         ≡ string_bytes text.old ++ junit_document (about_view about.now) report.now) }
 {
-    push_words(text, "<?xml version=\"1.0\" encoding=\"UTF-8\"?>\n<testsuites>\n")?;
+    push_words(
+        text,
+        "<?xml version=\"1.0\" encoding=\"UTF-8\"?>\n<testsuites>\n",
+    )?;
     push_suite(alloc, text, about, report)?;
     push_properties(alloc, text, about)?;
     push_cases(alloc, text, about.recording, report)?;

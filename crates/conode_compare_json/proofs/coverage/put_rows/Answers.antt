@@ -1,5 +1,5 @@
 -- One pair after another.
-use Rattle.std.proofs.Common.{◌∙◌, ap, sym, zip, take, map, ◌++◌, ltb-true, ltb-false}
+use Rattle.std.proofs.Common.{◌∙◌, ap, sym, ◌++◌, ltb-true, ltb-false}
 use Rattle.std.specs.List.{flat_map}
 use Rattle.co_sheet.specs.SheetViews.{row_view}
 use Rattle.conode_compare_json.specs.CoverageTokens.{entry_tokens}
