@@ -1,5 +1,5 @@
-//! The test cases of JUnit. Each function with a text appends to it. `Err`: out of memory; a part of it
-//! may be there.
+//! The test cases of JUnit. Each function with a text appends to it. `Err`: out of memory; a
+//! part of it may be there.
 
 ghost use Rattle.std.specs.Prelude.{◌≡◌, ◌++◌, filter, IfOk, OnOk, string_bytes};
 ghost use Rattle.std.specs.List.{flat_map};

@@ -1,5 +1,5 @@
-//! The document of JSON (RFC 8259). Each function with a writer writes tokens. `Err`: out of memory;
-//! some tokens may be there.
+//! The document of JSON (RFC 8259). Each function with a writer writes tokens. `Err`: out of
+//! memory; some tokens may be there.
 
 ghost use Rattle.std.specs.Prelude.{◌≡◌, ◌++◌, option_map, pos, IfOk, OnOk};
 ghost use Rattle.conode_json.specs.Members.{number_if};

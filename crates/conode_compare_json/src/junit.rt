@@ -1,5 +1,5 @@
-//! The document of JUnit. Each function with a text appends to it. `Err`: out of memory; a part of it
-//! may be there.
+//! The document of JUnit. Each function with a text appends to it. `Err`: out of memory; a
+//! part of it may be there.
 
 ghost use Rattle.std.specs.Prelude.{◌≡◌, ◌++◌, count_by, IfOk, OnOk, string_bytes};
 ghost use Rattle.std.specs.List.{flat_map};
