@@ -146,12 +146,15 @@ abbrev pub span_of : LanesView → ℕ → ℕ
 span_of lanes micros =
     if lanes.width == 0 then 0 else min ((micros - lanes.begin) / lanes.width) (length lanes.bins - 1)
 
--- the mark of a difference, which leads to its row
-unfoldable pub difference_mark : LanesView → ℕ → Noted → List ℕ
-difference_mark lanes at noted = concat (
-    codes "<a href=\"#d" ∷ decimal at ∷ codes "\"><path class=\"hit\" d=\"M" ∷ decimal (span_of lanes noted.micros)
-    ∷ codes ".5 0v100\"><title>line " ∷ decimal noted.line ∷ codes ", " ∷ seconds_text (noted.micros - lanes.begin)
+-- the mark of a difference in this span, so long after the first frame; it leads to its row
+unfoldable pub mark_text : ℕ → ℕ → ℕ → Noted → List ℕ
+mark_text at span since noted = concat (
+    codes "<a href=\"#d" ∷ decimal at ∷ codes "\"><path class=\"hit\" d=\"M" ∷ decimal span
+    ∷ codes ".5 0v100\"><title>line " ∷ decimal noted.line ∷ codes ", " ∷ seconds_text since
     ∷ codes " s: " ∷ kind_name (kind_of noted.finding) ∷ codes "</title></path></a>\n" ∷ [])
+
+abbrev pub difference_mark : LanesView → ℕ → Noted → List ℕ
+difference_mark lanes at noted = mark_text at (span_of lanes noted.micros) (noted.micros - lanes.begin) noted
 
 -- the lines, under the name by which each lane shows them
 unfoldable pub across_path : List Bin → List ℕ

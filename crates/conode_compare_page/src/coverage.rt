@@ -6,6 +6,7 @@ ghost use Rattle.std.specs.List.{flat_map};
 ghost use Rattle.conode_compare_report.specs.Abouts.{about_view};
 ghost use Rattle.conode_compare_page.specs.Coverage.{
   abort_item,
+  aborts_list,
   aborts_text,
   seen_text,
   service_begin,
@@ -16,6 +17,7 @@ ghost use Rattle.conode_compare_page.specs.Coverage.{
   states_text,
   tested,
   type_item,
+  types_list,
   types_text,
 };
 
@@ -156,15 +158,25 @@ fn push_types(alloc: Global, text: &mut String, types: &[Numbered]) -> Result<()
     Ok(())
 }
 
-fn push_types_text(alloc: Global, text: &mut String, types: &[Numbered]) -> Result<(), AllocError>
-    ensures { OnOk result (string_bytes text.new ≡ string_bytes text.old ++ types_text types.now) }
+#[tactic(auto, unfolding(crate::specs::Coverage::types_list))]
+fn push_some_types(alloc: Global, text: &mut String, types: &[Numbered]) -> Result<(), AllocError>
+    ensures { OnOk result
+        (string_bytes text.new ≡ string_bytes text.old ++ types_list types.now) }
 {
-    if types.is_empty() {
-        return text.push_str(NO_TYPES);
-    }
     text.push_str("<h3>Transmission types of the TPDOs that were sent</h3>\n<ul>\n")?;
     push_types(alloc, text, types)?;
     text.push_str("</ul>\n")
+}
+
+fn push_types_text(alloc: Global, text: &mut String, types: &[Numbered]) -> Result<(), AllocError>
+    ensures { OnOk result
+        (string_bytes text.new ≡ string_bytes text.old ++ types_text types.now) }
+{
+    if types.is_empty() {
+        text.push_str(NO_TYPES)
+    } else {
+        push_some_types(alloc, text, types)
+    }
 }
 
 #[tactic(auto, unfolding(crate::specs::Coverage::abort_item))]
@@ -195,16 +207,25 @@ fn push_aborts(alloc: Global, text: &mut String, aborts: &[Numbered]) -> Result<
     Ok(())
 }
 
+#[tactic(auto, unfolding(crate::specs::Coverage::aborts_list))]
+fn push_some_aborts(alloc: Global, text: &mut String, aborts: &[Numbered]) -> Result<(), AllocError>
+    ensures { OnOk result
+        (string_bytes text.new ≡ string_bytes text.old ++ aborts_list aborts.now) }
+{
+    text.push_str("<h3>SDO abort codes</h3>\n<ul>\n")?;
+    push_aborts(alloc, text, aborts)?;
+    text.push_str("</ul>\n")
+}
+
 fn push_aborts_text(alloc: Global, text: &mut String, aborts: &[Numbered]) -> Result<(), AllocError>
     ensures { OnOk result
         (string_bytes text.new ≡ string_bytes text.old ++ aborts_text aborts.now) }
 {
     if aborts.is_empty() {
-        return text.push_str(NO_ABORTS);
+        text.push_str(NO_ABORTS)
+    } else {
+        push_some_aborts(alloc, text, aborts)
     }
-    text.push_str("<h3>SDO abort codes</h3>\n<ul>\n")?;
-    push_aborts(alloc, text, aborts)?;
-    text.push_str("</ul>\n")
 }
 
 #[tactic(auto, unfolding(crate::specs::Coverage::seen_text))]

@@ -105,12 +105,12 @@ fn push_context(
 fn begin_row(
     alloc: Global,
     text: &mut String,
-    report: &Report,
+    begin: u64,
     at: usize,
     noted: &Noted,
 ) -> Result<(), AllocError>
     ensures { OnOk result (string_bytes text.new
-        ≡ string_bytes text.old ++ row_begin report.now at noted.now) }
+        ≡ string_bytes text.old ++ row_begin begin at noted.now) }
 {
     push_pieces(
         alloc,
@@ -121,7 +121,7 @@ fn begin_row(
             Piece::Markup("\">\n<tr><td class=\"n\" data-is=\"Line\">"),
             Piece::Number(noted.line),
             Piece::Markup("</td><td class=\"n\" data-is=\"Seconds\">"),
-            Piece::Seconds(noted.micros.saturating_sub(report.lanes.begin)),
+            Piece::Seconds(noted.micros.saturating_sub(begin)),
             Piece::Markup("</td><td><span class=\"found\">"),
             Piece::Markup(Kind::of(noted.finding).name()),
             Piece::Markup("</span> "),
@@ -155,7 +155,7 @@ fn push_row(
     ensures { OnOk result (string_bytes text.new
         ≡ string_bytes text.old ++ difference_row report.now at noted.now) }
 {
-    begin_row(alloc, text, report, at, noted)?;
+    begin_row(alloc, text, report.lanes.begin, at, noted)?;
     push_said(alloc, text, noted)?;
     end_row(alloc, text, noted)
 }

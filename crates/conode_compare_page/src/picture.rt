@@ -14,6 +14,7 @@ ghost use Rattle.conode_compare_page.specs.Picture.{
   lanes_picture,
   legend,
   line_at,
+  mark_text,
   picture,
   quarter_of,
   span_of,
@@ -81,7 +82,37 @@ fn span_of(lanes: &Lanes, micros: u64) -> u64
     at.min(lanes.bins.len().saturating_sub(1) as u64)
 }
 
-#[tactic(auto, unfolding(crate::specs::Picture::difference_mark))]
+#[tactic(auto, unfolding(crate::specs::Picture::mark_text))]
+fn push_mark_text(
+    alloc: Global,
+    text: &mut String,
+    at: usize,
+    span: u64,
+    since: u64,
+    noted: &Noted,
+) -> Result<(), AllocError>
+    ensures { OnOk result (string_bytes text.new
+        ≡ string_bytes text.old ++ mark_text at span since noted.now) }
+{
+    push_pieces(
+        alloc,
+        text,
+        &[
+            Piece::Markup("<a href=\"#d"),
+            Piece::Number(at as u64),
+            Piece::Markup("\"><path class=\"hit\" d=\"M"),
+            Piece::Number(span),
+            Piece::Markup(".5 0v100\"><title>line "),
+            Piece::Number(noted.line),
+            Piece::Markup(", "),
+            Piece::Seconds(since),
+            Piece::Markup(" s: "),
+            Piece::Markup(Kind::of(noted.finding).name()),
+            Piece::Markup("</title></path></a>\n"),
+        ],
+    )
+}
+
 fn push_mark(
     alloc: Global,
     text: &mut String,
@@ -92,23 +123,9 @@ fn push_mark(
     ensures { OnOk result (string_bytes text.new
         ≡ string_bytes text.old ++ difference_mark lanes.now at noted.now) }
 {
-    push_pieces(
-        alloc,
-        text,
-        &[
-            Piece::Markup("<a href=\"#d"),
-            Piece::Number(at as u64),
-            Piece::Markup("\"><path class=\"hit\" d=\"M"),
-            Piece::Number(span_of(lanes, noted.micros)),
-            Piece::Markup(".5 0v100\"><title>line "),
-            Piece::Number(noted.line),
-            Piece::Markup(", "),
-            Piece::Seconds(noted.micros.saturating_sub(lanes.begin)),
-            Piece::Markup(" s: "),
-            Piece::Markup(Kind::of(noted.finding).name()),
-            Piece::Markup("</title></path></a>\n"),
-        ],
-    )
+    let span = span_of(lanes, noted.micros);
+    let since = noted.micros.saturating_sub(lanes.begin);
+    push_mark_text(alloc, text, at, span, since, noted)
 }
 
 fn push_marks(
