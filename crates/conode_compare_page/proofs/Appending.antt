@@ -1,11 +1,17 @@
 -- What is appended in parts is appended as a whole.
 use Rattle.std.proofs.Common.{◌≡◌, ◌∙◌, List, ◌++◌, Result, Ok, Err, ap, append_assoc}
-use Rattle.std.specs.Result.{OnOk}
+use Rattle.std.specs.Prelude.{if◌then◌else◌}
+use Rattle.std.specs.Result.{OnOk, is_ok}
 
 -- at `Ok` what follows holds too
 follows : {A E P Q : Type 0} (r : Result A E) → (P → Q) → OnOk r P → OnOk r Q
 follows (Ok x) f h = f h
 follows (Err e) f h = h
+
+-- what is appended where all goes well
+pub on_ok : {X A E : Type 0} (r : Result A E) (now all old : List X) → now ≡ (if is_ok r then all else old) → OnOk r (now ≡ all)
+on_ok (Ok x) now all old h = h
+on_ok (Err e) now all old h = tt
 
 both : {X : Type 0} (old first now a b : List X) → first ≡ old ++ a → now ≡ first ++ b → now ≡ old ++ (a ++ b)
 both old first now a b e f = f ∙ ap (λ xs. xs ++ b) e ∙ append_assoc old a b

@@ -166,8 +166,11 @@ unfoldable pub seen_text : CoverageView → List ℕ
 seen_text coverage =
     services_text coverage.services ++ states_text coverage.states ++ types_text coverage.types ++ aborts_text coverage.aborts
 
+unfoldable pub tested_parts : Described → Kept → List ℕ
+tested_parts about report =
+    kinds_table report.kinds ++ entries_text about.rows report.coverage.entries ++ seen_text report.coverage
+
 -- what the recording tested
 unfoldable pub tested : Described → Kept → List ℕ
 tested about report =
-    codes "<section>\n<h2>What this recording tested</h2>\n" ++ kinds_table report.kinds
-    ++ entries_text about.rows report.coverage.entries ++ seen_text report.coverage ++ codes "</section>\n"
+    codes "<section>\n<h2>What this recording tested</h2>\n" ++ tested_parts about report ++ codes "</section>\n"

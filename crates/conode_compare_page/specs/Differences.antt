@@ -57,9 +57,11 @@ unlisted_text count =
     if count == 0 then []
     else concat (codes "<p>" ∷ decimal count ∷ codes " more came after these, and aren't listed.</p>\n" ∷ [])
 
+unfoldable pub difference_list : Kept → List Noted → List ℕ
+difference_list report noted = OPENING.now ++ indexed (difference report) 0 noted ++ codes "</table>\n"
+
 unfoldable pub difference_table : Kept → List ℕ
-difference_table report =
-    OPENING.now ++ indexed (difference report) 0 report.noted ++ codes "</table>\n" ++ unlisted_text report.unlisted
+difference_table report = difference_list report report.noted ++ unlisted_text report.unlisted
 
 -- the table, if there is a difference
 abbrev pub any_differences : Kept → List ℕ

@@ -160,10 +160,14 @@ difference_mark lanes at noted = mark_text at (span_of lanes noted.micros) (note
 unfoldable pub across_path : List Bin → List ℕ
 across_path bins = codes "<defs><path id=\"across\" class=\"across\" d=\"" ++ indexed across 0 bins ++ codes "\"/></defs>\n"
 
+-- the marks, and the end of their lane
+unfoldable pub marks_text : LanesView → List Noted → List ℕ
+marks_text lanes noted = indexed (difference_mark lanes) 0 noted ++ codes "</svg></div>\n"
+
 unfoldable pub differences_lane : Kept → List ℕ
 differences_lane report =
     lane_begin (codes "Differences") (length report.lanes.bins) ++ across_path report.lanes.bins
-    ++ indexed (difference_mark report.lanes) 0 report.noted ++ codes "</svg></div>\n"
+    ++ marks_text report.lanes report.noted
 
 -- ---- the picture
 

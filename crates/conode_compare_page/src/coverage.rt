@@ -16,6 +16,7 @@ ghost use Rattle.conode_compare_page.specs.Coverage.{
   state_items,
   states_text,
   tested,
+  tested_parts,
   type_item,
   types_list,
   types_text,
@@ -239,6 +240,21 @@ fn push_seen(alloc: Global, text: &mut String, coverage: &Coverage) -> Result<()
     push_aborts_text(alloc, text, coverage.aborts.as_slice())
 }
 
+#[tactic(auto, unfolding(crate::specs::Coverage::tested_parts))]
+fn push_parts(
+    alloc: Global,
+    text: &mut String,
+    about: &About<'_, '_>,
+    report: &Report,
+) -> Result<(), AllocError>
+    ensures { OnOk result (string_bytes text.new
+        ≡ string_bytes text.old ++ tested_parts (about_view about.now) report.now) }
+{
+    push_kinds(alloc, text, report.kinds.as_slice())?;
+    push_entries(alloc, text, about.rows, report.coverage.entries.as_slice())?;
+    push_seen(alloc, text, &report.coverage)
+}
+
 /// Appends what the recording tested.
 #[tactic(auto, unfolding(crate::specs::Coverage::tested))]
 pub(crate) fn push_coverage(
@@ -251,8 +267,6 @@ pub(crate) fn push_coverage(
         ≡ string_bytes text.old ++ tested (about_view about.now) report.now) }
 {
     text.push_str("<section>\n<h2>What this recording tested</h2>\n")?;
-    push_kinds(alloc, text, report.kinds.as_slice())?;
-    push_entries(alloc, text, about.rows, report.coverage.entries.as_slice())?;
-    push_seen(alloc, text, &report.coverage)?;
+    push_parts(alloc, text, about, report)?;
     text.push_str("</section>\n")
 }

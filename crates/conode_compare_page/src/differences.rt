@@ -9,6 +9,7 @@ ghost use Rattle.conode_compare_page.specs.Differences.{
   any_differences,
   context_line,
   difference,
+  difference_list,
   difference_row,
   difference_table,
   differences,
@@ -208,14 +209,27 @@ fn push_unlisted(alloc: Global, text: &mut String, count: u64) -> Result<(), All
     )
 }
 
+#[tactic(auto, unfolding(crate::specs::Differences::difference_list))]
+fn push_list(
+    alloc: Global,
+    text: &mut String,
+    report: &Report,
+    noted: &[Noted],
+) -> Result<(), AllocError>
+    ensures { OnOk result (string_bytes text.new
+        ≡ string_bytes text.old ++ difference_list report.now noted.now) }
+{
+    text.push_str(OPENING)?;
+    push_rows(alloc, text, report, noted)?;
+    text.push_str("</table>\n")
+}
+
 #[tactic(auto, unfolding(crate::specs::Differences::difference_table))]
 fn push_table(alloc: Global, text: &mut String, report: &Report) -> Result<(), AllocError>
     ensures { OnOk result (string_bytes text.new
         ≡ string_bytes text.old ++ difference_table report.now) }
 {
-    text.push_str(OPENING)?;
-    push_rows(alloc, text, report, report.noted.as_slice())?;
-    text.push_str("</table>\n")?;
+    push_list(alloc, text, report, report.noted.as_slice())?;
     push_unlisted(alloc, text, report.unlisted)
 }
 

@@ -15,6 +15,7 @@ ghost use Rattle.conode_compare_page.specs.Picture.{
   legend,
   line_at,
   mark_text,
+  marks_text,
   picture,
   quarter_of,
   span_of,
@@ -143,6 +144,20 @@ fn push_marks(
     Ok(())
 }
 
+#[tactic(auto, unfolding(crate::specs::Picture::marks_text))]
+fn push_marks_text(
+    alloc: Global,
+    text: &mut String,
+    lanes: &Lanes,
+    noted: &[Noted],
+) -> Result<(), AllocError>
+    ensures { OnOk result (string_bytes text.new
+        ≡ string_bytes text.old ++ marks_text lanes.now noted.now) }
+{
+    push_marks(alloc, text, lanes, noted)?;
+    text.push_str("</svg></div>\n")
+}
+
 #[tactic(auto, unfolding(crate::specs::Picture::differences_lane))]
 fn push_differences_lane(
     alloc: Global,
@@ -155,8 +170,7 @@ fn push_differences_lane(
     let bins = report.lanes.bins.as_slice();
     begin_lane(alloc, text, "Differences", bins.len())?;
     push_across_path(alloc, text, bins)?;
-    push_marks(alloc, text, &report.lanes, report.noted.as_slice())?;
-    text.push_str("</svg></div>\n")
+    push_marks_text(alloc, text, &report.lanes, report.noted.as_slice())
 }
 
 fn quarter_of(lanes: &Lanes) -> u64
