@@ -164,10 +164,9 @@ across_path bins = codes "<defs><path id=\"across\" class=\"across\" d=\"" ++ in
 unfoldable pub marks_text : LanesView → List Noted → List ℕ
 marks_text lanes noted = indexed (difference_mark lanes) 0 noted ++ codes "</svg></div>\n"
 
-unfoldable pub differences_lane : Kept → List ℕ
-differences_lane report =
-    lane_begin (codes "Differences") (length report.lanes.bins) ++ across_path report.lanes.bins
-    ++ marks_text report.lanes report.noted
+unfoldable pub differences_lane : List Bin → LanesView → List Noted → List ℕ
+differences_lane bins lanes noted =
+    lane_begin (codes "Differences") (length bins) ++ across_path bins ++ marks_text lanes noted
 
 -- ---- the picture
 
@@ -192,7 +191,7 @@ frame_lanes bins =
 
 unfoldable pub lanes_picture : Kept → List ℕ
 lanes_picture report =
-    differences_lane report ++ states_lane report.lanes.bins ++ frame_lanes report.lanes.bins
+    differences_lane report.lanes.bins report.lanes report.noted ++ states_lane report.lanes.bins ++ frame_lanes report.lanes.bins
     ++ axis_text (quarter_of report.lanes) ++ legend
 
 abbrev pub any_picture : Kept → List ℕ

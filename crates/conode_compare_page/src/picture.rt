@@ -162,15 +162,16 @@ fn push_marks_text(
 fn push_differences_lane(
     alloc: Global,
     text: &mut String,
-    report: &Report,
+    bins: &[Bin],
+    lanes: &Lanes,
+    noted: &[Noted],
 ) -> Result<(), AllocError>
     ensures { OnOk result (string_bytes text.new
-        ≡ string_bytes text.old ++ differences_lane report.now) }
+        ≡ string_bytes text.old ++ differences_lane bins.now lanes.now noted.now) }
 {
-    let bins = report.lanes.bins.as_slice();
     begin_lane(alloc, text, "Differences", bins.len())?;
     push_across_path(alloc, text, bins)?;
-    push_marks_text(alloc, text, &report.lanes, report.noted.as_slice())
+    push_marks_text(alloc, text, lanes, noted)
 }
 
 fn quarter_of(lanes: &Lanes) -> u64
@@ -238,7 +239,7 @@ fn push_lanes(alloc: Global, text: &mut String, report: &Report) -> Result<(), A
         ≡ string_bytes text.old ++ lanes_picture report.now) }
 {
     let bins = report.lanes.bins.as_slice();
-    push_differences_lane(alloc, text, report)?;
+    push_differences_lane(alloc, text, bins, &report.lanes, report.noted.as_slice())?;
     push_states(alloc, text, bins)?;
     push_frame_lanes(alloc, text, bins)?;
     push_axis(alloc, text, quarter_of(&report.lanes))?;
