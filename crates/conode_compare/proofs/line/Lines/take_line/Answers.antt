@@ -1,10 +1,15 @@
 -- What is found next, and what is written of it.
-use Rattle.std.proofs.Common.{◌≡◌, ℕ, List, refl, sym, subst}
+use Rattle.std.proofs.Common.{◌≡◌, ℕ, ◌+◌, List, refl, sym, ap, ◌∙◌, subst}
 use Rattle.co_bounded_lines.specs.declared.bounded_lines.Found.{Found}
 use Rattle.co_bounded_lines.specs.declared.bounded_lines.Found.TheVariants.{Line}
 use Rattle.co_bounded_lines.specs.Founds.{Finds}
 use Rattle.co_bounded_lines.specs.Held.{to_come}
 use Rattle.co_stream.specs.Readings.{Gave}
+use Rattle.conode_explain.specs.LogLines.{line_at}
+use Rattle.conode_io.specs.Written.{WritesLines}
+use Rattle.conode_compare.specs.declared.comparing.Comparing.{Comparing}
+use Rattle.conode_compare.specs.Compared.{bad_noted, line_noted, long_noted, said_lines, said_with}
+use Rattle.conode_compare.specs.Taking.{Takes}
 use Rattle.conode_compare.specs.Views.{comparison_view}
 use Rattle.conode_compare.proofs.LineLoop.{takes_last, takes_line, takes_long}
 use Rattle.conode_compare.proofs.line.Lines.take_line.Goals as goal
@@ -19,15 +24,19 @@ returns-in-Ok-End-clause-end g c =
       subst (λ (f : Found). Gave held.ended holds.ended before after (λ had has. Finds (to_come held had) (to_come holds has) holds.line f)) c.in-Ok-End.field-0-is c.in-Ok-End.ensures.found,
     )
 
-pub returns-in-Ok-TooLong-clause-line : goal.returns-in-Ok-TooLong-clause-line
-returns-in-Ok-TooLong-clause-line g c =
+pub returns-in_ok-note_line-in-Ok-TooLong-clause-line : goal.returns-in_ok-note_line-in-Ok-TooLong-clause-line
+returns-in_ok-note_line-in-Ok-TooLong-clause-line g c =
     let before = g.R.Read.remaining c.args.reader.now in
     let after = g.R.Read.remaining c.advance.new.reader in
     let held = c.args.self.now.lines in
     let holds = c.advance.new.self in
     let out = g.W.Write.contents c.args.out.now in
+    let log = c.args.self.now.log in
+    let first = c.args.self.now.comparing in
     let found = subst (λ (f : Found). Gave held.ended holds.ended before after (λ had has. Finds (to_come held had) (to_come holds has) holds.line f)) c.in-Ok-TooLong.field-0-is c.in-Ok-TooLong.ensures.found in
-    takes_long (comparison_view c.args.settings.now) held holds before after c.args.number c.args.self.now.log c.args.self.now.comparing out out holds.line found refl
+    let noted : c.note_bad_line.new.self ≡ long_noted first = c.note_bad_line.ensures ∙ ap bad_noted c.in_ok-note_line-in-Ok-TooLong.ensures in
+    subst (λ (n : Comparing). Takes (comparison_view c.args.settings.now) held holds before after c.args.number (c.args.number + 1) (record { log = log; comparing = first }) (record { log = log; comparing = n }) out out) (sym noted)
+    (takes_long (comparison_view c.args.settings.now) held holds before after c.args.number log first out out holds.line found refl)
 
 pub returns-in_ok-take_log_line-in-Ok-Line-clause-line : goal.returns-in_ok-take_log_line-in-Ok-Line-clause-line
 returns-in_ok-take_log_line-in-Ok-Line-clause-line g c =
@@ -38,10 +47,16 @@ returns-in_ok-take_log_line-in-Ok-Line-clause-line g c =
     let old = g.W.Write.contents c.args.out.now in
     let new = g.W.Write.contents c.take_log_line.new.out in
     let line = c.line-line.result.now in
+    let what = comparison_view c.args.settings.now in
+    let log = c.args.self.now.log in
+    let first = c.args.self.now.comparing in
     let found = subst (λ (f : Found). Gave held.ended holds.ended before after (λ had has. Finds (to_come held had) (to_come holds has) holds.line f)) c.in-Ok-Line.field-0-is c.in-Ok-Line.ensures.found in
     let here = subst (λ (l : List ℕ). Gave held.ended holds.ended before after (λ had has. Finds (to_come held had) (to_come holds has) l Line)) (sym c.line-line.ensures) found in
     let said = c.in_ok-take_log_line-in-Ok-Line.ensures in
-    takes_line (comparison_view c.args.settings.now) held holds before after c.args.number c.args.self.now.log c.args.self.now.comparing old new line c.take_log_line.new.log c.take_log_line.new.comparing said.log said.next said.lines here
+    let noted : c.note_line-in-Ok-Line.new.self ≡ line_noted first line = c.in_ok-note_line-in-Ok-Line.ensures in
+    let next = subst (λ (n : Comparing). c.take_log_line.new.comparing ≡ said_with what n (line_at log line)) noted said.next in
+    let lines = subst (λ (n : Comparing). WritesLines old new (said_lines what c.args.number n (line_at log line))) noted said.lines in
+    takes_line what held holds before after c.args.number log first old new line c.take_log_line.new.log c.take_log_line.new.comparing said.log next lines here
 
 pub returns-in-Ok-Last-clause-line : goal.returns-in-Ok-Last-clause-line
 returns-in-Ok-Last-clause-line g c =
