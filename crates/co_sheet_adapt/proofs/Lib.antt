@@ -6,3 +6,4 @@ mod LaterLemmas
 mod Examples
 mod CompactExamples
 mod CompactPdoExamples
+mod LoopLemmas

@@ -237,7 +237,6 @@ impl Compact<'_, '_, '_> {
     }
 
     /// The sections of sub-index 0 to this number.
-    #[tactic(auto, using(crate::proofs::CompactLemmas::one_section_more))]
     pub(crate) fn text(&self, alloc: Global, count: u8) -> Result<Vec<u8>, AllocError>
         ensures { IfOk result (λ made. made.items
             ≡ compact_text (texts_at self.now.names.now) (texts_at self.now.values.now)

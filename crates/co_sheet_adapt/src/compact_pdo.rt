@@ -427,7 +427,6 @@ fn push_part(alloc: Global, text: &mut Vec<u8>, key: Key, part: Part) -> Result<
 }
 
 // the sections of a mapping's entries
-#[tactic(auto, using(crate::proofs::CompactLemmas::one_section_more))]
 fn push_words(alloc: Global, text: &mut Vec<u8>, index: u16) -> Result<(), AllocError>
     ensures { OnOk result
         (text.new.items ≡ text.old.items ++ sub_sections word_section index 8) }

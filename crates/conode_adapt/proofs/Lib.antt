@@ -1,1 +1,2 @@
 mod WrittenLemmas
+mod LoopLemmas

@@ -1,5 +1,5 @@
 -- The first elements of a list.
-use Rattle.std.proofs.Common.{◌≡◌, ℕ, ◌<◌, ◌≤◌, List, length, min, take, refl, sym, arith, inl, inr, take_all, ◌∙◌}
+use Rattle.std.proofs.Common.{◌≡◌, ℕ, List, length, min, take, refl, sym, arith, inl, inr, take_all, ◌∙◌}
 use Rattle.std.proofs.lemmas.Bool.{cases_lt}
 
 -- at most so many, or all

@@ -1,10 +1,10 @@
 -- A document of JSON, evaluated, and its parts on both sides of each edge.
-use Rattle.std.proofs.Common.{◌≡◌, true, false, [], ◌∷◌, ◌++◌, Some, None, codes, refl}
+use Rattle.std.proofs.Common.{◌≡◌, true, [], ◌∷◌, ◌++◌, None, codes, refl}
 use Rattle.std.specs.Fmt.{digits}
 use Rattle.std.specs.Str.{chars, is_utf8}
 use lib.Utf8.{encode}
-use Rattle.json.specs.Print.{escape_byte, print, print_from}
-use Rattle.json.specs.Token.{key, number, string}
+use Rattle.json.specs.Print.{escape_byte, print_from}
+use Rattle.json.specs.Token.{key, number}
 use Rattle.co_text.specs.Printed.{digits_text}
 use Rattle.conode_lint_text.specs.Characters.{characters_of, windows_1252}
 use Rattle.conode_json.specs.Members.{array_begin, flag_member, number_member, object_begin, text_member}

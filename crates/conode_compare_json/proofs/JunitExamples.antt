@@ -1,5 +1,5 @@
 -- A document of JUnit, evaluated, and its parts on both sides of each edge.
-use Rattle.std.proofs.Common.{◌≡◌, true, [], ◌∷◌, ◌++◌, Some, None, codes, refl, replicate, append-nil}
+use Rattle.std.proofs.Common.{◌≡◌, true, [], ◌∷◌, ◌++◌, codes, refl, replicate, append-nil}
 use Rattle.std.specs.Fmt.{digits}
 use Rattle.std.specs.List.{flat_map}
 use Rattle.std.specs.Str.{chars, is_utf8}
@@ -10,7 +10,7 @@ use Rattle.conode_markup.specs.Escapes.{escaped_character}
 use Rattle.conode_markup.specs.Pieces.{seconds_text}
 use Rattle.conode_compare_text.specs.FindingTexts.{finding_line, finding_text, millis_text, numbered, timed_number}
 use Rattle.conode_compare_text.specs.Tallies.{no_frames}
-use Rattle.conode_compare_report.specs.declared.kind.Kind.TheVariants.{HeartbeatLate, HeartbeatState}
+use Rattle.conode_compare_report.specs.declared.kind.Kind.TheVariants.{HeartbeatLate}
 use Rattle.conode_compare_report.specs.Reports.{nothing_kept}
 use Rattle.conode_compare_report.specs.declared.outcome.Outcome.TheVariants.{NoFrame, SeveralInterfaces}
 use Rattle.conode_compare_json.specs.JunitCases.{case_begin, case_markup, differences_word, failed_markup, failure_begin, is_of_kind, line_markup, lines_markup, outcome_case}

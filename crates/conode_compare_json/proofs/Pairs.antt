@@ -36,15 +36,17 @@ all_pairs view (a ∷ xs) (b ∷ ys) (suc k) h = ap (λ ps. (view a, b) ∷ ps) 
 
 -- what is written of the pairs so far, and of the next one
 module _ {A B C T : Type 0} (tokens : C × B → List T) (view : A → C) (xs : List A) (ys : List B) (k : ℕ) where
+  with_next : (p : C × B) (ps : List (C × B)) → flat_map tokens (ps ++ p ∷ []) ≡ flat_map tokens ps ++ tokens p
+  with_next p ps = flat_map-append tokens ps (p ∷ []) ∙ ap (λ ts. flat_map tokens ps ++ ts) (append-nil (tokens p))
+
   pub one_more : (x : A) (y : B) (old before after : List T) → k < length xs → k < length ys → y ≡ get_or ys k y
       → before ≡ old ++ flat_map tokens (zip (map view (take k xs)) (take k ys)) → after ≡ before ++ tokens (view (get_or xs k x), y)
       → after ≡ old ++ flat_map tokens (zip (map view (take (k + 1) xs)) (take (k + 1) ys))
   one_more x y old before after h i is e f =
-      let Pairs = zip (map view (take k xs)) (take k ys) in
-      let Next = (view (get_or xs k x), get_or ys k y) in
-      let added : flat_map tokens (Pairs ++ Next ∷ []) ≡ flat_map tokens Pairs ++ tokens Next = flat_map-append tokens Pairs (Next ∷ []) ∙ ap (λ ts. flat_map tokens Pairs ++ ts) (append-nil (tokens Next)) in
-      f ∙ ap (λ z. before ++ tokens (view (get_or xs k x), z)) is ∙ ap (λ ts. ts ++ tokens Next) e ∙ append_assoc old (flat_map tokens Pairs) (tokens Next)
-      ∙ ap (λ ts. old ++ ts) (sym (ap (flat_map tokens) (pair_more view xs ys k x y h i) ∙ added))
+      let added : flat_map tokens (zip (map view (take (k + 1) xs)) (take (k + 1) ys)) ≡ flat_map tokens (zip (map view (take k xs)) (take k ys)) ++ tokens (view (get_or xs k x), get_or ys k y) =
+      ap (flat_map tokens) (pair_more view xs ys k x y h i) ∙ with_next (view (get_or xs k x), get_or ys k y) (zip (map view (take k xs)) (take k ys)) in
+      f ∙ ap (λ z. before ++ tokens (view (get_or xs k x), z)) is ∙ ap (λ ts. ts ++ tokens (view (get_or xs k x), get_or ys k y)) e
+      ∙ append_assoc old (flat_map tokens (zip (map view (take k xs)) (take k ys))) (tokens (view (get_or xs k x), get_or ys k y)) ∙ ap (λ ts. old ++ ts) (sym added)
 
   pub no_more : (old before : List T) → k < length xs → length ys ≤ k → before ≡ old ++ flat_map tokens (zip (map view (take k xs)) (take k ys))
       → before ≡ old ++ flat_map tokens (zip (map view (take (k + 1) xs)) (take (k + 1) ys))

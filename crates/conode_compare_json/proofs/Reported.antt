@@ -1,5 +1,5 @@
 -- A comparison, for examples: one late heartbeat, and no block upload.
-use Rattle.std.proofs.Common.{ℕ, true, false, List, [], ◌∷◌, Some, None, codes}
+use Rattle.std.proofs.Common.{ℕ, true, false, [], ◌∷◌, Some, None, codes}
 use Rattle.co_profile.specs.declared.access.Access.TheVariants.{Rw}
 use Rattle.co_sheet.specs.Content.{Row}
 use Rattle.co_sheet.specs.Limits.{absent}
@@ -12,7 +12,6 @@ use Rattle.conode_compare_report.specs.declared.kind.Kind.TheVariants as kinds
 use Rattle.conode_compare_report.specs.declared.noted.Noted.{Noted}
 use Rattle.conode_compare_report.specs.declared.service.Service.TheVariants.{BootUp}
 use Rattle.conode_compare_report.specs.Abouts.{Described}
-use Rattle.conode_compare_report.specs.Contexts.{KeptLine}
 use Rattle.conode_compare_report.specs.Coverages.{CoverageView}
 use Rattle.conode_compare_report.specs.Reports.{nothing_kept}
 use Rattle.conode_compare_report.specs.Views.{Kept}

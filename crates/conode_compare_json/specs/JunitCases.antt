@@ -33,14 +33,13 @@ abbrev pub differences_word : ℕ → List ℕ
 differences_word count = if count == 1 then codes " difference: " else codes " differences: "
 
 -- the tag that begins a failure: how many differences were found, and what is prescribed
-unfoldable pub failure_begin : List ℕ → ℕ → List ℕ → List ℕ
-failure_begin kind found rule = concat (
-    codes "><failure type=\"" ∷ kind ∷ codes "\" message=\"" ∷ decimal found ∷ differences_word found ∷ escaped rule
-    ∷ codes "\">" ∷ [])
+unfoldable pub failure_begin : List ℕ → ℕ → List ℕ → List ℕ → List ℕ
+failure_begin kind found word rule = concat (
+    codes "><failure type=\"" ∷ kind ∷ codes "\" message=\"" ∷ decimal found ∷ word ∷ escaped rule ∷ codes "\">" ∷ [])
 
 unfoldable pub failed_markup : List ℕ → Counted → List Noted → List ℕ
 failed_markup recording counted noted =
-    failure_begin (kind_name counted.kind) counted.found (kind_rule counted.kind)
+    failure_begin (kind_name counted.kind) counted.found (differences_word counted.found) (kind_rule counted.kind)
     ++ lines_markup recording counted.found (filter (is_of_kind counted.kind) noted)
     ++ codes "</failure></testcase>\n"
 

@@ -1,5 +1,5 @@
-//! The test cases of JUnit. Each function with a text appends to it. `Err`: out of memory; a part of it
-//! may be there.
+//! The test cases of JUnit. Each function with a text appends to it. `Err`: out of memory; a
+//! part of it may be there.
 
 ghost use Rattle.std.specs.Prelude.{◌≡◌, ◌++◌, filter, IfOk, OnOk, string_bytes};
 ghost use Rattle.std.specs.List.{flat_map};
@@ -154,10 +154,11 @@ fn push_failure<'t>(
     text: &mut String,
     kind: &'t str,
     found: u64,
-    rule: &'t str,
+    word: &'t str,
+    rule: &'t [u8],
 ) -> Result<(), AllocError>
     ensures { OnOk result (string_bytes text.new
-        ≡ string_bytes text.old ++ failure_begin kind.now found rule.now) }
+        ≡ string_bytes text.old ++ failure_begin kind.now found word.now rule.now) }
 {
     push_pieces(
         alloc,
@@ -167,8 +168,8 @@ fn push_failure<'t>(
             Piece::Markup(kind),
             Piece::Markup("\" message=\""),
             Piece::Number(found),
-            Piece::Markup(differences_word(found)),
-            Piece::Text(rule.as_bytes()),
+            Piece::Markup(word),
+            Piece::Text(rule),
             Piece::Markup("\">"),
         ],
     )
@@ -188,7 +189,9 @@ fn push_failed(
 {
     let kind = counted.kind;
     let own = of_kind(alloc, kind, report)?;
-    push_failure(alloc, text, kind.name(), counted.found, kind.rule())?;
+    let word = differences_word(counted.found);
+    let rule = kind.rule().as_bytes();
+    push_failure(alloc, text, kind.name(), counted.found, word, rule)?;
     push_first_lines(alloc, text, recording, counted.found, own.as_slice())?;
     push_words(text, "</failure></testcase>\n")
 }

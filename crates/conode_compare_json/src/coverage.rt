@@ -29,11 +29,7 @@ use conode_json::JsonWriter;
 use std::alloc::{AllocError, Global};
 
 // the name of an entry, if it has one
-fn put_name(
-    alloc: Global,
-    writer: &mut JsonWriter,
-    name: Option<&[u8]>,
-) -> Result<(), AllocError>
+fn put_name(alloc: Global, writer: &mut JsonWriter, name: Option<&[u8]>) -> Result<(), AllocError>
     ensures { OnOk result (writer.new ≡ writer.old ++ name_member (option_copied name.entry)) }
 {
     match name {
@@ -162,11 +158,7 @@ fn put_type(alloc: Global, writer: &mut JsonWriter, numbered: Numbered) -> Resul
 }
 
 #[tactic(auto, unfolding(crate::specs::CoverageTokens::types_member))]
-fn put_types(
-    alloc: Global,
-    writer: &mut JsonWriter,
-    coverage: &Coverage,
-) -> Result<(), AllocError>
+fn put_types(alloc: Global, writer: &mut JsonWriter, coverage: &Coverage) -> Result<(), AllocError>
     ensures { OnOk result (writer.new ≡ writer.old ++ types_member coverage.now.types) }
 {
     writer.begin_array_of("tpdoTypes")?;
@@ -189,11 +181,7 @@ fn put_abort(alloc: Global, writer: &mut JsonWriter, numbered: Numbered) -> Resu
 }
 
 #[tactic(auto, unfolding(crate::specs::CoverageTokens::aborts_member))]
-fn put_aborts(
-    alloc: Global,
-    writer: &mut JsonWriter,
-    coverage: &Coverage,
-) -> Result<(), AllocError>
+fn put_aborts(alloc: Global, writer: &mut JsonWriter, coverage: &Coverage) -> Result<(), AllocError>
     ensures { OnOk result (writer.new ≡ writer.old ++ aborts_member coverage.now.aborts) }
 {
     writer.begin_array_of("abortCodes")?;

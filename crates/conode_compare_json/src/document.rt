@@ -1,5 +1,5 @@
-//! The document of JSON (RFC 8259). Each function with a writer writes tokens. `Err`: out of memory;
-//! some tokens may be there.
+//! The document of JSON (RFC 8259). Each function with a writer writes tokens. `Err`: out of
+//! memory; some tokens may be there.
 
 ghost use Rattle.std.specs.Prelude.{◌≡◌, ◌++◌, option_map, pos, IfOk, OnOk};
 ghost use Rattle.conode_json.specs.Members.{number_if};
@@ -117,11 +117,7 @@ fn put_ended(
 }
 
 #[tactic(auto, unfolding(crate::specs::JsonDocument::head_members))]
-fn put_head(
-    alloc: Global,
-    writer: &mut JsonWriter,
-    about: &About<'_, '_>,
-) -> Result<(), AllocError>
+fn put_head(alloc: Global, writer: &mut JsonWriter, about: &About<'_, '_>) -> Result<(), AllocError>
     ensures { OnOk result (writer.new ≡ writer.old ++ head_members (about_view about.now)) }
 {
     put_compared(alloc, writer, about)?;
@@ -138,11 +134,7 @@ fn end_of(report: &Report) -> Option<u64>
 
 // the lines of the recording, and the stamps of its first and its newest frame
 #[tactic(auto, unfolding(crate::specs::JsonDocument::recording_members))]
-fn put_recording(
-    alloc: Global,
-    writer: &mut JsonWriter,
-    report: &Report,
-) -> Result<(), AllocError>
+fn put_recording(alloc: Global, writer: &mut JsonWriter, report: &Report) -> Result<(), AllocError>
     ensures { OnOk result (writer.new ≡ writer.old ++ recording_members report.now) }
 {
     writer.put_number(alloc, "lines", i128::from(report.lines))?;
@@ -165,11 +157,7 @@ fn put_kind(alloc: Global, writer: &mut JsonWriter, counted: Counted) -> Result<
 }
 
 #[tactic(auto, unfolding(crate::specs::JsonDocument::kinds_member))]
-fn put_kinds(
-    alloc: Global,
-    writer: &mut JsonWriter,
-    report: &Report,
-) -> Result<(), AllocError>
+fn put_kinds(alloc: Global, writer: &mut JsonWriter, report: &Report) -> Result<(), AllocError>
     ensures { OnOk result (writer.new ≡ writer.old ++ kinds_member report.now.kinds) }
 {
     writer.begin_array_of("kinds")?;

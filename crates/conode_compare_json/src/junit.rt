@@ -1,5 +1,5 @@
-//! The document of JUnit. Each function with a text appends to it. `Err`: out of memory; a part of it
-//! may be there.
+//! The document of JUnit. Each function with a text appends to it. `Err`: out of memory; a
+//! part of it may be there.
 
 ghost use Rattle.std.specs.Prelude.{◌≡◌, ◌++◌, count_by, IfOk, OnOk, string_bytes};
 ghost use Rattle.std.specs.List.{flat_map};
@@ -149,7 +149,7 @@ fn push_property<'t>(
     alloc: Global,
     text: &mut String,
     name: &'t str,
-    value: &'t str,
+    value: &'t [u8],
 ) -> Result<(), AllocError>
     ensures { OnOk result (string_bytes text.new
         ≡ string_bytes text.old ++ property_markup name.now value.now) }
@@ -161,14 +161,14 @@ fn push_property<'t>(
             Piece::Markup("<property name=\""),
             Piece::Markup(name),
             Piece::Markup("\" value=\""),
-            Piece::Text(value.as_bytes()),
+            Piece::Text(value),
             Piece::Markup("\"/>\n"),
         ],
     )
 }
 
 #[tactic(auto, unfolding(crate::specs::JunitDocument::node_property))]
-fn push_node(alloc: Global, text: &mut String, node: u8) -> Result<(), AllocError>
+fn push_node(alloc: Global, text: &mut String, node: u64) -> Result<(), AllocError>
     ensures { OnOk result (string_bytes text.new ≡ string_bytes text.old ++ node_property node) }
 {
     push_pieces(
@@ -176,7 +176,7 @@ fn push_node(alloc: Global, text: &mut String, node: u8) -> Result<(), AllocErro
         text,
         &[
             Piece::Markup("<property name=\"node\" value=\""),
-            Piece::Number(u64::from(node)),
+            Piece::Number(node),
             Piece::Markup("\"/>\n"),
         ],
     )
@@ -193,10 +193,10 @@ fn push_properties(
         ≡ string_bytes text.old ++ properties_markup (about_view about.now)) }
 {
     push_words(text, "<properties>\n")?;
-    push_property(alloc, text, "version", about.version)?;
-    push_property(alloc, text, "sheet", about.sheet)?;
-    push_property(alloc, text, "recording", about.recording)?;
-    push_node(alloc, text, about.node)?;
+    push_property(alloc, text, "version", about.version.as_bytes())?;
+    push_property(alloc, text, "sheet", about.sheet.as_bytes())?;
+    push_property(alloc, text, "recording", about.recording.as_bytes())?;
+    push_node(alloc, text, u64::from(about.node))?;
     push_words(text, "</properties>\n")
 }
 
@@ -225,7 +225,10 @@ fn push_document(
     ensures { OnOk result (string_bytes text.new
         ≡ string_bytes text.old ++ junit_document (about_view about.now) report.now) }
 {
-    push_words(text, "<?xml version=\"1.0\" encoding=\"UTF-8\"?>\n<testsuites>\n")?;
+    push_words(
+        text,
+        "<?xml version=\"1.0\" encoding=\"UTF-8\"?>\n<testsuites>\n",
+    )?;
     push_suite(alloc, text, about, report)?;
     push_properties(alloc, text, about)?;
     push_cases(alloc, text, about.recording, report)?;

@@ -1,5 +1,5 @@
-//! The differences that are listed, in JSON. Each function writes tokens. `Err`: out of memory; some
-//! tokens may be there.
+//! The differences that are listed, in JSON. Each function writes tokens. `Err`: out of memory;
+//! some tokens may be there.
 
 ghost use Rattle.std.specs.Prelude.{◌≡◌, ◌++◌, IfOk, OnOk, string_bytes};
 ghost use Rattle.std.specs.List.{flat_map};

@@ -16,19 +16,19 @@ use Rattle.conode_compare_report.specs.declared.lanes.States.{States}
 use Rattle.conode_compare_report.specs.declared.noted.Noted.{Noted}
 use Rattle.conode_compare_report.specs.Contexts.{KeptLine}
 use Rattle.conode_compare_report.specs.Spans.{LanesView}
-use Rattle.conode_compare_text.specs.FindingTexts.{finding_text}
+use Rattle.conode_compare_text.specs.FindingTexts.{finding_text, millis_text, timed_number}
 use Rattle.conode_explain_values.specs.declared.value_type.ValueType.TheVariants.{Plain}
 use Rattle.conode_lint_text.specs.Characters.{characters_of}
 use Rattle.conode_markup.specs.Escapes.{escaped_character}
 use Rattle.conode_markup.specs.Pieces.{seconds_text}
 use Rattle.conode_compare_report.specs.declared.outcome.Outcome.TheVariants.{NoDifference, Differences, NoFrame, SeveralInterfaces}
 use Rattle.conode_compare_page.specs.declared.states.Shown.TheVariants.{Nothing, Initialising, PreOperational, Operational, Stopped, Several}
-use Rattle.conode_compare_page.specs.Coverage.{class_of, count_or, found_cell, state_item, transferred_count, transfers_text, type_item, types_text}
+use Rattle.conode_compare_page.specs.Coverage.{class_of, count_or, found_cell, state_item, transferred_count, transfers_text, type_item, types_list, types_text}
 use Rattle.conode_compare_page.specs.Device.{identity_row, interface_row}
 use Rattle.conode_compare_page.specs.Differences.{context_line, numbered_line, said, unlisted_text}
 use Rattle.conode_compare_page.specs.Head.{headline}
 use Rattle.conode_compare_page.specs.Indexed.{indexed}
-use Rattle.conode_compare_page.specs.Picture.{across, areas, axis_text, corner, difference_mark, is_quiet, line_at, next_shown, outline, quarter_of, shown_of, span_of, state_area, top_of}
+use Rattle.conode_compare_page.specs.Picture.{across, areas, axis_text, corner, difference_mark, is_quiet, line_at, mark_text, next_shown, outline, quarter_of, shown_of, span_of, state_area, top_of}
 
 -- ---- the verdict
 
@@ -54,7 +54,7 @@ abbrev late : Noted
 late = record { line = 7; micros = 4120000; finding = HeartbeatLate 1021000 1000; value_type = Plain Unsigned32; first = 0 }
 
 without_kind : said late ≡ codes "1021.000 ms since the last one, 1017:00 has 1000 ms"
-unfolding finding_text
+unfolding said finding_text timed_number millis_text digits_text digits
 without_kind = refl
 
 abbrev line : ℕ → KeptLine
@@ -150,7 +150,7 @@ places : span_of three_spans 3000000 ∷ span_of three_spans 4049999 ∷ span_of
 places = refl
 
 mark : difference_mark three_spans 5 late ≡ codes "<a href=\"#d5\"><path class=\"hit\" d=\"M2.5 0v100\"><title>line 7, 0.120000 s: heartbeat-late</title></path></a>\n"
-unfolding difference_mark seconds_text digits_text digits
+unfolding mark_text seconds_text digits_text digits
 mark = refl
 
 axis : axis_text (quarter_of three_spans)
@@ -197,5 +197,5 @@ states_seen = refl
 types : types_text [] ∷ types_text (record { number = 254; count = 3 } ∷ []) ∷ []
     ≡ codes "<h3>Transmission types</h3>\n<p class=\"not\">No TPDO was sent.</p>\n"
     ∷ codes "<h3>Transmission types of the TPDOs that were sent</h3>\n<ul>\n<li>type 254<b>3</b></li>\n</ul>\n" ∷ []
-unfolding type_item digits
+unfolding types_list type_item digits
 types = refl

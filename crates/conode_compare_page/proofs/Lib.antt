@@ -1,3 +1,2 @@
+pub mod Appending
 mod Examples
-pub mod IndexedLaws
-pub mod PictureLaws

@@ -98,13 +98,13 @@ transferred_item entries at row =
 abbrev pub other_item : List Covered → ℕ → Row → List ℕ
 other_item entries at row = if is_transferred (covered_at entries at) then [] else other_text row
 
-unfoldable pub entries_begin : List Row → List Covered → List ℕ
-entries_begin rows entries = concat (
-    codes "<h3>Entries that were transferred by SDO: " ∷ decimal (transferred_count entries) ∷ codes " of " ∷ decimal (length rows)
+unfoldable pub entries_begin : ℕ → ℕ → List ℕ
+entries_begin transferred all = concat (
+    codes "<h3>Entries that were transferred by SDO: " ∷ decimal transferred ∷ codes " of " ∷ decimal all
     ∷ codes "</h3>\n<ul>\n" ∷ [])
 
 unfoldable pub transferred_list : List Row → List Covered → List ℕ
-transferred_list rows entries = entries_begin rows entries ++ indexed (transferred_item entries) 0 rows ++ codes "</ul>\n"
+transferred_list rows entries = entries_begin (transferred_count entries) (length rows) ++ indexed (transferred_item entries) 0 rows ++ codes "</ul>\n"
 
 unfoldable pub other_list : List Row → List Covered → List ℕ
 other_list rows entries =
@@ -143,15 +143,19 @@ unfoldable pub abort_item : Numbered → List ℕ
 abort_item numbered = concat (
     codes "<li><code>" ∷ digits_text 16 8 numbered.number ∷ codes "h</code><b>" ∷ decimal numbered.count ∷ codes "</b></li>\n" ∷ [])
 
+unfoldable pub types_list : List Numbered → List ℕ
+types_list types = codes "<h3>Transmission types of the TPDOs that were sent</h3>\n<ul>\n" ++ flat_map type_item types ++ codes "</ul>\n"
+
 abbrev pub types_text : List Numbered → List ℕ
 types_text types =
-    if length types == 0 then codes "<h3>Transmission types</h3>\n<p class=\"not\">No TPDO was sent.</p>\n"
-    else codes "<h3>Transmission types of the TPDOs that were sent</h3>\n<ul>\n" ++ flat_map type_item types ++ codes "</ul>\n"
+    if length types == 0 then codes "<h3>Transmission types</h3>\n<p class=\"not\">No TPDO was sent.</p>\n" else types_list types
+
+unfoldable pub aborts_list : List Numbered → List ℕ
+aborts_list aborts = codes "<h3>SDO abort codes</h3>\n<ul>\n" ++ flat_map abort_item aborts ++ codes "</ul>\n"
 
 abbrev pub aborts_text : List Numbered → List ℕ
 aborts_text aborts =
-    if length aborts == 0 then codes "<h3>SDO abort codes</h3>\n<p class=\"not\">No transfer was aborted.</p>\n"
-    else codes "<h3>SDO abort codes</h3>\n<ul>\n" ++ flat_map abort_item aborts ++ codes "</ul>\n"
+    if length aborts == 0 then codes "<h3>SDO abort codes</h3>\n<p class=\"not\">No transfer was aborted.</p>\n" else aborts_list aborts
 
 -- ---- all of it
 
@@ -162,8 +166,11 @@ unfoldable pub seen_text : CoverageView → List ℕ
 seen_text coverage =
     services_text coverage.services ++ states_text coverage.states ++ types_text coverage.types ++ aborts_text coverage.aborts
 
+unfoldable pub tested_parts : Described → Kept → List ℕ
+tested_parts about report =
+    kinds_table report.kinds ++ entries_text about.rows report.coverage.entries ++ seen_text report.coverage
+
 -- what the recording tested
 unfoldable pub tested : Described → Kept → List ℕ
 tested about report =
-    codes "<section>\n<h2>What this recording tested</h2>\n" ++ kinds_table report.kinds
-    ++ entries_text about.rows report.coverage.entries ++ seen_text report.coverage ++ codes "</section>\n"
+    codes "<section>\n<h2>What this recording tested</h2>\n" ++ tested_parts about report ++ codes "</section>\n"

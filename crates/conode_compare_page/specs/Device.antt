@@ -31,16 +31,21 @@ stamps_row report None = []
 stamps_row report (Some begin) = concat (
     codes "<dt>Stamps</dt><dd>" ∷ seconds_text begin ∷ codes " to " ∷ seconds_text report.end ∷ codes " s</dd>\n" ∷ [])
 
-unfoldable pub recording_rows : Described → Kept → List ℕ
-recording_rows about report = concat (
-    codes "<dt>Node-ID</dt><dd>" ∷ decimal about.node
-    ∷ codes "</dd>\n<dt>Data sheet</dt><dd>" ∷ escaped about.sheet ∷ codes ", " ∷ decimal (length about.rows)
-    ∷ codes " entries</dd>\n<dt>Recording</dt><dd>" ∷ escaped about.recording ∷ codes ", " ∷ decimal report.lines
-    ∷ codes " lines, " ∷ decimal report.bad_lines ∷ codes " of them bad</dd>\n" ∷ [])
+-- the data sheet with so many entries, and the recording with so many lines
+unfoldable pub sheet_row : ℕ → List ℕ → ℕ → List ℕ
+sheet_row node sheet entries = concat (
+    codes "<dt>Node-ID</dt><dd>" ∷ decimal node
+    ∷ codes "</dd>\n<dt>Data sheet</dt><dd>" ∷ escaped sheet ∷ codes ", " ∷ decimal entries ∷ codes " entries</dd>\n" ∷ [])
+
+unfoldable pub recording_row : List ℕ → ℕ → ℕ → List ℕ
+recording_row recording lines bad = concat (
+    codes "<dt>Recording</dt><dd>" ∷ escaped recording ∷ codes ", " ∷ decimal lines
+    ∷ codes " lines, " ∷ decimal bad ∷ codes " of them bad</dd>\n" ∷ [])
 
 unfoldable pub device_rows : Described → Kept → List ℕ
 device_rows about report =
-    identity about ++ recording_rows about report ++ interface_row about.interface ++ stamps_row report report.begin
+    identity about ++ sheet_row about.node about.sheet (length about.rows)
+    ++ recording_row about.recording report.lines report.bad_lines ++ interface_row about.interface ++ stamps_row report report.begin
 
 -- the device and its recording
 unfoldable pub device : Described → Kept → List ℕ

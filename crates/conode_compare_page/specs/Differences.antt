@@ -28,12 +28,12 @@ abbrev pub context_line : ℕ → KeptLine → List ℕ
 context_line number line =
     if line.number == number then codes "<mark>" ++ numbered_line line ++ codes "</mark>" else numbered_line line
 
--- the row of a difference up to the name of its kind: its line, and its time since the first frame
-unfoldable pub row_begin : Kept → ℕ → Noted → List ℕ
-row_begin report at noted = concat (
+-- the row of a difference up to the name of its kind: its line, and its time since the first frame, which came at this begin
+unfoldable pub row_begin : ℕ → ℕ → Noted → List ℕ
+row_begin begin at noted = concat (
     codes "<tbody class=\"one\" id=\"d" ∷ decimal at
     ∷ codes "\">\n<tr><td class=\"n\" data-is=\"Line\">" ∷ decimal noted.line
-    ∷ codes "</td><td class=\"n\" data-is=\"Seconds\">" ∷ seconds_text (noted.micros - report.lanes.begin)
+    ∷ codes "</td><td class=\"n\" data-is=\"Seconds\">" ∷ seconds_text (noted.micros - begin)
     ∷ codes "</td><td><span class=\"found\">" ∷ kind_name (kind_of noted.finding) ∷ codes "</span> " ∷ [])
 
 -- what is prescribed, up to the lines around the difference
@@ -43,7 +43,7 @@ row_end noted = concat (
     ∷ codes "</td></tr>\n<tr class=\"around\"><td colspan=\"4\"><pre>" ∷ [])
 
 unfoldable pub difference_row : Kept → ℕ → Noted → List ℕ
-difference_row report at noted = row_begin report at noted ++ escaped (said noted) ++ row_end noted
+difference_row report at noted = row_begin report.lanes.begin at noted ++ escaped (said noted) ++ row_end noted
 
 -- a difference
 unfoldable pub difference : Kept → ℕ → Noted → List ℕ
@@ -57,9 +57,11 @@ unlisted_text count =
     if count == 0 then []
     else concat (codes "<p>" ∷ decimal count ∷ codes " more came after these, and aren't listed.</p>\n" ∷ [])
 
+unfoldable pub difference_list : Kept → List Noted → List ℕ
+difference_list report noted = OPENING.now ++ indexed (difference report) 0 noted ++ codes "</table>\n"
+
 unfoldable pub difference_table : Kept → List ℕ
-difference_table report =
-    OPENING.now ++ indexed (difference report) 0 report.noted ++ codes "</table>\n" ++ unlisted_text report.unlisted
+difference_table report = difference_list report report.noted ++ unlisted_text report.unlisted
 
 -- the table, if there is a difference
 abbrev pub any_differences : Kept → List ℕ

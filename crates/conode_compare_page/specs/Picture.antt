@@ -146,21 +146,27 @@ abbrev pub span_of : LanesView → ℕ → ℕ
 span_of lanes micros =
     if lanes.width == 0 then 0 else min ((micros - lanes.begin) / lanes.width) (length lanes.bins - 1)
 
--- the mark of a difference, which leads to its row
-unfoldable pub difference_mark : LanesView → ℕ → Noted → List ℕ
-difference_mark lanes at noted = concat (
-    codes "<a href=\"#d" ∷ decimal at ∷ codes "\"><path class=\"hit\" d=\"M" ∷ decimal (span_of lanes noted.micros)
-    ∷ codes ".5 0v100\"><title>line " ∷ decimal noted.line ∷ codes ", " ∷ seconds_text (noted.micros - lanes.begin)
+-- the mark of a difference in this span, so long after the first frame; it leads to its row
+unfoldable pub mark_text : ℕ → ℕ → ℕ → Noted → List ℕ
+mark_text at span since noted = concat (
+    codes "<a href=\"#d" ∷ decimal at ∷ codes "\"><path class=\"hit\" d=\"M" ∷ decimal span
+    ∷ codes ".5 0v100\"><title>line " ∷ decimal noted.line ∷ codes ", " ∷ seconds_text since
     ∷ codes " s: " ∷ kind_name (kind_of noted.finding) ∷ codes "</title></path></a>\n" ∷ [])
+
+abbrev pub difference_mark : LanesView → ℕ → Noted → List ℕ
+difference_mark lanes at noted = mark_text at (span_of lanes noted.micros) (noted.micros - lanes.begin) noted
 
 -- the lines, under the name by which each lane shows them
 unfoldable pub across_path : List Bin → List ℕ
 across_path bins = codes "<defs><path id=\"across\" class=\"across\" d=\"" ++ indexed across 0 bins ++ codes "\"/></defs>\n"
 
-unfoldable pub differences_lane : Kept → List ℕ
-differences_lane report =
-    lane_begin (codes "Differences") (length report.lanes.bins) ++ across_path report.lanes.bins
-    ++ indexed (difference_mark report.lanes) 0 report.noted ++ codes "</svg></div>\n"
+-- the marks, and the end of their lane
+unfoldable pub marks_text : LanesView → List Noted → List ℕ
+marks_text lanes noted = indexed (difference_mark lanes) 0 noted ++ codes "</svg></div>\n"
+
+unfoldable pub differences_lane : List Bin → LanesView → List Noted → List ℕ
+differences_lane bins lanes noted =
+    lane_begin (codes "Differences") (length bins) ++ across_path bins ++ marks_text lanes noted
 
 -- ---- the picture
 
@@ -185,7 +191,7 @@ frame_lanes bins =
 
 unfoldable pub lanes_picture : Kept → List ℕ
 lanes_picture report =
-    differences_lane report ++ states_lane report.lanes.bins ++ frame_lanes report.lanes.bins
+    differences_lane report.lanes.bins report.lanes report.noted ++ states_lane report.lanes.bins ++ frame_lanes report.lanes.bins
     ++ axis_text (quarter_of report.lanes) ++ legend
 
 abbrev pub any_picture : Kept → List ℕ

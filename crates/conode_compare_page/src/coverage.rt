@@ -6,6 +6,7 @@ ghost use Rattle.std.specs.List.{flat_map};
 ghost use Rattle.conode_compare_report.specs.Abouts.{about_view};
 ghost use Rattle.conode_compare_page.specs.Coverage.{
   abort_item,
+  aborts_list,
   aborts_text,
   seen_text,
   service_begin,
@@ -15,7 +16,9 @@ ghost use Rattle.conode_compare_page.specs.Coverage.{
   state_items,
   states_text,
   tested,
+  tested_parts,
   type_item,
+  types_list,
   types_text,
 };
 
@@ -156,15 +159,25 @@ fn push_types(alloc: Global, text: &mut String, types: &[Numbered]) -> Result<()
     Ok(())
 }
 
-fn push_types_text(alloc: Global, text: &mut String, types: &[Numbered]) -> Result<(), AllocError>
-    ensures { OnOk result (string_bytes text.new ≡ string_bytes text.old ++ types_text types.now) }
+#[tactic(auto, unfolding(crate::specs::Coverage::types_list))]
+fn push_some_types(alloc: Global, text: &mut String, types: &[Numbered]) -> Result<(), AllocError>
+    ensures { OnOk result
+        (string_bytes text.new ≡ string_bytes text.old ++ types_list types.now) }
 {
-    if types.is_empty() {
-        return text.push_str(NO_TYPES);
-    }
     text.push_str("<h3>Transmission types of the TPDOs that were sent</h3>\n<ul>\n")?;
     push_types(alloc, text, types)?;
     text.push_str("</ul>\n")
+}
+
+fn push_types_text(alloc: Global, text: &mut String, types: &[Numbered]) -> Result<(), AllocError>
+    ensures { OnOk result
+        (string_bytes text.new ≡ string_bytes text.old ++ types_text types.now) }
+{
+    if types.is_empty() {
+        text.push_str(NO_TYPES)
+    } else {
+        push_some_types(alloc, text, types)
+    }
 }
 
 #[tactic(auto, unfolding(crate::specs::Coverage::abort_item))]
@@ -195,16 +208,25 @@ fn push_aborts(alloc: Global, text: &mut String, aborts: &[Numbered]) -> Result<
     Ok(())
 }
 
+#[tactic(auto, unfolding(crate::specs::Coverage::aborts_list))]
+fn push_some_aborts(alloc: Global, text: &mut String, aborts: &[Numbered]) -> Result<(), AllocError>
+    ensures { OnOk result
+        (string_bytes text.new ≡ string_bytes text.old ++ aborts_list aborts.now) }
+{
+    text.push_str("<h3>SDO abort codes</h3>\n<ul>\n")?;
+    push_aborts(alloc, text, aborts)?;
+    text.push_str("</ul>\n")
+}
+
 fn push_aborts_text(alloc: Global, text: &mut String, aborts: &[Numbered]) -> Result<(), AllocError>
     ensures { OnOk result
         (string_bytes text.new ≡ string_bytes text.old ++ aborts_text aborts.now) }
 {
     if aborts.is_empty() {
-        return text.push_str(NO_ABORTS);
+        text.push_str(NO_ABORTS)
+    } else {
+        push_some_aborts(alloc, text, aborts)
     }
-    text.push_str("<h3>SDO abort codes</h3>\n<ul>\n")?;
-    push_aborts(alloc, text, aborts)?;
-    text.push_str("</ul>\n")
 }
 
 #[tactic(auto, unfolding(crate::specs::Coverage::seen_text))]
@@ -216,6 +238,21 @@ fn push_seen(alloc: Global, text: &mut String, coverage: &Coverage) -> Result<()
     push_states(alloc, text, coverage.states)?;
     push_types_text(alloc, text, coverage.types.as_slice())?;
     push_aborts_text(alloc, text, coverage.aborts.as_slice())
+}
+
+#[tactic(auto, unfolding(crate::specs::Coverage::tested_parts))]
+fn push_parts(
+    alloc: Global,
+    text: &mut String,
+    about: &About<'_, '_>,
+    report: &Report,
+) -> Result<(), AllocError>
+    ensures { OnOk result (string_bytes text.new
+        ≡ string_bytes text.old ++ tested_parts (about_view about.now) report.now) }
+{
+    push_kinds(alloc, text, report.kinds.as_slice())?;
+    push_entries(alloc, text, about.rows, report.coverage.entries.as_slice())?;
+    push_seen(alloc, text, &report.coverage)
 }
 
 /// Appends what the recording tested.
@@ -230,8 +267,6 @@ pub(crate) fn push_coverage(
         ≡ string_bytes text.old ++ tested (about_view about.now) report.now) }
 {
     text.push_str("<section>\n<h2>What this recording tested</h2>\n")?;
-    push_kinds(alloc, text, report.kinds.as_slice())?;
-    push_entries(alloc, text, about.rows, report.coverage.entries.as_slice())?;
-    push_seen(alloc, text, &report.coverage)?;
+    push_parts(alloc, text, about, report)?;
     text.push_str("</section>\n")
 }

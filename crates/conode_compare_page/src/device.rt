@@ -13,7 +13,8 @@ ghost use Rattle.conode_compare_page.specs.Device.{
   interface_row,
   limits_text,
   made_by,
-  recording_rows,
+  recording_row,
+  sheet_row,
   stamps_row,
 };
 
@@ -113,32 +114,53 @@ fn push_stamps(alloc: Global, text: &mut String, report: &Report) -> Result<(), 
     }
 }
 
-#[tactic(auto, unfolding(crate::specs::Device::recording_rows))]
-fn push_recording(
+#[tactic(auto, unfolding(crate::specs::Device::sheet_row))]
+fn push_sheet_row(
     alloc: Global,
     text: &mut String,
-    about: &About<'_, '_>,
-    report: &Report,
+    node: u8,
+    sheet: &[u8],
+    entries: usize,
 ) -> Result<(), AllocError>
     ensures { OnOk result (string_bytes text.new
-        ≡ string_bytes text.old ++ recording_rows (about_view about.now) report.now) }
+        ≡ string_bytes text.old ++ sheet_row node sheet.now entries) }
 {
     push_pieces(
         alloc,
         text,
         &[
             Piece::Markup("<dt>Node-ID</dt><dd>"),
-            Piece::Number(u64::from(about.node)),
+            Piece::Number(node as u64),
             Piece::Markup("</dd>\n<dt>Data sheet</dt><dd>"),
-            Piece::Text(about.sheet.as_bytes()),
+            Piece::Text(sheet),
             Piece::Markup(", "),
-            Piece::Number(about.rows.len() as u64),
-            Piece::Markup(" entries</dd>\n<dt>Recording</dt><dd>"),
-            Piece::Text(about.recording.as_bytes()),
+            Piece::Number(entries as u64),
+            Piece::Markup(" entries</dd>\n"),
+        ],
+    )
+}
+
+#[tactic(auto, unfolding(crate::specs::Device::recording_row))]
+fn push_recording_row(
+    alloc: Global,
+    text: &mut String,
+    recording: &[u8],
+    lines: u64,
+    bad: u64,
+) -> Result<(), AllocError>
+    ensures { OnOk result (string_bytes text.new
+        ≡ string_bytes text.old ++ recording_row recording.now lines bad) }
+{
+    push_pieces(
+        alloc,
+        text,
+        &[
+            Piece::Markup("<dt>Recording</dt><dd>"),
+            Piece::Text(recording),
             Piece::Markup(", "),
-            Piece::Number(report.lines),
+            Piece::Number(lines),
             Piece::Markup(" lines, "),
-            Piece::Number(report.bad_lines),
+            Piece::Number(bad),
             Piece::Markup(" of them bad</dd>\n"),
         ],
     )
@@ -155,7 +177,20 @@ fn push_device_rows(
         ≡ string_bytes text.old ++ device_rows (about_view about.now) report.now) }
 {
     push_identity(alloc, text, about)?;
-    push_recording(alloc, text, about, report)?;
+    push_sheet_row(
+        alloc,
+        text,
+        about.node,
+        about.sheet.as_bytes(),
+        about.rows.len(),
+    )?;
+    push_recording_row(
+        alloc,
+        text,
+        about.recording.as_bytes(),
+        report.lines,
+        report.bad_lines,
+    )?;
     push_interface(alloc, text, about.interface)?;
     push_stamps(alloc, text, report)
 }
@@ -186,13 +221,13 @@ fn push_limits(alloc: Global, text: &mut String, limits: Limits) -> Result<(), A
         text,
         &[
             Piece::Markup(" --tolerance "),
-            Piece::Number(u64::from(limits.tolerance)),
+            Piece::Number(limits.tolerance as u64),
             Piece::Markup(" --drift "),
-            Piece::Number(u64::from(limits.drift)),
+            Piece::Number(limits.drift as u64),
             Piece::Markup(" --answer "),
-            Piece::Number(u64::from(limits.answer)),
+            Piece::Number(limits.answer as u64),
             Piece::Markup(" --boot "),
-            Piece::Number(u64::from(limits.boot)),
+            Piece::Number(limits.boot as u64),
         ],
     )
 }

@@ -9,6 +9,7 @@ ghost use Rattle.conode_compare_page.specs.Differences.{
   any_differences,
   context_line,
   difference,
+  difference_list,
   difference_row,
   difference_table,
   differences,
@@ -105,12 +106,12 @@ fn push_context(
 fn begin_row(
     alloc: Global,
     text: &mut String,
-    report: &Report,
+    begin: u64,
     at: usize,
     noted: &Noted,
 ) -> Result<(), AllocError>
     ensures { OnOk result (string_bytes text.new
-        ≡ string_bytes text.old ++ row_begin report.now at noted.now) }
+        ≡ string_bytes text.old ++ row_begin begin at noted.now) }
 {
     push_pieces(
         alloc,
@@ -121,7 +122,7 @@ fn begin_row(
             Piece::Markup("\">\n<tr><td class=\"n\" data-is=\"Line\">"),
             Piece::Number(noted.line),
             Piece::Markup("</td><td class=\"n\" data-is=\"Seconds\">"),
-            Piece::Seconds(noted.micros.saturating_sub(report.lanes.begin)),
+            Piece::Seconds(noted.micros.saturating_sub(begin)),
             Piece::Markup("</td><td><span class=\"found\">"),
             Piece::Markup(Kind::of(noted.finding).name()),
             Piece::Markup("</span> "),
@@ -155,7 +156,7 @@ fn push_row(
     ensures { OnOk result (string_bytes text.new
         ≡ string_bytes text.old ++ difference_row report.now at noted.now) }
 {
-    begin_row(alloc, text, report, at, noted)?;
+    begin_row(alloc, text, report.lanes.begin, at, noted)?;
     push_said(alloc, text, noted)?;
     end_row(alloc, text, noted)
 }
@@ -208,14 +209,27 @@ fn push_unlisted(alloc: Global, text: &mut String, count: u64) -> Result<(), All
     )
 }
 
+#[tactic(auto, unfolding(crate::specs::Differences::difference_list))]
+fn push_list(
+    alloc: Global,
+    text: &mut String,
+    report: &Report,
+    noted: &[Noted],
+) -> Result<(), AllocError>
+    ensures { OnOk result (string_bytes text.new
+        ≡ string_bytes text.old ++ difference_list report.now noted.now) }
+{
+    text.push_str(OPENING)?;
+    push_rows(alloc, text, report, noted)?;
+    text.push_str("</table>\n")
+}
+
 #[tactic(auto, unfolding(crate::specs::Differences::difference_table))]
 fn push_table(alloc: Global, text: &mut String, report: &Report) -> Result<(), AllocError>
     ensures { OnOk result (string_bytes text.new
         ≡ string_bytes text.old ++ difference_table report.now) }
 {
-    text.push_str(OPENING)?;
-    push_rows(alloc, text, report, report.noted.as_slice())?;
-    text.push_str("</table>\n")?;
+    push_list(alloc, text, report, report.noted.as_slice())?;
     push_unlisted(alloc, text, report.unlisted)
 }
 

@@ -215,20 +215,20 @@ fn push_all_others(
 fn begin_entries(
     alloc: Global,
     text: &mut String,
-    rows: &[EntryRow<'_>],
-    entries: &[Covered],
+    transferred: usize,
+    all: usize,
 ) -> Result<(), AllocError>
     ensures { OnOk result (string_bytes text.new
-        ≡ string_bytes text.old ++ entries_begin (map row_view rows.now) entries.now) }
+        ≡ string_bytes text.old ++ entries_begin transferred all) }
 {
     push_pieces(
         alloc,
         text,
         &[
             Piece::Markup("<h3>Entries that were transferred by SDO: "),
-            Piece::Number(transferred_count(entries) as u64),
+            Piece::Number(transferred as u64),
             Piece::Markup(" of "),
-            Piece::Number(rows.len() as u64),
+            Piece::Number(all as u64),
             Piece::Markup("</h3>\n<ul>\n"),
         ],
     )
@@ -244,7 +244,7 @@ fn push_transferred_list(
     ensures { OnOk result (string_bytes text.new
         ≡ string_bytes text.old ++ transferred_list (map row_view rows.now) entries.now) }
 {
-    begin_entries(alloc, text, rows, entries)?;
+    begin_entries(alloc, text, transferred_count(entries), rows.len())?;
     push_all_transferred(alloc, text, entries, rows)?;
     text.push_str("</ul>\n")
 }

@@ -177,7 +177,7 @@ fn push_compared(
         text,
         &[
             Piece::Markup("</h1>\n<p>Node "),
-            Piece::Number(u64::from(about.node)),
+            Piece::Number(about.node as u64),
             Piece::Markup(" in <code>"),
             Piece::Text(about.recording.as_bytes()),
             Piece::Markup("</code>, against its data sheet <code>"),

@@ -102,7 +102,7 @@ fn push_corner(alloc: Global, text: &mut String, at: usize, top: u8) -> Result<(
             Piece::Markup("H"),
             Piece::Number(at as u64),
             Piece::Markup("V"),
-            Piece::Number(u64::from(top)),
+            Piece::Number(top as u64),
         ],
     )
 }

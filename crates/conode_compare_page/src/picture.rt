@@ -14,6 +14,8 @@ ghost use Rattle.conode_compare_page.specs.Picture.{
   lanes_picture,
   legend,
   line_at,
+  mark_text,
+  marks_text,
   picture,
   quarter_of,
   span_of,
@@ -81,7 +83,37 @@ fn span_of(lanes: &Lanes, micros: u64) -> u64
     at.min(lanes.bins.len().saturating_sub(1) as u64)
 }
 
-#[tactic(auto, unfolding(crate::specs::Picture::difference_mark))]
+#[tactic(auto, unfolding(crate::specs::Picture::mark_text))]
+fn push_mark_text(
+    alloc: Global,
+    text: &mut String,
+    at: usize,
+    span: u64,
+    since: u64,
+    noted: &Noted,
+) -> Result<(), AllocError>
+    ensures { OnOk result (string_bytes text.new
+        ≡ string_bytes text.old ++ mark_text at span since noted.now) }
+{
+    push_pieces(
+        alloc,
+        text,
+        &[
+            Piece::Markup("<a href=\"#d"),
+            Piece::Number(at as u64),
+            Piece::Markup("\"><path class=\"hit\" d=\"M"),
+            Piece::Number(span),
+            Piece::Markup(".5 0v100\"><title>line "),
+            Piece::Number(noted.line),
+            Piece::Markup(", "),
+            Piece::Seconds(since),
+            Piece::Markup(" s: "),
+            Piece::Markup(Kind::of(noted.finding).name()),
+            Piece::Markup("</title></path></a>\n"),
+        ],
+    )
+}
+
 fn push_mark(
     alloc: Global,
     text: &mut String,
@@ -92,23 +124,9 @@ fn push_mark(
     ensures { OnOk result (string_bytes text.new
         ≡ string_bytes text.old ++ difference_mark lanes.now at noted.now) }
 {
-    push_pieces(
-        alloc,
-        text,
-        &[
-            Piece::Markup("<a href=\"#d"),
-            Piece::Number(at as u64),
-            Piece::Markup("\"><path class=\"hit\" d=\"M"),
-            Piece::Number(span_of(lanes, noted.micros)),
-            Piece::Markup(".5 0v100\"><title>line "),
-            Piece::Number(noted.line),
-            Piece::Markup(", "),
-            Piece::Seconds(noted.micros.saturating_sub(lanes.begin)),
-            Piece::Markup(" s: "),
-            Piece::Markup(Kind::of(noted.finding).name()),
-            Piece::Markup("</title></path></a>\n"),
-        ],
-    )
+    let span = span_of(lanes, noted.micros);
+    let since = noted.micros.saturating_sub(lanes.begin);
+    push_mark_text(alloc, text, at, span, since, noted)
 }
 
 fn push_marks(
@@ -126,20 +144,34 @@ fn push_marks(
     Ok(())
 }
 
+#[tactic(auto, unfolding(crate::specs::Picture::marks_text))]
+fn push_marks_text(
+    alloc: Global,
+    text: &mut String,
+    lanes: &Lanes,
+    noted: &[Noted],
+) -> Result<(), AllocError>
+    ensures { OnOk result (string_bytes text.new
+        ≡ string_bytes text.old ++ marks_text lanes.now noted.now) }
+{
+    push_marks(alloc, text, lanes, noted)?;
+    text.push_str("</svg></div>\n")
+}
+
 #[tactic(auto, unfolding(crate::specs::Picture::differences_lane))]
 fn push_differences_lane(
     alloc: Global,
     text: &mut String,
-    report: &Report,
+    bins: &[Bin],
+    lanes: &Lanes,
+    noted: &[Noted],
 ) -> Result<(), AllocError>
     ensures { OnOk result (string_bytes text.new
-        ≡ string_bytes text.old ++ differences_lane report.now) }
+        ≡ string_bytes text.old ++ differences_lane bins.now lanes.now noted.now) }
 {
-    let bins = report.lanes.bins.as_slice();
     begin_lane(alloc, text, "Differences", bins.len())?;
     push_across_path(alloc, text, bins)?;
-    push_marks(alloc, text, &report.lanes, report.noted.as_slice())?;
-    text.push_str("</svg></div>\n")
+    push_marks_text(alloc, text, lanes, noted)
 }
 
 fn quarter_of(lanes: &Lanes) -> u64
@@ -207,7 +239,7 @@ fn push_lanes(alloc: Global, text: &mut String, report: &Report) -> Result<(), A
         ≡ string_bytes text.old ++ lanes_picture report.now) }
 {
     let bins = report.lanes.bins.as_slice();
-    push_differences_lane(alloc, text, report)?;
+    push_differences_lane(alloc, text, bins, &report.lanes, report.noted.as_slice())?;
     push_states(alloc, text, bins)?;
     push_frame_lanes(alloc, text, bins)?;
     push_axis(alloc, text, quarter_of(&report.lanes))?;

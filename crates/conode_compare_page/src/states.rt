@@ -143,7 +143,7 @@ fn push_area(
             Piece::Markup("\" x=\""),
             Piece::Number(from as u64),
             Piece::Markup("\" y=\""),
-            Piece::Number(u64::from(state_top(shown))),
+            Piece::Number(state_top(shown) as u64),
             Piece::Markup("\" width=\""),
             Piece::Number(to.saturating_sub(from) as u64),
             Piece::Markup("\" height=\"100\"><title>"),

@@ -15,6 +15,7 @@ use Rattle.conode_compare_pdos.specs.declared.pdos.Sighting.{Sighting}
 use Rattle.conode_compare_pdos.specs.Followed as tpdos
 use Rattle.conode_compare_rules.specs.declared.progress.Progress.{Progress}
 use Rattle.conode_compare_transfers.specs.declared.dialogue.Asked.{Asked}
+use Rattle.conode_compare_held.specs.declared.written.Written.{Written}
 use Rattle.conode_compare_transfers.specs.declared.dialogue.Exchange.{Exchange}
 use Rattle.conode_compare_rules.specs.declared.entries.Entries.{Entries}
 use Rattle.conode_compare_rules.specs.declared.finding.Finding.{Finding}

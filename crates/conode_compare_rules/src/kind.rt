@@ -107,7 +107,7 @@ fn data_kind(node: u8, frame: Frame) -> FrameKind
 }
 
 /// What a frame is to the device with a node-ID.
-pub fn kind_of(node: u8, id: Identifier, content: &Content) -> FrameKind
+pub fn kind_of(node: u8, id: Identifier, content: &Content<'_>) -> FrameKind
     requires { IsIdentifier id }
     ensures { result ≡ kind_of node id content.now }
 {

@@ -45,8 +45,9 @@ fn put_elements(writer: &mut Writer, bytes: &[u8]) -> Result<(), AllocError>
     Ok(())
 }
 
-/// A document that is being written. Contracts see its tokens. Each method appends tokens, and leaves
-/// it to its caller that they are nested rightly. `Err`: out of memory; some tokens may be there.
+/// A document that is being written. Contracts see its tokens. Each method appends tokens, and
+/// leaves it to its caller that they are nested rightly. `Err`: out of memory; some tokens may be
+/// there.
 #[derive(Drop)]
 pub struct JsonWriter {
     writer: Writer,

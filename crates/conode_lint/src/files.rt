@@ -10,7 +10,8 @@ use crate::report::{Counts, Form, Report};
 use crate::rules::{all_rules, unknown_name};
 use co_sheet::{StreamFault, read_text};
 use conode_io::{CmdFault, cannot_read, file_text, flushed, hand_over, stopped};
-use std::alloc::Global;
+use conode_lint_text::Rule;
+use std::alloc::{AllocError, Global};
 use std::io::{Input, Write};
 use std::process::ExitCode;
 use std::rt::Files;
@@ -36,6 +37,19 @@ struct Session {
 }
 
 impl Session {
+    // lints a text, and adds what is found in it
+    fn add_text(
+        &mut self,
+        alloc: Global,
+        name: &str,
+        text: &[u8],
+        checks: &Checks<'_>,
+    ) -> Result<(), AllocError> {
+        let linted = lint_text(alloc, text, checks)?;
+        self.counts.add(&linted);
+        self.report.add(alloc, name, &linted)
+    }
+
     // lints a text, and writes what is found in it
     fn take_text<O: Write>(
         &mut self,
@@ -45,9 +59,7 @@ impl Session {
         options: &LintOptions<'_>,
         out: &mut O,
     ) -> Result<(), CmdFault> {
-        let linted = lint_text(alloc, text, &options.checks)?;
-        self.counts.add(&linted);
-        self.report.add(alloc, name, &linted)?;
+        self.add_text(alloc, name, text, &options.checks)?;
         hand_over(self.report.lines().as_bytes(), out)?;
         self.report.drop_lines();
         Ok(())
@@ -135,28 +147,46 @@ impl Session {
             self.take_file(rt, path, options, out, err)
         }
     }
+
+    fn take_paths<R: Files + AllocGlobal + Input + Clone + Drop, O: Write, E: Write>(
+        &mut self,
+        rt: &R,
+        paths: &[&str],
+        options: &LintOptions<'_>,
+        out: &mut O,
+        err: &mut E,
+    ) -> Result<(), CmdFault> {
+        for path in paths {
+            self.take_path(rt, path, options, out, err)?;
+        }
+        Ok(())
+    }
+
+    // ends the report, and returns how much was found
+    fn end<O: Write>(self, out: &mut O) -> Result<Counts, CmdFault> {
+        let Session { report, counts } = self;
+        let last = report.end(&counts)?;
+        hand_over(last.as_slice(), out)?;
+        Ok(counts)
+    }
 }
 
-// lints all paths, and returns how much was found
+// lints all paths, and returns how much was found; a log of SARIF has these rules
 fn lint_paths<R: Files + AllocGlobal + Input + Clone + Drop, O: Write, E: Write>(
     rt: &R,
+    rules: &[Rule<'_>],
     paths: &[&str],
-    report: Report,
     options: &LintOptions<'_>,
     out: &mut O,
     err: &mut E,
 ) -> Result<Counts, CmdFault> {
+    let report = Report::new(rt.alloc(), options.form, options.version, rules)?;
     let mut session = Session {
         report,
         counts: Counts::NONE,
     };
-    for path in paths {
-        session.take_path(rt, path, options, out, err)?;
-    }
-    let Session { report, counts } = session;
-    let last = report.end(&counts)?;
-    hand_over(last.as_slice(), out)?;
-    Ok(counts)
+    session.take_paths(rt, paths, options, out, err)?;
+    session.end(out)
 }
 
 fn is_any(count: usize) -> bool
@@ -186,14 +216,12 @@ fn lint_all<R: Files + AllocGlobal + Input + Clone + Drop, O: Write, E: Write>(
     out: &mut O,
     err: &mut E,
 ) -> Result<u8, CmdFault> {
-    let alloc = rt.alloc();
-    let rules = all_rules(alloc)?;
+    let rules = all_rules(rt.alloc())?;
     if let Some(name) = unknown_name(rules.as_slice(), options.checks.allowed) {
         let _ = writeln!(err, "no finding has the name {name}");
         return Ok(2);
     }
-    let report = Report::new(alloc, options.form, options.version, rules.as_slice())?;
-    let outcome = lint_paths(rt, paths, report, options, out, err);
+    let outcome = lint_paths(rt, rules.as_slice(), paths, options, out, err);
     let counts = flushed(out, outcome)?;
     Ok(status_of(&counts, options.strict))
 }

@@ -1,6 +1,8 @@
 //! Everything that is found in a text, in the order of its lines.
 
 ghost use Rattle.std.specs.Prelude.{◌≡◌, ◌<◌, ◌≤◌, ◌++◌, [], ◌∷◌, length, map, IfOk, OnOk, IfSome};
+ghost use Rattle.co_sheet_text.specs.LinesAtFault.{sections_read};
+ghost use Rattle.co_sheet_text.specs.Text.{lines_of};
 ghost use Rattle.co_sheet_text.specs.Views.{section_view};
 ghost use Rattle.co_dict_build.specs.Capacities.{limits_view};
 ghost use Rattle.co_sheet_warnings.specs.Lines.{text_lines};
@@ -132,7 +134,31 @@ fn add_built(
     }
 }
 
-// the marks of a text with these lines: its faults, its build and its warnings
+// the marks of a text with these lines and sections: its faults, its build and its warnings
+fn marked_in<'s, 'a>(
+    alloc: Global,
+    text: &'a [u8],
+    lines: &'s [&'a [u8]],
+    sections: &'s [TextSection<'s, 'a>],
+    sheet: &Option<Sheet<'_>>,
+    faults: &[SheetFault],
+    checks: &Checks<'_>,
+) -> Result<Vec<Mark>, AllocError>
+    requires size { length text.now ≤ 1048576 }
+    requires lines { map (λ line. line.now) lines.now ≡ text_lines text.now }
+    requires sections { map section_view sections.now ≡ sections_read (lines_of text.now) }
+    requires sheet { sheet.now ≡ sheet_of text.now }
+    ensures { IfOk result (λ marks. IsMarked text.now checks.now faults.now marks.items) }
+{
+    let warnings = find_warnings(alloc, text, lines, sections, checks.node, checks.all)?;
+    let mut marks = fault_marks(alloc, faults)?;
+    let node = node_for(checks.node, sheet);
+    add_built(alloc, &mut marks, sections, sheet, node, &checks.limits)?;
+    add_warnings(&mut marks, warnings.as_slice())?;
+    Ok(marks)
+}
+
+// the marks of a text with these lines
 fn marked<'a>(
     alloc: Global,
     text: &'a [u8],
@@ -148,26 +174,15 @@ fn marked<'a>(
 {
     let parsed = read_sections(alloc, text)?;
     let sections = parsed.sections(alloc)?;
-    let mut marks = fault_marks(alloc, faults)?;
-    let node = node_for(checks.node, sheet);
-    add_built(
-        alloc,
-        &mut marks,
-        sections.as_slice(),
-        sheet,
-        node,
-        &checks.limits,
-    )?;
-    let warnings = find_warnings(
+    marked_in(
         alloc,
         text,
         lines,
         sections.as_slice(),
-        checks.node,
-        checks.all,
-    )?;
-    add_warnings(&mut marks, warnings.as_slice())?;
-    Ok(marks)
+        sheet,
+        faults,
+        checks,
+    )
 }
 
 // the marks of a text that is too large to be read: only that fault

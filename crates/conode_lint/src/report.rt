@@ -101,17 +101,26 @@ impl Report {
         version: &str,
         rules: &[Rule<'_>],
     ) -> Result<Report, AllocError> {
-        let mut writer = Writer::new(Vec::new(alloc));
-        match form {
-            Form::Text { .. } => {}
-            Form::Json => put_document_head(&mut writer)?,
-            Form::Sarif => put_log_head(alloc, &mut writer, version, rules)?,
-        }
-        Ok(Report {
+        let mut report = Report {
             form,
             text: String::new(alloc),
-            writer,
-        })
+            writer: Writer::new(Vec::new(alloc)),
+        };
+        report.begin(alloc, version, rules)?;
+        Ok(report)
+    }
+
+    fn begin(
+        &mut self,
+        alloc: Global,
+        version: &str,
+        rules: &[Rule<'_>],
+    ) -> Result<(), AllocError> {
+        match self.form {
+            Form::Text { .. } => Ok(()),
+            Form::Json => put_document_head(&mut self.writer),
+            Form::Sarif => put_log_head(alloc, &mut self.writer, version, rules),
+        }
     }
 
     /// Adds what was found in a file.
@@ -155,26 +164,27 @@ impl Report {
         self.text.clear();
     }
 
+    fn put_end(&mut self, counts: &Counts) -> Result<(), AllocError> {
+        let Counts {
+            errors,
+            warnings,
+            files,
+            ..
+        } = *counts;
+        match self.form {
+            Form::Text { .. } => push_summary(&mut self.text, errors, warnings, files),
+            Form::Json => put_document_end(&mut self.writer, errors, warnings),
+            Form::Sarif => put_log_end(&mut self.writer),
+        }
+    }
+
     /// Ends the report, and returns the last bytes to hand over.
-    pub fn end(self, counts: &Counts) -> Result<Vec<u8>, AllocError> {
-        let Report {
-            form,
-            mut text,
-            mut writer,
-        } = self;
+    pub fn end(mut self, counts: &Counts) -> Result<Vec<u8>, AllocError> {
+        self.put_end(counts)?;
+        let Report { form, text, writer } = self;
         match form {
-            Form::Text { .. } => {
-                push_summary(&mut text, counts.errors, counts.warnings, counts.files)?;
-                Ok(text.into_bytes())
-            }
-            Form::Json => {
-                put_document_end(&mut writer, counts.errors, counts.warnings)?;
-                with_line_feed(writer.into_inner())
-            }
-            Form::Sarif => {
-                put_log_end(&mut writer)?;
-                with_line_feed(writer.into_inner())
-            }
+            Form::Text { .. } => Ok(text.into_bytes()),
+            Form::Json | Form::Sarif => with_line_feed(writer.into_inner()),
         }
     }
 }

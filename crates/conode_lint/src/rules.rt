@@ -9,66 +9,60 @@ use co_value::Key;
 use conode_lint_text::Rule;
 use std::alloc::{AllocError, Global};
 
-/// The kinds of faults that a text can have.
-const FAULTS: [FaultKind; 19] = [
-    FaultKind::TooLarge,
-    FaultKind::BadLine,
-    FaultKind::KeyOutsideSection,
-    FaultKind::DuplicateSection,
-    FaultKind::DuplicateKey,
-    FaultKind::MissingSection,
-    FaultKind::BadNumber,
-    FaultKind::AmbiguousNumber,
-    FaultKind::BadList,
-    FaultKind::ListedTwice,
-    FaultKind::MissingKey,
-    FaultKind::BadType,
-    FaultKind::LeftOutType,
-    FaultKind::BadAccess,
-    FaultKind::BadLimits,
-    FaultKind::BadDefault,
-    FaultKind::MissingSub0,
-    FaultKind::CompactForm,
-    FaultKind::MissingMandatory,
-];
-
 const KEY: Key = Key { index: 0, sub: 0 };
 
-/// The kinds of build faults that a sheet can have.
-const BUILD_FAULTS: [BuildFault; 5] = [
-    BuildFault::ValueRange(KEY),
-    BuildFault::BadCobId(KEY),
-    BuildFault::PdoPair(0),
-    BuildFault::BadMapping(KEY),
-    BuildFault::TooMany,
-];
-
-const WARNINGS: [WarningKind; 25] = [
-    WarningKind::SubNumber,
-    WarningKind::SubIndex0,
-    WarningKind::FileInfoKeys,
-    WarningKind::DeviceInfoKeys,
-    WarningKind::PdoCount,
-    WarningKind::WrongList,
-    WarningKind::Unlisted,
-    WarningKind::IdentityNumber,
-    WarningKind::FixedCobId,
-    WarningKind::NodeIdPlace,
-    WarningKind::MisspeltKey(KnownKey::AccessType),
-    WarningKind::SharedCobId,
-    WarningKind::InhibitTime,
-    WarningKind::OwnHeartbeat,
-    WarningKind::HeartbeatTwice,
-    WarningKind::NoErrorControl,
-    WarningKind::LongLine,
-    WarningKind::Utf8,
-    WarningKind::NotAscii,
-    WarningKind::ListOrder,
-    WarningKind::EqualNames,
-    WarningKind::MissingName,
-    WarningKind::UnknownKey,
-    WarningKind::DateFormat,
-    WarningKind::LineEnds,
+/// All kinds: another format, the faults of a text, those of a build, and the warnings.
+static SUBJECTS: [Subject; 50] = [
+    Subject::Format(OtherFormat::Xml),
+    Subject::Fault(FaultKind::TooLarge),
+    Subject::Fault(FaultKind::BadLine),
+    Subject::Fault(FaultKind::KeyOutsideSection),
+    Subject::Fault(FaultKind::DuplicateSection),
+    Subject::Fault(FaultKind::DuplicateKey),
+    Subject::Fault(FaultKind::MissingSection),
+    Subject::Fault(FaultKind::BadNumber),
+    Subject::Fault(FaultKind::AmbiguousNumber),
+    Subject::Fault(FaultKind::BadList),
+    Subject::Fault(FaultKind::ListedTwice),
+    Subject::Fault(FaultKind::MissingKey),
+    Subject::Fault(FaultKind::BadType),
+    Subject::Fault(FaultKind::LeftOutType),
+    Subject::Fault(FaultKind::BadAccess),
+    Subject::Fault(FaultKind::BadLimits),
+    Subject::Fault(FaultKind::BadDefault),
+    Subject::Fault(FaultKind::MissingSub0),
+    Subject::Fault(FaultKind::CompactForm),
+    Subject::Fault(FaultKind::MissingMandatory),
+    Subject::Build(BuildFault::ValueRange(KEY)),
+    Subject::Build(BuildFault::BadCobId(KEY)),
+    Subject::Build(BuildFault::PdoPair(0)),
+    Subject::Build(BuildFault::BadMapping(KEY)),
+    Subject::Build(BuildFault::TooMany),
+    Subject::Warning(WarningKind::SubNumber),
+    Subject::Warning(WarningKind::SubIndex0),
+    Subject::Warning(WarningKind::FileInfoKeys),
+    Subject::Warning(WarningKind::DeviceInfoKeys),
+    Subject::Warning(WarningKind::PdoCount),
+    Subject::Warning(WarningKind::WrongList),
+    Subject::Warning(WarningKind::Unlisted),
+    Subject::Warning(WarningKind::IdentityNumber),
+    Subject::Warning(WarningKind::FixedCobId),
+    Subject::Warning(WarningKind::NodeIdPlace),
+    Subject::Warning(WarningKind::MisspeltKey(KnownKey::AccessType)),
+    Subject::Warning(WarningKind::SharedCobId),
+    Subject::Warning(WarningKind::InhibitTime),
+    Subject::Warning(WarningKind::OwnHeartbeat),
+    Subject::Warning(WarningKind::HeartbeatTwice),
+    Subject::Warning(WarningKind::NoErrorControl),
+    Subject::Warning(WarningKind::LongLine),
+    Subject::Warning(WarningKind::Utf8),
+    Subject::Warning(WarningKind::NotAscii),
+    Subject::Warning(WarningKind::ListOrder),
+    Subject::Warning(WarningKind::EqualNames),
+    Subject::Warning(WarningKind::MissingName),
+    Subject::Warning(WarningKind::UnknownKey),
+    Subject::Warning(WarningKind::DateFormat),
+    Subject::Warning(WarningKind::LineEnds),
 ];
 
 // the rule of a kind
@@ -93,15 +87,8 @@ fn rule_fix(subject: Subject) -> &'static str {
 /// All kinds of findings. `Err`: out of memory.
 pub(crate) fn all_rules(alloc: Global) -> Result<Vec<Rule<'static>>, AllocError> {
     let mut rules = Vec::new(alloc);
-    rules.push(rule_of(Subject::Format(OtherFormat::Xml)))?;
-    for kind in FAULTS {
-        rules.push(rule_of(Subject::Fault(kind)))?;
-    }
-    for fault in BUILD_FAULTS {
-        rules.push(rule_of(Subject::Build(fault)))?;
-    }
-    for kind in WARNINGS {
-        rules.push(rule_of(Subject::Warning(kind)))?;
+    for subject in &SUBJECTS {
+        rules.push(rule_of(*subject))?;
     }
     Ok(rules)
 }

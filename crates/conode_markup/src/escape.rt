@@ -1,5 +1,5 @@
-//! Text from outside in markup. Each function appends a text. `Err`: out of memory; a part of it may
-//! be there.
+//! Text from outside in markup. Each function appends a text. `Err`: out of memory; a part of it
+//! may be there.
 
 ghost use Rattle.std.specs.Prelude.{◌≡◌, ◌++◌, true, IfOk, OnOk, option_map, string_bytes};
 ghost use Rattle.std.specs.List.{flat_map};
@@ -56,8 +56,8 @@ fn push_characters(text: &mut String, characters: &[char]) -> Result<(), AllocEr
 }
 
 /// Appends bytes from outside as text between tags, or in a quoted value: read as UTF-8 if they are
-/// valid, else as Windows-1252. The characters `&`, `<`, `>`, `"` and `'` become references, control
-/// characters but the line feed are shown, as `\t` and `\x1B`.
+/// valid, else as Windows-1252. The characters `&`, `<`, `>`, `"` and `'` become references;
+/// control characters but the line feed are shown, as `\t` and `\x1B`.
 #[tactic(auto, using(crate::proofs::EscapeLaws::escaped_plain))]
 pub fn push_escaped(alloc: Global, text: &mut String, bytes: &[u8]) -> Result<(), AllocError>
     ensures text { OnOk result

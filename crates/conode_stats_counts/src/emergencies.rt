@@ -62,7 +62,7 @@ fn emergency_in(id: u16, bytes: &PackedBytes, micros: u64) -> Option<Failure>
 }
 
 // the emergency that a frame is, if it is one
-fn emergency_as(id: Identifier, content: &Content, micros: u64) -> Option<Failure>
+fn emergency_as(id: Identifier, content: &Content<'_>, micros: u64) -> Option<Failure>
     ensures { result ≡ emergency_as id content.now micros }
 {
     match (id, content) {

@@ -106,7 +106,7 @@ fn sign_in(id: u16, bytes: &PackedBytes) -> Sign
 
 impl Sign {
     /// What a frame with this identifier and content shows.
-    pub(crate) fn of(id: Identifier, content: &Content) -> Sign
+    pub(crate) fn of(id: Identifier, content: &Content<'_>) -> Sign
         ensures { result ≡ sign_as id content.now }
     {
         match (id, content) {

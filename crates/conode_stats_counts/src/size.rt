@@ -74,7 +74,7 @@ impl Size {
     /// The size of a frame with this identifier and content. It is unknown for a CAN FD frame,
     /// which has two bit rates, and for an error frame.
     #[tactic(auto, using(crate::proofs::Sent::nothing_after), unfolding(crate::specs::Sizes::size_of))]
-    pub fn of(id: Identifier, content: &Content) -> Size
+    pub fn of(id: Identifier, content: &Content<'_>) -> Size
         requires { IsIdentifier id }
         ensures { result ≡ size_of id content.now }
     {

@@ -35,7 +35,7 @@ impl Model for Transfers {
 }
 
 // the data frame with an identifier of 11 bits that this is, if it is one
-fn plain(id: Identifier, content: &Content) -> Option<Frame>
+fn plain(id: Identifier, content: &Content<'_>) -> Option<Frame>
     requires { IsIdentifier id }
     ensures { result ≡ plain id content.now }
 {
