@@ -75,7 +75,7 @@ module _ (c : Comparison) where
   cut_off_after so_far line few = let short : ltb 512 (length line) ≡ false = grind (arith, nat_tests) in rw short refl
 
   -- a line that is too long
-  with_long : SoFar → SoFar
+  abbrev with_long : SoFar → SoFar
   with_long so_far = record so_far { comparing = long_noted so_far.comparing }
 
   short_lines : (number : ℕ) (so_far : SoFar) (line : List ℕ) → length line ≤ 512
@@ -96,12 +96,12 @@ module _ (c : Comparison) where
   long_last : (closed : Bool) (number : ℕ) (so_far : SoFar) (line : List ℕ) → 512 < length line → compared_from c closed number so_far (line ∷ []) ≡ []
   unfolding compared_from
   long_last true number so_far line many = long_lines number so_far line many
-  long_last false number so_far line many = let long : ltb 512 (length line) ≡ true = grind (arith, nat_tests) in rw long (long_lines number so_far line many)
+  long_last false number so_far line many = let long : ltb 512 (length line) ≡ true = grind (arith, nat_tests) in rw long refl
 
   long_after : (closed : Bool) (so_far : SoFar) (line : List ℕ) → 512 < length line → so_far_after c closed so_far (line ∷ []) ≡ with_long so_far
   unfolding so_far_after
   long_after true so_far line many = long_with so_far line many
-  long_after false so_far line many = let long : ltb 512 (length line) ≡ true = grind (arith, nat_tests) in rw long (long_with so_far line many)
+  long_after false so_far line many = let long : ltb 512 (length line) ≡ true = grind (arith, nat_tests) in rw long refl
 
   -- ---- what bytes give
 
