@@ -55,8 +55,7 @@ impl KnownBytes {
         }
         Ok(KnownBytes {
             rooms: rooms.into_boxed_slice(),
-            // copied, since the list that grew has room to spare
-            bytes: BoxedSlice::from_slice(alloc, &bytes)?,
+            bytes: bytes.into_boxed_slice(),
         })
     }
 

@@ -11,4 +11,3 @@ mod Sent
 mod Steps
 mod LastExamples
 pub mod Idles
-mod Slots

@@ -22,7 +22,6 @@ ghost use Rattle.co_sdo_bank.specs.Banks.{BankStands};
 ghost use Rattle.co_node_model.specs.Moments.{Constants, History, channels, contents_at};
 ghost use Rattle.co_node_model.specs.Sdo.{channel_logs};
 
-use crate::maybe_rpdo::MaybeRpdo;
 use co_dict::{CobId, ObjectStore, Side, number_u32};
 use co_frame::Frame;
 use co_node_model::{Address, Mark};
@@ -72,17 +71,17 @@ fn may_change_addresses(mark: &Mark) -> bool
 const IDENTIFIERS: usize = 2048;
 
 /// Clears all places.
-fn clear(numbers: &mut [MaybeRpdo])
+fn clear(numbers: &mut [Option<PdoNumber>])
     ensures { (id : ℕ) (d : Option ℕ) → id < length numbers.old →
         slice_index_or numbers.new id d ≡ None }
 {
     for number in numbers.iter_mut() {
-        *number = MaybeRpdo::none();
+        *number = None;
     }
 }
 
 /// Enters an RPDO at its identifier, if it is active and the place is free.
-fn enter<S: ObjectStore>(numbers: &mut [MaybeRpdo], store: &S, number: PdoNumber)
+fn enter<S: ObjectStore>(numbers: &mut [Option<PdoNumber>], store: &S, number: PdoNumber)
     requires { length numbers.old ≡ 2048 }
     ensures { (id : ℕ) (d : Option ℕ) → id < 2048 →
         slice_index_or numbers.new id d ≡ option_or (slice_index_or numbers.old id d)
@@ -90,8 +89,8 @@ fn enter<S: ObjectStore>(numbers: &mut [MaybeRpdo], store: &S, number: PdoNumber
 {
     if is_active(store, Side::Rpdo, number) {
         let id = usize::from(cob_id(store, Side::Rpdo, number).identifier());
-        if numbers[id].get().is_none() {
-            numbers[id] = MaybeRpdo::some(number);
+        if numbers[id].is_none() {
+            numbers[id] = Some(number);
         }
     }
 }
@@ -99,7 +98,7 @@ fn enter<S: ObjectStore>(numbers: &mut [MaybeRpdo], store: &S, number: PdoNumber
 /// Fills the places: at each identifier the first active RPDO with it.
 #[cold]
 #[inline(never)]
-fn fill<S: ObjectStore>(numbers: &mut [MaybeRpdo], store: &S)
+fn fill<S: ObjectStore>(numbers: &mut [Option<PdoNumber>], store: &S)
     requires { length numbers.old ≡ 2048 }
     ensures table { IsRpdoTable numbers.new }
     ensures numbers { AreRpdosOf (S.contents store.now) numbers.new }
@@ -118,7 +117,7 @@ fn fill<S: ObjectStore>(numbers: &mut [MaybeRpdo], store: &S)
 pub struct AddressTable {
     // the word of 1005h; 0 if there is none
     sync: u32,
-    numbers: BoxedSlice<MaybeRpdo>,
+    numbers: BoxedSlice<Option<PdoNumber>>,
 }
 
 impl Model for AddressTable {
@@ -137,7 +136,7 @@ impl AddressTable {
     pub fn new<S: ObjectStore>(alloc: Global, store: &S) -> Result<AddressTable, AllocError>
         ensures { IfOk result (λ table. IsTableOf (S.contents store.now) table) }
     {
-        let mut numbers = vec![in alloc; MaybeRpdo::none(); IDENTIFIERS]?;
+        let mut numbers = vec![in alloc; None; IDENTIFIERS]?;
         fill(&mut numbers, store);
         Ok(AddressTable {
             sync: number_u32(store, keys::SYNC_COB_ID),
@@ -177,7 +176,7 @@ impl AddressTable {
         ensures { (contents : Contents) → IsTableOf contents self.now →
             result ≡ rpdo_with contents id }
     {
-        self.numbers[usize::from(id)].get()
+        self.numbers[usize::from(id)]
     }
 }
 
