@@ -169,23 +169,8 @@ impl Events {
         }
     }
 
-    // What most inputs show is noted here, without a call.
     #[inline(always)]
     fn note_seen(&mut self, seen: Seen)
-        ensures { self.new ≡ with_seen seen self.old }
-    {
-        match seen {
-            Seen::Nothing => {}
-            Seen::Sync => self.sync = 1,
-            Seen::Rpdo => self.rpdo = 1,
-            // not by name, so that three tests are compiled and no table
-            _ => self.note_any(seen),
-        }
-    }
-
-    // All that an input may show.
-    #[inline(never)]
-    fn note_any(&mut self, seen: Seen)
         ensures { self.new ≡ with_seen seen self.old }
     {
         match seen {
