@@ -55,7 +55,8 @@ impl KnownBytes {
         }
         Ok(KnownBytes {
             rooms: rooms.into_boxed_slice(),
-            bytes: bytes.into_boxed_slice(),
+            // copied, since the list that grew has room to spare
+            bytes: BoxedSlice::from_slice(alloc, &bytes)?,
         })
     }
 

@@ -128,7 +128,8 @@ impl EntryTable {
         }
         Ok(EntryTable {
             lines: lines.into_boxed_slice(),
-            names: names.into_boxed_slice(),
+            // copied, since the list that grew has room to spare
+            names: BoxedSlice::from_slice(alloc, &names)?,
         })
     }
 

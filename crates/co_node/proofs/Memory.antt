@@ -101,8 +101,9 @@ memory_kept k before after old new was is =
     (subst (λ (d : Description). Covers Rpdo d (length old.device.parts.mappings.rpdos)) (sym same) was.mappings.rpdos.covers) in
     let tpdos = counts_same Tpdo d _ _ is.mappings.tpdos.few was.mappings.tpdos.few is.mappings.tpdos.covers
     (subst (λ (d : Description). Covers Tpdo d (length old.device.parts.mappings.tpdos)) (sym same) was.mappings.tpdos.covers) in
-    let waiting = is.slots.size ∙ sym was.slots.size in
-    let taken = is.slots.room ∙ sym was.slots.room in
+    let waiting = counts_same Rpdo d _ _ is.slots.few was.slots.few is.slots.covers
+    (subst (λ (d : Description). Covers Rpdo d (length old.device.parts.slots.slots)) (sym same) was.slots.covers) in
+    let taken = is.slots.stand.room ∙ waiting ∙ sym was.slots.stand.room in
     let counted = scheduled d _ _ is.schedule ∙ ap (λ (d : Description). length (tpdos_of d.rows)) same ∙ sym (scheduled e _ _ was.schedule) in
     let places = placed d _ _ is.schedule ∙ ap (λ (d : Description). length (tpdos_of d.rows)) same ∙ sym (placed e _ _ was.schedule) in
     cc

@@ -6,7 +6,6 @@ use Rattle.co_dict.specs.Stores.{Description}
 use Rattle.co_sdo_bank.specs.Banks.{BankStands}
 use Rattle.co_node_parts.specs.ConsumerTables.{ConsumersStand}
 use Rattle.co_node_parts.specs.EmergencyQueues.{EmergenciesStand}
-use Rattle.co_node_parts.specs.RpdoSlots.{SlotsStand}
 use Rattle.co_node_parts.specs.Producers.{ProducerStands}
 use Rattle.co_pdo.specs.Schedules.{IsScheduleAfter}
 use Rattle.co_node_model.specs.declared.address.Address.{Address}
@@ -29,6 +28,7 @@ use Rattle.co_node_laws.proofs.Kept.{event_refused}
 use Rattle.co_node_device.specs.declared.parts.Parts.{Parts}
 use Rattle.co_node_device.specs.Lasts.{seen_of}
 use Rattle.co_node_device.specs.NodeStanding.{NodeStands}
+use Rattle.co_node_device.specs.SlotTables.{AreSlotsOf}
 use Rattle.co_node.specs.declared.node.Node.{Node}
 use Rattle.co_node.specs.Nodes.{Stands, description_of, entries_of}
 use Rattle.co_node.specs.Refused.{AsForNobody}
@@ -64,7 +64,7 @@ stands_as k d entries parts before event code frame same stands =
       mappings = stands.mappings;
       consumers = subst (λ (m : Moment). ConsumersStand parts.consumers (consumers_log k (m ∷ history))) same stands.consumers;
       emergencies = subst (λ (m : Moment). EmergenciesStand parts.emergencies (emergency_log (m ∷ history))) same stands.emergencies;
-      slots = subst (λ (m : Moment). SlotsStand 512 parts.slots (slot_log k (m ∷ history))) same stands.slots;
+      slots = subst (λ (m : Moment). AreSlotsOf d parts.slots (slot_log k (m ∷ history))) same stands.slots;
       producer = subst (λ (m : Moment). ProducerStands parts.producer (producer_log k (m ∷ history))) same stands.producer;
       schedule = subst (λ (m : Moment). IsScheduleAfter d parts.schedule (schedule_log k (m ∷ history))) same stands.schedule;
       app = sym (none_to_frame k before frame);

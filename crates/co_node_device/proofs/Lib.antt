@@ -11,3 +11,4 @@ mod Sent
 mod Steps
 mod LastExamples
 pub mod Idles
+mod Slots

@@ -19,7 +19,8 @@ use Rattle.co_node_parts.specs.NmtStates.{state_after, enters}
 use Rattle.co_node_parts.specs.ConsumerTables.{ConsumersStand}
 use Rattle.co_node_parts.specs.EmergencyQueues.{Pending, EmergencyLog, EmergenciesStand, Noted, emergency_due, with_queued, with_sending}
 use Rattle.co_node_parts.specs.Producers.{Producer, ProducerStands, is_heartbeat_due}
-use Rattle.co_node_parts.specs.RpdoSlots.{SlotContent, SlotsStand}
+use Rattle.co_node_parts.specs.RpdoSlots.{SlotContent}
+use Rattle.co_node_device.specs.SlotTables.{AreSlotsOf}
 use Rattle.co_node_parts.specs.declared.rpdo_slots.SlotEvent.{SlotEvent}
 use Rattle.co_node_model.specs.Inputs.{InputView}
 use Rattle.co_profile.specs.Keys.{emergency_inhibit_key}
@@ -100,9 +101,9 @@ module _ (k : Constants) (h : History) (m : Moment) (is : IsMoment k h m) where
     pub contents : (contents : Contents) → contents ≡ after_effects d watched mark t (slot_log k h) → contents ≡ m.contents
     contents c e = e ∙ rw (dk, em, ew, et) (sym is.contents)
 
-    pub slots : (content : SlotContent) → SlotsStand 512 content (slot_event d watched mark t ∷ slot_log k h) → SlotsStand 512 content (slot_log k (m ∷ h))
+    pub slots : (content : SlotContent) → AreSlotsOf d content (slot_event d watched mark t ∷ slot_log k h) → AreSlotsOf d content (slot_log k (m ∷ h))
     slots content s =
-        subst (λ (e : SlotEvent). SlotsStand 512 content (e ∷ slot_log k h)) noted s
+        subst (λ (e : SlotEvent). AreSlotsOf d content (e ∷ slot_log k h)) noted s
       where
         noted : slot_event d watched mark t ≡ slot_event k.description m.watched m.mark (transition_of m h)
         noted = rw (dk, em, ew, et) refl

@@ -1,5 +1,7 @@
+pub mod MaybeRpdos
 pub mod AddressTables
 pub mod MappingTables
+pub mod SlotTables
 pub mod Given
 pub mod Befores
 pub mod Receiving

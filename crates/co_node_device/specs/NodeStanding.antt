@@ -6,13 +6,13 @@ use Rattle.co_dict.specs.Stores.{Description}
 use Rattle.co_sdo_bank.specs.Banks.{BankStands}
 use Rattle.co_node_parts.specs.ConsumerTables.{ConsumersStand}
 use Rattle.co_node_parts.specs.EmergencyQueues.{EmergenciesStand}
-use Rattle.co_node_parts.specs.RpdoSlots.{SlotsStand}
 use Rattle.co_node_parts.specs.Producers.{ProducerStands}
 use Rattle.co_pdo.specs.Schedules.{IsScheduleAfter}
 use Rattle.co_node_model.specs.Inputs.{Inputs}
 use Rattle.co_node_device.specs.AddressTables.{IsTableOf}
 use Rattle.co_node_device.specs.Lasts.{last_losses, last_seen}
 use Rattle.co_node_device.specs.MappingTables.{AreMappings}
+use Rattle.co_node_device.specs.SlotTables.{AreSlotsOf}
 use Rattle.co_node_model.specs.Moments.{Constants, channels}
 use Rattle.co_node_model.specs.Sdo.{channel_logs}
 use Rattle.co_node_model.specs.Heartbeats.{consumers_log, producer_log}
@@ -32,7 +32,7 @@ pub record NodeStands (k : Constants) (d : Description) (entries : Contents) (pa
   pub mappings : AreMappings d entries parts.mappings
   pub consumers : ConsumersStand parts.consumers (consumers_log k (moments k inputs))
   pub emergencies : EmergenciesStand parts.emergencies (emergency_log (moments k inputs))
-  pub slots : SlotsStand 512 parts.slots (slot_log k (moments k inputs))
+  pub slots : AreSlotsOf d parts.slots (slot_log k (moments k inputs))
   pub producer : ProducerStands parts.producer (producer_log k (moments k inputs))
   pub schedule : IsScheduleAfter d parts.schedule (schedule_log k (moments k inputs))
   pub app : parts.last_app ≡ app_after k inputs

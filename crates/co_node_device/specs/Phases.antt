@@ -8,7 +8,6 @@ use Rattle.co_sdo_bank.specs.Banks.{BankStands}
 use Rattle.co_pdo.specs.Schedules.{IsScheduleAfter}
 use Rattle.co_node_parts.specs.ConsumerTables.{ConsumersStand}
 use Rattle.co_node_parts.specs.EmergencyQueues.{EmergenciesStand, with_queued}
-use Rattle.co_node_parts.specs.RpdoSlots.{SlotsStand}
 use Rattle.co_node_parts.specs.Producers.{ProducerStands}
 use Rattle.co_node_parts.specs.declared.nmt_state.Transition.{Transition}
 use Rattle.co_node_model.specs.Moments.{Constants, Moment, History, channels, contents_at}
@@ -21,6 +20,7 @@ use Rattle.co_node_model.specs.Tpdos.{schedule_log, tpdo_frame}
 use Rattle.co_node_model.specs.declared.mark.Mark.{Mark}
 use Rattle.co_node_device.specs.AddressTables.{IsTableOf}
 use Rattle.co_node_device.specs.MappingTables.{AreMappings}
+use Rattle.co_node_device.specs.SlotTables.{AreSlotsOf}
 use Rattle.co_node_device.specs.Befores.{logs_received}
 use Rattle.co_node_device.specs.Lasts.{seen_of}
 use Rattle.co_node_device.specs.declared.parts.Parts.{Parts}
@@ -37,7 +37,7 @@ pub record IsReceived (k : Constants) (h : History) (m : Moment) (d : Descriptio
   pub mappings : AreMappings d (contents_at k h) parts.mappings
   pub consumers : ConsumersStand parts.consumers (consumers_log k h)
   pub emergencies : EmergenciesStand parts.emergencies (with_queued m.raised_by_app (emergency_log h))
-  pub slots : SlotsStand 512 parts.slots (slot_log k h)
+  pub slots : AreSlotsOf d parts.slots (slot_log k h)
   pub producer : ProducerStands parts.producer (producer_log k h)
   pub schedule : IsScheduleAfter d parts.schedule (schedule_log k h)
   pub app : parts.last_app ≡ m.app
@@ -57,7 +57,7 @@ pub record TookEffect (k : Constants) (h : History) (m : Moment) (d : Descriptio
   pub consumers : ConsumersStand parts.consumers (consumers_log k (m ∷ h))
   pub emergencies : EmergenciesStand parts.emergencies
       (with_queued m.raised_by_pdo (with_queued m.raised_by_loss (with_queued m.raised_by_app (emergency_log h))))
-  pub slots : SlotsStand 512 parts.slots (slot_log k (m ∷ h))
+  pub slots : AreSlotsOf d parts.slots (slot_log k (m ∷ h))
   pub producer : ProducerStands parts.producer (producer_log k h)
   pub schedule : IsScheduleAfter d parts.schedule (schedule_log k h)
   pub app : parts.last_app ≡ m.app

@@ -22,6 +22,7 @@ ghost use Rattle.co_sdo_bank.specs.Banks.{BankStands};
 ghost use Rattle.co_node_model.specs.Moments.{Constants, History, channels, contents_at};
 ghost use Rattle.co_node_model.specs.Sdo.{channel_logs};
 
+use crate::maybe_rpdo::MaybeRpdo;
 use co_dict::{CobId, ObjectStore, Side, number_u32};
 use co_frame::Frame;
 use co_node_model::{Address, Mark};
@@ -71,17 +72,17 @@ fn may_change_addresses(mark: &Mark) -> bool
 const IDENTIFIERS: usize = 2048;
 
 /// Clears all places.
-fn clear(numbers: &mut [Option<PdoNumber>])
+fn clear(numbers: &mut [MaybeRpdo])
     ensures { (id : ℕ) (d : Option ℕ) → id < length numbers.old →
         slice_index_or numbers.new id d ≡ None }
 {
     for number in numbers.iter_mut() {
-        *number = None;
+        *number = MaybeRpdo::none();
     }
 }
 
 /// Enters an RPDO at its identifier, if it is active and the place is free.
-fn enter<S: ObjectStore>(numbers: &mut [Option<PdoNumber>], store: &S, number: PdoNumber)
+fn enter<S: ObjectStore>(numbers: &mut [MaybeRpdo], store: &S, number: PdoNumber)
     requires { length numbers.old ≡ 2048 }
     ensures { (id : ℕ) (d : Option ℕ) → id < 2048 →
         slice_index_or numbers.new id d ≡ option_or (slice_index_or numbers.old id d)
@@ -89,8 +90,8 @@ fn enter<S: ObjectStore>(numbers: &mut [Option<PdoNumber>], store: &S, number: P
 {
     if is_active(store, Side::Rpdo, number) {
         let id = usize::from(cob_id(store, Side::Rpdo, number).identifier());
-        if numbers[id].is_none() {
-            numbers[id] = Some(number);
+        if numbers[id].get().is_none() {
+            numbers[id] = MaybeRpdo::some(number);
         }
     }
 }
@@ -98,7 +99,7 @@ fn enter<S: ObjectStore>(numbers: &mut [Option<PdoNumber>], store: &S, number: P
 /// Fills the places: at each identifier the first active RPDO with it.
 #[cold]
 #[inline(never)]
-fn fill<S: ObjectStore>(numbers: &mut [Option<PdoNumber>], store: &S)
+fn fill<S: ObjectStore>(numbers: &mut [MaybeRpdo], store: &S)
     requires { length numbers.old ≡ 2048 }
     ensures table { IsRpdoTable numbers.new }
     ensures numbers { AreRpdosOf (S.contents store.now) numbers.new }
@@ -117,7 +118,7 @@ fn fill<S: ObjectStore>(numbers: &mut [Option<PdoNumber>], store: &S)
 pub struct AddressTable {
     // the word of 1005h; 0 if there is none
     sync: u32,
-    numbers: BoxedSlice<Option<PdoNumber>>,
+    numbers: BoxedSlice<MaybeRpdo>,
 }
 
 impl Model for AddressTable {
@@ -136,7 +137,7 @@ impl AddressTable {
     pub fn new<S: ObjectStore>(alloc: Global, store: &S) -> Result<AddressTable, AllocError>
         ensures { IfOk result (λ table. IsTableOf (S.contents store.now) table) }
     {
-        let mut numbers = vec![in alloc; None; IDENTIFIERS]?;
+        let mut numbers = vec![in alloc; MaybeRpdo::none(); IDENTIFIERS]?;
         fill(&mut numbers, store);
         Ok(AddressTable {
             sync: number_u32(store, keys::SYNC_COB_ID),
@@ -176,7 +177,7 @@ impl AddressTable {
         ensures { (contents : Contents) → IsTableOf contents self.now →
             result ≡ rpdo_with contents id }
     {
-        self.numbers[usize::from(id)]
+        self.numbers[usize::from(id)].get()
     }
 }
 

@@ -13,6 +13,7 @@ ghost use Rattle.co_node_model.specs.Tpdos.{tpdo_count};
 ghost use Rattle.co_sdo_bank.specs.Banks.{all_settings};
 ghost use Rattle.co_sdo_bank.specs.Channels.{HaveRoom};
 ghost use Rattle.co_node_device.specs.MappingTables.{HaveParts};
+ghost use Rattle.co_node_device.specs.SlotTables.{AreSlotsOf};
 ghost use Rattle.co_node_device.specs.NodeStanding.{NodeStands};
 ghost use Rattle.co_node_device.specs.Standing.{Stands};
 ghost use Rattle.co_node_device.specs.Built.{constants_of};
@@ -21,6 +22,7 @@ ghost use Rattle.co_node_device.specs.Lasts.{last_losses, last_seen};
 use crate::addresses::AddressTable;
 use crate::device::Device;
 use crate::heartbeats::{begun_consumers, begun_producer, send_life};
+use crate::mapping_table::count_of;
 use crate::mappings::CompiledMappings;
 use crate::parts::Parts;
 use crate::seen::Seen;
@@ -34,6 +36,13 @@ use co_pdo_compiled::Compiled;
 use co_sdo_bank::Bank;
 use co_value::Key;
 use std::alloc::{AllocError, Global};
+
+// Empty slots for the frames of a dictionary's RPDOs, up to the last.
+fn slots_of<S: ObjectStore>(alloc: Global, store: &S) -> Result<RpdoSlots, AllocError>
+    ensures { IfOk result (λ slots. AreSlotsOf (S.description store.now) slots []) }
+{
+    RpdoSlots::new(alloc, count_of(store, Side::Rpdo))
+}
 
 // The parts of a device over a dictionary. It is borrowed, so that no exit drops a store as well as
 // parts.
@@ -58,7 +67,7 @@ fn parts_of<S: ObjectStore>(
     let addresses = AddressTable::new(alloc, store)?;
     let mappings = CompiledMappings::new(alloc, store)?;
     let emergencies = Emergencies::new(alloc)?;
-    let slots = RpdoSlots::new(alloc, 512)?;
+    let slots = slots_of(alloc, store)?;
     let schedule = Schedule::new(alloc, store)?;
     Ok(Parts {
         state: NmtState::new(),

@@ -29,6 +29,7 @@ use co_frame::{Frame, Outbox};
 use co_node_laws::{addresses_kept, few, mappings_kept, schedule_ready};
 use co_node_model::{Address, AppEvent, Mark};
 use co_node_parts::Transition;
+use co_pdo::active_is_there;
 
 /// A device over a dictionary. Each SDO channel has room for every entry.
 #[derive(Drop)]
@@ -49,7 +50,7 @@ impl<S: ObjectStore> Device<S> {
 
     /// Takes a received frame. The outbox then holds the frames that the definitions prescribe at
     /// it, and nothing else.
-    #[inline(never)]
+    #[inline(always)]
     pub fn take_frame(&mut self, frame: &Frame, outbox: &mut Outbox)
         ensures frames { (k : Constants) (inputs : Inputs) → Stands k self.old inputs →
             outbox.new.items ≡ prescribed k inputs (Framed frame.now) }
@@ -75,7 +76,7 @@ impl<S: ObjectStore> Device<S> {
 
     /// 1 ms elapsed. The outbox then holds the frames that the definitions prescribe at it, and
     /// nothing else.
-    #[inline(never)]
+    #[inline(always)]
     pub fn tick(&mut self, outbox: &mut Outbox)
         ensures frames { (k : Constants) (inputs : Inputs) → Stands k self.old inputs →
             outbox.new.items ≡ prescribed k inputs Ticked }
@@ -166,6 +167,8 @@ impl<S: ObjectStore> Device<S> {
         let transition = Transition { before, after };
         drop_if(&mut self.parts.bank, drops(mark, transition));
         self.parts.mappings.note(mark, &self.store);
+        // a law: the call changes nothing
+        active_is_there(&self.store);
         take_pdos(
             &mut self.store,
             &self.parts.mappings.rpdos,

@@ -12,6 +12,7 @@ mod heartbeats;
 mod idle;
 mod mapping_table;
 mod mappings;
+mod maybe_rpdo;
 mod nmt;
 mod parts;
 mod receiving;

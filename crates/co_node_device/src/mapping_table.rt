@@ -55,7 +55,7 @@ fn may_change_mappings(mark: &Mark) -> bool
 }
 
 /// The number of the last PDO of a side that the dictionary has, plus 1; 0 if it has none.
-fn count_of<S: ObjectStore>(store: &S, side: Side) -> u16
+pub(crate) fn count_of<S: ObjectStore>(store: &S, side: Side) -> u16
     ensures covers { Covers side (S.description store.now) result }
     ensures few { result ≤ 512 }
 {

@@ -1,7 +1,7 @@
 //! RPDOs: their frames, those that wait for a SYNC, errors of length, and data that take effect
 //! (CiA 301, 7.2.2).
 
-ghost use Rattle.std.specs.Prelude.{◌≡◌, ◌<◌, None, IfSome, [], if◌then◌else◌, ◌∷◌};
+ghost use Rattle.std.specs.Prelude.{◌≡◌, ◌<◌, None, IfSome, [], if◌then◌else◌, ◌∷◌, true};
 ghost use Rattle.co_dict.specs.Rows.{Contents};
 ghost use Rattle.co_dict.specs.Stores.{Description};
 ghost use Rattle.co_node_model.specs.Inputs.{InputView};
@@ -27,10 +27,12 @@ ghost use Rattle.co_node_model.specs.Moments.{nothing_of};
 ghost use Rattle.std.specs.List.{cons_option, All};
 ghost use Rattle.co_dict.specs.declared.side.Side.TheVariants.{Rpdo};
 ghost use Rattle.co_node_device.specs.MappingTables.{HaveParts, IsMappingTable};
+ghost use Rattle.co_node_device.specs.SlotTables.{AreSlotsOf};
+ghost use Rattle.co_pdo.specs.Mappings.{has_pdo};
 ghost use Rattle.co_node_parts.specs.EmergencyQueues.{EmergencyLog, EmergenciesStand, with_queued};
 ghost use Rattle.co_pdo.specs.Images.{answered};
 ghost use Rattle.co_node_model.specs.Emergencies.{all_raised, emergencies_of};
-ghost use Rattle.co_node_parts.specs.RpdoSlots.{SlotLog, SlotsStand};
+ghost use Rattle.co_node_parts.specs.RpdoSlots.{SlotLog};
 ghost use Rattle.co_node_device.specs.Effects.{length_errors_of, after_lengths, after_effects, effect_emergencies};
 ghost use Rattle.co_node_model.specs.Marks.{marked_rpdo};
 
@@ -352,15 +354,19 @@ pub(crate) fn take_pdos<S: ObjectStore>(
     ensures description { S.description store.new ≡ S.description store.old }
     ensures slots { (log : SlotLog) →
         IsMappingTable Rpdo (S.description store.old) (S.contents store.old) mappings.now →
-        SlotsStand 512 slots.old log → SlotsStand 512 slots.new
+        AreSlotsOf (S.description store.old) slots.old log →
+        IfSome (marked_rpdo mark.now) (λ rpdo.
+        has_pdo Rpdo (S.description store.old).rows rpdo.number ≡ true) →
+        AreSlotsOf (S.description store.old) slots.new
         (slot_event (S.description store.old) (S.contents store.old) mark.now transition ∷ log) }
     ensures contents { (log : SlotLog) →
         IsMappingTable Rpdo (S.description store.old) (S.contents store.old) mappings.now →
-        SlotsStand 512 slots.old log → S.contents store.new ≡
+        AreSlotsOf (S.description store.old) slots.old log → S.contents store.new ≡
         after_effects (S.description store.old) (S.contents store.old) mark.now transition log }
     ensures emergencies { (log : SlotLog) (queued : EmergencyLog) →
         IsMappingTable Rpdo (S.description store.old) (S.contents store.old) mappings.now →
-        SlotsStand 512 slots.old log → EmergenciesStand emergencies.old queued →
+        AreSlotsOf (S.description store.old) slots.old log →
+        EmergenciesStand emergencies.old queued →
         EmergenciesStand emergencies.new (with_queued (effect_emergencies
         (S.description store.old) (S.contents store.old) mark.now transition log) queued) }
 {

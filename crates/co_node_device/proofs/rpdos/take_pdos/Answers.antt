@@ -1,4 +1,4 @@
-use Rattle.std.proofs.Common.{◌≡◌, ◌<◌, ◌∷◌, ◌∙◌, [], sym, ap, subst}
+use Rattle.std.proofs.Common.{◌≡◌, ◌<◌, ◌∷◌, ◌∙◌, [], length, sym, ap, subst}
 use Rattle.std.specs.Prelude.{if◌then◌else◌, Option}
 use Rattle.std.specs.List.{All, cons_option}
 use Rattle.co_dict.specs.declared.side.Side.TheVariants.{Rpdo}
@@ -7,11 +7,13 @@ use Rattle.co_dict.specs.Stores.{Description}
 use Rattle.co_node_parts.specs.declared.rpdo_slots.KeptFrame.{KeptFrame}
 use Rattle.co_node_parts.specs.declared.rpdo_slots.SlotEvent.{SlotEvent}
 use Rattle.co_node_parts.specs.RpdoSlots.{SlotLog, SlotsStand, taken_at}
+use Rattle.co_node_device.specs.SlotTables.{AreSlotsOf}
 use Rattle.co_node_parts.specs.EmergencyQueues.{EmergenciesStand}
 use Rattle.co_node_model.specs.Marks.{marked_rpdo}
 use Rattle.co_node_model.specs.Rpdos.{IsMappedLength, IsTypeOf, immediate, slot_event}
 use Rattle.co_node_device.specs.MappingTables.{IsMappingTable}
 use Rattle.co_node_device.specs.Effects.{after_lengths, length_errors_of}
+use Rattle.co_node_device.proofs.Slots.{slots_after, taken_of_all}
 use Rattle.co_node_device.proofs.Taken.{AreEffects, taken_below, effects_are, effects_queued}
 use Rattle.co_node_device.proofs.rpdos.take_pdos.Given as given
 use Rattle.co_node_device.proofs.rpdos.take_pdos.Goals as goal
@@ -53,9 +55,13 @@ module _ (g : given.Over) (c : goal.After-mappings_stay g)
 
 module _ (g : given.Over) (c : goal.After-mappings_stay g)
     (table : IsMappingTable Rpdo (g.S.ObjectStore.description c.args.store.now) (g.S.ObjectStore.contents c.args.store.now) c.args.mappings.now)
-    (log : SlotLog) (h : SlotsStand 512 c.args.slots.now log) where
+    (log : SlotLog) (h : AreSlotsOf (g.S.ObjectStore.description c.args.store.now) c.args.slots.now log) where
+  -- what is taken is what all 512 slots would give
+  from_slots : c.taken.result.now ≡ taken_at 512 c.slot_event.result log
+  from_slots = c.taken.ensures ∙ c.note.ensures.taken (length c.args.slots.now.slots) log h.stand ∙ taken_of_all _ c.args.slots.now log c.slot_event.result h
+
   numbers : All (λ rpdo. rpdo.number < 512) c.taken.result.now
-  numbers = subst (All (λ rpdo. rpdo.number < 512)) (sym (c.taken.ensures ∙ c.note.ensures.taken 512 log h)) (taken_below 512 _ log)
+  numbers = subst (All (λ rpdo. rpdo.number < 512)) (sym from_slots) (taken_below 512 _ log)
 
   gave : AreEffects (g.S.ObjectStore.description c.args.store.now) (g.S.ObjectStore.description c.raise_lengths.new.store) (g.S.ObjectStore.description c.take_all_data.new.store)
       (g.S.ObjectStore.contents c.args.store.now) (g.S.ObjectStore.contents c.raise_lengths.new.store) (g.S.ObjectStore.contents c.take_all_data.new.store) (g.S.ObjectStore.contents c.take_at_once.new.store)
@@ -63,7 +69,7 @@ module _ (g : given.Over) (c : goal.After-mappings_stay g)
   gave = record {
     lengths = lengths g c table;
     same = c.raise_lengths.ensures.description;
-    taken = c.taken.ensures ∙ c.note.ensures.taken 512 log h ∙ ap (λ (e : SlotEvent). taken_at 512 e log) (event g c table);
+    taken = from_slots ∙ ap (λ (e : SlotEvent). taken_at 512 e log) (event g c table);
     data_taken = c.take_all_data.ensures.contents (waiting g c table) numbers;
     same_then = c.take_all_data.ensures.description ∙ c.raise_lengths.ensures.description;
     at_once = c.is_immediate-at_once.ensures (g.S.ObjectStore.description c.args.store.now) (g.S.ObjectStore.contents c.args.store.now) c.type_of-kind.ensures (mapped_came g c table)
@@ -72,7 +78,9 @@ module _ (g : given.Over) (c : goal.After-mappings_stay g)
   }
 
 pub returns-clause-slots : goal.returns-clause-slots
-returns-clause-slots g c = λ log table h. subst (λ (e : SlotEvent). SlotsStand 512 c.note.new.self (e ∷ log)) (event g c table) (c.note.ensures.stands 512 log h)
+returns-clause-slots g c = λ log table h there.
+    slots_after (g.S.ObjectStore.description c.args.store.now) (g.S.ObjectStore.contents c.args.store.now) c.args.slots.now c.note.new.self log c.args.mark.now c.args.transition h c.requires.number there
+    (subst (λ (e : SlotEvent). SlotsStand (length c.args.slots.now.slots) c.note.new.self (e ∷ log)) (event g c table) (c.note.ensures.stands (length c.args.slots.now.slots) log h.stand))
 
 pub returns-clause-contents : goal.returns-clause-contents
 returns-clause-contents g c = λ log table h. effects_are _ _ _ _ _ _ _ _ _ _ _ _ (gave g c table log h)

@@ -1,4 +1,5 @@
-use Rattle.std.proofs.Common.{◌≡◌, ◌+◌, true, false, [], sym, ap, ◌∙◌, rules, arith}
+use Rattle.std.proofs.Common.{◌≡◌, ℕ, ◌+◌, true, false, [], sym, ap, ◌∙◌, subst, rules, arith}
+use Rattle.co_node.specs.Nodes.{Stands}
 use Rattle.co_node_model.specs.Inputs.{Ticked}
 use Rattle.co_node_model.specs.Ticks.{after_ticks}
 use Rattle.bafokun.specs.Happened.{and_input}
@@ -49,4 +50,18 @@ loop-i-preserved c =
           c.tick.ensures.events k (after_ticks c.loop-i.i before) (inv.stands k before stands)
           ∙ ap (and_input k (after_ticks c.loop-i.i before) Ticked) (inv.events k before stands)
           ∙ sym (one_more_tick k before c.loop-i.i c.args.self.now.events);
+    }
+
+pub returns-clause-gave : goal.returns-clause-gave
+returns-clause-gave c = λ k before stands.
+    let inv = c.loop-i.invariant in
+    let all : c.loop-i.i ≡ c.args.most = omega arith in
+    record {
+      ticks = record {
+        within = omega arith;
+        quiet = λ n below. inv.quiet k before stands n (omega arith);
+        early = λ fewer none. absurd (omega (arith, fewer));
+      };
+      stands = subst (λ (m : ℕ). Stands k c.loop-i.self.node (after_ticks m before)) all (inv.stands k before stands);
+      sent = inv.empty ∙ sym (inv.quiet k before stands c.args.most (omega arith));
     }

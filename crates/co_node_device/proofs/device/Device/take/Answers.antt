@@ -7,11 +7,13 @@ use Rattle.co_dict.specs.Stores.{Description, IsDictionary}
 use Rattle.co_node_model.specs.Inputs.{Inputs}
 use Rattle.co_node_model.specs.Moments.{Constants, Moment, History, channels}
 use Rattle.co_node_model.specs.Emergencies.{emergency_log}
+use Rattle.co_node_model.specs.Rpdos.{slot_log}
 use Rattle.co_node_model.specs.Tpdos.{schedule_log}
 use Rattle.co_node_model.specs.Device.{contents_of, frame_bound, frames, moment, moments}
 use Rattle.co_node_laws.specs.Lengths.{HasParts}
 use Rattle.co_node_device.specs.AddressTables.{IsTableOf}
 use Rattle.co_node_device.specs.MappingTables.{AreMappings}
+use Rattle.co_node_device.specs.SlotTables.{AreSlotsOf}
 use Rattle.co_node_device.specs.Given.{given_view}
 use Rattle.co_node_device.specs.Befores.{IsAddressed, IsBefore, logs_received}
 use Rattle.co_node_device.specs.Lasts.{seen_of}
@@ -47,7 +49,7 @@ module _ (g : given.Over) (c : After-self-4-1 g) (k : Constants) (inputs : Input
         (subst (λ (e : Contents). AreMappings (g.S.ObjectStore.description c.args.self.now.store) e c.args.self.now.parts.mappings) ns.contents ns.mappings);
     consumers = ns.consumers;
     emergencies = c.receive-received.ensures.emergencies k h (emergency_log h) before addressed ns.emergencies;
-    slots = ns.slots;
+    slots = subst (λ (d : Description). AreSlotsOf d c.args.self.now.parts.slots (slot_log k h)) same ns.slots;
     producer = ns.producer;
     schedule = subst (λ (d : Description). IsScheduleAfter d c.args.self.now.parts.schedule (schedule_log k h)) same ns.schedule;
     app = c.receive-received.ensures.app k h before addressed;

@@ -1,7 +1,8 @@
 use Rattle.std.proofs.Common.{◌≡◌, false, List, ◌∷◌, sym, ap, ◌∙◌, subst}
 use Rattle.co_sdo_bank.specs.Banks.{BankStands}
 use Rattle.co_node_parts.specs.ConsumerTables.{ConsumersStand}
-use Rattle.co_node_parts.specs.RpdoSlots.{SlotsStand}
+use Rattle.co_node_device.specs.SlotTables.{AreSlotsOf}
+use Rattle.co_node_device.proofs.Slots.{each_there}
 use Rattle.co_node_parts.specs.declared.nmt_state.Transition.{Transition}
 use Rattle.co_node_parts.specs.EmergencyQueues.{EmergenciesStand, with_queued}
 use Rattle.co_node_model.specs.Inputs.{Inputs, InputView}
@@ -77,8 +78,11 @@ module _ (g : given.Over) (c : After-mappings_stay g) (k : Constants) (inputs : 
       (subst (λ (d : Description). AreMappings d (contents_of k inputs) c.args.self.now.parts.mappings)
       (sym c.watch-loss.ensures.description) r.mappings) same_mappings
 
+  slots_watched : AreSlotsOf (g.S.ObjectStore.description c.watch-loss.new.store) c.args.self.now.parts.slots (slot_log k h)
+  slots_watched = subst (λ (d : Description). AreSlotsOf d c.args.self.now.parts.slots (slot_log k h)) (sym c.watch-loss.ensures.description) r.slots
+
   contents : g.S.ObjectStore.contents c.take_pdos.new.store ≡ m.contents
-  contents = steps.contents k h m is _ _ _ _ d2 r.mark watched transition _ (c.take_pdos.ensures.contents (slot_log k h) mappings_watched.rpdos r.slots)
+  contents = steps.contents k h m is _ _ _ _ d2 r.mark watched transition _ (c.take_pdos.ensures.contents (slot_log k h) mappings_watched.rpdos slots_watched)
 
   -- the parts
   consumers : ConsumersStand c.watch-loss.new.consumers (consumers_log k (m ∷ h))
@@ -113,14 +117,17 @@ module _ (g : given.Over) (c : After-mappings_stay g) (k : Constants) (inputs : 
   mappings : AreMappings (g.S.ObjectStore.description c.take_pdos.new.store) (g.S.ObjectStore.contents c.take_pdos.new.store) c.note-2.new.self
   mappings = record { rpdos = kept_table Rpdo _ mappings_watched.rpdos; tpdos = kept_table Tpdo _ mappings_watched.tpdos }
 
-  slots : SlotsStand 512 c.take_pdos.new.slots (slot_log k (m ∷ h))
-  slots = steps.slots k h m is _ _ _ _ d2 r.mark watched transition _ (c.take_pdos.ensures.slots (slot_log k h) mappings_watched.rpdos r.slots)
+  slots : AreSlotsOf (g.S.ObjectStore.description c.take_pdos.new.store) c.take_pdos.new.slots (slot_log k (m ∷ h))
+  slots =
+      subst (λ (d : Description). AreSlotsOf d c.take_pdos.new.slots (slot_log k (m ∷ h))) (sym c.take_pdos.ensures.description)
+      (steps.slots k h m is _ _ _ _ d2 r.mark watched transition _ (c.take_pdos.ensures.slots (slot_log k h) mappings_watched.rpdos slots_watched
+      (each_there k inputs input c.args.mark.now (g.S.ObjectStore.description c.watch-loss.new.store) _ r.mark watched (λ n on. c.active_is_there.ensures Rpdo n on))))
 
   queued_by_loss : EmergenciesStand c.watch-loss.new.emergencies (with_queued m.raised_by_loss (with_queued m.raised_by_app (emergency_log h)))
   queued_by_loss = steps.lost_queued k h m is _ _ _ r.description r.mark r.contents _ _ (c.watch-loss.ensures.emergencies (consumers_log k h) _ r.consumers r.emergencies)
 
   queued_by_pdo : EmergenciesStand c.take_pdos.new.emergencies (with_queued m.raised_by_pdo (with_queued m.raised_by_loss (with_queued m.raised_by_app (emergency_log h))))
-  queued_by_pdo = steps.pdo_queued k h m is _ _ _ _ d2 r.mark watched transition _ _ (c.take_pdos.ensures.emergencies (slot_log k h) _ mappings_watched.rpdos r.slots queued_by_loss)
+  queued_by_pdo = steps.pdo_queued k h m is _ _ _ _ d2 r.mark watched transition _ _ (c.take_pdos.ensures.emergencies (slot_log k h) _ mappings_watched.rpdos slots_watched queued_by_loss)
 
   same : g.S.ObjectStore.description c.args.self.now.store ≡ g.S.ObjectStore.description c.take_pdos.new.store
   same = r.description ∙ sym d3
