@@ -75,8 +75,10 @@ impl Schedule {
     {
         let tpdos = tpdos_in(alloc, store)?;
         let places = places_in(alloc, store, &tpdos)?;
+        // copied, since the list of the TPDOs has room for 512
+        let tpdos = BoxedSlice::from_slice(alloc, &tpdos)?;
         Ok(Schedule {
-            tpdos: tpdos.into_boxed_slice(),
+            tpdos,
             places: places.into_boxed_slice(),
         })
     }
