@@ -1,5 +1,5 @@
 -- One more tick.
-use Rattle.std.proofs.Common.{◌≡◌, ◌<◌, ◌≤◌, ◌+◌, ℕ, zero, suc, Bool, true, false, ltb, [], ◌∷◌, refl, sym, subst, arith}
+use Rattle.std.proofs.Common.{◌≡◌, ◌<◌, ◌≤◌, ◌+◌, ℕ, zero, suc, Bool, true, false, ltb, [], ◌∷◌, refl, sym, subst, ◌∙◌, le_antisymm, arith}
 use Rattle.std.proofs.lemmas.Bool.Decides.{nat_tests}
 use Rattle.co_node_model.specs.Inputs.{Inputs, Ticked}
 use Rattle.co_node_model.specs.Moments.{Constants}
@@ -7,7 +7,8 @@ use Rattle.co_node_model.specs.Device.{prescribed}
 use Rattle.co_node.specs.declared.node.Node.{Node}
 use Rattle.co_node.specs.Nodes.{Stands}
 use Rattle.co_node_model.specs.Ticks.{IsQuietFor, after_ticks}
-use Rattle.bafokun.specs.Ticks.{AreTicks, given_last}
+use Rattle.bafokun.specs.declared.held.Held.{Held}
+use Rattle.bafokun.specs.Ticks.{AreTicks, GaveTicks, given_last}
 
 plus_one : (n : ℕ) → suc n ≡ n + 1
 plus_one n = omega arith
@@ -28,6 +29,30 @@ up_to_next P m each last n below = by_test (ltb m n) refl
     by_test : (b : Bool) → ltb m n ≡ b → P n
     by_test true e = let same : n ≡ m + 1 = grind arith in subst P (sym same) last
     by_test false e = each n (grind arith)
+
+-- ---- all ticks elapsed
+
+within_itself : (n : ℕ) → n ≤ n
+within_itself n = omega arith
+
+not_below_itself : (n : ℕ) → n < n → ⊥
+not_below_itself n below = omega arith
+
+below_reached : (n most count : ℕ) → n < most → most ≤ count → n ≤ count
+below_reached n most count below reached = omega arith
+
+-- and none gave a frame
+pub all_gave : (k : Constants) (before : Inputs) (most count : ℕ) (held : Held) → count ≤ most → most ≤ count → held.sent.items ≡ []
+    → Stands k held.node (after_ticks count before) → ((n : ℕ) → n ≤ count → given_last k before n ≡ []) → GaveTicks k before most most held
+all_gave k before most count held within reached empty stands quiet = record {
+  ticks = record {
+    within = within_itself most;
+    quiet = λ n below. quiet n (below_reached n most count below reached);
+    early = λ fewer none. not_below_itself most fewer;
+  };
+  stands = subst (λ (m : ℕ). Stands k held.node (after_ticks m before)) (le_antisymm within reached) stands;
+  sent = empty ∙ sym (quiet most reached);
+}
 
 -- ---- ticks at which nothing is due
 

@@ -1,5 +1,5 @@
 -- Inputs in parts: what a device takes, and the lines of it.
-use Rattle.std.proofs.Common.{◌≡◌, ℕ, zero, suc, ◌+◌, ◌-◌, ◌<◌, List, [], ◌∷◌, ◌++◌, length, map, take, Option, Some, None, Result, Ok, Err, refl, ap, sym, subst, ◌∙◌, arith, append_assoc, append-nil, length-append}
+use Rattle.std.proofs.Common.{◌≡◌, ℕ, zero, suc, ◌+◌, ◌-◌, ◌<◌, ◌≤◌, List, [], ◌∷◌, ◌++◌, length, map, take, Option, Some, None, Result, Ok, Err, refl, ap, sym, subst, ◌∙◌, arith, le_antisymm, append_assoc, append-nil, length-append}
 use Rattle.std.specs.Prelude.{sum_by, IfErr, OnOk}
 use Rattle.std.specs.List.{flat_map}
 use Rattle.std.specs.Io.KnownBytes.{Appends}
@@ -121,6 +121,12 @@ printed_one k before old new node t sent count stands written is counts = record
   written = subst (WritesLines old new) (sym (append-nil (input_lines k before t))) written;
   frames = counts ∙ ap length (is ∙ sym (append-nil (prescribed k before (view_of t.input))));
 }
+
+-- all ticks of a line
+pub printed_ticks : (k : Constants) (before : Inputs) (old new : Option (List ℕ)) (node : Node) (printed line ms done count : ℕ) → done ≤ count → count ≤ done
+    → HasPrinted k before old new node printed (ticks_after line ms done) → HasPrinted k before old new node printed (ticks_after line ms count)
+printed_ticks k before old new node printed line ms done count within past h =
+    subst (λ (n : ℕ). HasPrinted k before old new node printed (ticks_after line ms n)) (le_antisymm within past) h
 
 -- ---- where they break off
 

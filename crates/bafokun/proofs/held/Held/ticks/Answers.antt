@@ -1,11 +1,10 @@
-use Rattle.std.proofs.Common.{◌≡◌, ℕ, ◌+◌, true, false, [], sym, ap, ◌∙◌, subst, rules, arith}
-use Rattle.co_node.specs.Nodes.{Stands}
+use Rattle.std.proofs.Common.{◌≡◌, ◌+◌, true, false, [], sym, ap, ◌∙◌, rules, arith}
 use Rattle.co_node_model.specs.Inputs.{Ticked}
 use Rattle.co_node_model.specs.Ticks.{after_ticks}
 use Rattle.bafokun.specs.Happened.{and_input}
 use Rattle.bafokun.specs.Ticks.{given_last}
 use Rattle.bafokun.proofs.Added.{one_more_tick}
-use Rattle.bafokun.proofs.Ticks.{one_more_given, one_more_stands, up_to_next}
+use Rattle.bafokun.proofs.Ticks.{all_gave, one_more_given, one_more_stands, up_to_next}
 use Rattle.bafokun.proofs.held.Held.ticks.Goals as goal
 
 pub returns-then-has_sent-clause-gave : goal.returns-then-has_sent-clause-gave
@@ -55,13 +54,5 @@ loop-i-preserved c =
 pub returns-clause-gave : goal.returns-clause-gave
 returns-clause-gave c = λ k before stands.
     let inv = c.loop-i.invariant in
-    let all : c.loop-i.i ≡ c.args.most = omega arith in
-    record {
-      ticks = record {
-        within = omega arith;
-        quiet = λ n below. inv.quiet k before stands n (omega arith);
-        early = λ fewer none. absurd (omega (arith, fewer));
-      };
-      stands = subst (λ (m : ℕ). Stands k c.loop-i.self.node (after_ticks m before)) all (inv.stands k before stands);
-      sent = inv.empty ∙ sym (inv.quiet k before stands c.args.most (omega arith));
-    }
+    all_gave k before c.args.most c.loop-i.i c.loop-i.self c.loop-i.auto.i-end c.loop-i-test.false inv.empty
+    (inv.stands k before stands) (inv.quiet k before stands)
