@@ -4,16 +4,22 @@ use Rattle.std.specs.Prelude.{if◌then◌else◌}
 use Rattle.std.proofs.lemmas.Bool.Decides.{nat_tests}
 use Rattle.std.proofs.lemmas.List.{take_more}
 use Rattle.std.proofs.lemmas.Grind.{fold-append}
+use Rattle.co_frame.specs.FrameContent.{FrameContent}
 use Rattle.co_dict.specs.Rows.{Contents}
 use Rattle.co_node_parts.specs.declared.nmt_state.NodeState.{NodeState}
-use Rattle.co_node_parts.specs.declared.nmt_state.NodeState.TheVariants.{Operational, PreOperational}
-use Rattle.co_node_model.specs.Inputs.{InputView, Inputs, Ticked}
-use Rattle.co_node_model.specs.Moments.{Constants}
-use Rattle.co_node_model.specs.Device.{state_of}
+use Rattle.co_node_parts.specs.declared.nmt_state.NodeState.TheVariants.{Operational, PreOperational, Stopped}
+use Rattle.co_node_parts.specs.declared.nmt_state.StateEvent.TheVariants as state
+use Rattle.co_node_parts.specs.NmtStates.{state_after}
+use Rattle.co_node_model.specs.Inputs.{Framed, InputView, Inputs, Ticked}
+use Rattle.co_node_model.specs.Moments.{Constants, History, Moment}
+use Rattle.co_node_model.specs.Nmt.{state_log}
+use Rattle.co_node_model.specs.Heartbeats.{loss_event}
+use Rattle.co_node_model.specs.Device.{contents_of, moment, moments, state_of}
 use Rattle.co_node_model.specs.Ticks.{after_ticks}
 use Rattle.co_node_device.specs.declared.seen.Seen.{Seen}
 use Rattle.co_node_device.specs.declared.seen.Seen.TheVariants as seen
-use Rattle.co_node_device.specs.Lasts.{last_seen}
+use Rattle.co_node_laws.proofs.LossDistances.{elsewhere}
+use Rattle.co_node_device.specs.Lasts.{last_losses, last_seen}
 use Rattle.bafokun.specs.declared.happened.Events.{Events}
 use Rattle.bafokun.specs.declared.held.Held.{Held}
 use Rattle.bafokun.specs.declared.handle.Handle.{Handle}
@@ -49,6 +55,33 @@ stated k past input old noted after s from to es ef et en ea =
     ea ∙ ap (λ (f : NodeState). with_state f to noted) ef
     ∙ ap (λ (t : NodeState). with_state (state_of k past) t noted) et
     ∙ ap (with_state (state_of k past) (state_of k (input ∷ past))) (en ∙ ap (λ (u : Seen). with_seen u old) es)
+
+-- the same of a received frame: no heartbeat is lost at it
+pub framed : (k : Constants) (past : Inputs) (frame : FrameContent) (old noted after : Events) (s : Seen) (from to : NodeState)
+    → s ≡ last_seen k (Framed frame ∷ past) → from ≡ state_of k past → to ≡ state_of k (Framed frame ∷ past)
+    → noted ≡ with_seen s old → after ≡ with_state from to noted
+    → after ≡ and_input k past (Framed frame) old
+framed k past frame old noted after s from to es ef et en ea =
+    let contents = contents_of k (Framed frame ∷ past) in
+    let lost : [] ≡ last_losses k (Framed frame ∷ past) = sym (elsewhere k past (Framed frame) refl) in
+    ap (λ (subs : List ℕ). with_losses contents subs after) lost
+    ∙ ap (with_losses contents (last_losses k (Framed frame ∷ past))) (stated k past (Framed frame) old noted after s from to es ef et en ea)
+
+-- no other state is entered
+same_state : (s : NodeState) (e : Events) → with_state s s e ≡ e
+same_state PreOperational e = refl
+same_state Operational e = refl
+same_state Stopped e = refl
+
+-- a tick at which no heartbeat is lost
+pub quiet_tick : (k : Constants) (past : Inputs) (e : Events) → last_losses k (Ticked ∷ past) ≡ [] → and_input k past Ticked e ≡ e
+quiet_tick k past e none =
+    let history : History = moments k past in
+    let m : Moment = moment k history Ticked in
+    let loss : m.loss ≡ state.Quiet = ap (λ (subs : List ℕ). loss_event subs m.received) none in
+    let same : state_of k (Ticked ∷ past) ≡ state_of k past = ap (λ event. state_after (event ∷ state.Quiet ∷ state_log history)) loss in
+    ap (λ (subs : List ℕ). with_losses (contents_of k (Ticked ∷ past)) subs (with_state (state_of k past) (state_of k (Ticked ∷ past)) e)) none
+    ∙ ap (λ (t : NodeState). with_state (state_of k past) t e) same ∙ same_state (state_of k past) e
 
 -- what happened to a held device that is put back
 pub events_given : (o : Option Held) (there after : Held) (place : Handle) (f : Events → Events)

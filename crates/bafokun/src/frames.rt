@@ -50,13 +50,26 @@ fn packed(bytes: &[u8]) -> PackedBytes
     requires { length bytes.now ≤ 8 }
     ensures { result ≡ bytes.now }
 {
-    let mut packed = PackedBytes::new();
-    if bytes.len() == 8 {
-        packed.append(&bytes[..4]);
-        packed.append(&bytes[4..]);
-    } else {
-        packed.append(bytes);
+    if bytes.is_empty() {
+        return PackedBytes::new();
     }
+    if bytes.len() != 8 {
+        return packed_few(bytes);
+    }
+    let mut packed = PackedBytes::new();
+    packed.append(&bytes[..4]);
+    packed.append(&bytes[4..]);
+    packed
+}
+
+// Packs bytes, fewer than eight in most cases.
+#[inline(never)]
+fn packed_few(bytes: &[u8]) -> PackedBytes
+    requires { length bytes.now ≤ 8 }
+    ensures { result ≡ bytes.now }
+{
+    let mut packed = PackedBytes::new();
+    packed.append(bytes);
     packed
 }
 

@@ -1,7 +1,8 @@
 //! What happened to a device since the application asked.
 
 ghost use Rattle.std.specs.Prelude.{◌≡◌, ◌∷◌, slice_index, slice_set};
-ghost use Rattle.co_node_model.specs.Inputs.{InputView, Inputs};
+ghost use Rattle.co_frame.specs.FrameContent.{FrameContent};
+ghost use Rattle.co_node_model.specs.Inputs.{Framed, InputView, Inputs, Ticked};
 ghost use Rattle.co_node_model.specs.Moments.{Constants};
 ghost use Rattle.co_node_model.specs.Device.{contents_of, state_of};
 ghost use Rattle.co_node.specs.Nodes.{Stands};
@@ -169,8 +170,9 @@ impl Events {
         }
     }
 
-    #[inline(always)]
-    fn note_seen(&mut self, seen: Seen)
+    // A reset or a heartbeat was seen, or nothing.
+    #[inline(never)]
+    fn note_rare(&mut self, seen: Seen)
         ensures { self.new ≡ with_seen seen self.old }
     {
         match seen {
@@ -189,6 +191,19 @@ impl Events {
         }
     }
 
+    // What most frames are is noted without a call.
+    #[inline(always)]
+    fn note_seen(&mut self, seen: Seen)
+        ensures { self.new ≡ with_seen seen self.old }
+    {
+        match seen {
+            Seen::Nothing => {}
+            Seen::Sync => self.sync = 1,
+            Seen::Rpdo => self.rpdo = 1,
+            _ => self.note_rare(seen),
+        }
+    }
+
     #[inline(always)]
     fn note_state(&mut self, before: NodeState, after: NodeState)
         ensures { self.new ≡ with_state before after self.old }
@@ -199,7 +214,7 @@ impl Events {
     }
 
     /// Notes what the last input of a device did, by the state before it.
-    #[inline(always)]
+    #[inline(never)]
     pub(crate) fn note(&mut self, node: &Node, before: NodeState)
         ensures { (k : Constants) (past : Inputs) (input : InputView) →
             Stands k node.now (input ∷ past) → before ≡ state_of k past →
@@ -210,6 +225,29 @@ impl Events {
         let lost = node.lost();
         if !lost.is_empty() {
             self.note_losses(node, lost);
+        }
+    }
+
+    /// The same, where the input was a frame: no heartbeat is lost at one.
+    #[inline(always)]
+    pub(crate) fn note_frame(&mut self, node: &Node, before: NodeState)
+        ensures { (k : Constants) (past : Inputs) (frame : FrameContent) →
+            Stands k node.now (Framed frame ∷ past) → before ≡ state_of k past →
+            self.new ≡ and_input k past (Framed frame) self.old }
+    {
+        self.note_seen(node.last_seen());
+        self.note_state(before, node.state());
+    }
+
+    /// The same, where 1 ms elapsed: something happened only if a heartbeat was lost.
+    #[inline(always)]
+    pub(crate) fn note_tick(&mut self, node: &Node, before: NodeState)
+        ensures { (k : Constants) (past : Inputs) → Stands k node.now (Ticked ∷ past) →
+            before ≡ state_of k past → self.new ≡ and_input k past Ticked self.old }
+    {
+        let lost = node.lost();
+        if !lost.is_empty() {
+            self.note(node, before);
         }
     }
 }

@@ -44,7 +44,7 @@ impl Held {
     {
         let state = self.node.state();
         self.node.take_frame(frame, &mut self.sent);
-        self.events.note(&self.node, state);
+        self.events.note_frame(&self.node, state);
     }
 
     /// 1 ms elapsed.
@@ -59,7 +59,7 @@ impl Held {
     {
         let state = self.node.state();
         self.node.tick(&mut self.sent);
-        self.events.note(&self.node, state);
+        self.events.note_tick(&self.node, state);
     }
 
     /// At most `most` ms elapse: the ticks end with the first that sends frames. Returns how many

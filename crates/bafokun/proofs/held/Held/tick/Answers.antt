@@ -1,6 +1,5 @@
-use Rattle.co_node_model.specs.Inputs.{Ticked}
 use Rattle.bafokun.proofs.held.Held.tick.Goals as goal
 
 pub returns-clause-events : goal.returns-clause-events
 returns-clause-events c = λ k before stands.
-    c.note.ensures k before Ticked (c.tick.ensures.stands k before stands) (c.state-state.ensures k before stands)
+    c.note_tick.ensures k before (c.tick.ensures.stands k before stands) (c.state-state.ensures k before stands)
