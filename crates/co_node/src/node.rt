@@ -127,8 +127,7 @@ impl Node {
     }
 
     /// Takes a received frame. The outbox then holds the frames that the definitions prescribe at
-    /// it, and nothing else. It is compiled into its caller, as `tick` is: a program that calls it in
-    /// several places calls `step`.
+    /// it, and nothing else.
     #[inline(always)]
     pub fn take_frame(&mut self, frame: &Frame, outbox: &mut Outbox)
         ensures frames { (k : Constants) (before : Inputs) → Stands k self.old before →
@@ -146,7 +145,8 @@ impl Node {
     }
 
     /// 1 ms elapsed. The outbox then holds the frames that the definitions prescribe at it, and
-    /// nothing else.
+    /// nothing else. It is compiled into its caller: a program that calls it in several places calls
+    /// `step`.
     #[inline(always)]
     pub fn tick(&mut self, outbox: &mut Outbox)
         ensures frames { (k : Constants) (before : Inputs) → Stands k self.old before →
@@ -185,24 +185,7 @@ impl Node {
         self.device.take_event(event, outbox);
     }
 
-    // Takes a received frame, out of line: `step` is small in each of its callers.
-    #[inline(never)]
-    fn step_frame(&mut self, frame: &Frame, outbox: &mut Outbox)
-        ensures frames { (k : Constants) (before : Inputs) → Stands k self.old before →
-            outbox.new.items ≡ prescribed k before (Framed frame.now) }
-        ensures stands { (k : Constants) (before : Inputs) → Stands k self.old before →
-            Stands k self.new (Framed frame.now ∷ before) }
-        ensures few { (k : Constants) (before : Inputs) → Stands k self.old before →
-            length outbox.new.items ≤ frame_bound k before (Framed frame.now) }
-        ensures held { (k : Constants) (before : Inputs) → Stands k self.old before →
-            HoldsWithin k (Framed frame.now ∷ before) }
-        ensures memory { (k : Constants) (before : Inputs) → Stands k self.old before →
-            memory_of self.new ≡ memory_of self.old }
-    {
-        self.take_frame(frame, outbox);
-    }
-
-    // 1 ms elapsed, out of line.
+    // 1 ms elapsed, out of line: `step` is small in each of its callers.
     #[inline(never)]
     fn step_tick(&mut self, outbox: &mut Outbox)
         ensures frames { (k : Constants) (before : Inputs) → Stands k self.old before →
@@ -239,7 +222,7 @@ impl Node {
             _ => Frame::default(),
         };
         match input {
-            Input::Frame(_) => self.step_frame(&frame, outbox),
+            Input::Frame(_) => self.take_frame(&frame, outbox),
             Input::Tick => self.step_tick(outbox),
             // matched and built again: a caller's event can't be passed on as a whole
             Input::App(AppEvent::Write(key, bytes)) => {

@@ -8,7 +8,6 @@ ghost use Rattle.co_node_model.specs.Addresses.{
   AgreeOnAddresses,
   AgreeOnRpdos,
   may_change_addresses,
-  is_address_set,
   address_of,
   address_unless_rpdo,
   address_at,
@@ -25,11 +24,10 @@ ghost use Rattle.co_node_model.specs.Sdo.{channel_logs};
 use crate::maybe_rpdo::MaybeRpdo;
 use co_dict::{CobId, ObjectStore, Side, number_u32};
 use co_frame::Frame;
-use co_node_model::{Address, Mark};
+use co_node_model::{Address, Mark, may_change_addresses};
 use co_pdo::{PdoNumber, cob_id, is_active};
-use co_profile::{IndexRange, keys};
+use co_profile::keys;
 use co_sdo_bank::Bank;
-use co_value::Key;
 use std::alloc::{AllocError, Global};
 use std::boxed::BoxedSlice;
 use std::marker::Model;
@@ -43,30 +41,6 @@ fn addresses_by_entries()
     ensures tables { (contents others : Contents) (table : TableContent) →
         AgreeOnAddresses contents others → IsTableOf contents table → IsTableOf others table }
 {}
-
-/// Whether the COB-ID of SYNC or a parameter of an RPDO was written.
-#[inline(always)]
-fn is_address_set(set: Option<Key>) -> bool
-    ensures { result ≡ is_address_set set }
-{
-    match set {
-        Some(key) => {
-            key == keys::SYNC_COB_ID
-                || IndexRange::RPDO_COMMUNICATION.contains(key.index)
-                || IndexRange::RPDO_MAPPING.contains(key.index)
-        }
-        None => false,
-    }
-}
-
-/// Whether the input may have changed the identifier of SYNC or of an RPDO: it was a reset, or
-/// wrote the COB-ID of SYNC or a parameter of an RPDO.
-#[inline(always)]
-fn may_change_addresses(mark: &Mark) -> bool
-    ensures { result ≡ may_change_addresses mark.now }
-{
-    mark.is_reset() || is_address_set(mark.written())
-}
 
 /// The number of identifiers, 0 to 7FFh.
 const IDENTIFIERS: usize = 2048;

@@ -13,11 +13,10 @@ ghost use Rattle.co_node_device.specs.MappingTables.{HaveParts};
 ghost use Rattle.co_node_model.specs.Marks.{marked_rpdo, marked_time_out};
 
 use crate::addresses::find_address;
-use crate::emergencies::{emergency_event, send_emergency, take_emergency};
+use crate::emergencies::{send_emergency, take_emergency};
 use crate::given::Given;
-use crate::heartbeats::{life_of, producer_event, send_life, watch};
+use crate::heartbeats::{producer_event, send_life, watch};
 use crate::mapping_table::mappings_stay;
-use crate::nmt::state_event;
 use crate::parts::Parts;
 use crate::receiving::receive;
 use crate::rpdos::take_pdos;
@@ -27,7 +26,7 @@ use crate::tpdos::{send_tpdos, take_turn, turn_of};
 use co_dict::{ObjectStore, store_laws};
 use co_frame::{Frame, Outbox};
 use co_node_laws::{addresses_kept, few, mappings_kept, schedule_ready};
-use co_node_model::{Address, AppEvent, Mark};
+use co_node_model::{Address, AppEvent, Mark, emergency_event, life_of, state_event};
 use co_node_parts::Transition;
 use co_pdo::active_is_there;
 

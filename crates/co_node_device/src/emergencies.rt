@@ -18,7 +18,6 @@ ghost use Rattle.co_node_model.specs.Emergencies.{
   with_register,
   all_raised,
   emergencies_of,
-  emergency_event,
   may_send,
   emergency_frames,
 };
@@ -120,20 +119,6 @@ pub(crate) fn clear<S: ObjectStore>(store: &mut S, bits: u8) -> Emergency
         code: 0,
         register,
         manufacturer: [0; 5],
-    }
-}
-
-/// The event of the emergency queue at an input, besides the emergencies that this raised.
-#[inline(always)]
-pub(crate) fn emergency_event(mark: &Mark) -> EmergencyEvent
-    ensures { result ≡ emergency_event mark.now }
-{
-    if mark.is_reset() {
-        EmergencyEvent::Empty
-    } else if mark.is_tick() {
-        EmergencyEvent::Tick
-    } else {
-        EmergencyEvent::Quiet
     }
 }
 

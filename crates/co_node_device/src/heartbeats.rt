@@ -1,22 +1,17 @@
 //! Heartbeats: the monitoring of other nodes, and the device's own (CiA 301, 7.2.8.3.2 and
 //! 7.2.8.3.3).
 
-ghost use Rattle.std.specs.Prelude.{◌≡◌, ◌+◌, ◌≤◌, ◌++◌, None, ◌∷◌, ◌&&◌, []};
-ghost use Rattle.co_dict.specs.Rows.{Contents, number_at};
-ghost use Rattle.co_node_model.specs.Inputs.{InputView};
+ghost use Rattle.std.specs.Prelude.{◌≡◌, ◌+◌, ◌≤◌, ◌++◌, ◌∷◌, ◌&&◌, []};
+ghost use Rattle.co_dict.specs.Rows.{number_at};
 ghost use Rattle.co_node_model.specs.Heartbeats.{
-  with_error_control,
   consumers_event,
   producer_event,
-  life_of,
   consumers_call,
   consumer_words,
   loss_errors,
   loss_event,
   life_frames,
 };
-ghost use Rattle.co_node_model.specs.Moments.{nothing_of};
-ghost use Rattle.co_node_model.specs.Keys.{is_set};
 ghost use Rattle.co_profile.specs.Keys.{producer_key};
 ghost use Rattle.co_node_parts.specs.ConsumerTables.{AllBegun, ConsumersLog, ConsumersStand};
 ghost use Rattle.co_node_parts.specs.EmergencyQueues.{EmergencyLog, EmergenciesStand, with_queued};
@@ -26,35 +21,18 @@ ghost use Rattle.co_value.specs.declared.key.Key.{Key};
 ghost use Rattle.co_node_parts.specs.Producers.{ProducerStands};
 ghost use Rattle.arrayvec.specs.ArrayVec.{array_vec_len};
 ghost use Rattle.co_frame.specs.Outboxes.{HasRoomFor};
-ghost use Rattle.co_node_model.specs.Marks.{marked_key, marked_rpdo};
 
 use crate::emergencies::raise_and_queue;
 use arrayvec::ArrayVec;
 use co_dict::{ObjectStore, number_u8, number_u16, number_u32};
-use co_frame::{Frame, Heartbeat, Outbox};
-use co_node_model::{DeviceError, Mark};
+use co_frame::{Heartbeat, Outbox};
+use co_node_model::{DeviceError, Mark, is_set};
 use co_node_parts::{
     ConsumersEvent, Emergencies, HeartbeatConsumers, HeartbeatProducer, LossReaction,
-    LostHeartbeats, NodeState, ProducerEvent, StateEvent,
+    LostHeartbeats, ProducerEvent, StateEvent,
 };
 use co_profile::{CONSUMER_HEARTBEAT, keys};
 use co_value::Key;
-
-/// The mark of an error control frame of another node: a heartbeat is heard, a boot-up is ignored
-/// (CiA 301, 7.2.8.3.2).
-#[inline(always)]
-pub(crate) fn take_error_control(node: u8, frame: &Frame) -> Mark
-    ensures mark { (input : InputView) (contents : Contents) → result
-        ≡ (with_error_control node frame.now (nothing_of input contents)).mark }
-    ensures rpdo { marked_rpdo result ≡ None }
-{
-    match Heartbeat::read(frame) {
-        None | Some(Heartbeat::BootUp) => Mark::Quiet,
-        Some(Heartbeat::Stopped | Heartbeat::Operational | Heartbeat::PreOperational) => {
-            Mark::Heard(node)
-        }
-    }
-}
 
 /// The event of the heartbeat consumers at an input that is no reset. At a reset all of them begin.
 #[inline(always)]
@@ -167,17 +145,6 @@ pub(crate) fn watch<S: ObjectStore>(
     StateEvent::HeartbeatLost(reaction)
 }
 
-/// Whether this key was written.
-#[inline(always)]
-fn is_set(mark: &Mark, key: Key) -> bool
-    ensures { result ≡ is_set (marked_key mark.now) key }
-{
-    match mark.written() {
-        Some(set) => set == key,
-        None => false,
-    }
-}
-
 /// The event of the heartbeat producer at an input.
 #[inline(always)]
 pub(crate) fn producer_event<S: ObjectStore>(mark: &Mark, store: &S) -> ProducerEvent
@@ -189,20 +156,6 @@ pub(crate) fn producer_event<S: ObjectStore>(mark: &Mark, store: &S) -> Producer
         ProducerEvent::Tick
     } else {
         ProducerEvent::Quiet
-    }
-}
-
-/// The boot-up at a reset, else the heartbeat of the state after the input, if one is due.
-#[inline(always)]
-pub(crate) fn life_of(mark: &Mark, after: NodeState, is_due: bool) -> Option<Heartbeat>
-    ensures { result ≡ life_of mark.now after is_due }
-{
-    if mark.is_reset() {
-        Some(Heartbeat::BootUp)
-    } else if is_due {
-        Some(after.heartbeat())
-    } else {
-        None
     }
 }
 

@@ -5,18 +5,17 @@ ghost use Rattle.co_dict.specs.declared.side.Side.{Side};
 ghost use Rattle.co_dict.specs.Rows.{Contents};
 ghost use Rattle.co_dict.specs.Stores.{Description};
 ghost use Rattle.co_pdo_compiled.specs.declared.part.Part.{Part};
-ghost use Rattle.co_node_model.specs.Mappings.{AgreeOnMappings, is_mapping_set, may_change_mappings};
+ghost use Rattle.co_node_model.specs.Mappings.{AgreeOnMappings, may_change_mappings};
 ghost use Rattle.co_node_device.specs.MappingTables.{IsMappingTable, AreForms, Covers, HaveParts};
 ghost use Rattle.std.specs.List.{slice_index_or};
 ghost use Rattle.co_pdo.specs.Images.{answered, contents_after, fault_of, image_of};
 ghost use Rattle.co_pdo.specs.Mappings.{mapping_of, total_of};
 
 use co_dict::{ObjectStore, Side};
-use co_node_model::Mark;
+use co_node_model::{Mark, may_change_mappings};
 use co_pdo::{PdoFault, PdoNumber, has_pdo};
 use co_pdo_compiled::{Compiled, apply_at, image_at, mapping_by_words};
-use co_profile::IndexRange;
-use co_value::{Key, PackedBytes};
+use co_value::PackedBytes;
 use std::alloc::{AllocError, Global};
 use std::boxed::BoxedSlice;
 use std::marker::Model;
@@ -29,29 +28,6 @@ pub(crate) fn mappings_stay()
         IsMappingTable side d before table → IsMappingTable side d now table }
 {
     mapping_by_words();
-}
-
-/// Whether a mapping parameter was written.
-#[inline(always)]
-fn is_mapping_set(set: Option<Key>) -> bool
-    ensures { result ≡ is_mapping_set set }
-{
-    match set {
-        Some(key) => {
-            IndexRange::RPDO_MAPPING.contains(key.index)
-                || IndexRange::TPDO_MAPPING.contains(key.index)
-        }
-        None => false,
-    }
-}
-
-/// Whether an input may have changed the mapping of a PDO: it was a reset, or wrote a mapping
-/// parameter.
-#[inline(always)]
-fn may_change_mappings(mark: &Mark) -> bool
-    ensures { result ≡ may_change_mappings mark.now }
-{
-    mark.is_reset() || is_mapping_set(mark.written())
 }
 
 /// The number of the last PDO of a side that the dictionary has, plus 1; 0 if it has none.

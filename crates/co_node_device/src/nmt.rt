@@ -1,14 +1,13 @@
-//! NMT: commands, resets, and their events of the NMT state (CiA 301, 7.2.8.3.1 and 7.3.2).
+//! NMT: commands, and resets (CiA 301, 7.2.8.3.1 and 7.3.2).
 
 ghost use Rattle.std.specs.Prelude.{◌≡◌, None};
 ghost use Rattle.co_frame.specs.Nmt.{nmt_command_in};
-ghost use Rattle.co_node_model.specs.Nmt.{after_service, service_for, state_event};
+ghost use Rattle.co_node_model.specs.Nmt.{after_service, service_for};
 ghost use Rattle.co_node_model.specs.Marks.{command_mark};
 
 use co_dict::{Area, ObjectStore};
 use co_frame::{Frame, NmtCommand, NmtService};
 use co_node_model::Mark;
-use co_node_parts::StateEvent;
 
 /// The service of a command for this node or for all nodes (CiA 301, 7.2.8.3.1).
 fn service_for<S: ObjectStore>(store: &S, frame: &Frame) -> Option<NmtService>
@@ -40,15 +39,4 @@ pub(crate) fn take_command<S: ObjectStore>(store: &mut S, frame: &Frame) -> Mark
         Some(NmtService::Start | NmtService::Stop | NmtService::EnterPreOperational) | None => {}
     }
     Mark::of_command(service)
-}
-
-/// The event of the NMT state at an input, besides heartbeats that are lost at it.
-#[inline(always)]
-pub(crate) fn state_event(mark: &Mark) -> StateEvent
-    ensures { result ≡ state_event mark.now }
-{
-    match mark.command() {
-        Some(service) => StateEvent::Command(service),
-        None => StateEvent::Quiet,
-    }
 }

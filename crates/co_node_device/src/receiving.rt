@@ -18,14 +18,11 @@ ghost use Rattle.co_node_model.specs.Marks.{marked_rpdo, marked_time_out};
 
 use crate::app_events::{change, clear_errors, event, raise, write};
 use crate::given::Given;
-use crate::heartbeats::take_error_control;
 use crate::nmt::take_command;
-use crate::rpdos::take_rpdo;
 use crate::sdo::{take_request, take_tick};
-use crate::sync::take_sync;
 use co_dict::ObjectStore;
 use co_frame::{Frame, Outbox};
-use co_node_model::{Address, AppAnswer, Mark};
+use co_node_model::{Address, AppAnswer, Mark, error_control_mark, rpdo_mark, sync_mark};
 use co_node_parts::{Emergencies, NodeState};
 use co_sdo_bank::Bank;
 
@@ -54,10 +51,10 @@ fn take_frame<S: ObjectStore>(
 {
     match address {
         Address::Nmt => take_command(store, frame),
-        Address::Sync => take_sync(state, frame),
+        Address::Sync => sync_mark(state, frame),
         Address::Channel(_) => take_request(store, bank, state, frame, outbox),
-        Address::Rpdo(number) => take_rpdo(state, number, frame),
-        Address::ErrorControl(node) => take_error_control(node, frame),
+        Address::Rpdo(number) => rpdo_mark(state, number, frame),
+        Address::ErrorControl(node) => error_control_mark(node, frame),
         Address::Nobody => Mark::Quiet,
     }
 }

@@ -4,13 +4,10 @@
 ghost use Rattle.std.specs.Prelude.{◌≡◌, ◌<◌, None, IfSome, [], if◌then◌else◌, ◌∷◌, true};
 ghost use Rattle.co_dict.specs.Rows.{Contents};
 ghost use Rattle.co_dict.specs.Stores.{Description};
-ghost use Rattle.co_node_model.specs.Inputs.{InputView};
 ghost use Rattle.co_node_model.specs.Rpdos.{
-  with_rpdo,
   rpdo_type,
   IsMappedLength,
   IsTypeOf,
-  emptied_by,
   is_short,
   kept_by,
   mapped_length,
@@ -23,7 +20,6 @@ ghost use Rattle.co_node_model.specs.Rpdos.{
   after_all_data,
   all_data_emergencies,
 };
-ghost use Rattle.co_node_model.specs.Moments.{nothing_of};
 ghost use Rattle.std.specs.List.{cons_option, All};
 ghost use Rattle.co_dict.specs.declared.side.Side.TheVariants.{Rpdo};
 ghost use Rattle.co_node_device.specs.MappingTables.{HaveParts, IsMappingTable};
@@ -42,27 +38,11 @@ use crate::sync::sync_error;
 use co_dict::{ObjectStore, number_u8};
 use co_frame::Frame;
 use co_node_laws::settings_kept;
-use co_node_model::{DeviceError, Mark};
+use co_node_model::{DeviceError, Mark, emptied_by};
 use co_node_parts::{Emergencies, KeptFrame, NodeState, RpdoSlots, SlotEvent, Transition};
 use co_pdo::{PdoFault, PdoNumber};
-use co_profile::{IndexRange, PDO_COB_ID, TRANSMISSION_TYPE, TransmissionType};
+use co_profile::{IndexRange, TRANSMISSION_TYPE, TransmissionType};
 use co_value::Key;
-
-/// The mark of a frame of an RPDO: it is ignored unless the device is operational (CiA 301, 7.2.2).
-#[inline(always)]
-pub(crate) fn take_rpdo(state: NodeState, number: PdoNumber, frame: &Frame) -> Mark
-    ensures mark { (input : InputView) (contents : Contents) → result
-        ≡ (with_rpdo number state frame.now (nothing_of input contents)).mark }
-    ensures number { IfSome (marked_rpdo result) (λ rpdo. rpdo.number < 512) }
-{
-    if state != NodeState::Operational {
-        return Mark::Quiet;
-    }
-    Mark::Rpdo(KeptFrame {
-        number: number.get(),
-        frame: *frame,
-    })
-}
 
 /// The transmission type of RPDO k, 0 to 511; 0 if there is none (CiA 301, 7.5.2.35).
 fn rpdo_type<S: ObjectStore>(store: &S, k: u16) -> u8
@@ -98,22 +78,6 @@ fn is_short(mapped: usize, rpdo: &KeptFrame) -> bool
         result ≡ is_short d contents rpdo.now }
 {
     rpdo.frame.bytes().len() < mapped
-}
-
-/// The event of the waiting frames at a write.
-#[inline(always)]
-fn emptied_by(set: Option<Key>) -> SlotEvent
-    ensures { result ≡ emptied_by set }
-{
-    let Some(key) = set else {
-        return SlotEvent::Quiet;
-    };
-    let is_named = key.sub == PDO_COB_ID || key.sub == TRANSMISSION_TYPE;
-    if IndexRange::RPDO_COMMUNICATION.contains(key.index) && is_named {
-        SlotEvent::Empty(key.index - IndexRange::RPDO_COMMUNICATION.0)
-    } else {
-        SlotEvent::Quiet
-    }
 }
 
 /// The event of the waiting frames at a frame of an RPDO, which has transmission type `kind` and

@@ -1,42 +1,13 @@
-//! SYNC: its counter, and the error of its length (CiA 301, 7.2.5).
+//! SYNC: the error of its length (CiA 301, 7.2.5).
 
 ghost use Rattle.std.specs.Prelude.{◌≡◌, None, []};
-ghost use Rattle.co_dict.specs.Rows.{Contents};
-ghost use Rattle.co_node_model.specs.Inputs.{InputView};
-ghost use Rattle.co_node_model.specs.Sync.{with_sync, counter_in, sync_length, sync_errors};
-ghost use Rattle.co_node_model.specs.Moments.{nothing_of};
+ghost use Rattle.co_node_model.specs.Sync.{sync_length, sync_errors};
 ghost use Rattle.std.specs.List.{cons_option};
-ghost use Rattle.co_node_model.specs.Marks.{marked_rpdo};
 
 use co_dict::{ObjectStore, number_u8};
-use co_frame::{Frame, Sync};
-use co_node_model::{DeviceError, Mark};
-use co_node_parts::NodeState;
+use co_frame::Frame;
+use co_node_model::DeviceError;
 use co_profile::keys;
-
-/// The mark of a SYNC: it is ignored while the device is stopped (CiA 301, 7.2.5).
-#[inline(always)]
-pub(crate) fn take_sync(state: NodeState, frame: &Frame) -> Mark
-    ensures mark { (input : InputView) (contents : Contents) → result
-        ≡ (with_sync state frame.now (nothing_of input contents)).mark }
-    ensures rpdo { marked_rpdo result ≡ None }
-{
-    if state == NodeState::Stopped {
-        return Mark::Quiet;
-    }
-    Mark::Sync(*frame)
-}
-
-/// The counter of a SYNC: its byte, if it has exactly one.
-#[inline(always)]
-pub(crate) fn counter_in(frame: &Frame) -> Option<u8>
-    ensures { result ≡ counter_in frame.now }
-{
-    match Sync::read(frame) {
-        Some(sync) => sync.counter,
-        None => None,
-    }
-}
 
 /// How many bytes a SYNC has: none, or one for the counter if 1019h is not 0.
 fn sync_length<S: ObjectStore>(store: &S) -> usize

@@ -13,7 +13,6 @@ ghost use Rattle.co_node_model.specs.Tpdos.{
   with_turn,
   tpdo_frame,
 };
-ghost use Rattle.co_node_model.specs.Sync.{counter_in};
 ghost use Rattle.co_pdo.specs.Schedules.{History, IsScheduleAfter, AllCurrent};
 ghost use Rattle.co_node_laws.specs.Calls.{is_asked};
 ghost use Rattle.co_frame.specs.Outboxes.{outbox_room};
@@ -22,11 +21,10 @@ ghost use Rattle.co_node_device.specs.MappingTables.{HaveParts, IsMappingTable};
 ghost use Rattle.co_node_device.specs.Receiving.{may_be_due};
 
 use crate::mapping_table::MappingTable;
-use crate::sync::counter_in;
 use arrayvec::ArrayVec;
 use co_dict::{ObjectStore, Side};
 use co_frame::{Frame, Outbox};
-use co_node_model::{Asked, Mark, Turn};
+use co_node_model::{Asked, Mark, Turn, counter_in};
 use co_node_parts::{NodeState, Transition};
 use co_pdo::{Due, Mapped, Mapping, Part, PdoNumber, Schedule, is_active};
 use co_profile::{EVENT_TIMER, IndexRange, PDO_COB_ID, TRANSMISSION_TYPE};

@@ -11,10 +11,10 @@ pub returns-in-Sync-clause-received : goal.returns-in-Sync-clause-received
 returns-in-Sync-clause-received g c = λ k history before.
     at_address c.args.frame.now _ c.args.address (sym c.in-Sync.is)
     (sync_received k history _ _ c.args.bank.now c.args.state before c.args.frame.now
-    c.args.outbox.now.items c.take_sync.result (c.take_sync.ensures.mark _ _))
+    c.args.outbox.now.items c.sync_mark.result (c.sync_mark.ensures.mark _ _))
 
 pub returns-in-Rpdo-clause-received : goal.returns-in-Rpdo-clause-received
 returns-in-Rpdo-clause-received g c = λ k history before.
     at_address c.args.frame.now _ c.args.address (sym c.in-Rpdo.is)
     (rpdo_received k history _ _ c.args.bank.now c.args.state before c.args.frame.now c.in-Rpdo.number
-    c.args.outbox.now.items c.take_rpdo.result (c.take_rpdo.ensures.mark _ _))
+    c.args.outbox.now.items c.rpdo_mark.result (c.rpdo_mark.ensures.mark _ _))
