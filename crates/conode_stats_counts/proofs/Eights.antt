@@ -1,5 +1,5 @@
 -- Eight bits at once, by the tables, are eight bits one after another.
-use Rattle.std.proofs.Common.{ℕ, zero, suc, Bool, true, false, List, [], ◌∷◌, ◌++◌, ◌≡◌, ◌∙◌, ◌+◌, ◌-◌, ◌*◌, ◌/◌, ◌%◌, ◌^◌, ◌<◌, ◌≤◌, map, length, drop, get_or, bit_xor, subst, ap, ap₂, refl, sym, drop-cons, drop_of_length-le, arith}
+use Rattle.std.proofs.Common.{ℕ, zero, suc, Bool, true, false, List, [], ◌∷◌, ◌++◌, ◌≡◌, ◌∙◌, ◌+◌, ◌*◌, ◌/◌, ◌%◌, ◌^◌, ◌<◌, ◌≤◌, map, length, drop, get_or, bit_xor, subst, ap, ap₂, refl, sym, drop-cons, drop_of_length-le, arith}
 use Rattle.std.specs.Prelude.{◌==◌, if◌then◌else◌, fold}
 use Rattle.std.specs.List.{range_with_len}
 use Rattle.std.proofs.lemmas.List.{get_or-map}
@@ -9,7 +9,7 @@ use lib.Bits.{xor_assoc, xor_block, xor_comm, xor_mod, xor_shifted, xor_shr, xor
 use Rattle.conode_stats_counts.specs.declared.steps.TheConstants.{CRC_STEPS, STUFF_STEPS}
 use Rattle.conode_stats_counts.specs.declared.wire.Wire.{Wire}
 use Rattle.conode_stats_counts.specs.Bits.{bits_of, crc_with, data_bits, stuffed_from}
-use Rattle.conode_stats_counts.specs.Wires.{IsAfter, Sends, stuffed_with}
+use Rattle.conode_stats_counts.specs.Wires.{IsAfter, Sends}
 use Rattle.conode_stats_counts.proofs.Sent.{both, none, split}
 
 -- what a table has at a place is what a function gives there

@@ -1,5 +1,5 @@
 -- The head in two parts, and the data.
-use Rattle.std.proofs.Common.{◌≡◌, ◌∙◌, ◌+◌, ◌*◌, ◌/◌, ◌++◌, ap, subst, ℕ, length, arith}
+use Rattle.std.proofs.Common.{◌≡◌, ◌∙◌, ◌+◌, ◌*◌, ◌++◌, ap, subst, ℕ, length, arith}
 use Rattle.conode_stats_counts.specs.Bits.{bits_of, data_bits}
 use Rattle.conode_stats_counts.specs.Sizes.{size_as}
 use Rattle.conode_stats_counts.proofs.Sent.{headed, headed_length}

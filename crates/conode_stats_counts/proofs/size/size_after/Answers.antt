@@ -1,7 +1,6 @@
 -- The bits are counted while they are sent.
-use Rattle.std.proofs.Common.{◌≡◌, ◌∙◌, ◌+◌, ◌-◌, ◌*◌, ◌%◌, ap, subst, ℕ}
+use Rattle.std.proofs.Common.{◌+◌, ◌-◌, ◌*◌, ◌%◌, ap, subst, ℕ}
 use Rattle.conode_stats_counts.specs.declared.size.Size.{Size}
-use Rattle.conode_stats_counts.specs.declared.wire.Wire.{Wire}
 use Rattle.conode_stats_counts.specs.Bits.{bits_of, most_bits}
 use Rattle.conode_stats_counts.specs.Wires.{Sends}
 use Rattle.conode_stats_counts.proofs.Sent.{sent_all}

@@ -1,5 +1,5 @@
 -- The bytes that are left go on with those so far.
-use Rattle.std.proofs.Common.{◌≡◌, ◌<◌, ◌≤◌, ◌+◌, ◌*◌, drop}
+use Rattle.std.proofs.Common.{◌<◌, ◌≤◌, ◌+◌, ◌*◌, drop}
 use Rattle.conode_stats_counts.specs.declared.wire.Wire.{Wire}
 use Rattle.conode_stats_counts.specs.Bits.{data_bits}
 use Rattle.conode_stats_counts.specs.Wires.{Sends}
