@@ -1,5 +1,5 @@
 -- Heartbeats and answers, evaluated. Logs have the newest event first.
-use Rattle.std.proofs.Common.{ℕ, List, [], ◌∷◌, ◌++◌, ◌≡◌, Some, None, true, false, refl}
+use Rattle.std.proofs.Common.{List, [], ◌∷◌, ◌≡◌, Some, None, true, false, refl}
 use Rattle.conode_stats_counts.specs.declared.sdo_frame.SdoFrame.TheVariants.{Abort, Request, Response}
 use Rattle.conode_stats_counts.specs.declared.state.NmtState.TheVariants.{BootUp, Operational}
 use Rattle.conode_stats_counts.specs.Heartbeats.{first_gaps, is_late, late_gaps, longest_answer, other_gaps, pending, since, written_time}

@@ -2,12 +2,12 @@ pub mod Beaten
 pub mod Changes
 pub mod Counting
 pub mod Distinct
+pub mod Eights
 mod EmergencyExamples
 pub mod EmergencyLaws
 mod Examples
 pub mod Failed
 mod FailureExamples
-pub mod Fours
 pub mod Grouped
 mod HeartbeatExamples
 pub mod Loaded

@@ -11,7 +11,7 @@ use Rattle.conode_stats_counts.specs.declared.heartbeats.Heartbeats.{Heartbeats}
 use Rattle.conode_stats_counts.specs.declared.sdo_frame.Pending.{Pending}
 use Rattle.conode_stats_counts.specs.declared.sdo_frame.SdoFrame.{SdoFrame}
 use Rattle.conode_stats_counts.specs.Gaps.{counted}
-use Rattle.conode_stats_counts.specs.Heartbeats.{beat_with, confirmed, heartbeats_of, longest_answer, pending}
+use Rattle.conode_stats_counts.specs.Heartbeats.{heartbeats_of, longest_answer, pending}
 use Rattle.conode_stats_counts.specs.NodeCounts.{booted_if, node_commanded, node_exchanged, node_of, node_with}
 use Rattle.conode_stats_counts.specs.States.{NodeEvent, Commanded, Sent, Exchanged, boot_ups, gap_if, is_commanded, last_restart, newest, restarts, same_state, time_in, time_since, times_of, times_since, times_with}
 use Rattle.conode_stats_counts.proofs.Beaten as beaten

@@ -1,5 +1,5 @@
 -- No identifier has two rows.
-use Rattle.std.specs.Prelude.{◌≡◌, ℕ, ◌==◌, ⊤, Bool, false, List, [], ◌∷◌, map}
+use Rattle.std.specs.Prelude.{◌≡◌, ℕ, ◌==◌, ⊤, false, List, [], ◌∷◌, map}
 use Rattle.conode_stats_counts.specs.declared.row.Row.{Row}
 
 -- a number isn't among others

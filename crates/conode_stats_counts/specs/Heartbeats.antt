@@ -1,11 +1,10 @@
 -- The heartbeats of a node (CiA 301, 7.2.8.3.2.1), its answers to SDO requests, and its producer
 -- heartbeat time, 1017:00, as far as downloads in the recording show it.
-use Rattle.std.specs.Prelude.{ℕ, ◌+◌, ◌-◌, ◌*◌, ◌==◌, Bool, true, false, nat_lt, max, ◌&&◌, if◌then◌else◌, List, [], ◌∷◌, ◌++◌, length, reverse, take, Option, Some, None}
+use Rattle.std.specs.Prelude.{ℕ, ◌+◌, ◌-◌, ◌*◌, Bool, true, false, nat_lt, max, ◌&&◌, if◌then◌else◌, List, [], ◌∷◌, ◌++◌, length, reverse, take, Option, Some, None}
 use Rattle.conode_stats_counts.specs.declared.heartbeats.Heartbeats.{Heartbeats}
 use Rattle.conode_stats_counts.specs.declared.sdo_frame.SdoFrame.{SdoFrame}
 use Rattle.conode_stats_counts.specs.declared.sdo_frame.SdoFrame.TheVariants.{Request, Response}
 use Rattle.conode_stats_counts.specs.declared.sdo_frame.Pending.{Pending}
-use Rattle.conode_stats_counts.specs.declared.state.NmtState.{NmtState}
 use Rattle.conode_stats_counts.specs.declared.state.NmtState.TheVariants.{BootUp}
 use Rattle.conode_stats_counts.specs.Gaps.{counted, greatest}
 use Rattle.conode_stats_counts.specs.States.{NodeEvent, Commanded, Sent, Exchanged, same_state}

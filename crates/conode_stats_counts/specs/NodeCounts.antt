@@ -1,5 +1,5 @@
 -- All that is counted of a node.
-use Rattle.std.specs.Prelude.{ℕ, ◌+◌, Bool, true, false, not, ◌&&◌, if◌then◌else◌, List, Option, Some, None, is_some}
+use Rattle.std.specs.Prelude.{ℕ, ◌+◌, Bool, true, false, not, ◌&&◌, if◌then◌else◌, List, Some, None, is_some}
 use Rattle.conode_stats_counts.specs.declared.sdo_frame.SdoFrame.{SdoFrame}
 use Rattle.conode_stats_counts.specs.declared.node.Node.{Node}
 use Rattle.conode_stats_counts.specs.declared.state.NmtState.{NmtState}

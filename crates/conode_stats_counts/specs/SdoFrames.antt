@@ -1,6 +1,5 @@
 -- SDO frames on the default channel of a node (CiA 301, 7.2.4.3), by the pre-defined connection set.
 use Rattle.std.specs.Prelude.{ℕ, ◌+◌, ◌*◌, ◌==◌, Bool, ◌&&◌, ◌||◌, if◌then◌else◌, List, [], ◌∷◌, Some, None}
-use Rattle.conode_stats_counts.specs.declared.sdo_frame.SdoFrame.{SdoFrame}
 use Rattle.conode_stats_counts.specs.declared.sdo_frame.SdoFrame.TheVariants.{Request, Abort, Response}
 use Rattle.conode_stats_counts.specs.declared.sign.Sign.{Sign}
 use Rattle.conode_stats_counts.specs.declared.sign.Sign.TheVariants.{Exchanges, Other}

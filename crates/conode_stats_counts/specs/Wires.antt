@@ -1,21 +1,18 @@
 -- The bits of a frame, counted as they are sent.
-use Rattle.std.specs.Prelude.{ℕ, ◌+◌, ◌-◌, ◌==◌, if◌then◌else◌, List, fold}
+use Rattle.std.specs.Prelude.{ℕ, ◌+◌, ◌/◌, ◌%◌, ◌≡◌, List, ◌++◌, fold}
 use Rattle.conode_stats_counts.specs.declared.wire.Wire.{Wire}
-use Rattle.conode_stats_counts.specs.Bits.{crc_with}
+use Rattle.conode_stats_counts.specs.Bits.{crc_of, crc_with, stuff_bits, stuffed_from}
 
--- one bit more
-unfoldable pub wire_with : Wire → ℕ → Wire
-wire_with wire bit =
-    if bit == wire.last
-    then (if wire.run == 4
-    then record { crc = crc_with wire.crc bit; last = 1 - bit; run = 1; bits = wire.bits + 2 }
-    else record { crc = crc_with wire.crc bit; last = wire.last; run = wire.run + 1; bits = wire.bits + 1 })
-    else record { crc = crc_with wire.crc bit; last = bit; run = 1; bits = wire.bits + 1 }
+-- the stuff bits that were sent, and those among further bits; a run is 4 * its bit + its length - 1
+abbrev pub stuffed_with : Wire → List ℕ → ℕ
+stuffed_with wire bits = wire.stuffed + stuffed_from (wire.run / 4) (wire.run % 4 + 1) bits
 
--- several bits more
-unfoldable pub wire_after : Wire → List ℕ → Wire
-wire_after wire bits = fold wire_with wire bits
+-- these bits lead from one state of the bus to another
+pub record Sends (before : Wire) (bits : List ℕ) (after : Wire) : Type 0 where
+  pub crc : after.crc ≡ fold crc_with before.crc bits
+  pub stuffed : (more : List ℕ) → stuffed_with after more ≡ stuffed_with before (bits ++ more)
 
--- before a frame the bus is recessive
-abbrev pub idle : Wire
-idle = record { crc = 0; last = 1; run = 0; bits = 0 }
+-- the bus after these bits of a frame
+pub record IsAfter (wire : Wire) (bits : List ℕ) : Type 0 where
+  pub crc : wire.crc ≡ crc_of bits
+  pub stuffed : (more : List ℕ) → stuffed_with wire more ≡ stuff_bits (bits ++ more)

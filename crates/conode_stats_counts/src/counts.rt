@@ -1,6 +1,6 @@
 //! The frames of several buses.
 
-ghost use Rattle.std.specs.Prelude.{◌≡◌, ◌<◌, ◌≤◌, List, [], ◌∷◌, length, position, OnOk, IfOk, IfSome};
+ghost use Rattle.std.specs.Prelude.{◌≡◌, ◌<◌, ◌≤◌, List, [], ◌∷◌, ◌++◌, length, position, OnOk, IfOk, IfSome};
 ghost use Rattle.conode_record.specs.Grammar.{IsIdentifier};
 ghost use Rattle.conode_record.specs.declared.line.Record.{Record};
 ghost use Rattle.conode_stats_counts.specs.Buses.{
@@ -47,6 +47,19 @@ fn place_of(buses: &[Bus], interface: &[u8]) -> Option<usize>
     buses.iter().position(|bus| bus.interface() == interface)
 }
 
+// Appends a bus with this frame. Apart from `add_to_bus`, which would have to clear the room for a
+// bus at each frame. `Err`: out of memory.
+fn push_bus(alloc: Global, buses: &mut Vec<Bus>, frame: &Record<'_>) -> Result<(), AllocError>
+    requires { IsIdentifier frame.now.id }
+    ensures { OnOk result (buses.new.items ≡ buses.old.items
+        ++ bus_with (new_bus frame.now.interface) frame.now ∷ []) }
+{
+    let mut bus = Bus::new(alloc, frame.interface.bytes())?;
+    bus.add(frame)?;
+    buses.push(bus)?;
+    Ok(())
+}
+
 // Adds a frame to the bus of its interface, a new one if there is none. Returns 1 if there is no
 // room for a new bus, else 0. `Err`: out of memory.
 #[tactic(auto, using(crate::proofs::Places::same_at), unfolding(crate::specs::Groups::group_with, crate::specs::Groups::no_room))]
@@ -67,9 +80,7 @@ fn add_to_bus(alloc: Global, buses: &mut Vec<Bus>, frame: &Record<'_>) -> Result
             if buses.len() >= MOST_BUSES {
                 return Ok(1);
             }
-            let mut bus = Bus::new(alloc, interface)?;
-            bus.add(frame)?;
-            buses.push(bus)?;
+            push_bus(alloc, buses, frame)?;
             Ok(0)
         }
     }

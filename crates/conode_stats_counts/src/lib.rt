@@ -18,6 +18,7 @@ mod sdo_frame;
 mod sign;
 mod size;
 mod state;
+mod steps;
 mod tally;
 mod transfers;
 mod wire;

@@ -8,7 +8,7 @@ use crate::size::Size;
 use crate::tally::counted;
 
 /// Consecutive frames with stamps in the same second. Sums saturate at 2^64 - 1.
-#[derive(Clone, Copy, Debug, PartialEq, Eq)]
+#[derive(Clone, Copy)]
 pub struct Second {
     /// The second, counted from stamp 0.
     pub second: u64,
@@ -19,7 +19,7 @@ pub struct Second {
 }
 
 /// The bits that the frames of a bus take. Sums saturate at 2^64 - 1.
-#[derive(Clone, Copy, Debug, PartialEq, Eq)]
+#[derive(Clone, Copy)]
 pub struct Load {
     /// The bits of all frames.
     pub bits: u64,

@@ -8,7 +8,7 @@ use crate::tally::Tally;
 use conode_record::Identifier;
 
 /// The frames of one identifier, counted.
-#[derive(Clone, Copy, Debug, PartialEq, Eq)]
+#[derive(Clone, Copy)]
 pub struct Row {
     /// The identifier; one of 29 bits with bit 31, the class of an error frame with bit 29.
     pub can_id: u32,

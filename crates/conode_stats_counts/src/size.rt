@@ -1,22 +1,21 @@
 //! The bits that a frame takes on the bus.
 
-ghost use Rattle.std.specs.Prelude.{◌≡◌, ◌+◌, ◌-◌, ◌*◌, ◌/◌, ◌%◌, ◌<◌, ◌≤◌, ◌++◌, length};
+ghost use Rattle.std.specs.Prelude.{◌≡◌, ◌+◌, ◌*◌, ◌<◌, ◌≤◌, ℕ, List, ◌++◌, length};
 ghost use Rattle.conode_record.specs.Grammar.{IsIdentifier};
 ghost use Rattle.conode_stats_counts.specs.Bits.{
   base_head,
   extended_head,
   data_bits,
-  frame_bits,
-  bits_of,
 };
 ghost use Rattle.conode_stats_counts.specs.Sizes.{size_as, size_of};
+ghost use Rattle.conode_stats_counts.specs.Wires.{IsAfter};
 
-use crate::wire::Wire;
+use crate::wire::{Wire, base_start, extended_start};
 use conode_record::{Content, Identifier};
 
 /// The bits of a frame on the bus, with the intermission after it (ISO 11898-1). Both numbers are 0
 /// if they are unknown.
-#[derive(Clone, Copy, Debug, PartialEq, Eq)]
+#[derive(Clone, Copy)]
 pub struct Size {
     /// The bits as sent, with the stuff bits.
     pub bits: u32,
@@ -27,18 +26,20 @@ pub struct Size {
 /// The bits after the CRC: delimiters, acknowledge, end of frame and intermission.
 const TAIL_BITS: u32 = 13;
 
-// the size of a frame whose bits up to its data are a number in `count` bits
-fn size_from(count: u32, head: u64, bytes: &[u8]) -> Size
-    requires few { length bytes.now ≤ 8 }
-    requires count { count ≤ 39 }
-    ensures { result ≡ size_as (count + 15 + 8 * length bytes.now)
-        (bits_of count head ++ data_bits bytes.now) }
+// the size of a frame of which all bits before its CRC are sent, `sent` with its CRC. A bit after
+// the CRC, other than its last one, makes whole bytes and no stuff bit.
+#[inline(always)]
+fn size_after(wire: Wire, sent: u32) -> Size
+    requires sent { (15 ≤ sent) × (sent ≤ 200) }
+    requires run { wire.run < 8 }
+    requires few { wire.stuffed ≤ 800 }
+    ensures { (bits : List ℕ) → IsAfter wire bits → length bits + 15 ≡ sent
+        → result ≡ size_as sent bits }
 {
-    let wire = Wire::idle().with_number(count, head).with_bytes(bytes);
-    let end = wire.with_number(15, u64::from(wire.crc));
-    let sent = count + 15 + 8 * bytes.len() as u32;
+    let crc = u64::from(wire.crc);
+    let end = wire.with_number(16, 2 * crc + (1 - crc % 2));
     Size {
-        bits: end.bits + TAIL_BITS,
+        bits: sent + end.stuffed + TAIL_BITS,
         most: sent + (sent - 1) / 4 + TAIL_BITS,
     }
 }
@@ -52,7 +53,10 @@ fn base_size(id: u16, remote: u64, code: u64, bytes: &[u8]) -> Size
     ensures { result ≡ size_as (34 + 8 * length bytes.now)
         (base_head id remote code ++ data_bits bytes.now) }
 {
-    size_from(19, 128 * u64::from(id) + 64 * remote + code, bytes)
+    let head = 128 * u64::from(id) + 64 * remote + code;
+    let start = base_start((head / 0x1_0000) as u8);
+    let wire = start.with_number(16, head).with_bytes(bytes);
+    size_after(wire, 34 + 8 * bytes.len() as u32)
 }
 
 // the size of a frame with an identifier of 29 bits
@@ -67,7 +71,9 @@ fn extended_size(id: u32, remote: u64, code: u64, bytes: &[u8]) -> Size
     let upper = u64::from(id / 0x4_0000);
     let lower = u64::from(id % 0x4_0000);
     let head = 0x800_0000 * upper + 0x600_0000 + 128 * lower + 64 * remote + code;
-    size_from(39, head, bytes)
+    let start = extended_start((head / 0x1_0000_0000) as u8);
+    let wire = start.with_number(32, head).with_bytes(bytes);
+    size_after(wire, 54 + 8 * bytes.len() as u32)
 }
 
 impl Size {

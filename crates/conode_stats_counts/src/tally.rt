@@ -6,7 +6,7 @@ ghost use Rattle.conode_stats_counts.specs.Tallies.{tally_of, tally_with};
 
 /// Frames and the gaps between their stamps, in microseconds. Every frame has a gap but the first,
 /// and those that step back. Counts and sums saturate at 2^64 - 1.
-#[derive(Clone, Copy, Debug, PartialEq, Eq)]
+#[derive(Clone, Copy)]
 pub struct Tally {
     /// The stamp of the first frame; 0 without frames.
     pub first: u64,

@@ -1,21 +1,24 @@
-use Rattle.std.proofs.Common.{◌∙◌, arith}
-use Rattle.conode_stats_counts.proofs.Fours.{four_first}
+use Rattle.std.proofs.Common.{arith}
+use Rattle.conode_stats_counts.proofs.Eights.{eight_first, no_more_bits}
 use Rattle.conode_stats_counts.proofs.wire.Wire.with_number.Goals as goal
 
 pub loop-low-preserved : goal.loop-low-preserved
 loop-low-preserved c =
-    let next = c.with_four-wire.ensures in
+    let next = c.with_byte-wire.ensures in
     let few = next.few in
     let so_far = c.loop-low.invariant in
     let room = so_far.few in
     let low = so_far.low in
+    let whole = so_far.whole in
     record {
       low = omega (arith, low);
-      with = four_first c.loop-low.wire c.with_four-wire.result _ c.loop-low.low c.args.number (omega arith) next.with ∙ so_far.with;
+      whole = omega (arith, whole);
+      sends = λ after rest. so_far.sends after (eight_first c.loop-low.wire c.with_byte-wire.result after _ c.loop-low.low c.args.number (omega arith) next.sends rest);
       few = omega (arith, few, room);
-      last = next.last;
       run = next.run;
     }
 
-pub returns-clause-with : goal.returns-clause-with
-returns-clause-with c = c.with_few.ensures.with ∙ c.loop-low.invariant.with
+pub returns-clause-sends : goal.returns-clause-sends
+returns-clause-sends c =
+    let so_far = c.loop-low.invariant in
+    no_more_bits c.loop-low.wire c.args.self c.loop-low.low c.args.count c.args.number so_far.whole (omega arith) so_far.sends

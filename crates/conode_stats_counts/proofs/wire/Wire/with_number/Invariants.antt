@@ -1,16 +1,17 @@
 -- What is left of the number goes on with the bits so far.
-use Rattle.std.proofs.Common.{◌≡◌, ◌<◌, ◌≤◌, ◌+◌, ◌*◌}
+use Rattle.std.proofs.Common.{◌≡◌, ◌<◌, ◌≤◌, ◌+◌, ◌*◌, ◌%◌}
+use Rattle.conode_stats_counts.specs.declared.wire.Wire.{Wire}
 use Rattle.conode_stats_counts.specs.Bits.{bits_of}
-use Rattle.conode_stats_counts.specs.Wires.{wire_after}
+use Rattle.conode_stats_counts.specs.Wires.{Sends}
 use Rattle.conode_stats_counts.proofs.wire.Wire.with_number.Given as goal
 
 abbrev pub invariant-loop-low : goal.invariant-loop-low
 invariant-loop-low l = record {
   low : l.low ≤ l.fn.count;
-  with : wire_after l.wire (bits_of l.low l.fn.number) ≡ wire_after l.fn.self (bits_of l.fn.count l.fn.number);
-  few : l.wire.bits + 2 * l.low ≤ l.fn.self.bits + 2 * l.fn.count;
-  last : l.wire.last < 2;
-  run : l.wire.run < 5;
+  whole : l.low % 8 ≡ 0;
+  sends : (after : Wire) → Sends l.wire (bits_of l.low l.fn.number) after → Sends l.fn.self (bits_of l.fn.count l.fn.number) after;
+  few : l.wire.stuffed + 4 * l.low ≤ l.fn.self.stuffed + 4 * l.fn.count;
+  run : l.wire.run < 8;
 }
 
 abbrev pub decreases-loop-low : goal.decreases-loop-low
