@@ -1,4 +1,5 @@
 pub mod AbortLemmas
+pub mod AssumedLemmas
 pub mod Explaining
 pub mod LogLemmas
 pub mod ServiceLemmas

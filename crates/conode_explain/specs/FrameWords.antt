@@ -1,5 +1,5 @@
 -- What a frame says.
-use Rattle.std.specs.Prelude.{ℕ, ◌%◌, ◌==◌, nat_lt, Bool, not, ◌&&◌, if◌then◌else◌, List, [], ◌∷◌, ◌++◌, codes, unwrap_or}
+use Rattle.std.specs.Prelude.{ℕ, ◌/◌, ◌%◌, ◌==◌, nat_lt, Bool, not, ◌&&◌, if◌then◌else◌, List, [], ◌∷◌, ◌++◌, codes, decimal, unwrap_or}
 use Rattle.conode_decode.specs.Names.{Names}
 use Rattle.conode_decode.specs.Texts.{text_of_frame}
 use Rattle.conode_record.specs.declared.content.Content.{Content}
@@ -42,6 +42,20 @@ other_words bus (claim ∷ claims) frame = pdos_text bus frame.bytes (claim ∷ 
 unfoldable pub frame_words : Bus → List Claim → FrameContent → List ℕ
 frame_words bus claims frame =
     unwrap_or (transfer_words bus frame) (other_words bus claims frame)
+
+-- a PDO of that set of which no more is known: its number, by its identifier in steps of 128, and its node
+abbrev pub assumed_front : ℕ → List ℕ
+assumed_front step =
+    if step == 3 then codes "~TPDO1 node "
+    else (if step == 4 then codes "~RPDO1 node "
+    else (if step == 5 then codes "~TPDO2 node "
+    else (if step == 6 then codes "~RPDO2 node "
+    else (if step == 7 then codes "~TPDO3 node "
+    else (if step == 8 then codes "~RPDO3 node "
+    else (if step == 9 then codes "~TPDO4 node " else codes "~RPDO4 node "))))))
+
+unfoldable pub assumed_words : ℕ → List ℕ
+assumed_words id = assumed_front (id / 128) ++ decimal (id % 128)
 
 -- what data say, by the identifier
 abbrev pub data_words : Bus → List Claim → Identifier → List ℕ → List ℕ

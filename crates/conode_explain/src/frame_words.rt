@@ -1,14 +1,15 @@
 //! What a frame says.
 
-ghost use Rattle.std.specs.Prelude.{◌≡◌, ◌++◌, OnOk, string_bytes};
+ghost use Rattle.std.specs.Prelude.{◌≡◌, ◌++◌, ◌<◌, true, OnOk, string_bytes};
 ghost use Rattle.conode_decode.specs.Names.{names_view};
 ghost use Rattle.conode_explain_pdo.specs.Buses.{bus_view};
 ghost use Rattle.conode_record.specs.Grammar.{IsIdentifier};
-ghost use Rattle.conode_explain.specs.FrameWords.{assumed_mark, data_words, frame_words, is_default_pdo, other_words, plain_words, remote_content, served_words, words_of_content};
+ghost use Rattle.conode_explain.specs.FrameWords.{assumed_front, assumed_mark, assumed_words, data_words, frame_words, is_default_pdo, other_words, plain_words, remote_content, served_words, words_of_content};
 
 use crate::abort_words::push_abort_words;
 use crate::transfer::{push_transfer, transfer_in};
 use co_frame::Frame;
+use co_text::push_decimal;
 use co_value::PackedBytes;
 use conode_decode::{Names, push_text};
 use conode_explain_pdo::{Bus, Claim, push_pdos};
@@ -98,6 +99,48 @@ fn push_frame_words(
     push_other_words(said, bus, claims, frame)
 }
 
+fn assumed_front(step: u16) -> &'static str
+    ensures { result.now ≡ assumed_front step }
+{
+    match step {
+        3 => "~TPDO1 node ",
+        4 => "~RPDO1 node ",
+        5 => "~TPDO2 node ",
+        6 => "~RPDO2 node ",
+        7 => "~TPDO3 node ",
+        8 => "~RPDO3 node ",
+        9 => "~TPDO4 node ",
+        _ => "~RPDO4 node ",
+    }
+}
+
+#[tactic(auto, unfolding(crate::specs::FrameWords::assumed_words))]
+fn push_assumed_words(said: &mut String, id: u16) -> Result<(), AllocError>
+    ensures { OnOk result (string_bytes said.new ≡ string_bytes said.old ++ assumed_words id) }
+{
+    said.push_str(assumed_front(id / 128))?;
+    push_decimal(said, u64::from(id % 128))
+}
+
+// what data with an identifier of 11 bits say
+fn push_base_words(
+    said: &mut String,
+    bus: Bus<'_, '_, '_, '_, '_>,
+    claims: &[Claim],
+    id: u16,
+    bytes: &PackedBytes,
+) -> Result<(), AllocError>
+    requires { id < 2048 }
+    ensures { OnOk result (string_bytes said.new ≡ string_bytes said.old
+        ++ frame_words (bus_view bus.entry) claims.now (record { id = id; bytes = bytes.now })) }
+{
+    match claims {
+        // most frames of most recordings
+        [] if is_default_pdo(id) => push_assumed_words(said, id),
+        _ => push_frame_words(said, bus, claims, &Frame::packed(id, bytes)),
+    }
+}
+
 fn push_data_words(
     said: &mut String,
     bus: Bus<'_, '_, '_, '_, '_>,
@@ -110,7 +153,7 @@ fn push_data_words(
         ≡ string_bytes said.old ++ data_words (bus_view bus.entry) claims.now id bytes.now) }
 {
     match id {
-        Identifier::Base(id) => push_frame_words(said, bus, claims, &Frame::packed(id, bytes)),
+        Identifier::Base(id) => push_base_words(said, bus, claims, id, bytes),
         Identifier::Extended(_) => said.push_str("frame with an identifier of 29 bits"),
         Identifier::Error(_) => said.push_str("error frame"),
     }

@@ -17,7 +17,7 @@ use conode_record::{Content, Identifier, Record};
 use std::alloc::{AllocError, Global};
 
 /// How lines are written.
-#[derive(Clone, Copy, Debug, PartialEq, Eq)]
+#[derive(Clone, Copy)]
 pub enum LineFormat {
     /// For people.
     Text,

@@ -435,7 +435,7 @@ pub(crate) fn write_frame<W: Write>(
         ≡ progress_with settings.now.form (sheets_of settings.now) progress.old frame.now) }
     ensures err { IfErr result (λ fault. (fault ≡ CmdFault.Write) ⊎ (fault ≡ CmdFault.Memory)) }
 {
-    // of most frames there is nothing to tell, and what is told is large
+    // most frames are of no SDO channel, and what one says about a frame is large
     if !may_be_told(frame.id) {
         return write_by(room, claims, progress, settings, frame, &None, out);
     }

@@ -1,5 +1,5 @@
 -- Lines as objects of JSON, evaluated: each part, and both sides of each edge.
-use Rattle.std.proofs.Common.{◌≡◌, ℕ, true, false, List, [], ◌∷◌, Some, None, refl, pos, negsuc}
+use Rattle.std.proofs.Common.{◌≡◌, ℕ, true, false, List, [], ◌∷◌, Some, None, refl}
 use Rattle.std.specs.Prelude.{codes}
 use Rattle.std.specs.Fmt.{digits}
 use Rattle.std.specs.Str.{is_utf8, chars}
@@ -18,25 +18,8 @@ use Rattle.conode_explain_text.specs.Dates.{date_in_year, date_of, day_of_year, 
 use Rattle.conode_explain_text.specs.Lines.{content, gap, identifier, interface, line_parts, note, own_parts, said, stamp}
 use Rattle.conode_explain_text.specs.SoFar.{nothing_seen, seen_with}
 use Rattle.conode_explain_text.specs.Stamps.{date_text, moment_text, time_of_day_text}
-use Rattle.conode_explain_json.specs.JsonLines.{array_member, data_members, flag_member, json_line, kind_members, line_tokens, number_member, number_token, part_tokens, stamp_member, text_member}
-
--- ---- numbers: up to 2^53 - 1 in magnitude, and past it
-
-greatest : number_token (pos 9007199254740991) ≡ number (codes "9007199254740991")
-unfolding digits
-greatest = refl
-
-past_greatest : number_token (pos 9007199254740992) ≡ string (codes "9007199254740992")
-unfolding digits
-past_greatest = refl
-
-least : number_token (negsuc 9007199254740990) ≡ number (codes "-9007199254740991")
-unfolding digits
-least = refl
-
-past_least : number_token (negsuc 9007199254740991) ≡ string (codes "-9007199254740992")
-unfolding digits
-past_least = refl
+use Rattle.conode_json.specs.Members.{flag_member, number_member, numbers_member, text_member}
+use Rattle.conode_explain_json.specs.JsonLines.{data_members, json_line, kind_members, line_tokens, part_tokens, stamp_member}
 
 -- ---- times
 
@@ -88,17 +71,17 @@ id_error = refl
 two_bytes : part_tokens (content (Data (0xE8 ∷ 3 ∷ [])))
     ≡ key (codes "frame") ∷ string (codes "data") ∷ key (codes "length") ∷ number (codes "2") ∷ key (codes "data") ∷ begin_array ∷ number (codes "232") ∷ number (codes "3") ∷ end_array
     ∷ key (codes "raw") ∷ string (codes "E803") ∷ []
-unfolding data_members array_member number_member text_member digits_text digits
+unfolding data_members numbers_member number_member text_member digits_text digits
 two_bytes = refl
 
 remote_of_8 : part_tokens (content (Remote 8))
     ≡ key (codes "frame") ∷ string (codes "remote") ∷ key (codes "length") ∷ number (codes "8") ∷ key (codes "data") ∷ begin_array ∷ end_array ∷ key (codes "raw") ∷ string [] ∷ []
-unfolding data_members array_member number_member text_member digits_text digits
+unfolding data_members numbers_member number_member text_member digits_text digits
 remote_of_8 = refl
 
 fd_of_one : part_tokens (content (Fd 1 (0 ∷ [])))
     ≡ key (codes "frame") ∷ string (codes "fd") ∷ key (codes "flags") ∷ number (codes "1") ∷ key (codes "length") ∷ number (codes "1") ∷ key (codes "data") ∷ begin_array ∷ number (codes "0") ∷ end_array ∷ key (codes "raw") ∷ string (codes "00") ∷ []
-unfolding data_members array_member number_member text_member digits_text digits
+unfolding data_members numbers_member number_member text_member digits_text digits
 fd_of_one = refl
 
 -- a control character as it is, which the text escapes; a byte that is no UTF-8
@@ -133,12 +116,12 @@ sync micros name = record { micros = micros; interface = name; id = Base 0x80; c
 
 first_line : json_line Sync None (line_parts Relative nothing_seen (sync 5 (codes "can0")) (codes "SYNC \"7\""))
     ≡ codes "{\"stamp\":0,\"gap\":0,\"id\":\"080\",\"frame\":\"data\",\"length\":1,\"data\":[7],\"raw\":\"07\",\"text\":\"SYNC \\\"7\\\"\",\"kind\":\"sync\"}\n"
-unfolding sync json_line line_tokens line_parts stamp_member kind_members data_members array_member text_member number_member characters_of is_utf8 chars encode digits_text digits print_from escape_byte
+unfolding sync json_line line_tokens line_parts stamp_member kind_members data_members numbers_member text_member number_member characters_of is_utf8 chars encode digits_text digits print_from escape_byte
 first_line = refl
 
 line_back_on_another : json_line Sync None (line_parts Relative (seen_with nothing_seen 5 (codes "can0")) (sync 4 (codes "can1")) (codes "SYNC"))
     ≡ codes "{\"stamp\":-1,\"gap\":-1,\"interface\":\"can1\",\"id\":\"080\",\"frame\":\"data\",\"length\":1,\"data\":[7],\"raw\":\"07\",\"text\":\"SYNC\",\"note\":\"the stamp steps back\",\"kind\":\"sync\"}\n"
-unfolding sync json_line line_tokens line_parts stamp_member kind_members data_members array_member text_member number_member characters_of is_utf8 chars encode digits_text digits print_from escape_byte
+unfolding sync json_line line_tokens line_parts stamp_member kind_members data_members numbers_member text_member number_member characters_of is_utf8 chars encode digits_text digits print_from escape_byte
 line_back_on_another = refl
 
 transfer : json_line Sdo (Some 5) (own_parts Relative (times 5 5 6) true (codes "can1") (codes "node 5  done"))

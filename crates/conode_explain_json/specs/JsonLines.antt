@@ -1,9 +1,8 @@
 -- A line of an explained recording as an object of JSON, in tokens (RFC 8259).
-use Rattle.std.specs.Prelude.{ℕ, ◌^◌, ◌-◌, nat_lt, Bool, true, if◌then◌else◌, List, [], ◌∷◌, ◌++◌, length, map, ℤ, pos, negsuc, ◌-ℤ◌, codes, decimal, Option}
-use Rattle.std.specs.Fmt.{signed_decimal}
+use Rattle.std.specs.Prelude.{ℕ, Bool, true, List, [], ◌∷◌, ◌++◌, length, pos, ◌-ℤ◌, codes, Option}
 use Rattle.std.specs.List.{flat_map}
 use Rattle.std.specs.Option.{option_map_or}
-use Rattle.json.specs.Token.{Token, begin_object, end_object, begin_array, end_array, key, string, number, boolean}
+use Rattle.json.specs.Token.{Token, begin_object, end_object}
 use Rattle.json.specs.Print.{print}
 use Rattle.co_text.specs.Printed.{byte_text}
 use Rattle.conode_record.specs.declared.content.Content.{Content}
@@ -12,6 +11,7 @@ use Rattle.conode_record.specs.declared.fields.Identifier.{Identifier}
 use Rattle.conode_record.specs.declared.fields.Identifier.TheVariants.{Base, Extended, Error}
 use Rattle.conode_record.specs.declared.line.Record.{Record}
 use Rattle.conode_lint_text.specs.JsonForm.{utf8_of}
+use Rattle.conode_json.specs.Members.{flag_member, number_member, numbers_member, text_member}
 use Rattle.conode_explain_filter.specs.declared.kind.Kind.{Kind}
 use Rattle.conode_explain_filter.specs.declared.kind.Kind.TheVariants.{Sdo, Pdo, Emergency, Nmt, Heartbeat, Sync, Other}
 use Rattle.conode_explain_text.specs.declared.so_far.Times.{Times}
@@ -20,27 +20,6 @@ use Rattle.conode_explain_text.specs.declared.stamps.StampForm.TheVariants.{Rela
 use Rattle.conode_explain_text.specs.Columns.{escaped_name, id_text}
 use Rattle.conode_explain_text.specs.Lines.{Part, stamp, gap, interface, identifier, content, said, note, interface_parts}
 use Rattle.conode_explain_text.specs.Stamps.{moment_text}
-
--- ---- members
-
-unfoldable pub text_member : List ℕ → List ℕ → List Token
-text_member name text = key name ∷ string text ∷ []
-
--- a member that is true
-unfoldable pub flag_member : List ℕ → List Token
-flag_member name = key name ∷ boolean true ∷ []
-
--- up to 2^53 - 1 in magnitude, which every reader of JSON keeps
-abbrev pub is_exact : ℤ → Bool
-is_exact (pos n) = nat_lt n (2 ^ 53)
-is_exact (negsuc n) = nat_lt n (2 ^ 53 - 1)
-
--- a number; a greater one as a string
-abbrev pub number_token : ℤ → Token
-number_token z = if is_exact z then number (signed_decimal z) else string (signed_decimal z)
-
-unfoldable pub number_member : List ℕ → ℤ → List Token
-number_member name z = key name ∷ number_token z ∷ []
 
 -- ---- the parts of a line
 
@@ -51,17 +30,10 @@ stamp_member Absolute times = number_member (codes "stamp") (pos times.now)
 stamp_member Delta times = number_member (codes "stamp") (pos times.now -ℤ pos times.before)
 stamp_member AsDate times = text_member (codes "stamp") (moment_text times.now)
 
-abbrev pub byte_token : ℕ → Token
-byte_token byte = number (decimal byte)
-
--- the bytes as numbers
-unfoldable pub array_member : List ℕ → List Token
-array_member bytes = key (codes "data") ∷ begin_array ∷ (map byte_token bytes ++ end_array ∷ [])
-
 -- the length, the bytes as numbers, and in hexadecimal digits
 unfoldable pub data_members : ℕ → List ℕ → List Token
 data_members count bytes =
-    number_member (codes "length") (pos count) ++ array_member bytes
+    number_member (codes "length") (pos count) ++ numbers_member (codes "data") bytes
     ++ text_member (codes "raw") (flat_map byte_text bytes)
 
 -- which sort of frame it is
@@ -79,7 +51,7 @@ content_members (Fd flags bytes) =
 abbrev pub id_members : Identifier → List Token
 id_members (Base id) = text_member (codes "id") (id_text (Base id))
 id_members (Extended id) = text_member (codes "id") (id_text (Extended id))
-id_members (Error class) = text_member (codes "id") (id_text (Error class)) ++ flag_member (codes "error")
+id_members (Error class) = text_member (codes "id") (id_text (Error class)) ++ flag_member (codes "error") true
 
 -- what is said is in UTF-8: of a data sheet that isn't, by Windows-1252
 abbrev pub part_tokens : Part → List Token

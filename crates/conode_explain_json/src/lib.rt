@@ -2,7 +2,6 @@
 #![tactic(auto)]
 
 mod content;
-mod json_writer;
 mod kind_name;
 mod lines;
 

@@ -23,10 +23,10 @@ ghost use Rattle.conode_explain_json.specs.JsonLines.{
 };
 
 use crate::content::{put_content, put_id, put_interface};
-use crate::json_writer::JsonWriter;
 use crate::kind_name::kind_name;
 use conode_explain_filter::Kind;
 use conode_explain_text::{Seen, StampForm, Times, push_moment};
+use conode_json::JsonWriter;
 use conode_record::Record;
 use std::alloc::{AllocError, Global};
 

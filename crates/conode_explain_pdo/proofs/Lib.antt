@@ -1,4 +1,5 @@
 pub mod Claims
 pub mod Examples
+pub mod NoClaims
 pub mod Parts
 pub mod Words

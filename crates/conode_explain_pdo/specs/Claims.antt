@@ -1,5 +1,6 @@
 -- Whose PDOs have an identifier, by the data sheets and by what the recording shows.
-use Rattle.std.specs.Prelude.{ℕ, Bool, false, not, ◌&&◌, if◌then◌else◌, List, [], ◌∷◌, ◌++◌, filter_map, Option, Some, None, option_and_then, is_none}
+use Rattle.std.specs.Prelude.{ℕ, Bool, false, not, ◌&&◌, ◌||◌, if◌then◌else◌, List, [], ◌∷◌, ◌++◌, filter_map, Option, Some, None, option_and_then, is_none, is_some}
+use Rattle.std.specs.List.{list_any}
 use Rattle.std.specs.Option.{option_map_or}
 use Rattle.std.specs.Str.{bytes_eq}
 use Rattle.co_profile.specs.declared.indices.IndexRange.{IndexRange}
@@ -70,6 +71,24 @@ kind_claims bus range id = sheets_claims bus range id [] bus.sheets ++ filter_ma
 -- those that nodes send, and then those that they receive
 abbrev pub both_claims : Bus → ℕ → List Claim
 both_claims bus id = kind_claims bus tpdo_communication id ++ kind_claims bus rpdo_communication id
+
+-- ---- a look before: most identifiers are no PDO's
+
+-- a sheet's PDO would have the identifier, whatever else the recording shows
+abbrev pub may_have : Option ℕ → ℕ → SheetPdo → Bool
+may_have only id pdo = is_some (node_with only pdo.cob_id id)
+
+abbrev pub sheet_may_have : ℕ → KnownSheet → Bool
+sheet_may_have id sheet = list_any (may_have sheet.names.only id) sheet.pdos
+
+-- a PDO with it would be shown, on some bus
+abbrev pub may_be_shown : ℕ → ShownPdo → Bool
+may_be_shown id pdo = shows pdo.state.now.cob_id id
+
+abbrev pub may_be_claimed : Bus → ℕ → Bool
+may_be_claimed bus id = list_any (sheet_may_have id) bus.sheets || list_any (may_be_shown id) bus.entries
+
+-- ---- all that an identifier may be
 
 -- all PDOs that have an identifier, if it is one that a PDO may have
 unfoldable pub claims_with : Bus → ℕ → List Claim

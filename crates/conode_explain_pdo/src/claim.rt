@@ -1,6 +1,7 @@
 //! Whose PDOs have an identifier, by the data sheets and by what the recording shows.
 
 ghost use Rattle.std.specs.Prelude.{◌≡◌, ◌++◌, [], OnOk, filter_map, map};
+ghost use Rattle.std.specs.List.{list_any};
 ghost use Rattle.conode_decode.specs.Names.{names_view};
 ghost use Rattle.conode_explain_pdo.specs.Buses.{bus_view};
 ghost use Rattle.conode_explain_pdo.specs.Known.{known_view};
@@ -9,9 +10,13 @@ ghost use Rattle.conode_explain_pdo.specs.Claims.{
   claim_of,
   claims_with,
   is_cob_id_shown,
+  sheet_may_have,
+  may_be_shown,
   is_said,
   is_shown,
   kind_claims,
+  may_be_claimed,
+  may_have,
   sheet_claim,
   sheet_claims,
   sheets_claims,
@@ -30,7 +35,7 @@ use conode_explain_entries::{ShownPdo, Value};
 use std::alloc::AllocError;
 
 /// A node's PDO that has the identifier.
-#[derive(Clone, Copy, Debug, PartialEq, Eq)]
+#[derive(Clone, Copy)]
 pub struct Claim {
     /// The node-ID.
     pub node: u8,
@@ -213,6 +218,52 @@ fn add_kind(
     add_shown(claims, bus, range, id)
 }
 
+fn may_have(only: Option<u8>, id: u16, pdo: &SheetPdo) -> bool
+    ensures { result ≡ may_have only id pdo.now }
+{
+    pdo.cob_id.node_with(only, id).is_some()
+}
+
+fn sheet_may_have(sheet: &KnownSheet<'_, '_>, id: u16) -> bool
+    ensures { result ≡ sheet_may_have id (known_view sheet.now) }
+{
+    let pdos = sheet.pdos.as_slice();
+    for pdo in pdos {
+        if may_have(sheet.names.only, id, pdo) {
+            return true;
+        }
+    }
+    false
+}
+
+fn sheets_may_have(sheets: &[KnownSheet<'_, '_>], id: u16) -> bool
+    ensures { result ≡ list_any (sheet_may_have id) (map known_view sheets.now) }
+{
+    for sheet in sheets {
+        if sheet_may_have(sheet, id) {
+            return true;
+        }
+    }
+    false
+}
+
+fn any_may_be_shown(pdos: &[ShownPdo], id: u16) -> bool
+    ensures { result ≡ list_any (may_be_shown id) pdos.now }
+{
+    for pdo in pdos {
+        if shows(pdo.state.now.cob_id, id) {
+            return true;
+        }
+    }
+    false
+}
+
+fn may_be_claimed(bus: Bus<'_, '_, '_, '_, '_>, id: u16) -> bool
+    ensures { result ≡ may_be_claimed (bus_view bus.entry) id }
+{
+    sheets_may_have(bus.sheets, id) || any_may_be_shown(bus.entries.shown(), id)
+}
+
 fn add_both(
     claims: &mut Vec<Claim>,
     bus: Bus<'_, '_, '_, '_, '_>,
@@ -221,6 +272,10 @@ fn add_both(
     ensures { OnOk result (claims.new.items
         ≡ claims.old.items ++ both_claims (bus_view bus.entry) id) }
 {
+    // of most frames one look at the PDOs is enough
+    if !may_be_claimed(bus, id) {
+        return Ok(());
+    }
     add_kind(claims, bus, IndexRange::TPDO_COMMUNICATION, id)?;
     add_kind(claims, bus, IndexRange::RPDO_COMMUNICATION, id)
 }

@@ -17,7 +17,7 @@ use co_dict::is_restricted;
 use co_sheet::Preset;
 
 /// The COB-ID of a PDO as a data sheet has it (CiA 301, 7.5.2.35 and 7.5.2.37).
-#[derive(Clone, Copy, Debug, PartialEq, Eq)]
+#[derive(Clone, Copy)]
 pub struct SheetCobId {
     /// The word, without the node-ID where that is added.
     pub word: u32,

@@ -1,4 +1,5 @@
 pub mod ColumnLemmas
+pub mod DigitTable
 pub mod Examples
 pub mod LineLemmas
 pub mod SaidLemmas

@@ -31,8 +31,9 @@ fn push_escaped(text: &mut String, byte: u8) -> Result<(), AllocError>
     push_byte(text, byte)
 }
 
-/// Appends a name; bytes that can't be printed are written as `\x07`.
-pub(crate) fn push_name(text: &mut String, name: &[u8]) -> Result<(), AllocError>
+/// Appends a name; bytes that can't be printed are written as `\x07`. On an `Err` memory ran out, and a
+/// part of it may be there.
+pub fn push_name(text: &mut String, name: &[u8]) -> Result<(), AllocError>
     ensures { OnOk result (string_bytes text.new ≡ string_bytes text.old ++ escaped_name name.now) }
 {
     for byte in name {
@@ -53,8 +54,9 @@ fn base_digits(id: u16) -> ArrayString<3>
     digits
 }
 
-/// Appends an identifier.
-pub(crate) fn push_id(text: &mut String, id: Identifier) -> Result<(), AllocError>
+/// Appends an identifier in hexadecimal digits: three for one of 11 bits, eight for one of 29 bits and
+/// for an error frame.
+pub fn push_id(text: &mut String, id: Identifier) -> Result<(), AllocError>
     requires { IsIdentifier id }
     ensures { OnOk result (string_bytes text.new ≡ string_bytes text.old ++ id_text id) }
 {
@@ -75,28 +77,6 @@ fn blank_byte(byte: u8) -> ArrayString<3>
     text
 }
 
-// four bytes, each after a blank
-fn four_bytes(a: u8, b: u8, c: u8, d: u8) -> ArrayString<12>
-    ensures { result.bytes ≡ blank_byte a ++ blank_byte b ++ blank_byte c ++ blank_byte d }
-{
-    let mut text = ArrayString::new();
-    text.push_str(blank_byte(a).as_str());
-    text.push_str(blank_byte(b).as_str());
-    text.push_str(blank_byte(c).as_str());
-    text.push_str(blank_byte(d).as_str());
-    text
-}
-
-// eight bytes, as most frames have: without a loop
-fn push_eight(text: &mut String, bytes: &[u8]) -> Result<(), AllocError>
-    requires { length bytes.now ≡ 8 }
-    ensures { OnOk result
-        (string_bytes text.new ≡ string_bytes text.old ++ flat_map blank_byte bytes.now) }
-{
-    text.push_str(four_bytes(bytes[0], bytes[1], bytes[2], bytes[3]).as_str())?;
-    text.push_str(four_bytes(bytes[4], bytes[5], bytes[6], bytes[7]).as_str())
-}
-
 fn push_each(text: &mut String, bytes: &[u8]) -> Result<(), AllocError>
     ensures { OnOk result
         (string_bytes text.new ≡ string_bytes text.old ++ flat_map blank_byte bytes.now) }
@@ -107,37 +87,10 @@ fn push_each(text: &mut String, bytes: &[u8]) -> Result<(), AllocError>
     Ok(())
 }
 
-fn push_bytes(text: &mut String, bytes: &[u8]) -> Result<(), AllocError>
-    ensures { OnOk result
-        (string_bytes text.new ≡ string_bytes text.old ++ flat_map blank_byte bytes.now) }
-{
-    if bytes.len() == 8 {
-        push_eight(text, bytes)
-    } else {
-        push_each(text, bytes)
-    }
-}
-
-// a length of one digit, in brackets
-#[tactic(auto, using(std::proofs::lemmas::Fmt::decimal_digit))]
-fn short_length(count: u8) -> ArrayString<3>
-    requires { count < 10 }
-    ensures { result.bytes ≡ length_text count }
-{
-    let mut text = ArrayString::new();
-    text.push('[');
-    text.push((b'0' + count) as char);
-    text.push(']');
-    text
-}
-
 fn push_length(text: &mut String, count: usize) -> Result<(), AllocError>
     ensures { OnOk result
         (string_bytes text.new ≡ string_bytes text.old ++ length_text count) }
 {
-    if count < 10 {
-        return text.push_str(short_length(count as u8).as_str());
-    }
     text.push_str("[")?;
     push_decimal(text, count as u64)?;
     text.push_str("]")
@@ -150,7 +103,7 @@ fn push_counted(text: &mut String, count: usize, bytes: &[u8]) -> Result<(), All
         (string_bytes text.new ≡ string_bytes text.old ++ bytes_text count bytes.now) }
 {
     push_length(text, count)?;
-    push_bytes(text, bytes)?;
+    push_each(text, bytes)?;
     push_blanks(text, 24usize.saturating_sub(3 * bytes.len()))
 }
 

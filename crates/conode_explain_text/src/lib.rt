@@ -5,10 +5,12 @@ mod columns;
 mod dates;
 mod line;
 mod own_line;
+mod pieces;
 mod said;
 mod so_far;
 mod stamps;
 
+pub use columns::{push_id, push_name};
 pub use line::set_line;
 pub use own_line::set_own_line;
 pub use so_far::{Seen, Times};

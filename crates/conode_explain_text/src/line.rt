@@ -20,42 +20,77 @@ ghost use Rattle.conode_explain_text.specs.Lines.{
 ghost use Rattle.conode_explain_text.specs.SoFar.{shows_interface, times_at};
 
 use crate::columns::{push_content, push_id, push_name};
+use crate::pieces::frame_piece;
 use crate::said::add_shown;
 use crate::so_far::{Seen, Times};
-use crate::stamps::{StampForm, push_gap, push_stamp};
+use crate::stamps::{StampForm, add_gap, add_stamp};
 use conode_record::{Content, Identifier, Record};
 use std::alloc::AllocError;
 
-fn push_times(text: &mut String, form: StampForm, times: Times) -> Result<(), AllocError>
-    ensures { OnOk result (string_bytes text.new
-        ≡ string_bytes text.old ++ part_text (stamp form times) ++ after_blanks (gap times)) }
+fn add_times(
+    line: &mut Vec<u8>,
+    text: &mut String,
+    form: StampForm,
+    times: Times,
+) -> Result<(), AllocError>
+    ensures { OnOk result (line.new.items
+        ≡ line.old.items ++ part_text (stamp form times) ++ after_blanks (gap times)) }
 {
-    push_stamp(text, form, times)?;
-    text.push_str("  ")?;
-    push_gap(text, times)
+    add_stamp(line, text, form, times)?;
+    add_gap(line, text, times)
 }
 
-pub(crate) fn push_interface(text: &mut String, shows: bool, name: &[u8]) -> Result<(), AllocError>
-    ensures { OnOk result (string_bytes text.new
-        ≡ string_bytes text.old ++ flat_map after_blanks (interface_parts shows name.now)) }
+/// Appends two blanks and an interface to a line, where it shows; `text` is scratch space.
+pub(crate) fn add_interface(
+    line: &mut Vec<u8>,
+    text: &mut String,
+    shows: bool,
+    name: &[u8],
+) -> Result<(), AllocError>
+    ensures { OnOk result (line.new.items
+        ≡ line.old.items ++ flat_map after_blanks (interface_parts shows name.now)) }
 {
-    if shows {
-        text.push_str("  ")?;
-        push_name(text, name)
-    } else {
-        Ok(())
+    if !shows {
+        return Ok(());
     }
+    text.clear();
+    text.push_str("  ")?;
+    push_name(text, name)?;
+    line.extend_from_slice(text.as_bytes())
 }
 
-fn push_frame(text: &mut String, id: Identifier, has: &Content<'_>) -> Result<(), AllocError>
+// makes the text the identifier and the content of a frame, each after two blanks
+fn set_frame(text: &mut String, id: Identifier, has: &Content<'_>) -> Result<(), AllocError>
     requires { IsIdentifier id }
-    ensures { OnOk result (string_bytes text.new ≡ string_bytes text.old
-        ++ after_blanks (identifier id) ++ after_blanks (content has.now)) }
+    ensures { OnOk result (string_bytes text.new
+        ≡ after_blanks (identifier id) ++ after_blanks (content has.now)) }
 {
+    text.clear();
     text.push_str("  ")?;
     push_id(text, id)?;
     text.push_str("  ")?;
     push_content(text, has)
+}
+
+fn add_frame(
+    line: &mut Vec<u8>,
+    text: &mut String,
+    id: Identifier,
+    has: &Content<'_>,
+) -> Result<(), AllocError>
+    requires { IsIdentifier id }
+    ensures { OnOk result (line.new.items ≡ line.old.items
+        ++ after_blanks (identifier id) ++ after_blanks (content has.now)) }
+{
+    // those of most frames
+    if let Identifier::Base(id) = id {
+        if let Content::Data(bytes) = has {
+            let bytes = bytes.to_list();
+            return line.extend_from_slice(frame_piece(id, bytes.as_slice()).as_slice());
+        }
+    }
+    set_frame(text, id, has)?;
+    line.extend_from_slice(text.as_bytes())
 }
 
 pub(crate) fn add_said(line: &mut Vec<u8>, words: &[u8]) -> Result<(), AllocError>
@@ -76,9 +111,10 @@ fn add_end(line: &mut Vec<u8>, times: Times) -> Result<(), AllocError>
     line.extend_from_slice(b"\n")
 }
 
-// makes the text what comes before what the frame says
+// what comes before what the frame says
 #[tactic(auto, unfolding(crate::specs::Lines::front_text))]
-fn set_front(
+fn add_front(
+    line: &mut Vec<u8>,
     text: &mut String,
     form: StampForm,
     times: Times,
@@ -86,12 +122,12 @@ fn set_front(
     frame: &Record<'_>,
 ) -> Result<(), AllocError>
     requires { IsIdentifier frame.now.id }
-    ensures { OnOk result (string_bytes text.new ≡ front_text form times shows frame.now) }
+    ensures { OnOk result
+        (line.new.items ≡ line.old.items ++ front_text form times shows frame.now) }
 {
-    text.clear();
-    push_times(text, form, times)?;
-    push_interface(text, shows, frame.interface.bytes())?;
-    push_frame(text, frame.id, &frame.content)
+    add_times(line, text, form, times)?;
+    add_interface(line, text, shows, frame.interface.bytes())?;
+    add_frame(line, text, frame.id, &frame.content)
 }
 
 // the line of a frame in the order in which it is written
@@ -111,9 +147,8 @@ fn write_line(
 {
     let times = seen.times(frame.micros);
     let shows = seen.shows_interface(frame.interface.bytes());
-    set_front(text, form, times, shows, frame)?;
     line.clear();
-    line.extend_from_slice(text.as_bytes())?;
+    add_front(line, text, form, times, shows, frame)?;
     add_said(line, words)?;
     add_end(line, times)
 }

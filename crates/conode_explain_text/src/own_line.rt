@@ -1,6 +1,6 @@
 //! A line of its own, between those of frames.
 
-ghost use Rattle.std.specs.Prelude.{◌≡◌, ◌++◌, ◌∷◌, [], OnOk, string_bytes};
+ghost use Rattle.std.specs.Prelude.{◌≡◌, ◌++◌, ◌∷◌, [], OnOk};
 ghost use Rattle.conode_explain_text.specs.Lines.{
   said,
   after_blanks,
@@ -9,27 +9,12 @@ ghost use Rattle.conode_explain_text.specs.Lines.{
   line_text,
 };
 
-use crate::line::{add_said, push_interface};
+use crate::line::{add_interface, add_said};
 use crate::so_far::Times;
-use crate::stamps::{StampForm, push_stamp};
+use crate::stamps::{StampForm, add_stamp};
 use std::alloc::AllocError;
 
-// makes the text what comes before the words
 #[tactic(auto, unfolding(crate::specs::Lines::own_front))]
-fn set_front(
-    text: &mut String,
-    form: StampForm,
-    times: Times,
-    shows: bool,
-    name: &[u8],
-) -> Result<(), AllocError>
-    ensures { OnOk result (string_bytes text.new ≡ own_front form times shows name.now) }
-{
-    text.clear();
-    push_stamp(text, form, times)?;
-    push_interface(text, shows, name)
-}
-
 fn write_line(
     line: &mut Vec<u8>,
     text: &mut String,
@@ -42,9 +27,9 @@ fn write_line(
     ensures { OnOk result (line.new.items
         ≡ own_front form times shows name.now ++ after_blanks (said words.now) ++ 10 ∷ []) }
 {
-    set_front(text, form, times, shows, name)?;
     line.clear();
-    line.extend_from_slice(text.as_bytes())?;
+    add_stamp(line, text, form, times)?;
+    add_interface(line, text, shows, name)?;
     add_said(line, words)?;
     line.extend_from_slice(b"\n")
 }

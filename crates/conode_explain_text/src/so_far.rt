@@ -8,7 +8,7 @@ use conode_record::Record;
 use std::marker::Model;
 
 /// The stamp of a frame, and those that its times are counted from, in microseconds.
-#[derive(Clone, Copy, Debug, PartialEq, Eq)]
+#[derive(Clone, Copy)]
 pub struct Times {
     /// The stamp of the recording's first frame.
     pub first: u64,

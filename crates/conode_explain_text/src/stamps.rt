@@ -1,11 +1,10 @@
 //! Stamps and times. Each function appends a text; on an `Err` memory ran out, and a part of it may
 //! be there.
 
-ghost use Rattle.std.specs.Prelude.{◌≡◌, [], ◌∷◌, ◌++◌, ◌<◌, ◌^◌, OnOk, string_bytes, replicate};
+ghost use Rattle.std.specs.Prelude.{◌≡◌, [], ◌∷◌, ◌++◌, ◌<◌, ◌^◌, OnOk, codes, string_bytes, replicate};
 ghost use Rattle.co_text.specs.Printed.{digits_text, printed_digit};
 ghost use Rattle.conode_explain_text.specs.Dates.{date_of};
 ghost use Rattle.conode_explain_text.specs.Stamps.{
-  column,
   padded,
   micros_text,
   time_text,
@@ -19,6 +18,7 @@ ghost use Rattle.conode_explain_text.specs.Stamps.{
 };
 
 use crate::dates::{Date, date_of};
+use crate::pieces::{gap_piece, stamp_piece};
 use crate::so_far::Times;
 use arrayvec::ArrayString;
 use co_text::{push_decimal, push_digit};
@@ -26,7 +26,7 @@ use itoa::Buffer;
 use std::alloc::AllocError;
 
 /// In which form stamps are written.
-#[derive(Clone, Copy, Debug, PartialEq, Eq)]
+#[derive(Clone, Copy)]
 pub enum StampForm {
     /// Since the first frame.
     Relative,
@@ -99,75 +99,12 @@ fn push_time(text: &mut String, micros: u64, width: usize) -> Result<(), AllocEr
     push_micros(text, (micros % 1_000_000) as u32)
 }
 
-// a digit of a number, by its unit; blank where the number is smaller
-fn column(number: u64, unit: u64) -> char
-    requires { 0 < unit }
-    ensures value { result ≡ column unit number }
-    ensures ascii { result < 128 }
-{
-    if number < unit {
-        ' '
-    } else {
-        decimal_char((number / unit % 10) as u32)
-    }
-}
-
-// a number in five columns
-fn five_columns(number: u64) -> ArrayString<5>
-    requires { number < 10 ^ 5 }
-    ensures { result.bytes ≡ padded 5 number }
-{
-    let mut columns = ArrayString::new();
-    columns.push(column(number, 10_000));
-    columns.push(column(number, 1000));
-    columns.push(column(number, 100));
-    columns.push(column(number, 10));
-    columns.push(decimal_char((number % 10) as u32));
-    columns
-}
-
-// a sign, and a time of less than 100,000 seconds in the width of a stamp
-#[tactic(auto, unfolding(crate::specs::Stamps::time_text))]
-fn short_stamp(sign: char, micros: u64) -> ArrayString<13>
-    requires ascii { sign < 128 }
-    requires short { micros < 10 ^ 11 }
-    ensures { result.bytes ≡ sign ∷ time_text 5 micros }
-{
-    let mut text = ArrayString::new();
-    text.push(sign);
-    text.push_str(five_columns(micros / 1_000_000).as_str());
-    text.push('.');
-    text.push_str(micros_digits((micros % 1_000_000) as u32).as_str());
-    text
-}
-
-// a sign, and a time of less than 10 seconds in the width of a gap
-#[tactic(auto, unfolding(crate::specs::Stamps::time_text), using(std::proofs::lemmas::Fmt::decimal_digit))]
-fn short_gap(sign: char, micros: u64) -> ArrayString<9>
-    requires ascii { sign < 128 }
-    requires short { micros < 10 ^ 7 }
-    ensures { result.bytes ≡ sign ∷ time_text 1 micros }
-{
-    let mut text = ArrayString::new();
-    text.push(sign);
-    text.push(decimal_char((micros / 1_000_000) as u32));
-    text.push('.');
-    text.push_str(micros_digits((micros % 1_000_000) as u32).as_str());
-    text
-}
-
-// a sign and a time; those of most frames are put together before they are appended
+// a sign and a time
 fn push_signed(text: &mut String, sign: char, width: usize, micros: u64) -> Result<(), AllocError>
     requires { sign < 128 }
     ensures { OnOk result
         (string_bytes text.new ≡ string_bytes text.old ++ sign ∷ time_text width micros) }
 {
-    if width == 1 && micros < 10_000_000 {
-        return text.push_str(short_gap(sign, micros).as_str());
-    }
-    if width == 5 && micros < 100_000_000_000 {
-        return text.push_str(short_stamp(sign, micros).as_str());
-    }
     text.push(sign)?;
     push_time(text, micros, width)
 }
@@ -268,4 +205,42 @@ pub(crate) fn push_gap(text: &mut String, times: Times) -> Result<(), AllocError
     ensures { OnOk result (string_bytes text.new ≡ string_bytes text.old ++ gap_text times) }
 {
     push_difference(text, '+', 1, times.before, times.now)
+}
+
+/// Appends the stamp of a frame to a line; `text` is scratch space.
+#[tactic(auto, unfolding(crate::specs::Stamps::stamp_text, crate::specs::Stamps::difference_text))]
+pub(crate) fn add_stamp(
+    line: &mut Vec<u8>,
+    text: &mut String,
+    form: StampForm,
+    times: Times,
+) -> Result<(), AllocError>
+    ensures { OnOk result (line.new.items ≡ line.old.items ++ stamp_text form times) }
+{
+    // those of most frames
+    if let StampForm::Relative = form {
+        if times.first <= times.now && times.now - times.first < 100_000_000_000 {
+            let micros = times.now - times.first;
+            return line.extend_from_slice(stamp_piece(micros).as_slice());
+        }
+    }
+    text.clear();
+    push_stamp(text, form, times)?;
+    line.extend_from_slice(text.as_bytes())
+}
+
+/// Appends two blanks and the time since the frame before to a line; `text` is scratch space.
+#[tactic(auto, unfolding(crate::specs::Stamps::gap_text, crate::specs::Stamps::difference_text))]
+pub(crate) fn add_gap(line: &mut Vec<u8>, text: &mut String, times: Times) -> Result<(), AllocError>
+    ensures { OnOk result (line.new.items ≡ line.old.items ++ codes "  " ++ gap_text times) }
+{
+    // those of most frames
+    if times.before <= times.now && times.now - times.before < 10_000_000 {
+        let micros = (times.now - times.before) as u32;
+        return line.extend_from_slice(gap_piece(micros).as_slice());
+    }
+    text.clear();
+    text.push_str("  ")?;
+    push_gap(text, times)?;
+    line.extend_from_slice(text.as_bytes())
 }

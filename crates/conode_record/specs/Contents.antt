@@ -1,6 +1,6 @@
 -- What follows the number sign of a frame line: its data, or a remote frame's length, and the
 -- direction.
-use Rattle.std.specs.Prelude.{ℕ, Bool, ◌-◌, ◌==◌, nat_le, nat_lt, not, ◌&&◌, if◌then◌else◌, List, [], ◌∷◌, length, take, drop, slice_index, Option, Some, None, Result, Ok, Err}
+use Rattle.std.specs.Prelude.{ℕ, Bool, ◌-◌, ◌==◌, nat_le, nat_lt, not, ◌&&◌, ◌||◌, if◌then◌else◌, List, [], ◌∷◌, length, take, drop, slice_index, Option, Some, None, Result, Ok, Err}
 use Rattle.std.specs.List.{list_all}
 use Rattle.conode_record.specs.declared.bad_line.BadLine.{BadLine}
 use Rattle.conode_record.specs.declared.bad_line.BadLine.TheVariants as bad
@@ -72,6 +72,10 @@ length_at text =
 abbrev pub remote_in : List ℕ → Result (Content × Option Direction) BadLine
 remote_in text =
     need bad.Length (length_at text) (λ found. and_then (ending_in found.1) (λ direction. Ok (Remote found.0, direction)))
+
+-- a CAN FD frame or a remote frame follows, by its first byte
+abbrev pub is_other : List ℕ → Bool
+is_other text = (slice_index text 0 == 35) || (slice_index text 0 == 82)
 
 -- what follows the number sign: another sign (CAN FD), `R` (a remote frame), or data
 unfoldable pub content_in : List ℕ → Result (Content × Option Direction) BadLine

@@ -1,6 +1,6 @@
 //! What follows the number sign of a frame line.
 
-ghost use Rattle.std.specs.Prelude.{◌≡◌, ◌+◌, ◌≤◌, length, slice_index, ◌==◌};
+ghost use Rattle.std.specs.Prelude.{◌≡◌, ◌+◌, ◌≤◌, length, slice_index, ◌==◌, true};
 ghost use Rattle.std.specs.Option.{option_map, option_copied};
 ghost use Rattle.std.specs.List.{list_all};
 ghost use Rattle.co_text.specs.Texts.{is_blank};
@@ -11,10 +11,11 @@ ghost use Rattle.conode_record.specs.Contents.{
   is_marked,
   ending_in,
   few_pairs,
-  data_in,
+  bytes_in,
   fd_in,
   length_at,
   remote_in,
+  is_other,
   content_in,
 };
 
@@ -171,15 +172,16 @@ fn fd_pairs_at(text: &[u8]) -> Option<(FdBytes<'_>, &[u8])>
     Some((FdBytes { text }, rest))
 }
 
+/// The bytes of a data frame, and the direction, if there is one.
 #[inline(always)]
-fn data_in(text: &[u8]) -> Result<(Content<'_>, Option<Direction>), BadLine>
-    ensures { result ≡ data_in text.now }
+pub(crate) fn data_in(text: &[u8]) -> Result<(PackedBytes, Option<Direction>), BadLine>
+    ensures { result ≡ bytes_in 8 text.now }
 {
     let Some((bytes, rest)) = few_pairs_at(text) else {
         return Err(BadLine::TooManyBytes);
     };
     let direction = ending_in(rest)?;
-    Ok((Content::Data(bytes), direction))
+    Ok((bytes, direction))
 }
 
 fn fd_in(text: &[u8]) -> Result<(Content<'_>, Option<Direction>), BadLine>
@@ -224,15 +226,26 @@ fn remote_in(text: &[u8]) -> Result<(Content<'_>, Option<Direction>), BadLine>
     Ok((Content::Remote(length), direction))
 }
 
-/// What follows the number sign, and the direction, if there is one.
-#[tactic(auto, unfolding(crate::specs::Contents::content_in))]
+/// Whether a CAN FD frame or a remote frame follows the number sign; else data do.
 #[inline(always)]
-pub(crate) fn content_in(text: &[u8]) -> Result<(Content<'_>, Option<Direction>), BadLine>
+pub(crate) fn is_other(text: &[u8]) -> bool
+    ensures { result ≡ is_other text.now }
+{
+    !text.is_empty() && (text[0] == b'#' || text[0] == b'R')
+}
+
+/// What follows the number sign where that isn't data, and the direction, if there is one.
+#[tactic(auto, unfolding(crate::specs::Contents::content_in))]
+pub(crate) fn other_in(text: &[u8]) -> Result<(Content<'_>, Option<Direction>), BadLine>
+    requires { is_other text.now ≡ true }
     ensures { result ≡ content_in text.now }
 {
-    match text {
-        [b'#', rest @ ..] => fd_in(rest),
-        [b'R', rest @ ..] => remote_in(rest),
-        _ => data_in(text),
+    let [mark, rest @ ..] = text else {
+        unreachable!()
+    };
+    if *mark == b'#' {
+        fd_in(rest)
+    } else {
+        remote_in(rest)
     }
 }

@@ -6,7 +6,7 @@ ghost use Rattle.conode_record.specs.Grammar.{SpellsLine, HasIdentifier};
 ghost use Rattle.conode_record.specs.Lines.{frame_in, is_skipped, line_in};
 
 use crate::bad_line::BadLine;
-use crate::content::{Content, Direction, content_in};
+use crate::content::{Content, Direction, data_in, is_other, other_in};
 use crate::fields::{Identifier, identifier_at, interface_at, stamp_at};
 use crate::interface::Interface;
 
@@ -66,7 +66,7 @@ fn is_skipped(line: &[u8]) -> bool
 }
 
 // the frame of a line
-#[tactic(auto, unfolding(crate::specs::Lines::frame_in))]
+#[tactic(auto, unfolding(crate::specs::Lines::frame_in, crate::specs::Contents::content_in))]
 #[inline(always)]
 fn frame_in(line: &[u8]) -> Result<RecordLine<'_>, BadLine>
     ensures { result ≡ frame_in line.now }
@@ -80,12 +80,22 @@ fn frame_in(line: &[u8]) -> Result<RecordLine<'_>, BadLine>
     let Some((id, rest)) = identifier_at(rest) else {
         return Err(BadLine::Identifier);
     };
-    let (content, direction) = content_in(rest)?;
+    if is_other(rest) {
+        let (content, direction) = other_in(rest)?;
+        return Ok(RecordLine::Frame(Record {
+            micros,
+            interface,
+            id,
+            content,
+            direction,
+        }));
+    }
+    let (bytes, direction) = data_in(rest)?;
     Ok(RecordLine::Frame(Record {
         micros,
         interface,
         id,
-        content,
+        content: Content::Data(bytes),
         direction,
     }))
 }

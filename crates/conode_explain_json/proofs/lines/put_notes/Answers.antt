@@ -1,6 +1,6 @@
 use Rattle.std.proofs.Common.{◌≡◌, ◌<◌, true, ltb, arith}
 use Rattle.std.proofs.lemmas.Bool.Decides.{nat_tests}
-use Rattle.conode_explain_json.specs.JsonLines.{text_member}
+use Rattle.conode_json.specs.Members.{text_member}
 use Rattle.conode_explain_json.proofs.lines.put_notes.Goals as goal
 
 -- a note is one part alone

@@ -1,0 +1,100 @@
+-- What a PDO of the pre-defined connection set says, of which no more is known.
+use Rattle.std.proofs.Common.{◌≡◌, ℕ, ◌+◌, ◌-◌, ◌*◌, ◌/◌, ◌%◌, ◌<◌, ◌≤◌, Bool, true, false, not, List, [], ◌∷◌, ◌++◌, Option, Some, None, ltb, eqb, length, refl, sym, ap, ◌∙◌, append_assoc, arith}
+use Rattle.std.specs.Prelude.{◌&&◌, ◌||◌, codes, decimal}
+use Rattle.std.specs.Fmt.{digits}
+use Rattle.std.specs.Option.{option_map_or}
+use Rattle.std.proofs.lemmas.Bool.{eqb-true}
+use Rattle.std.proofs.lemmas.Bool.Decides.{nat_tests}
+use Rattle.std.proofs.lemmas.List.{append-nil}
+use Rattle.co_text.proofs.Tests.{by_test}
+use Rattle.conode_decode.specs.Names.{Names}
+use Rattle.conode_decode.specs.Services.{service_at}
+use Rattle.conode_decode.specs.Texts.{of_node, pdo_text, service_text, text_of_frame, unknown_text}
+use Rattle.co_frame.specs.FrameContent.{FrameContent}
+use Rattle.conode_explain_pdo.specs.declared.claim.Claim.{Claim}
+use Rattle.conode_explain_pdo.specs.Buses.{Bus, names_at}
+use Rattle.conode_explain_services.specs.Nodes.{nothing_seen}
+use Rattle.conode_explain_services.specs.Reserved.{is_reserved}
+use Rattle.conode_explain_services.specs.Services.{service_words}
+use Rattle.conode_explain.specs.AbortWords.{abort_words, is_sdo}
+use Rattle.conode_explain.specs.FrameWords.{assumed_front, assumed_mark, assumed_words, frame_words, is_default_pdo, other_words, plain_words, served_words}
+use Rattle.conode_explain.specs.Transfers.{transfer_in, transfer_words}
+
+-- it is no transfer
+no_transfer : (id : ℕ) (bytes : List ℕ) → is_default_pdo id ≡ true → transfer_in (record { id = id; bytes = bytes }) ≡ None
+unfolding transfer_in
+no_transfer id bytes is =
+    let request : (ltb 0x600 id && ltb id 0x680) ≡ false = grind (arith, nat_tests, is) in
+    let answer : (ltb 0x580 id && ltb id 0x600) ≡ false = grind (arith, nat_tests, is) in
+    rw (request, answer) refl
+
+-- it has no service of those that have words of their own
+no_service : (id : ℕ) (bytes : List ℕ) → is_default_pdo id ≡ true → service_words nothing_seen (record { id = id; bytes = bytes }) ≡ None
+unfolding service_words
+no_service id bytes is =
+    let emergency : (ltb 0x080 id && ltb id 0x100) ≡ false = grind (arith, nat_tests, is) in
+    let control : (ltb 0x700 id && ltb id 0x780) ≡ false = grind (arith, nat_tests, is) in
+    let time : eqb id 0x100 ≡ false = grind (arith, nat_tests, is) in
+    let request : eqb id 0x7E5 ≡ false = grind (arith, nat_tests, is) in
+    let answer : eqb id 0x7E4 ≡ false = grind (arith, nat_tests, is) in
+    let free : is_reserved id ≡ false = grind (arith, nat_tests, is) in
+    rw (emergency, control, time, free, request, answer) refl
+
+no_abort : (id : ℕ) (bytes : List ℕ) → is_default_pdo id ≡ true → abort_words (record { id = id; bytes = bytes }) ≡ []
+unfolding abort_words
+no_abort id bytes is =
+    let no : is_sdo id ≡ false = grind (arith, nat_tests, is) in
+    rw no refl
+
+-- its text is that of its service
+by_service : (names : Names) (id : ℕ) (bytes : List ℕ) → is_default_pdo id ≡ true
+    → text_of_frame names (record { id = id; bytes = bytes })
+    ≡ option_map_or (service_text names (id % 128) bytes) (service_at (id - id % 128)) unknown_text
+unfolding text_of_frame
+by_service names id bytes is =
+    let command : eqb id 0 ≡ false = grind (arith, nat_tests, is) in
+    let sync : eqb id 0x080 ≡ false = grind (arith, nat_tests, is) in
+    let node : eqb (id % 128) 0 ≡ false = grind (arith, nat_tests, is) in
+    rw (command, sync, node) refl
+
+-- which is a PDO's
+by_step : (names : Names) (node step : ℕ) (bytes : List ℕ) → 3 ≤ step → step ≤ 10
+    → codes "~" ++ option_map_or (service_text names node bytes) (service_at (128 * step)) unknown_text ≡ assumed_front step ++ decimal node
+unfolding pdo_text of_node digits
+by_step names node step bytes low high =
+    by_test (eqb step 3) (λ t. let is : step ≡ 3 = eqb-true step 3 t in rw is refl)
+    (λ a. by_test (eqb step 4) (λ t. let is : step ≡ 4 = eqb-true step 4 t in rw is refl)
+    (λ b. by_test (eqb step 5) (λ t. let is : step ≡ 5 = eqb-true step 5 t in rw is refl)
+    (λ c. by_test (eqb step 6) (λ t. let is : step ≡ 6 = eqb-true step 6 t in rw is refl)
+    (λ d. by_test (eqb step 7) (λ t. let is : step ≡ 7 = eqb-true step 7 t in rw is refl)
+    (λ e. by_test (eqb step 8) (λ t. let is : step ≡ 8 = eqb-true step 8 t in rw is refl)
+    (λ f. by_test (eqb step 9) (λ t. let is : step ≡ 9 = eqb-true step 9 t in rw is refl)
+    (λ g. let is : step ≡ 10 = grind (arith, nat_tests, a, b, c, d, e, f, g) in rw is refl)))))))
+
+plain : (names : Names) (id : ℕ) (bytes : List ℕ) → is_default_pdo id ≡ true → plain_words names (record { id = id; bytes = bytes }) ≡ assumed_words id
+unfolding assumed_words
+plain names id bytes is =
+    let low : 3 ≤ id / 128 = grind (arith, nat_tests, is) in
+    let high : id / 128 ≤ 10 = grind (arith, nat_tests, is) in
+    let base : id - id % 128 ≡ 128 * (id / 128) = omega arith in
+    let frame : FrameContent = record { id = id; bytes = bytes } in
+    let mark : assumed_mark id ≡ codes "~" = rw is refl in
+    let text : text_of_frame names frame ++ abort_words frame ≡ option_map_or (service_text names (id % 128) bytes) (service_at (128 * (id / 128))) unknown_text =
+    ap (λ (words : List ℕ). text_of_frame names frame ++ words) (no_abort id bytes is)
+    ∙ append-nil (text_of_frame names frame)
+    ∙ by_service names id bytes is
+    ∙ ap (λ (n : ℕ). option_map_or (service_text names (id % 128) bytes) (service_at n) unknown_text) base in
+    append_assoc (assumed_mark id) (text_of_frame names frame) (abort_words frame)
+    ∙ ap (λ (words : List ℕ). words ++ (text_of_frame names frame ++ abort_words frame)) mark
+    ∙ ap (λ (words : List ℕ). codes "~" ++ words) text
+    ∙ by_step names (id % 128) (id / 128) bytes low high
+
+pub assumed : (bus : Bus) (id : ℕ) (bytes : List ℕ) → is_default_pdo id ≡ true
+    → assumed_words id ≡ frame_words bus [] (record { id = id; bytes = bytes })
+unfolding frame_words transfer_words other_words served_words
+assumed bus id bytes is =
+    rw (no_transfer id bytes is, no_service id bytes is) (sym (plain (names_at bus (id % 128)) id bytes is))
+
+pub none_there : (claims : List Claim) → length claims < 1 → claims ≡ []
+none_there [] few = refl
+none_there (claim ∷ claims) few = absurd (omega (arith, few))

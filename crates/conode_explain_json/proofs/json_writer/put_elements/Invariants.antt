@@ -1,7 +1,0 @@
-use Rattle.std.proofs.Common.{◌≡◌, ◌++◌, map, take}
-use Rattle.conode_explain_json.specs.JsonLines.{byte_token}
-use Rattle.conode_explain_json.proofs.json_writer.put_elements.Given as goal
-
-abbrev pub invariant-loop-byte : goal.invariant-loop-byte
-invariant-loop-byte l =
-    (l.writer.tokens ≡ l.fn.writer.tokens ++ map byte_token (take l.byte-index l.bytes)) × (l.writer.before ≡ l.fn.writer.before)

@@ -1,0 +1,82 @@
+-- Where no sheet and no COB-ID that is shown may have an identifier, it is no PDO's.
+use Rattle.std.proofs.Common.{◌≡◌, ℕ, Bool, true, false, List, [], ◌∷◌, ◌++◌, Option, Some, None, refl, sym}
+use Rattle.std.proofs.lemmas.List.{append-nil}
+use Rattle.std.specs.Prelude.{◌&&◌, filter_map, is_some, option_and_then, if◌then◌else◌}
+use Rattle.std.specs.List.{list_any}
+use Rattle.std.proofs.lemmas.Bool.{or_parts}
+use Rattle.co_profile.specs.declared.indices.IndexRange.{IndexRange}
+use Rattle.co_profile.specs.Indices.{is_within, rpdo_communication, tpdo_communication}
+use Rattle.conode_explain_entries.specs.declared.entries.ShownPdo.{ShownPdo}
+use Rattle.conode_explain_pdo.specs.declared.claim.Claim.{Claim}
+use Rattle.conode_explain_pdo.specs.declared.sheet.SheetPdo.{SheetPdo}
+use Rattle.conode_explain_pdo.specs.Buses.{Bus}
+use Rattle.conode_explain_pdo.specs.Claims.{both_claims, claim_of, sheet_may_have, may_be_shown, is_shown, kind_claims, may_be_claimed, may_have, sheet_claim, sheet_claims, sheets_claims, shown_claim, shows}
+use Rattle.conode_explain_pdo.specs.CobIds.{node_with}
+use Rattle.conode_explain_pdo.specs.Known.{KnownSheet, is_on}
+
+if_none : {A B : Type 0} (test : Bool) (f : A → Option B) (found : Option A) → is_some found ≡ false
+    → (if test then option_and_then f found else None) ≡ None
+if_none true f None is = refl
+if_none false f found is = refl
+if_none true f (Some x) is = absurd cc
+
+no_claim : (bus : Bus) (earlier : List KnownSheet) (only : Option ℕ) (range : IndexRange) (id : ℕ) (pdo : SheetPdo)
+    → may_have only id pdo ≡ false → sheet_claim bus earlier only range id pdo ≡ None
+unfolding sheet_claim
+no_claim bus earlier only range id pdo is =
+    if_none (is_within range pdo.index) (claim_of bus earlier pdo.index) (node_with only pdo.cob_id id) is
+
+no_pdos : (bus : Bus) (earlier : List KnownSheet) (only : Option ℕ) (range : IndexRange) (id : ℕ) (pdos : List SheetPdo)
+    → list_any (may_have only id) pdos ≡ false → filter_map (sheet_claim bus earlier only range id) pdos ≡ []
+no_pdos bus earlier only range id [] is = refl
+no_pdos bus earlier only range id (pdo ∷ pdos) is =
+    let parts = or_parts (may_have only id pdo) (list_any (may_have only id) pdos) is in
+    rw (no_claim bus earlier only range id pdo parts.0) (no_pdos bus earlier only range id pdos parts.1)
+
+if_nothing : {A : Type 0} (test : Bool) (xs : List A) → xs ≡ [] → (if test then xs else []) ≡ []
+if_nothing true xs is = is
+if_nothing false xs is = refl
+
+no_sheet : (bus : Bus) (earlier : List KnownSheet) (sheet : KnownSheet) (range : IndexRange) (id : ℕ)
+    → sheet_may_have id sheet ≡ false → sheet_claims bus earlier sheet range id ≡ []
+no_sheet bus earlier sheet range id is =
+    if_nothing (is_on bus.interface sheet) (filter_map (sheet_claim bus earlier sheet.names.only range id) sheet.pdos)
+    (no_pdos bus earlier sheet.names.only range id sheet.pdos is)
+
+no_sheets : (bus : Bus) (range : IndexRange) (id : ℕ) (earlier sheets : List KnownSheet)
+    → list_any (sheet_may_have id) sheets ≡ false → sheets_claims bus range id earlier sheets ≡ []
+unfolding sheets_claims
+no_sheets bus range id earlier [] is = refl
+no_sheets bus range id earlier (sheet ∷ sheets) is =
+    let parts = or_parts (sheet_may_have id sheet) (list_any (sheet_may_have id) sheets) is in
+    let here = no_sheet bus earlier sheet range id parts.0 in
+    rw here (no_sheets bus range id (earlier ++ sheet ∷ []) sheets parts.1)
+
+if_hidden : {A : Type 0} (first second third : Bool) (x : A) → second ≡ false → (if first && (second && third) then Some x else None) ≡ None
+if_hidden true second third x is = rw is refl
+if_hidden false second third x is = refl
+
+not_shown : (bus : Bus) (range : IndexRange) (id : ℕ) (pdo : ShownPdo) → may_be_shown id pdo ≡ false → shown_claim bus range id pdo ≡ None
+unfolding shown_claim
+not_shown bus range id pdo is = if_hidden (is_within range pdo.index) (may_be_shown id pdo) _ _ is
+
+no_states : (bus : Bus) (range : IndexRange) (id : ℕ) (pdos : List ShownPdo)
+    → list_any (may_be_shown id) pdos ≡ false → filter_map (shown_claim bus range id) pdos ≡ []
+no_states bus range id [] is = refl
+no_states bus range id (pdo ∷ pdos) is =
+    let parts = or_parts (may_be_shown id pdo) (list_any (may_be_shown id) pdos) is in
+    rw (not_shown bus range id pdo parts.0) (no_states bus range id pdos parts.1)
+
+no_kind : (bus : Bus) (range : IndexRange) (id : ℕ) → may_be_claimed bus id ≡ false → kind_claims bus range id ≡ []
+no_kind bus range id is =
+    let parts = or_parts (list_any (sheet_may_have id) bus.sheets) (list_any (may_be_shown id) bus.entries) is in
+    let sheets = no_sheets bus range id [] bus.sheets parts.0 in
+    let states = no_states bus range id bus.entries parts.1 in
+    rw (sheets, states) refl
+
+-- and nothing is added
+pub none_added : (bus : Bus) (id : ℕ) (claims : List Claim) → may_be_claimed bus id ≡ false → claims ≡ claims ++ both_claims bus id
+none_added bus id claims is =
+    let sent = no_kind bus tpdo_communication id is in
+    let received = no_kind bus rpdo_communication id is in
+    rw (sent, received) (sym (append-nil claims))
