@@ -23,7 +23,7 @@ use Rattle.conode_explain_transfers.specs.Followed.{Event, following_after}
 use Rattle.conode_explain_transfers.proofs.DataLemmas.{StaysOpen, open_after}
 use Rattle.conode_explain_laws.specs.Recordings.{Input, Received, Elapsed, Expired, Abandoned, Started, AreInputs, log_of, and_frame, and_answers, recorded}
 use Rattle.conode_explain_laws.specs.Downloads.{Write, downloads_done, write_set, is_block_begin, ArePlain, downloads_set}
-use Rattle.conode_explain_laws.proofs.Views.{View, view_of, hears_answers, hears_frame, hears_all, Closes, aborted_closes}
+use Rattle.conode_explain_laws.proofs.Views.{view_of, hears_answers, hears_frame, hears_all, Closes, aborted_closes}
 use Rattle.conode_explain_laws.proofs.Exact.{ExactIn, exact_upload, exact_segments, exact_dropped, Exactly, exact_exchange}
 use Rattle.conode_explain_laws.proofs.AllInputs.{dropped_since}
 

@@ -1,17 +1,14 @@
 -- The downloads that explain says are done are some of those that the channel sets: over all inputs.
-use Rattle.std.proofs.Common.{◌≡◌, ℕ, Bool, true, false, List, [], ◌∷◌, ◌++◌, length, Option, Some, None, refl, sym, ap, ◌∙◌, ◌⊎◌, inl, inr, subst, eqb}
-use Rattle.std.specs.Prelude.{if◌then◌else◌, IfSome, ◌&&◌, ◌==◌}
+use Rattle.std.proofs.Common.{◌≡◌, ℕ, Bool, true, false, List, [], ◌∷◌, ◌++◌, length, Option, Some, None, refl, sym, inl, inr, subst}
+use Rattle.std.specs.Prelude.{if◌then◌else◌, IfSome, ◌==◌}
 use Rattle.std.proofs.lemmas.Bool.{eqb-true}
 use Rattle.co_value.specs.Numbers.{AreBytes}
-use Rattle.co_frame.specs.BlockSegments.{block_segment_in, is_abort_in_sub_block}
-use Rattle.co_frame.specs.SdoParts.{code_in}
-use Rattle.co_frame.specs.SdoRequests.{request_in}
 use Rattle.co_dict.specs.Rows.{Rows, Contents}
 use Rattle.co_dict.specs.Stores.{Description, IsDictionary}
-use Rattle.co_sdo.specs.Log.{Answer, Log, Exchanged, TimedOut, Dropped}
+use Rattle.co_sdo.specs.Log.{Log, Exchanged, TimedOut, Dropped}
 use Rattle.co_sdo.specs.Downloads.{Download as Whole}
 use Rattle.co_sdo.specs.Opened.{OpenTransfer, opened_after}
-use Rattle.co_sdo.specs.OpenTransfers.{Since, open_since, and_event, since_initiate, open_transfer}
+use Rattle.co_sdo.specs.OpenTransfers.{Since, open_since, and_event, since_initiate}
 use Rattle.co_sdo.specs.Replies.{reply_to, answers_to, open_key, time_out_reply}
 use Rattle.co_sdo.specs.Completed.{set_by}
 use Rattle.co_sdo.specs.Steps.{opened_next, set_next}
@@ -20,10 +17,10 @@ use Rattle.conode_explain_transfers.specs.declared.kinds.Side.TheVariants.{Clien
 use Rattle.conode_explain_transfers.specs.declared.transfer.Transfer.{Transfer}
 use Rattle.conode_explain_transfers.specs.Followed.{Event}
 use Rattle.conode_explain_transfers.specs.Readings.{awaits_segment}
-use Rattle.conode_explain_laws.specs.Recordings.{Input, Received, Elapsed, Expired, Abandoned, Started, IsInput, AreInputs, log_of, and_frame, and_answers, recorded}
+use Rattle.conode_explain_laws.specs.Recordings.{Input, Received, Elapsed, Expired, Abandoned, Started, AreInputs, log_of, and_frame, and_answers, recorded}
 use Rattle.conode_explain_laws.specs.Downloads.{Write, downloads_done, write_set, downloads_set, AreSome}
-use Rattle.conode_explain_laws.proofs.Readings.{Reading, Nothing, reading_of}
-use Rattle.conode_explain_laws.proofs.Views.{View, view_of, read_as, hears, hears_answers, hears_frame, hears_all, Closes, IsAside, KnowsAside, aside_turn, aborted_closes}
+use Rattle.conode_explain_laws.proofs.Readings.{Nothing, reading_of}
+use Rattle.conode_explain_laws.proofs.Views.{view_of, read_as, hears_answers, hears_frame, hears_all, Closes, IsAside, KnowsAside, aside_turn, aborted_closes}
 use Rattle.conode_explain_laws.proofs.Follows.{Follows, aside, asked, gone, segmented, in_segments, Ends}
 use Rattle.conode_explain_laws.proofs.Exchanges.{Following, exchange}
 

@@ -1,16 +1,14 @@
 -- An initiate request with its answers.
-use Rattle.std.proofs.Common.{◌≡◌, ℕ, suc, ◌+◌, ◌*◌, ◌/◌, ◌-◌, ◌%◌, ◌<◌, ◌≤◌, Bool, true, false, not, List, [], ◌∷◌, ◌++◌, length, take, drop, Option, Some, None, refl, sym, ap, ◌∙◌, ◌⊎◌, inl, inr, subst, arith, eqb}
-use Rattle.std.specs.Prelude.{if◌then◌else◌, IfSome, nat_le, ◌&&◌}
+use Rattle.std.proofs.Common.{◌≡◌, ℕ, suc, ◌<◌, Bool, true, false, not, List, [], ◌∷◌, length, take, Option, Some, None, refl, sym, ap, ◌∙◌, inl, inr, subst, arith, eqb}
+use Rattle.std.specs.Prelude.{if◌then◌else◌, IfSome}
 use Rattle.std.proofs.lemmas.Bool.{false≢true}
-use Rattle.std.proofs.lemmas.Bool.Decides.{nat_tests}
 use Rattle.std.proofs.lemmas.List.{take_all}
-use Rattle.arrayvec.specs.ArrayVec.{ArrayVec}
 use Rattle.co_value.specs.declared.key.Key.{Key}
-use Rattle.co_value.specs.Keys.{same_key, same_key-refl}
-use Rattle.co_value.specs.Numbers.{AreBytes, unsigned_of}
+use Rattle.co_value.specs.Keys.{same_key-refl}
+use Rattle.co_value.specs.Numbers.{AreBytes}
 use Rattle.co_frame.specs.SdoFields.{specifier, subcommand, has_bit, key_in}
 use Rattle.co_frame.specs.SdoRequests.{request_row_in, request_in}
-use Rattle.co_frame.specs.SdoResponses.{response_row_in, response_in, response_bytes}
+use Rattle.co_frame.specs.SdoResponses.{response_in, response_bytes}
 use Rattle.co_frame.specs.declared.sdo_request.ExpeditedData.{ExpeditedData}
 use Rattle.co_frame.specs.declared.sdo_request.ExpeditedData.TheVariants.{Indicated, NotIndicated}
 use Rattle.co_frame.specs.declared.sdo_request.SdoRequest.{SdoRequest}
@@ -22,28 +20,26 @@ use Rattle.co_dict.specs.Stores.{Description}
 use Rattle.co_sdo.specs.declared.stage.Stage.{Stage}
 use Rattle.co_sdo.specs.declared.stage.Stage.TheVariants.{Download as Receiving, SubBlock as InSubBlock}
 use Rattle.co_sdo.specs.Refused.{capacity_at, initiate_refusal, completion_refusal}
-use Rattle.co_sdo.specs.Log.{Answer, Response as Replied, answer_bytes}
+use Rattle.co_sdo.specs.Log.{Answer, Response as Replied}
 use Rattle.co_sdo.specs.SubBlocks.{ends_sub_block}
-use Rattle.co_sdo.specs.Downloads.{Download as Whole, expedited_within, expedited_part}
-use Rattle.co_sdo.specs.OpenTransfers.{is_initiate}
+use Rattle.co_sdo.specs.Downloads.{Download as Whole, expedited_part}
 use Rattle.co_sdo.specs.Opened.{OpenTransfer}
-use Rattle.co_sdo.specs.Replies.{aborted, unless_refused, sub_block_refusal, sub_block_answers, frame_answers, initiate_answers, request_answers, is_in_sub_block, on_open, answers_to, taken_with}
+use Rattle.co_sdo.specs.Replies.{aborted, unless_refused, sub_block_refusal, frame_answers, request_answers, is_in_sub_block, answers_to, taken_with}
 use Rattle.co_sdo.specs.Completed.{unless}
-use Rattle.co_sdo.specs.Steps.{opened_at, after_request, next_on, after_frame_at, opened_next, whole, set_by_request, set_next}
+use Rattle.co_sdo.specs.Steps.{opened_at, after_request, opened_next, whole, set_by_request, set_next}
 use Rattle.co_sdo_laws.proofs.Frames.{done_read, acknowledged_read}
 use Rattle.conode_explain_transfers.specs.declared.kinds.Direction.TheVariants.{Download}
 use Rattle.conode_explain_transfers.specs.declared.kinds.Protocol.TheVariants.{Expedited, Segmented}
-use Rattle.conode_explain_transfers.specs.declared.kinds.Side.TheVariants.{Client, Server}
+use Rattle.conode_explain_transfers.specs.declared.kinds.Side.TheVariants.{Server}
 use Rattle.conode_explain_transfers.specs.declared.stage.Stage.TheVariants.{Initiated}
 use Rattle.conode_explain_transfers.specs.declared.transfer.Transfer.{Transfer}
 use Rattle.conode_explain_transfers.specs.BlockTurns.{acknowledged}
 use Rattle.conode_explain_transfers.specs.Initiates.{data_of, initiate_of}
-use Rattle.conode_explain_transfers.specs.Stages.{is_initiated}
 use Rattle.conode_explain_transfers.specs.Transfers.{begun, is_download}
-use Rattle.conode_explain_laws.specs.Downloads.{Write, is_plain_download, entry_bytes, write_set}
+use Rattle.conode_explain_laws.specs.Downloads.{Write, is_plain_download, entry_bytes}
 use Rattle.conode_explain_laws.proofs.Readings.{Reading, Response, begun_with, response_reading, reading_of}
-use Rattle.conode_explain_laws.proofs.Views.{View, read_as, hears, hears_answers, Knows, KnowsAside, IsAside, aside_turn, aside_answers, aborted_closes, begin_writes}
-use Rattle.conode_explain_laws.proofs.Follows.{Follows, aside, asked, segmented, Ends, ends_closed, ends_aside, BegunBy, begun_by}
+use Rattle.conode_explain_laws.proofs.Views.{View, read_as, hears_answers, KnowsAside, aside_turn, aside_answers, aborted_closes}
+use Rattle.conode_explain_laws.proofs.Follows.{asked, segmented, Ends, ends_closed, ends_aside, BegunBy}
 
 -- ---- the key of a request
 

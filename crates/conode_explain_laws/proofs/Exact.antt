@@ -1,10 +1,9 @@
 -- One request of eight bytes that begins no block download, with its answers: explain says that a download is done where the channel
 -- sets it.
-use Rattle.std.proofs.Common.{◌≡◌, ℕ, suc, ◌+◌, ◌-◌, ◌^◌, ◌<◌, ◌≤◌, Bool, true, false, not, List, [], ◌∷◌, ◌++◌, length, take, min, Option, Some, None, refl, sym, ap, ◌∙◌, inl, inr, subst, arith}
+use Rattle.std.proofs.Common.{◌≡◌, ℕ, suc, ◌+◌, ◌-◌, ◌^◌, ◌<◌, ◌≤◌, Bool, true, false, not, List, [], ◌∷◌, ◌++◌, length, take, min, Option, Some, None, refl, sym, ap, ◌∙◌, subst, arith}
 use Rattle.std.specs.Prelude.{if◌then◌else◌, IfSome, nat_le, nat_lt, ◌&&◌, ◌==◌}
 use Rattle.std.specs.Option.{option_map_or}
 use Rattle.std.proofs.lemmas.Bool.{false≢true}
-use Rattle.std.proofs.lemmas.Bool.Decides.{nat_tests}
 use Rattle.arrayvec.specs.ArrayVec.{ArrayVec}
 use Rattle.co_value.specs.declared.key.Key.{Key}
 use Rattle.co_value.specs.Keys.{same_key-refl}
@@ -17,34 +16,33 @@ use Rattle.co_frame.specs.declared.sdo_request.SdoRequest.TheVariants.{DownloadE
 use Rattle.co_frame.specs.declared.sdo_response.SdoResponse.TheVariants.{DownloadDone, DownloadSegmentDone}
 use Rattle.co_dict.specs.declared.row.Row.{Row}
 use Rattle.co_dict.specs.Rows.{Rows, Contents}
-use Rattle.co_dict.specs.Stores.{Description, IsDescription, IsDictionary}
-use Rattle.co_dict.specs.Refusals.{refused_if, first_of, first_refusal}
+use Rattle.co_dict.specs.Stores.{Description, IsDescription}
+use Rattle.co_dict.specs.Refusals.{refused_if, first_of}
 use Rattle.co_sdo.specs.declared.stage.Stage.{Stage}
 use Rattle.co_sdo.specs.declared.stage.Stage.TheVariants.{Download as Receiving, Upload as Uploading, SubBlock as InSubBlock, LastTaken, BlockUploadInitiated as Begun, BlockUpload, BlockUploadEnded}
-use Rattle.co_sdo.specs.Refused.{capacity_at, reading_refusal, initiate_refusal, completion_refusal}
-use Rattle.co_sdo.specs.Log.{Answer, Response as Replied}
+use Rattle.co_sdo.specs.Refused.{reading_refusal, initiate_refusal, completion_refusal}
+use Rattle.co_sdo.specs.Log.{Response as Replied}
 use Rattle.co_sdo.specs.Downloads.{Download as Whole, expedited_part, is_as_indicated, is_odd}
 use Rattle.co_sdo.specs.Uploads.{value_at, is_last_after, segment_count, sub_block_length}
 use Rattle.co_sdo.specs.OpenTransfers.{is_initiate}
 use Rattle.co_sdo.specs.Opened.{OpenTransfer}
 use Rattle.co_sdo.specs.Replies.{aborted, unless_refused, toggle_refusal, room_refusal, block_size_refusal, segment_refusal, segment_answers, request_answers, answers_to, is_in_sub_block, is_sub_block}
 use Rattle.co_sdo.specs.Completed.{unless}
-use Rattle.co_sdo.specs.Steps.{opened_at, after_segment, after_upload_segment, after_start, after_acknowledge, after_request, after_later, after_initiate, opened_next, whole, set_by_segment, set_by_end, set_by_request, set_next}
-use Rattle.co_sdo.proofs.RefusalLemmas.{IsAllowed, first_none, second_none, allowed}
+use Rattle.co_sdo.specs.Steps.{opened_at, after_segment, after_upload_segment, after_start, after_acknowledge, after_request, after_initiate, opened_next, whole, set_by_segment, set_by_end, set_by_request, set_next}
+use Rattle.co_sdo.proofs.RefusalLemmas.{first_none, second_none, allowed}
 use Rattle.co_sdo_laws.proofs.Frames.{done_read, segment_done_read}
-use Rattle.conode_explain_transfers.specs.declared.ended.Ending.TheVariants.{Done}
 use Rattle.conode_explain_transfers.specs.declared.kinds.Direction.{Direction}
 use Rattle.conode_explain_transfers.specs.declared.kinds.Direction.TheVariants.{Upload}
-use Rattle.conode_explain_transfers.specs.declared.kinds.Side.TheVariants.{Client, Server}
+use Rattle.conode_explain_transfers.specs.declared.kinds.Side.TheVariants.{Client}
 use Rattle.conode_explain_transfers.specs.declared.transfer.Transfer.{Transfer}
 use Rattle.conode_explain_transfers.specs.Digests.{counted, digest_of}
 use Rattle.conode_explain_transfers.specs.Endings.{size_fault, verdict}
 use Rattle.conode_explain_transfers.specs.Readings.{is_in_sub_block as is_inside, is_sender}
 use Rattle.conode_explain_transfers.proofs.DataLemmas.{taking}
 use Rattle.conode_explain_laws.specs.Downloads.{Write, is_plain, is_plain_download, is_block_begin, entry_bytes, if_done, write_set}
-use Rattle.conode_explain_laws.proofs.Readings.{Reading, Begin, Abort, Request, Response, begun_with, request_reading, response_reading, plain_reading, sub_block_reading, reading_of}
-use Rattle.conode_explain_laws.proofs.Views.{View, read_as, hears, hears_answers, begin_writes, no_write, is_begin, aborted_closes}
-use Rattle.conode_explain_laws.proofs.Follows.{InSegments, in_segments, response_read, is_response, answered_reads}
+use Rattle.conode_explain_laws.proofs.Readings.{Begin, Request, Response, begun_with, request_reading, response_reading, plain_reading, sub_block_reading, reading_of}
+use Rattle.conode_explain_laws.proofs.Views.{View, read_as, hears, hears_answers, begin_writes, no_write, aborted_closes}
+use Rattle.conode_explain_laws.proofs.Follows.{InSegments, in_segments, response_read, answered_reads}
 use Rattle.conode_explain_laws.proofs.Begins.{HasKey, has_key, small_index, answered, asks, response_is, expedites, expedited_bytes, segments, outside_answers, outside_opens, outside_sets}
 use Rattle.conode_explain_laws.proofs.Exchanges.{receiving, sent, same_toggle, sends, all_taken, confirmed, write_of, client_plain}
 use Rattle.conode_explain_laws.proofs.Uploads.{IsUpload, KnowsUpload, upload_reads, upload_answers}

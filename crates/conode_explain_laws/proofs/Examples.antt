@@ -1,5 +1,5 @@
 -- Worked recordings of a channel over a small dictionary: what explain says is done, and what the channel sets.
-use Rattle.std.proofs.Common.{◌≡◌, ℕ, List, [], ◌∷◌, refl, codes, map}
+use Rattle.std.proofs.Common.{◌≡◌, ℕ, List, [], ◌∷◌, refl, codes}
 use Rattle.co_dict.specs.Objects.{has_object}
 use Rattle.co_dict.specs.Rows.{Contents}
 use Rattle.co_frame.specs.SdoRequests.{request_row_in}
@@ -8,7 +8,7 @@ use Rattle.co_value.specs.declared.key.Key.{Key}
 use Rattle.co_sdo.specs.Completed.{contents_with}
 use Rattle.co_sdo.specs.Refused.{reading_refusal, initiate_refusal, completion_refusal}
 use Rattle.co_sdo.proofs.ExampleChannel.{at, entries, bytes_in, dictionary, hex}
-use Rattle.conode_explain_laws.specs.Recordings.{Input, Received, Expired, Abandoned, Started, log_of, recorded}
+use Rattle.conode_explain_laws.specs.Recordings.{Input, Received, Abandoned, log_of, recorded}
 use Rattle.conode_explain_laws.specs.Downloads.{Write, downloads_done, set_with, downloads_set}
 
 -- the inputs, newest first, and the contents after them

@@ -1,7 +1,6 @@
 -- One request with its answers.
-use Rattle.std.proofs.Common.{◌≡◌, ℕ, suc, ◌+◌, ◌*◌, ◌/◌, ◌-◌, ◌%◌, ◌<◌, ◌≤◌, Bool, true, false, not, List, [], ◌∷◌, ◌++◌, length, take, Option, Some, None, refl, sym, ap, ◌∙◌, ◌⊎◌, inl, inr, subst, arith, eqb}
+use Rattle.std.proofs.Common.{◌≡◌, ℕ, suc, ◌+◌, ◌*◌, ◌/◌, ◌-◌, ◌%◌, ◌≤◌, Bool, true, false, not, List, [], ◌∷◌, ◌++◌, length, take, Option, Some, None, refl, sym, ap, ◌∙◌, ◌⊎◌, inl, inr, subst, arith, eqb}
 use Rattle.std.specs.Prelude.{if◌then◌else◌, IfSome, nat_le, ◌&&◌}
-use Rattle.std.proofs.lemmas.Bool.{false≢true}
 use Rattle.std.proofs.lemmas.Bool.Decides.{nat_tests}
 use Rattle.std.proofs.lemmas.List.{take_all}
 use Rattle.arrayvec.specs.ArrayVec.{ArrayVec}
@@ -12,7 +11,7 @@ use Rattle.co_frame.specs.SdoRequests.{request_in}
 use Rattle.co_frame.specs.SdoResponses.{response_row_in, response_in, response_bytes}
 use Rattle.co_frame.specs.declared.sdo_request.ExpeditedData.TheVariants.{Indicated}
 use Rattle.co_frame.specs.declared.sdo_request.SdoRequest.{SdoRequest}
-use Rattle.co_frame.specs.declared.sdo_request.SdoRequest.TheVariants.{DownloadExpedited, DownloadInitiate, DownloadSegment, Upload as UploadInitiate, UploadSegment as NextSegment, Abort as Abandon, BlockUploadInitiate, BlockUploadEnd as UploadEnd, BlockUploadAcknowledge, BlockUploadStart, BlockDownloadInitiate, BlockDownloadEnd}
+use Rattle.co_frame.specs.declared.sdo_request.SdoRequest.TheVariants.{DownloadExpedited, DownloadInitiate, DownloadSegment, Upload as UploadInitiate, Abort as Abandon, BlockUploadInitiate, BlockDownloadInitiate}
 use Rattle.co_frame.specs.declared.sdo_response.SdoResponse.{SdoResponse}
 use Rattle.co_frame.specs.declared.sdo_response.SdoResponse.TheVariants.{DownloadDone, DownloadSegmentDone, UploadExpedited, UploadInitiated, BlockDownloadInitiated, BlockUploadInitiated}
 use Rattle.co_dict.specs.Rows.{Rows, Contents}
@@ -20,30 +19,28 @@ use Rattle.co_dict.specs.Stores.{Description}
 use Rattle.co_dict.specs.Refusals.{first_of}
 use Rattle.co_sdo.specs.declared.stage.Stage.TheVariants.{Download as Receiving}
 use Rattle.co_sdo.specs.Refused.{reading_refusal, initiate_refusal, completion_refusal}
-use Rattle.co_sdo.specs.Log.{Answer, Response as Replied, answer_bytes}
+use Rattle.co_sdo.specs.Log.{Response as Replied}
 use Rattle.co_sdo.specs.Downloads.{Download as Whole, expedited_part}
 use Rattle.co_sdo.specs.Uploads.{value_at, upload_initiated}
 use Rattle.co_sdo.specs.Opened.{OpenTransfer}
-use Rattle.co_sdo.specs.Replies.{aborted, unless_refused, block_size_refusal, toggle_refusal, segment_refusal, segment_answers, initiate_answers, later_answers, request_answers, answers_to}
+use Rattle.co_sdo.specs.Replies.{aborted, unless_refused, block_size_refusal, segment_refusal, segment_answers, request_answers, answers_to}
 use Rattle.co_sdo.specs.Completed.{unless}
-use Rattle.co_sdo.specs.Steps.{after_segment, after_later, after_request, opened_next, set_by_segment, set_by_request, set_next}
-use Rattle.co_sdo.proofs.RefusalLemmas.{first_none, not_refused}
+use Rattle.co_sdo.specs.Steps.{after_segment, after_request, opened_next, set_by_segment, set_by_request, set_next}
 use Rattle.co_sdo_laws.proofs.Frames.{padded_length, segment_done_read}
 use Rattle.conode_explain_transfers.specs.declared.ended.Ending.{Ending}
-use Rattle.conode_explain_transfers.specs.declared.ended.Ending.TheVariants.{Done, SizeDiffers, CrcDiffers, Irregular}
-use Rattle.conode_explain_transfers.specs.declared.kinds.Direction.TheVariants.{Download}
-use Rattle.conode_explain_transfers.specs.declared.kinds.Side.TheVariants.{Client, Server}
+use Rattle.conode_explain_transfers.specs.declared.ended.Ending.TheVariants.{Done}
+use Rattle.conode_explain_transfers.specs.declared.kinds.Side.TheVariants.{Client}
 use Rattle.conode_explain_transfers.specs.declared.kinds.What.TheVariants.{Part}
-use Rattle.conode_explain_transfers.specs.declared.stage.Stage.TheVariants.{DownloadConfirmed, DownloadSent, Confirmed}
+use Rattle.conode_explain_transfers.specs.declared.stage.Stage.TheVariants.{DownloadConfirmed, Confirmed}
 use Rattle.conode_explain_transfers.specs.declared.transfer.Transfer.{Transfer}
-use Rattle.conode_explain_transfers.specs.Endings.{verdict, size_fault, size_verdict, crc_verdict}
+use Rattle.conode_explain_transfers.specs.Endings.{verdict}
 use Rattle.conode_explain_transfers.specs.Followed.{with_frame}
-use Rattle.conode_explain_transfers.specs.SegmentedTurns.{segment_pending, download_segment_at, segment_done_at}
+use Rattle.conode_explain_transfers.specs.SegmentedTurns.{segment_pending}
 use Rattle.conode_explain_transfers.specs.Transfers.{after, goes_on as part, takes_pending}
-use Rattle.conode_explain_laws.specs.Downloads.{Write, is_plain_download, entry_bytes, if_done, write_set}
+use Rattle.conode_explain_laws.specs.Downloads.{Write, is_plain_download, entry_bytes, if_done}
 use Rattle.conode_explain_laws.proofs.Readings.{Reading, Begin, Request, Response, request_reading, response_reading, reading_of}
-use Rattle.conode_explain_laws.proofs.Views.{View, read_as, hears, hears_answers, Knows, Closes, KnowsAside, IsAside, aside_reads, aside_answers, aborted_closes, begin_writes, is_begin}
-use Rattle.conode_explain_laws.proofs.Follows.{Follows, aside, asked, gone, segmented, InSegments, IsAnswered, in_segments, Ends, ends_closed, ends_aside, BegunBy, begun_by, client_no_response, is_response, Stays, answered_reads, asked_reads, is_first, again, response_read}
+use Rattle.conode_explain_laws.proofs.Views.{View, read_as, hears, hears_answers, Knows, KnowsAside, aside_reads, aside_answers, aborted_closes, begin_writes, is_begin}
+use Rattle.conode_explain_laws.proofs.Follows.{Follows, aside, asked, gone, segmented, InSegments, in_segments, Ends, ends_closed, ends_aside, begun_by, client_no_response, is_response, Stays, answered_reads, asked_reads, is_first, again, response_read}
 use Rattle.conode_explain_laws.proofs.Begins.{answered, refused, begins}
 
 -- ---- what explain knows of a transfer that stays

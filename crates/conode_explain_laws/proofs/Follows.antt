@@ -1,10 +1,9 @@
 -- What explain's open download and the channel's open transfer have to do with one another, and what a frame of the client makes
 -- of the former.
-use Rattle.std.proofs.Common.{◌≡◌, ℕ, suc, ◌+◌, Bool, true, false, not, List, [], ◌∷◌, ◌++◌, length, Option, Some, None, refl, sym, ap, ◌∙◌, ◌⊎◌, inl, inr, subst}
+use Rattle.std.proofs.Common.{◌≡◌, ℕ, suc, ◌+◌, Bool, true, false, not, List, ◌++◌, Option, Some, None, refl, sym, ap, ◌∙◌, ◌⊎◌, inl, inr, subst}
 use Rattle.std.specs.Prelude.{if◌then◌else◌, IfSome, nat_le, nat_lt, ◌==◌, ◌&&◌}
 use Rattle.std.proofs.lemmas.Bool.{false≢true}
 use Rattle.arrayvec.specs.ArrayVec.{ArrayVec}
-use Rattle.co_value.specs.declared.key.Key.{Key}
 use Rattle.co_frame.specs.Segments.{same_bool}
 use Rattle.co_frame.specs.BlockSegments.{block_segment_in, is_abort_in_sub_block}
 use Rattle.co_frame.specs.SdoParts.{code_in}
@@ -19,7 +18,6 @@ use Rattle.co_dict.specs.Rows.{Rows}
 use Rattle.co_sdo.specs.declared.stage.Stage.TheVariants.{Download as Receiving}
 use Rattle.co_sdo.specs.Opened.{OpenTransfer}
 use Rattle.co_sdo.specs.Downloads.{Download as Whole}
-use Rattle.conode_explain_transfers.specs.declared.ended.Ending.TheVariants.{Irregular}
 use Rattle.conode_explain_transfers.specs.declared.kinds.Direction.{Direction}
 use Rattle.conode_explain_transfers.specs.declared.kinds.Direction.TheVariants.{Download}
 use Rattle.conode_explain_transfers.specs.declared.kinds.Side.TheVariants.{Client, Server}
@@ -27,20 +25,19 @@ use Rattle.conode_explain_transfers.specs.declared.kinds.Side.{Side}
 use Rattle.conode_explain_transfers.specs.declared.kinds.What.{What}
 use Rattle.conode_explain_transfers.specs.declared.kinds.What.TheVariants.{Overtaken}
 use Rattle.conode_explain_transfers.specs.declared.stage.Stage.{Stage}
-use Rattle.conode_explain_transfers.specs.declared.stage.Stage.TheVariants.{Initiated, DownloadConfirmed, DownloadSent, UploadTaken, UploadAsked, BlockInitiated, SubBlock, AllAcknowledged, BlockEnded}
+use Rattle.conode_explain_transfers.specs.declared.stage.Stage.TheVariants.{Initiated, DownloadConfirmed, DownloadSent, UploadTaken, UploadAsked, BlockInitiated, SubBlock, AllAcknowledged}
 use Rattle.conode_explain_transfers.specs.declared.transfer.Transfer.{Transfer}
 use Rattle.conode_explain_transfers.specs.BlockTurns.{segment_added, segment_ahead, segment_again, block_segment_at, acknowledged, acknowledged_at, block_ended, block_ended_at, crc_in, end_confirmed, upload_started_at, is_block, end_confirmed_at}
 use Rattle.conode_explain_transfers.specs.Data.{data_with}
-use Rattle.conode_explain_transfers.specs.Endings.{verdict}
 use Rattle.conode_explain_transfers.specs.Followed.{with_frame, turns, turns_at}
 use Rattle.conode_explain_transfers.specs.Readings.{is_in_sub_block, is_sender, awaits_segment}
 use Rattle.conode_explain_transfers.specs.SegmentedTurns.{download_segment_at, upload_request_at}
 use Rattle.conode_explain_transfers.specs.Stages.{is_initiated, confirmed_with}
 use Rattle.conode_explain_transfers.specs.Transfers.{Turn, after, is_download, awaited_number, unexpected, repeated}
 use Rattle.conode_explain_transfers.specs.Turns.{request_turn}
-use Rattle.conode_explain_laws.specs.Downloads.{Write, is_plain_download, initiated_by, if_done, write_said, write_set}
+use Rattle.conode_explain_laws.specs.Downloads.{Write, is_plain_download, initiated_by, write_said, write_set}
 use Rattle.conode_explain_laws.proofs.Readings.{Reading, Segment, Begin, Abort, Request, Response, Nothing, begun_with, begins_or, request_reading, response_reading, plain_reading, beginning, segment_reading, sub_block_reading, reading_of, turn_of}
-use Rattle.conode_explain_laws.proofs.Kept.{Keeps, keeps}
+use Rattle.conode_explain_laws.proofs.Kept.{keeps}
 use Rattle.conode_explain_laws.proofs.Views.{View, read_as, Knows, Closes, IsAside, KnowsAside, aside_turn, is_begin, no_write, aside_write}
 
 -- ---- both

@@ -17,11 +17,10 @@ use Rattle.conode_explain_transfers.specs.declared.kinds.Protocol.TheVariants.{E
 use Rattle.conode_explain_transfers.specs.declared.stage.Stage.{Stage}
 use Rattle.conode_explain_transfers.specs.declared.stage.Stage.TheVariants.{Initiated, DownloadConfirmed, DownloadSent, UploadTaken, UploadAsked, BlockInitiated, SubBlock, AllAcknowledged, BlockEnded}
 use Rattle.conode_explain_transfers.specs.declared.transfer.Transfer.{Transfer}
-use Rattle.conode_explain_transfers.specs.BlockTurns.{is_block, block_download_initiated, block_upload_initiated, upload_started_at, segment_added, segment_ahead, segment_again, block_segment_at, acknowledged_at, acknowledged, crc_in, block_ended_at, block_ended, end_confirmed_at, end_confirmed}
-use Rattle.conode_explain_transfers.specs.Initiates.{has_crc, data_of}
-use Rattle.conode_explain_transfers.specs.SegmentedTurns.{answering, confirmed, download_answered, download_done, download_segment_at, download_stage, segment_done_at, upload_expedited, upload_initiated, upload_request_at, upload_segment_at, upload_stage}
+use Rattle.conode_explain_transfers.specs.BlockTurns.{is_block, upload_started_at, segment_added, segment_ahead, segment_again, block_segment_at, acknowledged_at, acknowledged, crc_in, block_ended_at, block_ended, end_confirmed_at, end_confirmed}
+use Rattle.conode_explain_transfers.specs.SegmentedTurns.{answering, confirmed, download_answered, download_segment_at, download_stage, segment_done_at, upload_request_at, upload_segment_at, upload_stage}
 use Rattle.conode_explain_transfers.specs.Stages.{is_initiated}
-use Rattle.conode_explain_transfers.specs.Transfers.{Turn, is_download, awaited_number, unexpected, repeated, overtaken, irregular, goes_on, takes_data}
+use Rattle.conode_explain_transfers.specs.Transfers.{Turn, is_download, awaited_number, unexpected, repeated, overtaken, irregular, takes_data}
 use Rattle.conode_explain_transfers.specs.Turns.{request_turn, response_turn}
 use Rattle.conode_explain_laws.proofs.Readings.{Reading, Segment, Request, Response, turn_of}
 

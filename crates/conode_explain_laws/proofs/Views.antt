@@ -1,5 +1,5 @@
 -- What explain knows of a channel after each frame, and which frames are nothing to it.
-use Rattle.std.proofs.Common.{◌≡◌, ℕ, suc, Bool, true, false, List, [], ◌∷◌, ◌++◌, length, Option, Some, None, refl, sym, ap, ◌∙◌, ◌⊎◌, inl, inr, subst}
+use Rattle.std.proofs.Common.{◌≡◌, ℕ, suc, Bool, true, false, List, [], ◌∷◌, ◌++◌, length, Option, Some, None, refl, sym, ap, ◌∙◌, ◌⊎◌, inl, inr}
 use Rattle.std.specs.Prelude.{if◌then◌else◌, IfSome, nat_le}
 use Rattle.std.proofs.lemmas.Bool.{false≢true}
 use Rattle.co_value.specs.declared.key.Key.{Key}
@@ -9,29 +9,27 @@ use Rattle.co_frame.specs.declared.sdo_request.SdoRequest.{SdoRequest}
 use Rattle.co_frame.specs.declared.sdo_response.SdoResponse.{SdoResponse}
 use Rattle.co_frame.specs.declared.sdo_response.SdoResponse.TheVariants.{Abort as Refuse}
 use Rattle.co_frame.specs.SdoParts.{code_in}
-use Rattle.co_frame.specs.SdoResponses.{response_row_in, response_in, response_bytes}
+use Rattle.co_frame.specs.SdoResponses.{response_row_in, response_in}
 use Rattle.co_dict.specs.Rows.{Rows}
 use Rattle.co_sdo.specs.Log.{Answer, Response as Replied, answer_bytes}
 use Rattle.co_sdo.specs.Replies.{aborted}
-use Rattle.conode_explain_transfers.specs.declared.ended.Ending.{Ending}
 use Rattle.conode_explain_transfers.specs.declared.ended.Ending.TheVariants.{Repeated}
 use Rattle.conode_explain_transfers.specs.declared.kinds.Direction.{Direction}
 use Rattle.conode_explain_transfers.specs.declared.kinds.Direction.TheVariants.{Download, Upload}
 use Rattle.conode_explain_transfers.specs.declared.kinds.Protocol.{Protocol}
-use Rattle.conode_explain_transfers.specs.declared.kinds.Protocol.TheVariants.{Block}
 use Rattle.conode_explain_transfers.specs.declared.kinds.Side.{Side}
 use Rattle.conode_explain_transfers.specs.declared.kinds.Side.TheVariants.{Client, Server}
 use Rattle.conode_explain_transfers.specs.declared.kinds.What.{What}
 use Rattle.conode_explain_transfers.specs.declared.kinds.What.TheVariants.{Overtaken}
 use Rattle.conode_explain_transfers.specs.declared.transfer.Transfer.{Transfer}
-use Rattle.conode_explain_transfers.specs.Data.{data_with, data_by, data_after}
+use Rattle.conode_explain_transfers.specs.Data.{data_with, data_after}
 use Rattle.conode_explain_transfers.specs.Endings.{verdict}
-use Rattle.conode_explain_transfers.specs.Followed.{Event, Framed, Following, Followed, following_after, left_by, with_frame, turns, turns_at}
+use Rattle.conode_explain_transfers.specs.Followed.{Event, Following, Followed, following_after, left_by, with_frame, turns, turns_at}
 use Rattle.conode_explain_transfers.specs.Readings.{awaits_segment}
 use Rattle.conode_explain_transfers.specs.Stages.{confirmed_with}
-use Rattle.conode_explain_transfers.specs.Transfers.{Turn, after, is_same_request}
+use Rattle.conode_explain_transfers.specs.Transfers.{after, is_same_request}
 use Rattle.conode_explain_laws.specs.Recordings.{and_frame, and_answers}
-use Rattle.conode_explain_laws.specs.Downloads.{Write, is_plain, is_plain_download, initiated_by, entry_bytes, if_done, write_said, downloads_done}
+use Rattle.conode_explain_laws.specs.Downloads.{Write, is_plain, is_plain_download, initiated_by, if_done, write_said, downloads_done}
 use Rattle.conode_explain_laws.proofs.Readings.{Reading, Segment, Begin, Abort, Request, Response, Nothing, response_reading, plain_reading, beginning, segment_reading, sub_block_reading, reading_of, turn_of, follows_by, bytes_by, same as same_reading}
 use Rattle.conode_explain_laws.proofs.Kept.{Keeps, keeps}
 
