@@ -1,0 +1,105 @@
+-- Worked recordings of a channel over a small dictionary: what explain says is done, and what the channel sets.
+use Rattle.std.proofs.Common.{◌≡◌, ℕ, List, [], ◌∷◌, refl, codes}
+use Rattle.co_dict.specs.Objects.{has_object}
+use Rattle.co_dict.specs.Rows.{Contents}
+use Rattle.co_frame.specs.SdoRequests.{request_row_in}
+use Rattle.co_frame.specs.SdoResponses.{response_row_in}
+use Rattle.co_value.specs.declared.key.Key.{Key}
+use Rattle.co_sdo.specs.Completed.{contents_with}
+use Rattle.co_sdo.specs.Refused.{reading_refusal, initiate_refusal, completion_refusal}
+use Rattle.co_sdo.proofs.ExampleChannel.{at, entries, bytes_in, dictionary, hex}
+use Rattle.conode_explain_laws.specs.Recordings.{Input, Received, Abandoned, log_of, recorded}
+use Rattle.conode_explain_laws.specs.Downloads.{Write, downloads_done, set_with, downloads_set}
+
+-- the inputs, newest first, and the contents after them
+record Scene : Type 0 where
+  contents : Contents
+  inputs : List Input
+
+abbrev start : Scene
+start = record { contents = bytes_in entries; inputs = [] }
+
+abbrev comes : List ℕ → Scene → Scene
+comes frame s = record {
+  contents = contents_with s.contents (set_with dictionary s.contents frame (log_of dictionary s.inputs));
+  inputs = Received s.contents frame ∷ s.inputs;
+}
+
+abbrev happens : Input → Scene → Scene
+happens input s = record { contents = s.contents; inputs = input ∷ s.inputs }
+
+-- frames, the first one first
+abbrev all_come : List (List ℕ) → Scene → Scene
+all_come [] s = s
+all_come (digits ∷ later) s = all_come later (comes (hex digits) s)
+
+abbrev done : Scene → List Write
+done s = downloads_done dictionary.rows (recorded (λ n. n) dictionary s.inputs)
+
+abbrev set : Scene → List Write
+set s = downloads_set (λ n. n) dictionary s.inputs
+
+abbrev write : ℕ → Key → List ℕ → Write
+write frame key digits = record { frame = frame; key = key; bytes = hex digits }
+
+-- an expedited download is done with the second frame
+abbrev expedited : Scene
+expedited = all_come (codes "2B171000E8030000" ∷ []) start
+
+expedited_done : done expedited ≡ write 2 (at 0x1017 0) (codes "E803") ∷ []
+unfolding request_row_in response_row_in reading_refusal initiate_refusal completion_refusal has_object
+expedited_done = refl
+
+expedited_set : set expedited ≡ write 2 (at 0x1017 0) (codes "E803") ∷ []
+unfolding request_row_in response_row_in reading_refusal initiate_refusal completion_refusal has_object
+expedited_set = refl
+
+-- without a size: of the four bytes the entry has room for two
+abbrev unsized : Scene
+unsized = all_come (codes "22171000E8030000" ∷ []) start
+
+unsized_done : done unsized ≡ write 2 (at 0x1017 0) (codes "E803") ∷ []
+unfolding request_row_in response_row_in reading_refusal initiate_refusal completion_refusal has_object
+unsized_done = refl
+
+-- one that is refused isn't done
+refused_done : done (all_come (codes "2B032000E9030000" ∷ []) start) ≡ []
+unfolding request_row_in response_row_in reading_refusal initiate_refusal completion_refusal has_object
+refused_done = refl
+
+-- in segments: ten bytes, done with the sixth frame
+abbrev in_segments : Scene
+in_segments = all_come (codes "210021000A000000" ∷ codes "0030313233343536" ∷ codes "1937383900000000" ∷ []) start
+
+segments_done : done in_segments ≡ write 6 (at 0x2100 0) (codes "30313233343536373839") ∷ []
+unfolding request_row_in response_row_in reading_refusal initiate_refusal completion_refusal has_object
+segments_done = refl
+
+segments_set : set in_segments ≡ write 6 (at 0x2100 0) (codes "30313233343536373839") ∷ []
+unfolding request_row_in response_row_in reading_refusal initiate_refusal completion_refusal has_object
+segments_set = refl
+
+-- the same with a frame of three bytes between: the channel ignores it, and explain says that the transfer is irregular
+abbrev with_short : Scene
+with_short = all_come (codes "210021000A000000" ∷ codes "003031" ∷ codes "0030313233343536" ∷ codes "1937383900000000" ∷ []) start
+
+short_done : done with_short ≡ []
+unfolding request_row_in response_row_in reading_refusal initiate_refusal completion_refusal has_object
+short_done = refl
+
+short_set : set with_short ≡ write 7 (at 0x2100 0) (codes "30313233343536373839") ∷ []
+unfolding request_row_in response_row_in reading_refusal initiate_refusal completion_refusal has_object
+short_set = refl
+
+-- dropped after its first segment: the rest of it sets nothing, and the next download is done
+abbrev dropped : Scene
+dropped = all_come (codes "1937383900000000" ∷ codes "2B171000E8030000" ∷ [])
+    (happens Abandoned (all_come (codes "210021000A000000" ∷ codes "0030313233343536" ∷ []) start))
+
+dropped_done : done dropped ≡ write 8 (at 0x1017 0) (codes "E803") ∷ []
+unfolding request_row_in response_row_in reading_refusal initiate_refusal completion_refusal has_object
+dropped_done = refl
+
+dropped_set : set dropped ≡ write 8 (at 0x1017 0) (codes "E803") ∷ []
+unfolding request_row_in response_row_in reading_refusal initiate_refusal completion_refusal has_object
+dropped_set = refl

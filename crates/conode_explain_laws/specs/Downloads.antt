@@ -1,0 +1,121 @@
+-- The downloads that explain says are done, and those that the channel of co_sdo sets.
+use Rattle.std.specs.Prelude.{◌≡◌, ℕ, ◌==◌, Bool, true, false, List, [], ◌∷◌, ◌++◌, length, take, Option, Some, None, if◌then◌else◌, ◌⊎◌}
+use Rattle.std.specs.List.{AllByRecursion}
+use Rattle.co_value.specs.declared.key.Key.{Key}
+use Rattle.co_frame.specs.declared.sdo_request.ExpeditedData.TheVariants.{NotIndicated}
+use Rattle.co_frame.specs.declared.sdo_request.SdoRequest.{SdoRequest}
+use Rattle.co_frame.specs.declared.sdo_request.SdoRequest.TheVariants.{DownloadExpedited, BlockDownloadInitiate}
+use Rattle.co_frame.specs.SdoRequests.{request_in}
+use Rattle.co_dict.specs.Rows.{Rows, Contents}
+use Rattle.co_dict.specs.Stores.{Description}
+use Rattle.co_sdo.specs.Refused.{capacity_at}
+use Rattle.co_sdo.specs.Log.{Log}
+use Rattle.co_sdo.specs.Completed.{set_by}
+use Rattle.co_sdo.specs.Downloads.{Download as Whole}
+use Rattle.conode_explain_transfers.specs.declared.ended.Ended.{Ended}
+use Rattle.conode_explain_transfers.specs.declared.ended.Ending.{Ending}
+use Rattle.conode_explain_transfers.specs.declared.ended.Ending.TheVariants.{Done}
+use Rattle.conode_explain_transfers.specs.declared.kinds.Direction.{Direction}
+use Rattle.conode_explain_transfers.specs.declared.kinds.Direction.TheVariants.{Download, Upload}
+use Rattle.conode_explain_transfers.specs.declared.kinds.Protocol.{Protocol}
+use Rattle.conode_explain_transfers.specs.declared.kinds.Protocol.TheVariants.{Block}
+use Rattle.conode_explain_transfers.specs.declared.transfer.Transfer.{Transfer}
+use Rattle.conode_explain_transfers.specs.Data.{data_after}
+use Rattle.conode_explain_transfers.specs.Followed.{Event, Framed, BootedUp, following_after, said}
+use Rattle.conode_explain_laws.specs.Recordings.{Input, Received, Elapsed, Expired, Abandoned, Started, log_of, recorded}
+
+-- a download that is complete: with which frame of the recording, its entry, and the entry's bytes
+pub record Write : Type 0 where
+  pub frame : ℕ
+  pub key : Key
+  pub bytes : List ℕ
+
+-- ---- by explain
+
+-- a download that isn't in blocks: expedited or segmented
+abbrev pub is_plain : Protocol → Bool
+is_plain Block = false
+is_plain _ = true
+
+abbrev pub is_plain_download : Direction → Protocol → Bool
+is_plain_download Download protocol = is_plain protocol
+is_plain_download Upload protocol = false
+
+-- the initiate request of the open transfer
+abbrev pub initiated_by : Option Transfer → Option SdoRequest
+initiated_by None = None
+initiated_by (Some transfer) = request_in transfer.request.items
+
+-- the bytes of a transfer's entry are its data; of an expedited download without a size (s = 0) the
+-- first of the four bytes, as many as the entry has room for
+abbrev pub entry_bytes : Rows → Key → Option SdoRequest → List ℕ → List ℕ
+entry_bytes rows key (Some (DownloadExpedited k (NotIndicated four))) got = take (capacity_at rows key) got
+entry_bytes rows key _ got = got
+
+abbrev pub if_done : Ending → List Write → List Write
+if_done (Done crc) write = write
+if_done _ write = []
+
+-- what explain says is written, where a transfer with this initiate request and these data ended
+-- with a frame
+abbrev pub write_said : Rows → Option SdoRequest → Option Ended → List ℕ → ℕ → List Write
+write_said rows initiate None got frame = []
+write_said rows initiate (Some ended) got frame =
+    if is_plain_download ended.direction ended.protocol
+    then if_done ended.ending (record { frame = frame; key = ended.key; bytes = entry_bytes rows ended.key initiate got } ∷ [])
+    else []
+
+-- the plain downloads that explain says are done, over a whole recording, newest first
+abbrev pub downloads_done : Rows → List Event → List Write
+downloads_done rows [] = []
+downloads_done rows (Framed micros side frame ∷ older) =
+    write_said rows (initiated_by (following_after older).transfer) (said older micros side frame).ended
+    (data_after (Framed micros side frame ∷ older)) (length (Framed micros side frame ∷ older))
+    ++ downloads_done rows older
+downloads_done rows (BootedUp micros ∷ older) = downloads_done rows older
+
+-- ---- by the channel
+
+-- a download that is set with a frame
+abbrev pub write_set : Option Whole → ℕ → List Write
+write_set None frame = []
+write_set (Some download) frame = record { frame = frame; key = download.key; bytes = download.bytes } ∷ []
+
+-- what a frame sets
+abbrev pub set_with : Description → Contents → List ℕ → Log → Option Whole
+set_with d contents frame log = if length frame == 8 then set_by d contents log frame else None
+
+-- the downloads that the channel sets, newest first, each with its answer: that is the newest frame
+-- of the recording then
+abbrev pub downloads_set : (ℕ → ℕ) → Description → List Input → List Write
+downloads_set stamp d [] = []
+downloads_set stamp d (Received contents frame ∷ older) =
+    write_set (set_with d contents frame (log_of d older)) (length (recorded stamp d (Received contents frame ∷ older)))
+    ++ downloads_set stamp d older
+downloads_set stamp d (Elapsed ∷ older) = downloads_set stamp d older
+downloads_set stamp d (Expired ∷ older) = downloads_set stamp d older
+downloads_set stamp d (Abandoned ∷ older) = downloads_set stamp d older
+downloads_set stamp d (Started ∷ older) = downloads_set stamp d older
+
+-- ---- frames of plain transfers alone
+
+-- a request that begins a block download
+abbrev pub is_block_begin : Option SdoRequest → Bool
+is_block_begin (Some (BlockDownloadInitiate key size)) = true
+is_block_begin _ = false
+
+-- each frame has eight bytes, and begins no block download
+abbrev pub IsPlainInput : Input → Type 0
+IsPlainInput (Received contents frame) = (length frame ≡ 8) × (is_block_begin (request_in frame) ≡ false)
+IsPlainInput _ = Unit {0}
+
+abbrev pub ArePlain : List Input → Type 0
+ArePlain inputs = AllByRecursion IsPlainInput inputs
+
+-- ---- the two
+
+-- these are some of those, in their order
+abbrev pub AreSome : List Write → List Write → Type 0
+AreSome [] all = Unit {0}
+AreSome (write ∷ others) [] = ⊥
+AreSome (write ∷ others) (set ∷ later) = ((write ≡ set) × AreSome others later) ⊎ AreSome (write ∷ others) later
