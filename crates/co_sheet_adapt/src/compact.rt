@@ -16,6 +16,7 @@ ghost use Rattle.co_sheet_adapt.specs.Compact.{
   name_line,
   value_line,
   first_section,
+  type_line,
   sub_section,
   sub_sections,
   compact_text,
@@ -129,6 +130,13 @@ fn default_name(alloc: Global, name: &[u8], sub: u8) -> Result<Vec<u8>, AllocErr
     Ok(made)
 }
 
+#[tactic(auto, unfolding(crate::specs::Compact::type_line))]
+fn type_line() -> &'static [u8]
+    ensures { result.now ≡ type_line }
+{
+    b"ObjectType=0x7\n"
+}
+
 /// Appends the section of sub-index 0.
 #[tactic(auto, unfolding(crate::specs::Compact::first_section, crate::specs::Compact::first_keys, crate::specs::Compact::last_keys))]
 pub(crate) fn push_first_section(
@@ -202,7 +210,7 @@ impl Compact<'_, '_, '_> {
     }
 
     // appends the section of a sub-index from 1 on
-    #[tactic(auto, unfolding(crate::specs::Compact::sub_section, crate::specs::Compact::type_line))]
+    #[tactic(auto, unfolding(crate::specs::Compact::sub_section))]
     fn push_sub_section(
         &self,
         alloc: Global,
@@ -221,7 +229,7 @@ impl Compact<'_, '_, '_> {
         };
         push_head(alloc, text, key)?;
         self.push_name(alloc, text, key)?;
-        text.extend_from_slice(b"ObjectType=0x7\n")?;
+        text.extend_from_slice(type_line())?;
         text.extend_from_slice(copied)?;
         self.push_value(alloc, text, key)?;
         text.push(b'\n')?;

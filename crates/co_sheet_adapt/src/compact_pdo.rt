@@ -58,24 +58,40 @@ pub(crate) struct PdoForm {
     pub(crate) absent: Vec<u16>,
 }
 
-fn is_kind(kind: SectionKind, group: &Group) -> bool
-    ensures { result ≡ is_kind kind (group_view group.now) }
+fn is_object_of(index: u16, group: &Group) -> bool
+    ensures { result ≡ is_object_of index (group_view group.now) }
 {
-    group.kind == kind
+    group.kind == SectionKind::Object(index)
 }
 
 fn has_object(groups: &[Group], index: u16) -> bool
     ensures { result ≡ list_any (is_object_of index) (map group_view groups.now) }
 {
     for group in groups {
-        if is_kind(SectionKind::Object(index), group) {
+        if is_object_of(index, group) {
             return true;
         }
     }
     false
 }
 
-// adds, of this many objects from an index on, those that have no section
+// of this many objects from an index on, those that have no section
+fn absent_of(
+    alloc: Global,
+    groups: &[Group],
+    first: u16,
+    count: u16,
+) -> Result<Vec<u16>, AllocError>
+    requires first { first ≤ 0x1A00 }
+    requires few { count ≤ 512 }
+    ensures { IfOk result (λ made. made.items ≡ absent_of (map group_view groups.now) first count) }
+{
+    (first..first + count)
+        .filter(|index| !has_object(groups, *index))
+        .collect(alloc)
+}
+
+// adds them
 fn push_absent(
     alloc: Global,
     indices: &mut Vec<u16>,
@@ -88,10 +104,14 @@ fn push_absent(
     ensures { OnOk result (indices.new.items
         ≡ indices.old.items ++ absent_of (map group_view groups.now) first count) }
 {
-    let absent: Vec<u16> = (first..first + count)
-        .filter(|index| !has_object(groups, *index))
-        .collect(alloc)?;
+    let absent = absent_of(alloc, groups, first, count)?;
     indices.extend_from_slice(absent.as_slice())
+}
+
+fn is_kind(kind: SectionKind, group: &Group) -> bool
+    ensures { result ≡ is_kind kind (group_view group.now) }
+{
+    group.kind == kind
 }
 
 fn group_at<'g, 's, 'a>(kind: SectionKind, groups: &'g [Group<'s, 'a>]) -> Option<&'g Group<'s, 'a>>
@@ -143,6 +163,13 @@ fn subs_of(bits: u64) -> Option<u64>
     }
 }
 
+fn subs_in(info: &Group) -> Option<u64>
+    ensures { result ≡ option_and_then subs_of
+        (number_within 1 127 (codes "CompactPDO") (group_view info.now)) }
+{
+    subs_of(number_within(1, 127, b"CompactPDO", info)?)
+}
+
 // the objects of this many PDOs that have no section
 fn absent_objects(
     alloc: Global,
@@ -174,15 +201,12 @@ impl PdoForm {
         ensures { IfOk result (λ form. option_map form_view form
             ≡ form_in (map group_view groups.now) (group_view info.now) (group_view list.now)) }
     {
-        let (Some(bits), Some(receive), Some(transmit), Some(listed)) = (
-            number_within(1, 127, b"CompactPDO", info),
+        let (Some(subs), Some(receive), Some(transmit), Some(listed)) = (
+            subs_in(info),
             number_within(0, 512, b"NrOfRXPDO", info),
             number_within(0, 512, b"NrOfTXPDO", info),
             number_within(0, 60_000, b"SupportedObjects", list),
         ) else {
-            return Ok(None);
-        };
-        let Some(subs) = subs_of(bits) else {
             return Ok(None);
         };
         let absent = absent_objects(alloc, groups, receive as u16, transmit as u16)?;
@@ -417,18 +441,25 @@ fn push_words(alloc: Global, text: &mut Vec<u8>, index: u16) -> Result<(), Alloc
     Ok(())
 }
 
-// the sections of a communication or a mapping object
+// the sections of a mapping object
 #[tactic(auto, unfolding(crate::specs::CompactPdo::mapping_text))]
-fn push_object(alloc: Global, text: &mut Vec<u8>, subs: u64, index: u16) -> Result<(), AllocError>
-    ensures { OnOk result (text.new.items ≡ text.old.items ++ object_text subs index) }
+fn push_mapping(alloc: Global, text: &mut Vec<u8>, index: u16) -> Result<(), AllocError>
+    ensures { OnOk result (text.new.items ≡ text.old.items ++ mapping_text index) }
 {
-    if matches!(index, 0..=0x15FF | 0x1800..=0x19FF) {
-        return push_communication(alloc, text, subs, index);
-    }
     push_object_head(alloc, text, index)?;
     text.extend_from_slice(Part::Mapping.keys())?;
     push_part(alloc, text, Key { index, sub: 0 }, Part::MappingCount)?;
     push_words(alloc, text, index)
+}
+
+fn push_object(alloc: Global, text: &mut Vec<u8>, subs: u64, index: u16) -> Result<(), AllocError>
+    ensures { OnOk result (text.new.items ≡ text.old.items ++ object_text subs index) }
+{
+    if matches!(index, 0..=0x15FF | 0x1800..=0x19FF) {
+        push_communication(alloc, text, subs, index)
+    } else {
+        push_mapping(alloc, text, index)
+    }
 }
 
 // a place in the list

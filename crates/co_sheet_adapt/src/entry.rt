@@ -7,6 +7,7 @@ ghost use Rattle.co_sheet_adapt.specs.Entries.{
   preset_in_place,
   in_place,
   preset_at_type,
+  at_type,
   entry_change,
 };
 ghost use Rattle.co_sheet_changes.specs.Pieces.{assigned, mended, mended_view};
@@ -107,6 +108,25 @@ fn preset_at_type(
     }
 }
 
+// a line of an entry whose type isn't left out
+fn at_type(
+    alloc: Global,
+    facts: &Facts,
+    name: &[u8],
+    value: &[u8],
+) -> Result<Option<Mended>, AllocError>
+    ensures { IfOk result (λ made.
+        option_map mended_view made ≡ at_type facts.now name.now value.now) }
+{
+    if is_limit(name) && facts.has_unsigned_limits {
+        return Ok(Some(dropped(alloc, ChangeKind::UnsignedLimit)));
+    }
+    match facts.data_type {
+        Some(data_type) if is_preset(name) => preset_at_type(alloc, data_type, name, value),
+        _ => Ok(None),
+    }
+}
+
 /// What a name and its value become in the section of an entry, where they don't stay as they are.
 pub(crate) fn entry_change(
     alloc: Global,
@@ -117,14 +137,8 @@ pub(crate) fn entry_change(
     ensures { IfOk result (λ made.
         option_map mended_view made ≡ entry_change facts.now name.now value.now) }
 {
-    if let Some(left_out) = facts.left_out {
-        return in_place(alloc, left_out, name, value);
-    }
-    if is_limit(name) && facts.has_unsigned_limits {
-        return Ok(Some(dropped(alloc, ChangeKind::UnsignedLimit)));
-    }
-    match facts.data_type {
-        Some(data_type) if is_preset(name) => preset_at_type(alloc, data_type, name, value),
-        _ => Ok(None),
+    match facts.left_out {
+        Some(left_out) => in_place(alloc, left_out, name, value),
+        None => at_type(alloc, facts, name, value),
     }
 }

@@ -9,6 +9,7 @@ ghost use Rattle.co_sheet_warnings.specs.Infos.{
   identity_number,
   identity_numbers,
   is_date,
+  is_day_and_year,
   is_info,
   is_number_of,
   is_object_within,
@@ -210,17 +211,24 @@ fn is_number_of(digits: usize, least: u32, most: u32, text: &[u8]) -> bool
     text.len() == digits && decimal_in(text, least, most).is_some()
 }
 
+// `dd-yyyy`
+fn is_day_and_year(text: &[u8]) -> bool
+    ensures { result ≡ is_day_and_year text.now }
+{
+    match split_at_first(text, b'-') {
+        Some((day, year)) => is_number_of(2, 1, 31, day) && is_number_of(4, 0, 9999, year),
+        None => false,
+    }
+}
+
 // `mm-dd-yyyy`
 fn is_date(text: &[u8]) -> bool
     ensures { result ≡ is_date text.now }
 {
-    let Some((month, rest)) = split_at_first(text, b'-') else {
-        return false;
-    };
-    let Some((day, year)) = split_at_first(rest, b'-') else {
-        return false;
-    };
-    is_number_of(2, 1, 12, month) && is_number_of(2, 1, 31, day) && is_number_of(4, 0, 9999, year)
+    match split_at_first(text, b'-') {
+        Some((month, rest)) => is_number_of(2, 1, 12, month) && is_day_and_year(rest),
+        None => false,
+    }
 }
 
 // `hh:mmAM` or `hh:mmPM`

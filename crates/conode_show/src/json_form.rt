@@ -16,10 +16,9 @@ ghost use Rattle.conode_show.specs.JsonForm.{
 use crate::json_entries::put_section;
 use crate::json_pdos::put_pdo;
 use crate::json_services::put_service;
-use crate::parts::{Part, put_parts};
+use crate::json_writer::{JsonWriter, Part, number_part};
 use co_sheet_rows::SheetFault;
 use co_sheet_text::TextSection;
-use conode_json::JsonWriter;
 use conode_show_text::Chapter;
 use std::alloc::{AllocError, Global};
 
@@ -63,11 +62,11 @@ fn put_chapter<'p>(
     ensures { OnOk result (writer.new
         ≡ writer.old ++ chapter_member chapter node (map section_view sections.entry.now)) }
 {
-    writer.begin_array_of(chapter_name(chapter))?;
+    writer.put(alloc, &[Part::Array(chapter_name(chapter))])?;
     for section in sections {
         put_tokens(alloc, writer, chapter, node, sections, section)?;
     }
-    writer.end_array()
+    writer.put(alloc, &[Part::EndArray])
 }
 
 fn node_number(node: Option<u8>) -> Option<i128>
@@ -86,19 +85,18 @@ fn put_document<'p>(
     ensures { OnOk result
         (writer.new ≡ writer.old ++ document_tokens node (map section_view sections.entry.now)) }
 {
-    put_parts(
+    writer.put(
         alloc,
-        writer,
         &[
             Part::BeginObject,
-            Part::Number("version", Some(1)),
-            Part::Number("node", node_number(node)),
+            Part::Number("version", 1),
+            number_part("node", node_number(node)),
         ],
     )?;
     put_chapter(alloc, writer, Chapter::Entries, node, sections)?;
     put_chapter(alloc, writer, Chapter::Pdos, node, sections)?;
     put_chapter(alloc, writer, Chapter::Services, node, sections)?;
-    writer.end_object()
+    writer.put(alloc, &[Part::EndObject])
 }
 
 /// The object dictionary of sections in order, as a JSON document. `Err`: out of memory.
@@ -121,10 +119,15 @@ fn put_fault(alloc: Global, writer: &mut JsonWriter, fault: SheetFault) -> Resul
     ensures { OnOk result (writer.new ≡ writer.old ++ fault_tokens fault) }
 {
     let text = fault.text();
-    writer.begin_object()?;
-    writer.put_number(alloc, "version", 1)?;
-    writer.put_text("fault", text.as_str())?;
-    writer.end_object()
+    writer.put(
+        alloc,
+        &[
+            Part::BeginObject,
+            Part::Number("version", 1),
+            Part::Text("fault", text.as_str()),
+            Part::EndObject,
+        ],
+    )
 }
 
 /// Why a text can't be shown, as a JSON document. `Err`: out of memory.

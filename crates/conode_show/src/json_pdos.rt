@@ -9,21 +9,57 @@ ghost use Rattle.conode_show.specs.JsonForm.{
   mapped_members,
   mapped_tokens,
   mapping_tokens,
+  name_at,
   pdo_of,
   pdo_tokens,
+  said_at_member,
 };
+ghost use Rattle.conode_show.specs.Parts.{part_tokens};
 
-use crate::parts::{Part, put_parts};
+use crate::json_entries::{index_part, property_part};
+use crate::json_writer::{JsonWriter, Part};
+use co_sheet::section_at;
 use co_sheet_text::{SectionKind, TextSection};
 use co_value::Key;
-use conode_json::JsonWriter;
 use conode_show_text::{
-    Content, Meaning, Word, is_counted, is_pdo_cob_id, mapped_key, mapping_count, section_word,
+    Meaning, Word, entry_section, is_counted, is_pdo_cob_id, mapped_key, mapping_count,
+    section_word,
 };
 use std::alloc::{AllocError, Global};
 
-// what a word of a mapping names, nothing if it is no number
+// the name of an entry
+fn name_part<'p>(sections: &'p [TextSection<'p, 'p>], key: Key) -> Part<'p>
+    ensures { part_tokens result ≡ name_at (map section_view sections.entry.now) key }
+{
+    match entry_section(sections, key) {
+        Some(section) => property_part("name", b"ParameterName", section),
+        None => Part::Nothing,
+    }
+}
+
 #[tactic(auto, unfolding(crate::specs::JsonForm::mapped_members, crate::specs::JsonForm::key_members))]
+fn put_mapped_members<'p>(
+    alloc: Global,
+    writer: &mut JsonWriter,
+    sections: &'p [TextSection<'p, 'p>],
+    word: Word,
+) -> Result<(), AllocError>
+    ensures { OnOk result
+        (writer.new ≡ writer.old ++ mapped_members (map section_view sections.entry.now) word) }
+{
+    let key = mapped_key(word.number);
+    writer.put(
+        alloc,
+        &[
+            Part::Number("index", i128::from(key.index)),
+            Part::Number("subIndex", i128::from(key.sub)),
+            Part::Number("bits", i128::from(word.number % 0x100)),
+            name_part(sections, key),
+        ],
+    )
+}
+
+// what a word of a mapping names, nothing if it is no number
 fn put_mapped_if<'p>(
     alloc: Global,
     writer: &mut JsonWriter,
@@ -33,20 +69,10 @@ fn put_mapped_if<'p>(
     ensures { OnOk result (writer.new ≡ writer.old
         ++ option_map_or (mapped_members (map section_view sections.entry.now)) word []) }
 {
-    let Some(word) = word else {
-        return Ok(());
-    };
-    let key = mapped_key(word.number);
-    put_parts(
-        alloc,
-        writer,
-        &[
-            Part::Number("index", Some(i128::from(key.index))),
-            Part::Number("subIndex", Some(i128::from(key.sub))),
-            Part::Number("bits", Some(i128::from(word.number % 0x100))),
-            Part::NameAt(sections, key),
-        ],
-    )
+    match word {
+        Some(word) => put_mapped_members(alloc, writer, sections, word),
+        None => Ok(()),
+    }
 }
 
 #[tactic(auto, unfolding(crate::specs::JsonForm::mapped_tokens))]
@@ -60,15 +86,11 @@ fn put_mapped<'p>(
     ensures { OnOk result (writer.new ≡ writer.old ++ mapped_tokens node
         (map section_view sections.entry.now) (section_view section.entry.now)) }
 {
-    writer.begin_object()?;
+    writer.put(alloc, &[Part::BeginObject])?;
     put_mapped_if(alloc, writer, sections, section_word(node, section))?;
-    put_parts(
+    writer.put(
         alloc,
-        writer,
-        &[
-            Part::Shown("words", node, Content::Said(Meaning::Mapped, section)),
-            Part::EndObject,
-        ],
+        &[Part::Words(Meaning::Mapped, node, section), Part::EndObject],
     )
 }
 
@@ -110,7 +132,24 @@ fn put_mapping<'p>(
     Ok(())
 }
 
-#[tactic(auto, unfolding(crate::specs::JsonForm::pdo_tokens, crate::specs::JsonForm::pdo_members))]
+// the value of a sub-index, nothing if it isn't there
+#[tactic(auto, unfolding(crate::specs::JsonForm::said_at_member))]
+fn said_at<'p>(
+    name: &'static str,
+    meaning: Meaning,
+    node: Option<u8>,
+    sections: &'p [TextSection<'p, 'p>],
+    key: Key,
+) -> Part<'p>
+    ensures { part_tokens result
+        ≡ said_at_member name.now meaning node (map section_view sections.entry.now) key }
+{
+    match section_at(sections, SectionKind::SubIndex(key)) {
+        Some(section) => Part::Said(name, meaning, node, section),
+        None => Part::Nothing,
+    }
+}
+
 fn put_pdo_tokens<'p>(
     alloc: Global,
     writer: &mut JsonWriter,
@@ -126,28 +165,27 @@ fn put_pdo_tokens<'p>(
     let transmission = Key { index, sub: 2 };
     let inhibit = Key { index, sub: 3 };
     let timer = Key { index, sub: 5 };
-    put_parts(
+    writer.put(
         alloc,
-        writer,
         &[
             Part::BeginObject,
-            Part::Shown("pdo", None, Content::Pdo(index)),
-            Part::Number("index", Some(i128::from(index))),
+            Part::Pdo(index),
+            index_part(index),
             Part::Said("cobId", Meaning::PdoCobId, node, section),
-            Part::SaidAt(
+            said_at(
                 "transmissionType",
                 Meaning::Transmission,
                 node,
                 sections,
                 transmission,
             ),
-            Part::SaidAt("inhibitTime", Meaning::PdoInhibit, node, sections, inhibit),
-            Part::SaidAt("eventTimer", Meaning::EventTimer, node, sections, timer),
+            said_at("inhibitTime", Meaning::PdoInhibit, node, sections, inhibit),
+            said_at("eventTimer", Meaning::EventTimer, node, sections, timer),
             Part::Array("mapped"),
         ],
     )?;
     put_mapping(alloc, writer, node, sections, index + 0x200)?;
-    put_parts(alloc, writer, &[Part::EndArray, Part::EndObject])
+    writer.put(alloc, &[Part::EndArray, Part::EndObject])
 }
 
 /// Appends a PDO, by the section of its COB-ID; nothing for any other section.

@@ -6,7 +6,7 @@ mod json_entries;
 mod json_form;
 mod json_pdos;
 mod json_services;
-mod parts;
+mod json_writer;
 mod retyped;
 mod shown_file;
 
