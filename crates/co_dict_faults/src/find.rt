@@ -5,7 +5,7 @@ ghost use Rattle.co_value.specs.Keys.{is_key_before};
 ghost use Rattle.co_sheet.specs.SheetViews.{row_view};
 ghost use Rattle.co_sheet.specs.SheetLaws.{IsSheetRow};
 ghost use Rattle.co_dict.specs.Stores.{Description};
-ghost use Rattle.co_dict_build.specs.declared.build_fault.BuildFault.TheVariants.{ValueRange};
+ghost use Rattle.co_dict_build.specs.declared.build_fault.BuildFault.TheVariants.{TooMany, ValueRange};
 ghost use Rattle.co_dict_build.specs.Capacities.{limits_view};
 ghost use Rattle.co_dict_build.specs.Built.{Plan, plan_of, plan_in, built_description, built_contents};
 ghost use Rattle.co_dict_faults.specs.SoundPlans.{sound_plan};
@@ -13,7 +13,9 @@ ghost use Rattle.co_dict_faults.specs.AllBuildFaults.{
   parameter_faults,
   room_faults,
   build_faults_of,
+  list_if,
   mapping_faults_of,
+  words_at_fault,
 };
 
 use crate::mapping_fault::MappingFault;
@@ -89,6 +91,31 @@ fn sound_store<S: FromRows>(
     Ok(store)
 }
 
+// all faults of a dictionary, with the sums out of range, and whether it needs too much
+fn found_in<S: ObjectStore>(
+    alloc: Global,
+    store: &S,
+    rows: &[EntryRow<'_>],
+    outside: &[Key],
+    is_too_many: bool,
+) -> Result<BuildFaults, AllocError>
+    requires { (S.description store.now).keys ≡ map (λ row. row.key) rows.now }
+    ensures faults { IfOk result (λ found. found.faults.items
+        ≡ (map ValueRange outside.now
+        ++ parameter_faults outside.now (S.description store.now) (S.contents store.now))
+        ++ list_if is_too_many TooMany) }
+    ensures mappings { IfOk result (λ found. found.mappings.items
+        ≡ words_at_fault outside.now (S.description store.now) (S.contents store.now)
+        (map (λ row. row.key) rows.now)) }
+{
+    let mut faults = Vec::new(alloc);
+    add_value_ranges(&mut faults, outside)?;
+    add_parameter_faults(&mut faults, store, rows, outside)?;
+    add_if(&mut faults, is_too_many, BuildFault::TooMany)?;
+    let mappings = words_at_fault(alloc, store, rows, outside)?;
+    Ok(BuildFaults { faults, mappings })
+}
+
 // all faults of the rows of a sheet
 fn find_in_rows<S: FromRows + Drop>(
     alloc: Global,
@@ -104,19 +131,21 @@ fn find_in_rows<S: FromRows + Drop>(
     ensures mappings { IfOk result (λ found. found.mappings.items
         ≡ mapping_faults_of (plan_in node_id limits.now rows.now dummies)) }
 {
-    let mut faults = Vec::new(alloc);
     if node_id < 1 || node_id > 127 {
+        let mut faults = Vec::new(alloc);
         faults.push(BuildFault::NodeId)?;
         let mappings = Vec::new(alloc);
         return Ok(BuildFaults { faults, mappings });
     }
     let outside = sums_outside(alloc, node_id, rows)?;
     let store: S = sound_store(alloc, node_id, rows, dummies)?;
-    add_value_ranges(&mut faults, outside.as_slice())?;
-    add_parameter_faults(&mut faults, &store, rows, outside.as_slice())?;
-    add_if(&mut faults, is_too_many(limits, rows), BuildFault::TooMany)?;
-    let mappings = words_at_fault(alloc, &store, rows, outside.as_slice())?;
-    Ok(BuildFaults { faults, mappings })
+    found_in(
+        alloc,
+        &store,
+        rows,
+        outside.as_slice(),
+        is_too_many(limits, rows),
+    )
 }
 
 /// All faults of the dictionary that a data sheet makes for a node-ID and limits (CiA 301, 7.4;

@@ -25,11 +25,10 @@ sections-put-together P gs names values pdos n v p given =
     (subst (λ (t : Texts). P (flat_map (group_pieces (given_by (codes "Name") gs) t pdos) gs)) v
     (subst (λ (t : Texts). P (flat_map (group_pieces t values pdos) gs)) n given))
 
-pub put-together : (lines : List Line) (given : List Group) (none first all : List Piece) {front : List Line} →
-    given ≡ groups_of lines → none ≡ [] → front ≡ before_sections lines → first ≡ none ++ map kept_piece front
-    → all ≡ first ++ sections_pieces given → all ≡ all_pieces lines
-put-together lines given none first all {front} g empty cut kept rest =
+pub put-together : (lines : List Line) (none first all : List Piece) {front : List Line} →
+    none ≡ [] → front ≡ before_sections lines → first ≡ none ++ map kept_piece front
+    → all ≡ first ++ sections_pieces (groups_of lines) → all ≡ all_pieces lines
+put-together lines none first all {front} empty cut kept rest =
     rest
-    ∙ ap (λ (f : List Piece). f ++ sections_pieces given)
+    ∙ ap (λ (f : List Piece). f ++ sections_pieces (groups_of lines))
     (kept ∙ ap (λ (f : List Piece). f ++ map kept_piece front) empty ∙ ap (map kept_piece) cut)
-    ∙ ap (λ (gs : List Group). map kept_piece (before_sections lines) ++ sections_pieces gs) g

@@ -58,17 +58,17 @@ pub(crate) struct PdoForm {
     pub(crate) absent: Vec<u16>,
 }
 
-fn is_object_of(index: u16, group: &Group) -> bool
-    ensures { result ≡ is_object_of index (group_view group.now) }
+fn is_kind(kind: SectionKind, group: &Group) -> bool
+    ensures { result ≡ is_kind kind (group_view group.now) }
 {
-    group.kind == SectionKind::Object(index)
+    group.kind == kind
 }
 
 fn has_object(groups: &[Group], index: u16) -> bool
     ensures { result ≡ list_any (is_object_of index) (map group_view groups.now) }
 {
     for group in groups {
-        if is_object_of(index, group) {
+        if is_kind(SectionKind::Object(index), group) {
             return true;
         }
     }
@@ -106,12 +106,6 @@ fn push_absent(
 {
     let absent = absent_of(alloc, groups, first, count)?;
     indices.extend_from_slice(absent.as_slice())
-}
-
-fn is_kind(kind: SectionKind, group: &Group) -> bool
-    ensures { result ≡ is_kind kind (group_view group.now) }
-{
-    group.kind == kind
 }
 
 fn group_at<'g, 's, 'a>(kind: SectionKind, groups: &'g [Group<'s, 'a>]) -> Option<&'g Group<'s, 'a>>
@@ -163,13 +157,6 @@ fn subs_of(bits: u64) -> Option<u64>
     }
 }
 
-fn subs_in(info: &Group) -> Option<u64>
-    ensures { result ≡ option_and_then subs_of
-        (number_within 1 127 (codes "CompactPDO") (group_view info.now)) }
-{
-    subs_of(number_within(1, 127, b"CompactPDO", info)?)
-}
-
 // the objects of this many PDOs that have no section
 fn absent_objects(
     alloc: Global,
@@ -201,12 +188,15 @@ impl PdoForm {
         ensures { IfOk result (λ form. option_map form_view form
             ≡ form_in (map group_view groups.now) (group_view info.now) (group_view list.now)) }
     {
-        let (Some(subs), Some(receive), Some(transmit), Some(listed)) = (
-            subs_in(info),
+        let (Some(bits), Some(receive), Some(transmit), Some(listed)) = (
+            number_within(1, 127, b"CompactPDO", info),
             number_within(0, 512, b"NrOfRXPDO", info),
             number_within(0, 512, b"NrOfTXPDO", info),
             number_within(0, 60_000, b"SupportedObjects", list),
         ) else {
+            return Ok(None);
+        };
+        let Some(subs) = subs_of(bits) else {
             return Ok(None);
         };
         let absent = absent_objects(alloc, groups, receive as u16, transmit as u16)?;
@@ -441,25 +431,18 @@ fn push_words(alloc: Global, text: &mut Vec<u8>, index: u16) -> Result<(), Alloc
     Ok(())
 }
 
-// the sections of a mapping object
+// the sections of a communication or a mapping object
 #[tactic(auto, unfolding(crate::specs::CompactPdo::mapping_text))]
-fn push_mapping(alloc: Global, text: &mut Vec<u8>, index: u16) -> Result<(), AllocError>
-    ensures { OnOk result (text.new.items ≡ text.old.items ++ mapping_text index) }
-{
-    push_object_head(alloc, text, index)?;
-    text.extend_from_slice(Part::Mapping.keys())?;
-    push_part(alloc, text, Key { index, sub: 0 }, Part::MappingCount)?;
-    push_words(alloc, text, index)
-}
-
 fn push_object(alloc: Global, text: &mut Vec<u8>, subs: u64, index: u16) -> Result<(), AllocError>
     ensures { OnOk result (text.new.items ≡ text.old.items ++ object_text subs index) }
 {
     if matches!(index, 0..=0x15FF | 0x1800..=0x19FF) {
-        push_communication(alloc, text, subs, index)
-    } else {
-        push_mapping(alloc, text, index)
+        return push_communication(alloc, text, subs, index);
     }
+    push_object_head(alloc, text, index)?;
+    text.extend_from_slice(Part::Mapping.keys())?;
+    push_part(alloc, text, Key { index, sub: 0 }, Part::MappingCount)?;
+    push_words(alloc, text, index)
 }
 
 // a place in the list

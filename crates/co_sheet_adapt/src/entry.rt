@@ -7,7 +7,6 @@ ghost use Rattle.co_sheet_adapt.specs.Entries.{
   preset_in_place,
   in_place,
   preset_at_type,
-  at_type,
   entry_change,
 };
 ghost use Rattle.co_sheet_changes.specs.Pieces.{assigned, mended, mended_view};
@@ -19,15 +18,6 @@ use co_sheet_changes::{ChangeKind, Mended, assigned, is_limit, is_preset, with_v
 use co_sheet_text::same_name;
 use co_value::DataType;
 use std::alloc::{AllocError, Global};
-
-fn dropped(alloc: Global, kind: ChangeKind) -> Mended
-    ensures { mended_view result ≡ mended kind [] }
-{
-    Mended {
-        kind,
-        new: Vec::new(alloc),
-    }
-}
 
 // the data type that stands for one that is left out, and in a key of our own the original
 fn type_lines(alloc: Global, left_out: LeftOut, name: &[u8]) -> Result<Vec<u8>, AllocError>
@@ -81,7 +71,9 @@ fn in_place(
         let kind = ChangeKind::DataType;
         Ok(Some(Mended { kind, new }))
     } else if is_limit(name) && left_out.is_real() {
-        Ok(Some(dropped(alloc, ChangeKind::RealLimit)))
+        let new = Vec::new(alloc);
+        let kind = ChangeKind::RealLimit;
+        Ok(Some(Mended { kind, new }))
     } else if is_preset(name) {
         preset_in_place(alloc, left_out, name, value)
     } else {
@@ -108,25 +100,6 @@ fn preset_at_type(
     }
 }
 
-// a line of an entry whose type isn't left out
-fn at_type(
-    alloc: Global,
-    facts: &Facts,
-    name: &[u8],
-    value: &[u8],
-) -> Result<Option<Mended>, AllocError>
-    ensures { IfOk result (λ made.
-        option_map mended_view made ≡ at_type facts.now name.now value.now) }
-{
-    if is_limit(name) && facts.has_unsigned_limits {
-        return Ok(Some(dropped(alloc, ChangeKind::UnsignedLimit)));
-    }
-    match facts.data_type {
-        Some(data_type) if is_preset(name) => preset_at_type(alloc, data_type, name, value),
-        _ => Ok(None),
-    }
-}
-
 /// What a name and its value become in the section of an entry, where they don't stay as they are.
 pub(crate) fn entry_change(
     alloc: Global,
@@ -137,8 +110,16 @@ pub(crate) fn entry_change(
     ensures { IfOk result (λ made.
         option_map mended_view made ≡ entry_change facts.now name.now value.now) }
 {
-    match facts.left_out {
-        Some(left_out) => in_place(alloc, left_out, name, value),
-        None => at_type(alloc, facts, name, value),
+    if let Some(left_out) = facts.left_out {
+        return in_place(alloc, left_out, name, value);
+    }
+    if is_limit(name) && facts.has_unsigned_limits {
+        let new = Vec::new(alloc);
+        let kind = ChangeKind::UnsignedLimit;
+        return Ok(Some(Mended { kind, new }));
+    }
+    match facts.data_type {
+        Some(data_type) if is_preset(name) => preset_at_type(alloc, data_type, name, value),
+        _ => Ok(None),
     }
 }

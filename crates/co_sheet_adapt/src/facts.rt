@@ -4,11 +4,9 @@ ghost use Rattle.std.specs.Prelude.{◌≡◌};
 ghost use Rattle.std.specs.Option.{option_copied};
 ghost use Rattle.co_sheet_adapt.specs.Facts.{
   object_code,
-  count_of,
   compact_count,
   is_entry,
   converts,
-  is_convertible,
   left_out_of,
   facts_of,
 };
@@ -44,20 +42,14 @@ fn object_code(group: &Group) -> Option<u64>
 }
 
 // how many sub-indices a compact form has
-fn count_of(number: u64) -> Option<u8>
-    ensures { result ≡ count_of number }
-{
-    match number {
-        1..=254 => Some(number as u8),
-        _ => None,
-    }
-}
-
 fn compact_count(group: &Group) -> Option<u8>
     ensures { result ≡ compact_count (group_view group.now) }
 {
     match (group.kind, object_code(group)) {
-        (SectionKind::Object(_), Some(8 | 9)) => count_of(group.number(b"CompactSubObj")?),
+        (SectionKind::Object(_), Some(8 | 9)) => match group.number(b"CompactSubObj") {
+            Some(number @ 1..=254) => Some(number as u8),
+            _ => None,
+        },
         _ => None,
     }
 }
@@ -83,18 +75,13 @@ fn converts(left_out: LeftOut, value: Option<&[u8]>) -> bool
     }
 }
 
-fn is_convertible(left_out: LeftOut, group: &Group) -> bool
-    ensures { result ≡ is_convertible left_out (group_view group.now) }
-{
-    converts(left_out, group.value(b"DefaultValue"))
-        && converts(left_out, group.value(b"ParameterValue"))
-}
-
 fn left_out_of(group: &Group) -> Option<LeftOut>
     ensures { result ≡ left_out_of (group_view group.now) }
 {
     let left_out = LeftOut::with(group.number(b"DataType")?)?;
-    if is_convertible(left_out, group) {
+    if converts(left_out, group.value(b"DefaultValue"))
+        && converts(left_out, group.value(b"ParameterValue"))
+    {
         Some(left_out)
     } else {
         None

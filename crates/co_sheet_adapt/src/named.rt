@@ -7,9 +7,7 @@ ghost use Rattle.indexmap.specs.IndexMap.{get};
 ghost use Rattle.co_value.specs.Keys.{same_key};
 ghost use Rattle.co_sheet_adapt.specs.Named.{
   index_named,
-  object_index,
   sub_named,
-  text_in_body,
   text_in_group,
   text_in_groups,
   text_in_line,
@@ -23,15 +21,6 @@ use co_value::Key;
 use indexmap::IndexMap;
 use std::alloc::{AllocError, Global};
 
-fn object_index(kind: SectionKind) -> Option<u16>
-    ensures { result ≡ object_index kind }
-{
-    match kind {
-        SectionKind::Object(index) => Some(index),
-        _ => None,
-    }
-}
-
 // the index of an object that such a section's name has before a word
 fn index_named(name: &[u8], word: &[u8]) -> Option<u16>
     ensures { result ≡ index_named word.now name.now }
@@ -40,7 +29,10 @@ fn index_named(name: &[u8], word: &[u8]) -> Option<u16>
     if !same_name(end, word) {
         return None;
     }
-    object_index(SectionKind::of_name(front))
+    match SectionKind::of_name(front) {
+        SectionKind::Object(index) => Some(index),
+        _ => None,
+    }
 }
 
 // the sub-index that a key of such a section is, in decimal digits
@@ -78,26 +70,19 @@ impl<'a> Texts<'a> {
         Ok(())
     }
 
-    #[tactic(auto, using(crate::proofs::NamedLemmas::or_assoc))]
-    fn add_group(&mut self, index: u16, group: &Group<'_, 'a>) -> Result<(), AllocError>
-        ensures { OnOk result ((k : _) → texts_at self.new k
-            ≡ option_or (texts_at self.old k) (text_in_body index k (group_view group.now).body)) }
-    {
-        for line in group.body {
-            self.add_line(index, line)?;
-        }
-        Ok(())
-    }
-
     // adds what a section gives, if it is one of the word
+    #[tactic(auto, using(crate::proofs::NamedLemmas::or_assoc))]
     fn add_named(&mut self, group: &Group<'_, 'a>, word: &[u8]) -> Result<(), AllocError>
         ensures { OnOk result ((k : _) → texts_at self.new k
             ≡ option_or (texts_at self.old k) (text_in_group word.now k (group_view group.now))) }
     {
-        match index_named(group.name, word) {
-            Some(index) => self.add_group(index, group),
-            None => Ok(()),
+        let Some(index) = index_named(group.name, word) else {
+            return Ok(());
+        };
+        for line in group.body {
+            self.add_line(index, line)?;
         }
+        Ok(())
     }
 
     /// What the sections of a word give.

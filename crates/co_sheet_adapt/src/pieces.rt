@@ -23,6 +23,7 @@ ghost use Rattle.co_sheet_adapt.specs.Pieces.{
   all_pieces,
 };
 ghost use Rattle.co_sheet_adapt.specs.Named.{text_in_groups};
+ghost use Rattle.co_sheet_changes.specs.Groups.{groups_of};
 ghost use Rattle.co_sheet_adapt.specs.private.Named.{texts_at, IsTablesOf};
 ghost use Rattle.co_sheet_adapt.specs.private.Pdos.{form_view};
 ghost use Rattle.co_sheet_changes.specs.Pieces.{mended_view, piece_view};
@@ -363,13 +364,15 @@ fn added_bytes(pieces: &[Piece]) -> usize {
 fn push_sections<'a>(
     alloc: Global,
     pieces: &mut Vec<Piece<'a>>,
-    groups: &[Group<'_, 'a>],
+    lines: &[Line<'a>],
 ) -> Result<(), AdaptFault>
     ensures { OnOk result (map piece_view pieces.new.items
-        ≡ map piece_view pieces.old.items ++ sections_pieces (map group_view groups.now)) }
+        ≡ map piece_view pieces.old.items ++ sections_pieces (groups_of (map line_view lines.now))) }
 {
-    let tables = Tables::of(alloc, groups)?;
-    tables.push_groups(alloc, pieces, groups)
+    let groups = groups_in(alloc, lines)?;
+    let sections = groups.as_slice();
+    let tables = Tables::of(alloc, sections)?;
+    tables.push_groups(alloc, pieces, sections)
 }
 
 /// The pieces of a text of lines. `Err`: out of memory, or more is added than a data sheet may
@@ -380,7 +383,6 @@ pub(crate) fn pieces_of<'a>(alloc: Global, lines: &[Line<'a>]) -> Result<Vec<Pie
 {
     let mut pieces = Vec::new(alloc);
     push_kept(&mut pieces, before_sections(lines))?;
-    let groups = groups_in(alloc, lines)?;
-    push_sections(alloc, &mut pieces, groups.as_slice())?;
+    push_sections(alloc, &mut pieces, lines)?;
     Ok(pieces)
 }

@@ -173,22 +173,7 @@ fn push_all<'a>(
     push_groups(alloc, pieces, request, groups.as_slice())
 }
 
-// the lines of a text
-fn pieces_on<'a>(
-    alloc: Global,
-    request: Request<'_>,
-    text: &'a [u8],
-) -> Result<Vec<Piece<'a>>, AllocError>
-    requires { length text.now ≤ 1048576 }
-    ensures { IfOk result (λ pieces. map piece_view pieces.items
-        ≡ pieces_on (request_view request.entry) (lines_of text.entry.now)) }
-{
-    let lines = lines_in(alloc, text)?;
-    let mut pieces = Vec::new(alloc);
-    push_all(alloc, &mut pieces, request, lines.as_slice())?;
-    Ok(pieces)
-}
-
+// the lines of a text, none where nothing is requested
 fn requested_pieces<'a>(
     alloc: Global,
     text: &'a [u8],
@@ -198,10 +183,13 @@ fn requested_pieces<'a>(
     ensures { IfOk result (λ pieces. map piece_view pieces.items
         ≡ requested_pieces (option_map request_view request.entry) text.entry.now) }
 {
-    match request {
-        Some(request) => pieces_on(alloc, request, text),
-        None => Ok(Vec::new(alloc)),
-    }
+    let Some(request) = request else {
+        return Ok(Vec::new(alloc));
+    };
+    let lines = lines_in(alloc, text)?;
+    let mut pieces = Vec::new(alloc);
+    push_all(alloc, &mut pieces, request, lines.as_slice())?;
+    Ok(pieces)
 }
 
 fn is_changed(piece: &Piece<'_>) -> bool

@@ -10,20 +10,16 @@ ghost use Rattle.co_sheet_changes.specs.Views.{group_view};
 ghost use Rattle.co_sheet_changes.specs.Zeros.{
   anew_text,
   digits_anew,
-  is_ambiguous,
   number_anew,
-  number_of,
   sum_anew,
   value_anew,
 };
 ghost use Rattle.co_sheet_changes.specs.ZeroNames.{
   has_numbers,
-  is_count_name,
   is_number_code,
   is_number_name,
   is_number_of,
   is_number_type,
-  is_type_name,
   zero_change,
 };
 
@@ -39,31 +35,14 @@ use co_sheet_text::{
 use co_text::{push_decimal, split_at_first};
 use std::alloc::{AllocError, Global};
 
-// whether digits begin with 0, and are another number in octal
-fn is_ambiguous(text: &[u8]) -> bool
-    ensures { result ≡ is_ambiguous (unsigned_number text.now) }
-{
-    matches!(unsigned_number(text), Err(NumeralFault::Ambiguous))
-}
-
-// the number that digits are in the base
-fn number_of(zeros: LeadingZeros, text: &[u8]) -> Option<u64>
-    ensures { result ≡ number_of zeros text.now }
-{
-    match zeros {
-        LeadingZeros::Octal => number_in(8, text),
-        LeadingZeros::Decimal => number_in(10, text),
-    }
-}
-
-// the number that digits with a leading zero are
+// the number that digits with a leading zero are in the base, if they are another number in octal
 fn digits_anew(zeros: LeadingZeros, text: &[u8]) -> Option<u64>
     ensures { option_map decimal result ≡ digits_anew zeros text.now }
 {
-    if is_ambiguous(text) {
-        number_of(zeros, text)
-    } else {
-        None
+    match (unsigned_number(text), zeros) {
+        (Err(NumeralFault::Ambiguous), LeadingZeros::Octal) => number_in(8, text),
+        (Err(NumeralFault::Ambiguous), LeadingZeros::Decimal) => number_in(10, text),
+        _ => None,
     }
 }
 
@@ -141,22 +120,12 @@ fn anew_text(alloc: Global, anew: Anew<'_>) -> Result<Vec<u8>, AllocError>
     }
 }
 
-fn is_type_name(name: &[u8]) -> bool
-    ensures { result ≡ is_type_name name.now }
-{
-    same_name(name, b"ObjectType") || same_name(name, b"DataType")
-}
-
-fn is_count_name(name: &[u8]) -> bool
-    ensures { result ≡ is_count_name name.now }
-{
-    same_name(name, b"SubNumber") || same_name(name, b"CompactSubObj")
-}
-
 fn is_number_name(name: &[u8]) -> bool
     ensures { result ≡ is_number_name name.now }
 {
-    is_type_name(name) || (same_name(name, b"PDOMapping") || is_count_name(name))
+    (same_name(name, b"ObjectType") || same_name(name, b"DataType"))
+        || (same_name(name, b"PDOMapping")
+            || (same_name(name, b"SubNumber") || same_name(name, b"CompactSubObj")))
 }
 
 fn is_number_code(code: u64) -> bool

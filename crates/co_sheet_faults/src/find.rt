@@ -8,7 +8,8 @@ ghost use Rattle.co_sheet_text.specs.LinesAtFault.{sections_read};
 ghost use Rattle.co_sheet.specs.Faults.{sheet_fault};
 ghost use Rattle.co_sheet_faults.specs.AllFaults.{faults_of};
 ghost use Rattle.co_sheet_faults.specs.FaultOrder.{fault_cmp};
-ghost use Rattle.co_sheet_faults.specs.private.Collected.{text_collected};
+ghost use Rattle.co_sheet_text.specs.SectionLaws.{IsParsed};
+ghost use Rattle.co_sheet_faults.specs.private.Collected.{collected, text_collected};
 
 use crate::collect::collect;
 use co_sheet::{FaultKind, GREATEST_SIZE, SheetFault, sheet_fault};
@@ -36,6 +37,22 @@ fn add_lines(faults: &mut Vec<SheetFault>, lines: &[TextFault]) -> Result<(), Al
     Ok(())
 }
 
+// adds the faults of lines, and what the checks find in the sections
+fn add_found(
+    alloc: Global,
+    faults: &mut Vec<SheetFault>,
+    parsed: &ParsedText<'_>,
+    lines: &[TextFault],
+) -> Result<(), AllocError>
+    requires { IsParsed parsed.now }
+    ensures { OnOk result (faults.new.items
+        ≡ faults.old.items ++ map sheet_fault lines.now ++ collected parsed.now) }
+{
+    add_lines(faults, lines)?;
+    let sections = parsed.sections(alloc)?;
+    collect(alloc, faults, sections.as_slice())
+}
+
 // the faults of a text in the order in which one pass finds them
 fn collected_in(alloc: Global, text: &[u8]) -> Result<Vec<SheetFault>, AllocError>
     requires { length text.now ≤ 1048576 }
@@ -43,9 +60,7 @@ fn collected_in(alloc: Global, text: &[u8]) -> Result<Vec<SheetFault>, AllocErro
 {
     let (parsed, lines) = all_sections_in(alloc, text)?;
     let mut faults = Vec::new(alloc);
-    add_lines(&mut faults, lines.as_slice())?;
-    let sections = parsed.sections(alloc)?;
-    collect(alloc, &mut faults, sections.as_slice())?;
+    add_found(alloc, &mut faults, &parsed, lines.as_slice())?;
     Ok(faults)
 }
 

@@ -1,10 +1,15 @@
 -- Names that are kept, and what a contract sees of them.
-use Rattle.std.proofs.Common.{◌≡◌, Bool, true, false, ◌&&◌, ◌||◌, List, [], ◌∷◌, ◌++◌, nat_eq, map, not, refl, ap, ◌∙◌}
+use Rattle.std.proofs.Common.{◌≡◌, ℕ, Bool, true, false, cond, ◌&&◌, ◌||◌, List, [], ◌∷◌, ◌++◌, nat_eq, map, not, refl, ap, ◌∙◌}
+use Rattle.std.specs.Prelude.{Option, Some, None, filter_map, option_map}
 use Rattle.std.specs.List.{list_any}
 use Rattle.std.specs.Str.{bytes_eq}
 use Rattle.co_sheet_warnings.specs.declared.repeats.ScopedName.{ScopedName}
-use Rattle.co_sheet_warnings.specs.Repeats.{same_scoped}
-use Rattle.co_sheet_warnings.specs.private.Views.{scoped_view}
+use Rattle.co_sheet_text.specs.Sections.{TextSection}
+use Rattle.co_sheet_warnings.specs.declared.repeats.Once.{Once}
+use Rattle.co_sheet_warnings.specs.declared.repeats.Once.TheVariants.{Identifiers, Names}
+use Rattle.co_sheet_warnings.specs.Repeats.{Placed, identifier_in, identifiers_in, repeats, same_scoped}
+use Rattle.co_sheet_warnings.specs.Repeats.{ScopedName as Scoped}
+use Rattle.co_sheet_warnings.specs.private.Views.{as_name, id_name, placed_in, repeats_of, scoped_view}
 
 -- a name is among the kept ones
 pub any_name : (name : ScopedName) (names : List ScopedName)
@@ -27,3 +32,40 @@ again is_new name names h =
 pub more_names : (names : List ScopedName) (name : ScopedName) → map scoped_view (names ++ name ∷ []) ≡ map scoped_view names ++ scoped_view name ∷ []
 more_names [] name = refl
 more_names (other ∷ names) name = ap (λ rest. scoped_view other ∷ rest) (more_names names name)
+
+-- ---- identifiers as names
+
+and_true : (b : Bool) → (b && true) ≡ b
+and_true true = refl
+and_true false = refl
+
+any_id : (n : ℕ) (before : List ℕ) → list_any (same_scoped (id_name n)) (map id_name before) ≡ list_any (nat_eq n) before
+any_id n [] = refl
+any_id n (m ∷ before) = ap (λ b. b || list_any (same_scoped (id_name n)) (map id_name before)) (and_true (nat_eq n m)) ∙ ap (λ b. nat_eq n m || b) (any_id n before)
+
+one_more : (before : List ℕ) (n : ℕ) → map id_name before ++ id_name n ∷ [] ≡ map id_name (before ++ n ∷ [])
+one_more [] n = refl
+one_more (m ∷ before) n = ap (λ l. id_name m ∷ l) (one_more before n)
+
+same_repeats : (before : List ℕ) (xs : List (Placed ℕ)) → repeats same_scoped (map id_name before) (map as_name xs) ≡ repeats nat_eq before xs
+same_repeats before [] = refl
+same_repeats before (x ∷ xs) =
+    let again : List ℕ = x.line ∷ repeats same_scoped (map id_name before) (map as_name xs) in
+    ap (λ b. cond b again (repeats same_scoped (map id_name before ++ id_name x.key ∷ []) (map as_name xs))) (any_id x.key before)
+    ∙ ap (λ (l : List Scoped). cond (list_any (nat_eq x.key) before) again (repeats same_scoped l (map as_name xs))) (one_more before x.key)
+    ∙ ap (λ l. cond (list_any (nat_eq x.key) before) (x.line ∷ l) (repeats same_scoped (map id_name (before ++ x.key ∷ [])) (map as_name xs))) (same_repeats before xs)
+    ∙ ap (λ l. cond (list_any (nat_eq x.key) before) (x.line ∷ repeats nat_eq before xs) l) (same_repeats (before ++ x.key ∷ []) xs)
+
+named : (ids : TextSection → Option (Placed ℕ)) (sections : List TextSection) → filter_map (λ s. option_map as_name (ids s)) sections ≡ map as_name (filter_map ids sections)
+named ids [] = refl
+named ids (s ∷ sections) = by_case (ids s) refl (named ids sections)
+  where
+    by_case : (o : Option (Placed ℕ)) → ids s ≡ o → filter_map (λ s. option_map as_name (ids s)) sections ≡ map as_name (filter_map ids sections)
+        → filter_map (λ s. option_map as_name (ids s)) (s ∷ sections) ≡ map as_name (filter_map ids (s ∷ sections))
+    by_case None e same = rw e same
+    by_case (Some p) e same = rw e (ap (λ (l : List (Placed Scoped)). as_name p ∷ l) same)
+
+-- what comes again, by names alone
+pub repeated_names : (once : Once) (sections : List TextSection) → repeats same_scoped [] (filter_map (placed_in once) sections) ≡ repeats_of once sections
+repeated_names (Identifiers node) sections = ap (λ (l : List (Placed Scoped)). repeats same_scoped [] l) (named (identifier_in node) sections) ∙ same_repeats [] (identifiers_in node sections)
+repeated_names Names sections = refl

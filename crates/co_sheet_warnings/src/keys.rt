@@ -1,6 +1,6 @@
 //! The keys of a text as they are written, those too that are passed over where a text is read.
 
-ghost use Rattle.std.specs.Prelude.{◌≡◌, nat_lt, filter, length, map, option_map, option_to_list, IfOk};
+ghost use Rattle.std.specs.Prelude.{◌≡◌, filter, map, option_map, option_to_list, IfOk};
 ghost use Rattle.co_sheet_text.specs.Text.{trim};
 ghost use Rattle.co_sheet_text.specs.Sections.{form_of};
 ghost use Rattle.co_sheet_warnings.specs.Keys.{begun_name, form_of_bytes, key_on, topic_of};
@@ -92,17 +92,11 @@ fn key_on<'a>(topic: Topic, line: usize, text: &'a [u8]) -> Option<WrittenKey<'a
 /// A line of more bytes isn't read.
 const LONGEST: usize = 512;
 
-fn is_too_long(line: &[u8]) -> bool
-    ensures { result ≡ nat_lt 512 (length line.now) }
-{
-    line.len() > LONGEST
-}
-
 // a line without blanks at its ends; nothing of one that isn't read
 fn text_read(line: &[u8]) -> &[u8]
     ensures { form_of result.now ≡ form_of_bytes line.now }
 {
-    if is_too_long(line) {
+    if LONGEST < line.len() {
         return b"";
     }
     trim(line)

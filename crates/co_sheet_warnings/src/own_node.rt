@@ -1,27 +1,23 @@
 //! The node-ID that a device configuration file has for its node.
 
 ghost use Rattle.std.specs.Prelude.{◌≡◌, map};
-ghost use Rattle.co_sheet.specs.Commissioning.{node_id_in};
 ghost use Rattle.co_sheet_text.specs.Views.{section_view};
 ghost use Rattle.co_sheet_warnings.specs.ReadTexts.{own_node};
 
 use co_sheet::section_at;
 use co_sheet_text::{SectionKind, TextSection};
 
-// the number of NodeID, where that is 1 to 127 (CiA 306, device commissioning)
-fn node_id_in(sections: &[TextSection]) -> Option<u8>
-    ensures { result ≡ node_id_in (map section_view sections.now) }
+/// The node-ID that is given, or else the sections' own: the number of NodeID, where that is 1 to 127
+/// (CiA 306, device commissioning).
+pub(crate) fn own_node(node: Option<u8>, sections: &[TextSection]) -> Option<u8>
+    ensures { result ≡ own_node node (map section_view sections.now) }
 {
+    if let Some(node_id) = node {
+        return Some(node_id);
+    }
     let section = section_at(sections, SectionKind::DeviceCommissioning)?;
     match section.property(b"NodeID")?.number()? {
         number @ 1..=127 => Some(number as u8),
         _ => None,
     }
-}
-
-/// The node-ID that is given, or else the sections' own.
-pub(crate) fn own_node(node: Option<u8>, sections: &[TextSection]) -> Option<u8>
-    ensures { result ≡ own_node node (map section_view sections.now) }
-{
-    node.or(node_id_in(sections))
 }

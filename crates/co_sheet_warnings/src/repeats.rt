@@ -1,21 +1,16 @@
 //! What comes twice where it should come once: an identifier, and a name.
 
-ghost use Rattle.std.specs.Prelude.{◌≡◌, [], ◌∷◌, ◌++◌, if◌then◌else◌, map, option_map, Some, IfOk};
+ghost use Rattle.std.specs.Prelude.{◌≡◌, [], ◌∷◌, ◌++◌, if◌then◌else◌, map, option_map, IfOk};
 ghost use Rattle.std.specs.List.{list_any};
-ghost use Rattle.co_sheet.specs.Views.{default_view};
 ghost use Rattle.co_sheet_text.specs.Views.{section_view};
 ghost use Rattle.co_sheet_warnings.specs.Repeats.{
-  equal_names,
   has_cob_id,
   identifier_in,
-  cob_id_for,
   enabled_cob_id,
-  name_in,
   same_scoped,
   scope_of,
-  shared_cob_ids,
 };
-ghost use Rattle.co_sheet_warnings.specs.private.Views.{identifier_view, name_view, scoped_view};
+ghost use Rattle.co_sheet_warnings.specs.private.Views.{as_name, name_view, placed_in, repeats_of, scoped_view};
 
 use crate::sub_indices::{is_within, value_in};
 use co_sheet::{Preset, numeric_default};
@@ -41,15 +36,15 @@ fn has_cob_id(kind: SectionKind) -> bool
 /// This bit of a COB-ID word disables it.
 const DISABLED: u64 = 1 << 31;
 
-// the COB-ID that a value is for a node; `None` where it is disabled
-fn cob_id_for(node: u8, value: Preset<'static>) -> Option<u64>
-    ensures { result ≡ cob_id_for node (default_view value.entry) }
+// the COB-ID of a text for a node; `None` where it is disabled
+fn enabled_cob_id(node: u8, value: &[u8]) -> Option<u64>
+    ensures { result ≡ enabled_cob_id node value.now }
 {
-    match value {
-        Preset::Number(number) if 0 <= number && number < i128::from(DISABLED) => {
+    match numeric_default(DataType::Unsigned32, value) {
+        Ok(Preset::Number(number)) if 0 <= number && number < i128::from(DISABLED) => {
             Some(number as u64)
         }
-        Preset::NodeId(addend) => {
+        Ok(Preset::NodeId(addend)) => {
             let word = addend.checked_add(u64::from(node))?;
             if word < DISABLED { Some(word) } else { None }
         }
@@ -57,94 +52,70 @@ fn cob_id_for(node: u8, value: Preset<'static>) -> Option<u64>
     }
 }
 
-// the COB-ID of a text for a node
-fn enabled_cob_id(node: u8, value: &[u8]) -> Option<u64>
-    ensures { result ≡ enabled_cob_id node value.now }
-{
-    match numeric_default(DataType::Unsigned32, value) {
-        Ok(value) => cob_id_for(node, value),
-        Err(_) => None,
-    }
-}
-
-/// An identifier that an entry has, and the line of its value.
-#[derive(Drop)]
-pub(crate) struct UsedIdentifier {
-    pub(crate) identifier: u64,
-    pub(crate) line: usize,
-}
-
-// the identifier of an entry with a COB-ID, for a node
-fn identifier_in(node: u8, section: &TextSection) -> Option<UsedIdentifier>
-    ensures { option_map identifier_view result ≡ identifier_in node (section_view section.now) }
-{
-    if !has_cob_id(section.kind) {
-        return None;
-    }
-    let given = value_in(section)?;
-    let identifier = enabled_cob_id(node, given.value)? % (1 << 30);
-    if identifier == 0 {
-        return None;
-    }
-    Some(UsedIdentifier {
-        identifier,
-        line: given.line,
-    })
-}
-
-/// The lines of the COB-IDs of EMCY, PDOs and SDO channels whose identifier an earlier one has, for
-/// a node-ID.
-pub(crate) fn shared_cob_ids(
-    alloc: Global,
-    node: u8,
-    sections: &[TextSection],
-) -> Result<Vec<usize>, AllocError>
-    ensures { IfOk result (λ places.
-        places.items ≡ shared_cob_ids (Some node) (map section_view sections.now)) }
-{
-    let mut places = Vec::new(alloc);
-    let mut before: IndexSet<u64> = IndexSet::new(alloc);
-    for section in sections {
-        if let Some(used) = identifier_in(node, section) {
-            if !before.insert(used.identifier)? {
-                places.push(used.line)?;
-            }
-        }
-    }
-    Ok(places)
-}
-
 /// The scope of the names of objects.
-const OBJECTS: u32 = 0x1_0000;
+const OBJECTS: u64 = 0x1_0000;
 
-/// A name among those of objects, or of the sub-indices of one object.
+/// A name among those of objects, or of the sub-indices of one object; or an identifier.
 #[derive(Clone, Copy, PartialEq, Eq, Hash)]
 pub(crate) struct ScopedName<'a> {
-    /// The index of the object whose sub-index has the name; above all of these for objects.
-    pub(crate) scope: u32,
+    /// The index of the object whose sub-index has the name; above all of these for objects; an
+    /// identifier.
+    pub(crate) scope: u64,
+    /// Empty for an identifier.
     pub(crate) text: &'a [u8],
 }
 
-/// A name, and its line.
+/// A name or an identifier, and its line.
 #[derive(Drop)]
 pub(crate) struct PlacedName<'a> {
     pub(crate) name: ScopedName<'a>,
     pub(crate) line: usize,
 }
 
-fn scope_of(kind: SectionKind) -> Option<u32>
+// the identifier of an entry with a COB-ID, for a node
+fn identifier_in<'a>(node: u8, section: &TextSection<'_, 'a>) -> Option<PlacedName<'a>>
+    ensures { option_map name_view result
+        ≡ option_map as_name (identifier_in node (section_view section.now)) }
+{
+    if !has_cob_id(section.kind) {
+        return None;
+    }
+    let given = value_in(section)?;
+    let scope = enabled_cob_id(node, given.value)? % (1 << 30);
+    if scope == 0 {
+        return None;
+    }
+    Some(PlacedName {
+        name: ScopedName { scope, text: b"" },
+        line: given.line,
+    })
+}
+
+fn scope_of(kind: SectionKind) -> Option<u64>
     ensures { result ≡ scope_of kind }
 {
     match kind {
         SectionKind::Object(_) => Some(OBJECTS),
-        SectionKind::SubIndex(key) => Some(u32::from(key.index)),
+        SectionKind::SubIndex(key) => Some(u64::from(key.index)),
         _ => None,
     }
 }
 
-fn name_in<'a>(section: &TextSection<'_, 'a>) -> Option<PlacedName<'a>>
-    ensures { option_map name_view result ≡ name_in (section_view section.now) }
+/// What should come once.
+#[derive(Clone, Copy)]
+pub(crate) enum Once {
+    /// The identifiers of EMCY, PDOs and SDO channels, for a node-ID.
+    Identifiers(u8),
+    /// The names of objects, and those of the sub-indices of an object.
+    Names,
+}
+
+fn placed_in<'a>(once: Once, section: &TextSection<'_, 'a>) -> Option<PlacedName<'a>>
+    ensures { option_map name_view result ≡ placed_in once (section_view section.now) }
 {
+    if let Once::Identifiers(node) = once {
+        return identifier_in(node, section);
+    }
     let scope = scope_of(section.kind)?;
     let given = section.property(b"ParameterName")?;
     Some(PlacedName {
@@ -172,15 +143,19 @@ fn is_repeated<'a>(
     Ok(!is_new)
 }
 
-/// The lines of names that repeat an earlier name, among objects or among the sub-indices of an
-/// object.
-pub(crate) fn equal_names(alloc: Global, sections: &[TextSection]) -> Result<Vec<usize>, AllocError>
-    ensures { IfOk result (λ places. places.items ≡ equal_names (map section_view sections.now)) }
+/// The lines of identifiers or names that an earlier one equals.
+pub(crate) fn repeats_of(
+    alloc: Global,
+    once: Once,
+    sections: &[TextSection],
+) -> Result<Vec<usize>, AllocError>
+    ensures { IfOk result (λ places.
+        places.items ≡ repeats_of once (map section_view sections.now)) }
 {
     let mut places = Vec::new(alloc);
     let mut before = IndexSet::new(alloc);
     for section in sections {
-        if let Some(name) = name_in(section) {
+        if let Some(name) = placed_in(once, section) {
             if is_repeated(&mut before, name.name)? {
                 places.push(name.line)?;
             }

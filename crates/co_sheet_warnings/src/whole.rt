@@ -13,7 +13,7 @@ use crate::known_key::unknown_key;
 use crate::lines::{long_lines, mixed_line_ends, other_bytes};
 use crate::lists::{ListCheck, list_places};
 use crate::read_text::ReadText;
-use crate::repeats::{equal_names, shared_cob_ids};
+use crate::repeats::{Once, repeats_of};
 use crate::warning::WarningKind;
 use std::alloc::{AllocError, Global};
 
@@ -71,7 +71,7 @@ pub(crate) fn places_of(
         WarningKind::WrongList => list_places(alloc, ListCheck::Objects, text.sections()),
         WarningKind::IdentityNumber => listed(alloc, &identity_numbers(text)),
         WarningKind::SharedCobId => match text.node {
-            Some(node) => shared_cob_ids(alloc, node, text.sections()),
+            Some(node) => repeats_of(alloc, Once::Identifiers(node), text.sections()),
             None => Ok(Vec::new(alloc)),
         },
         WarningKind::NoErrorControl => one(alloc, no_error_control(text)),
@@ -79,7 +79,7 @@ pub(crate) fn places_of(
         WarningKind::Utf8 => one(alloc, other_bytes(text, true)),
         WarningKind::NotAscii => one(alloc, other_bytes(text, false)),
         WarningKind::ListOrder => list_places(alloc, ListCheck::Order, text.sections()),
-        WarningKind::EqualNames => equal_names(alloc, text.sections()),
+        WarningKind::EqualNames => repeats_of(alloc, Once::Names, text.sections()),
         WarningKind::UnknownKey => one(alloc, unknown_key(text.keys)),
         WarningKind::DateFormat => listed(alloc, &date_formats(text)),
         WarningKind::LineEnds => one(alloc, mixed_line_ends(text.bytes)),

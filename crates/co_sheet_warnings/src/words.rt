@@ -106,8 +106,7 @@ pub fn fix_of(kind: WarningKind) -> &'static str
         WarningKind::HeartbeatTwice => "take one of the two out",
         WarningKind::NoErrorControl => "add 1017h, or 100Ch and 100Dh",
         WarningKind::LongLine => "shorten the line",
-        WarningKind::Utf8 => "write ASCII alone",
-        WarningKind::NotAscii => "write ASCII alone",
+        WarningKind::Utf8 | WarningKind::NotAscii => "write ASCII alone",
         WarningKind::ListOrder => "sort the list by index",
         WarningKind::EqualNames =>
             "give each object, and each sub-index of an object, a name of its own",
@@ -124,31 +123,29 @@ pub fn subject_of(kind: WarningKind) -> &'static str
     ensures { result.now ≡ subject_of kind }
 {
     match kind {
-        WarningKind::SubNumber => "CiA 306-1, object description",
+        WarningKind::SubNumber
+        | WarningKind::NodeIdPlace
+        | WarningKind::EqualNames
+        | WarningKind::MissingName => "CiA 306-1, object description",
+        WarningKind::WrongList | WarningKind::Unlisted | WarningKind::ListOrder => {
+            "CiA 306-1, object lists"
+        }
+        WarningKind::FileInfoKeys | WarningKind::DateFormat => "CiA 306-1, file information",
+        WarningKind::DeviceInfoKeys | WarningKind::PdoCount | WarningKind::IdentityNumber => {
+            "CiA 306-1, device information"
+        }
+        WarningKind::MisspeltKey(_)
+        | WarningKind::LongLine
+        | WarningKind::Utf8
+        | WarningKind::NotAscii
+        | WarningKind::UnknownKey
+        | WarningKind::LineEnds => "CiA 306-1, structure of an EDS",
         WarningKind::SubIndex0 => "CiA 301, sub-index 0 of arrays and records",
-        WarningKind::FileInfoKeys => "CiA 306-1, file information",
-        WarningKind::DeviceInfoKeys => "CiA 306-1, device information",
-        WarningKind::PdoCount => "CiA 306-1, device information",
-        WarningKind::WrongList => "CiA 306-1, object lists",
-        WarningKind::Unlisted => "CiA 306-1, object lists",
-        WarningKind::IdentityNumber => "CiA 306-1, device information",
         WarningKind::FixedCobId => "CiA 301, predefined connection set",
-        WarningKind::NodeIdPlace => "CiA 306-1, object description",
-        WarningKind::MisspeltKey(_) => "CiA 306-1, structure of an EDS",
         WarningKind::SharedCobId => "CiA 301, COB-IDs",
         WarningKind::InhibitTime => "CiA 301, TPDO communication parameter",
-        WarningKind::OwnHeartbeat => "CiA 301, heartbeat consumer",
-        WarningKind::HeartbeatTwice => "CiA 301, heartbeat consumer",
+        WarningKind::OwnHeartbeat | WarningKind::HeartbeatTwice => "CiA 301, heartbeat consumer",
         WarningKind::NoErrorControl => "CiA 301, error control",
-        WarningKind::LongLine => "CiA 306-1, structure of an EDS",
-        WarningKind::Utf8 => "CiA 306-1, structure of an EDS",
-        WarningKind::NotAscii => "CiA 306-1, structure of an EDS",
-        WarningKind::ListOrder => "CiA 306-1, object lists",
-        WarningKind::EqualNames => "CiA 306-1, object description",
-        WarningKind::MissingName => "CiA 306-1, object description",
-        WarningKind::UnknownKey => "CiA 306-1, structure of an EDS",
-        WarningKind::DateFormat => "CiA 306-1, file information",
-        WarningKind::LineEnds => "CiA 306-1, structure of an EDS",
     }
 }
 

@@ -7,7 +7,7 @@ use Rattle.conode_lint_text.specs.declared.finding.Finding.{Finding}
 use Rattle.conode_lint_text.specs.declared.finding.Severity.{Severity as HowSevere}
 use Rattle.conode_lint_text.specs.declared.finding.Severity.TheVariants.{Error, Warning}
 use Rattle.conode_lint_text.specs.declared.pieces.Piece.{Piece}
-use Rattle.conode_lint_text.specs.declared.pieces.Piece.TheVariants.{Text, Shown, Decimal, Counted, Severity, Word, Byte}
+use Rattle.conode_lint_text.specs.declared.pieces.Piece.TheVariants.{Text, Colour, Shown, Decimal, Counted, Severity, Word, Byte}
 
 -- what begins a colour on a terminal (ECMA-48, SGR), by its numbers, and what ends it; without
 -- colours nothing
@@ -81,6 +81,7 @@ counted count thing = decimal count ++ codes " " ++ thing ++ (if count == 1 then
 -- the text of a piece
 abbrev pub piece_text : Piece → List ℕ
 piece_text (Text text) = text.now
+piece_text (Colour colours sequence) = if colours then sequence.now else []
 piece_text (Shown characters) = shown_all characters.now
 piece_text (Decimal number) = decimal number
 piece_text (Counted number thing) = counted number thing.now

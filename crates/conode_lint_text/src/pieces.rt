@@ -15,6 +15,8 @@ use std::alloc::AllocError;
 #[derive(Clone, Copy)]
 pub(crate) enum Piece<'a> {
     Text(&'a str),
+    /// What begins or ends a colour, nothing without colours.
+    Colour(bool, &'static str),
     /// Characters, as they are shown.
     Shown(&'a [char]),
     /// A number in decimal digits.
@@ -45,6 +47,8 @@ fn push_piece(text: &mut String, piece: &Piece<'_>) -> Result<(), AllocError>
 {
     match *piece {
         Piece::Text(part) => text.push_str(part),
+        Piece::Colour(true, sequence) => text.push_str(sequence),
+        Piece::Colour(false, _) => Ok(()),
         Piece::Shown(characters) => push_all_shown(text, characters),
         Piece::Decimal(number) => push_decimal(text, number as u64),
         Piece::Counted(number, thing) => push_counted(text, number, thing),

@@ -6,13 +6,11 @@ ghost use Rattle.std.specs.List.{flat_map};
 ghost use Rattle.conode_lint_text.specs.Findings.{column_of, help_of, message_of};
 ghost use Rattle.conode_lint_text.specs.JsonForm.{utf8_of};
 ghost use Rattle.conode_lint_text.specs.SarifForm.{
-  locations_member,
   log_end,
   log_head,
   region_members,
   result_tokens,
   rule_tokens,
-  said_tokens,
 };
 
 use crate::characters::utf8_of;
@@ -94,23 +92,28 @@ fn put_region(
     )
 }
 
-// the file, and the region if a line is to blame
-#[tactic(auto, unfolding(crate::specs::SarifForm::locations_member, crate::specs::SarifForm::location_tokens, crate::specs::SarifForm::uri_member))]
-fn put_locations(
+#[tactic(auto, unfolding(crate::specs::SarifForm::result_tokens, crate::specs::SarifForm::said_tokens, crate::specs::SarifForm::locations_member, crate::specs::SarifForm::location_tokens, crate::specs::SarifForm::uri_member))]
+fn put_result_members<'p>(
     writer: &mut Writer,
-    uri: &str,
-    finding: &Finding<'_>,
+    uri: &'p str,
+    finding: &'p Finding<'p>,
     column: usize,
-    snippet: &str,
+    message: &'p str,
+    snippet: &'p str,
 ) -> Result<(), AllocError>
     requires column { column ≡ column_of finding.now }
+    requires message { message.now ≡ message_of finding.now }
     requires snippet { snippet.now ≡ utf8_of finding.now.text.now }
     ensures { OnOk result
-        (writer.new.tokens ≡ writer.old.tokens ++ locations_member uri.now finding.now) }
+        (writer.new.tokens ≡ writer.old.tokens ++ result_tokens uri.now finding.now) }
 {
     put_parts(
         writer,
         &[
+            Part::BeginObject,
+            Part::Text("ruleId", finding.name),
+            Part::Severity("level", finding.severity),
+            Part::Message("message", message),
             Part::Array("locations"),
             Part::BeginObject,
             Part::Object("physicalLocation"),
@@ -120,48 +123,15 @@ fn put_locations(
         ],
     )?;
     put_region(writer, finding, column, snippet)?;
-    put_parts(writer, &[Part::EndObject, Part::EndObject, Part::EndArray])
-}
-
-// the name of its kind, its level and what is wrong, after the beginning of an object
-#[tactic(auto, unfolding(crate::specs::SarifForm::said_tokens))]
-fn put_said<'p>(
-    writer: &mut Writer,
-    finding: &'p Finding<'p>,
-    message: &'p str,
-) -> Result<(), AllocError>
-    requires { message.now ≡ message_of finding.now }
-    ensures { OnOk result (writer.new.tokens ≡ writer.old.tokens ++ said_tokens finding.now) }
-{
     put_parts(
         writer,
         &[
-            Part::BeginObject,
-            Part::Text("ruleId", finding.name),
-            Part::Severity("level", finding.severity),
-            Part::Message("message", message),
+            Part::EndObject,
+            Part::EndObject,
+            Part::EndArray,
+            Part::EndObject,
         ],
     )
-}
-
-#[tactic(auto, unfolding(crate::specs::SarifForm::result_tokens, crate::specs::SarifForm::said_tokens))]
-fn put_result_members(
-    writer: &mut Writer,
-    uri: &str,
-    finding: &Finding<'_>,
-    column: usize,
-    message: &str,
-    snippet: &str,
-) -> Result<(), AllocError>
-    requires column { column ≡ column_of finding.now }
-    requires message { message.now ≡ message_of finding.now }
-    requires snippet { snippet.now ≡ utf8_of finding.now.text.now }
-    ensures { OnOk result
-        (writer.new.tokens ≡ writer.old.tokens ++ result_tokens uri.now finding.now) }
-{
-    put_said(writer, finding, message)?;
-    put_locations(writer, uri, finding, column, snippet)?;
-    writer.end_object()
 }
 
 fn put_result(

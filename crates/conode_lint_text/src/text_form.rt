@@ -1,11 +1,9 @@
 //! Findings as compilers print them. Each function appends a text. `Err`: out of memory; a part of
 //! the text may be there.
 
-ghost use Rattle.std.specs.Prelude.{◌≡◌, ◌++◌, codes, OnOk, string_bytes};
+ghost use Rattle.std.specs.Prelude.{◌≡◌, ◌++◌, ◌∷◌, codes, OnOk, string_bytes};
 ghost use Rattle.conode_lint_text.specs.Characters.{characters_of};
 ghost use Rattle.conode_lint_text.specs.TextForm.{
-  begin_colour,
-  end_colour,
   severity_colour,
   position_text,
   head_line,
@@ -25,38 +23,20 @@ use crate::pieces::{Piece, push_pieces};
 use crate::words::{push_help, push_message};
 use std::alloc::{AllocError, Global};
 
-#[tactic(auto, unfolding(crate::specs::TextForm::begin_colour))]
-fn begin_place(colours: bool) -> &'static str
-    ensures { result.now ≡ begin_colour colours (codes "1") }
-{
-    if colours { "\u{1B}[1m" } else { "" }
-}
+/// The beginnings of colours on a terminal, and their end.
+const PLACE: &str = "\u{1B}[1m";
 
-#[tactic(auto, unfolding(crate::specs::TextForm::begin_colour))]
-fn begin_label(colours: bool, severity: Severity) -> &'static str
-    ensures { result.now ≡ begin_colour colours (severity_colour severity) }
+const HELP: &str = "\u{1B}[1;36m";
+
+const END: &str = "\u{1B}[0m";
+
+fn label_colour(severity: Severity) -> &'static str
+    ensures { result.now ≡ 27 ∷ codes "[" ++ severity_colour severity ++ codes "m" }
 {
-    if !colours {
-        return "";
-    }
     match severity {
         Severity::Error => "\u{1B}[1;31m",
         Severity::Warning => "\u{1B}[1;35m",
     }
-}
-
-#[tactic(auto, unfolding(crate::specs::TextForm::begin_colour))]
-fn begin_help(colours: bool) -> &'static str
-    ensures { result.now ≡ begin_colour colours (codes "1;36") }
-{
-    if colours { "\u{1B}[1;36m" } else { "" }
-}
-
-#[tactic(auto, unfolding(crate::specs::TextForm::end_colour))]
-fn end_colour(colours: bool) -> &'static str
-    ensures { result.now ≡ end_colour colours }
-{
-    if colours { "\u{1B}[0m" } else { "" }
 }
 
 #[tactic(auto, unfolding(crate::specs::TextForm::position_text))]
@@ -83,7 +63,7 @@ fn push_position(
     )
 }
 
-#[tactic(auto, unfolding(crate::specs::TextForm::place_part, crate::specs::TextForm::coloured, crate::specs::TextForm::place_text))]
+#[tactic(auto, unfolding(crate::specs::TextForm::place_part, crate::specs::TextForm::coloured, crate::specs::TextForm::place_text, crate::specs::TextForm::begin_colour, crate::specs::TextForm::end_colour))]
 fn push_place_part<'p>(
     text: &mut String,
     colours: bool,
@@ -98,16 +78,16 @@ fn push_place_part<'p>(
     push_pieces(
         text,
         &[
-            Piece::Text(begin_place(colours)),
+            Piece::Colour(colours, PLACE),
             Piece::Shown(file),
             Piece::Text(":"),
         ],
     )?;
     push_position(text, finding, characters)?;
-    text.push_str(end_colour(colours))
+    push_pieces(text, &[Piece::Colour(colours, END)])
 }
 
-#[tactic(auto, unfolding(crate::specs::TextForm::label_part, crate::specs::TextForm::coloured, crate::specs::TextForm::label_text))]
+#[tactic(auto, unfolding(crate::specs::TextForm::label_part, crate::specs::TextForm::coloured, crate::specs::TextForm::label_text, crate::specs::TextForm::begin_colour, crate::specs::TextForm::end_colour))]
 fn push_label_part(
     text: &mut String,
     colours: bool,
@@ -119,12 +99,12 @@ fn push_label_part(
     push_pieces(
         text,
         &[
-            Piece::Text(begin_label(colours, finding.severity)),
+            Piece::Colour(colours, label_colour(finding.severity)),
             Piece::Severity(finding.severity),
             Piece::Text("["),
             Piece::Text(finding.name),
             Piece::Text("]:"),
-            Piece::Text(end_colour(colours)),
+            Piece::Colour(colours, END),
         ],
     )
 }
@@ -172,7 +152,7 @@ fn push_quoted(
     )
 }
 
-#[tactic(auto, unfolding(crate::specs::TextForm::help_line, crate::specs::TextForm::coloured))]
+#[tactic(auto, unfolding(crate::specs::TextForm::help_line, crate::specs::TextForm::coloured, crate::specs::TextForm::begin_colour, crate::specs::TextForm::end_colour))]
 fn push_help_line(text: &mut String, colours: bool, finding: &Finding<'_>) -> Result<(), AllocError>
     ensures { OnOk result
         (string_bytes text.new ≡ string_bytes text.old ++ help_line colours finding.now) }
@@ -181,9 +161,9 @@ fn push_help_line(text: &mut String, colours: bool, finding: &Finding<'_>) -> Re
         text,
         &[
             Piece::Text("  "),
-            Piece::Text(begin_help(colours)),
+            Piece::Colour(colours, HELP),
             Piece::Text("help:"),
-            Piece::Text(end_colour(colours)),
+            Piece::Colour(colours, END),
             Piece::Text(" "),
         ],
     )?;

@@ -1,5 +1,5 @@
 -- What the tables of a text say, without where its bytes lie in memory.
-use Rattle.std.specs.Prelude.{◌≡◌, ◌==◌, ℕ, Bool, false, nat_eq, List, map, codes, Option}
+use Rattle.std.specs.Prelude.{◌≡◌, ◌==◌, ℕ, Bool, false, nat_eq, List, [], map, codes, Option, Some, option_map}
 use Rattle.std.specs.List.{list_any}
 use Rattle.std.specs.Option.{option_map_or}
 use Rattle.std.specs.HashSet.{HashSet, contains}
@@ -8,7 +8,8 @@ use Rattle.co_sheet_warnings.specs.declared.infos.Format.TheVariants.{Date, Time
 use Rattle.co_sheet_warnings.specs.declared.keys.WrittenKey.{WrittenKey as CodeKey}
 use Rattle.co_sheet_warnings.specs.declared.lists.ListCheck.{ListCheck}
 use Rattle.co_sheet_warnings.specs.declared.lists.ListCheck.TheVariants.{Objects, Order}
-use Rattle.co_sheet_warnings.specs.declared.repeats.UsedIdentifier.{UsedIdentifier}
+use Rattle.co_sheet_warnings.specs.declared.repeats.Once.{Once}
+use Rattle.co_sheet_warnings.specs.declared.repeats.Once.TheVariants.{Identifiers, Names}
 use Rattle.co_sheet_warnings.specs.declared.repeats.PlacedName.{PlacedName}
 use Rattle.co_sheet_warnings.specs.declared.repeats.ScopedName.{ScopedName as CodeName}
 use Rattle.co_sheet_text.specs.Sections.{TextSection, property_at}
@@ -18,7 +19,7 @@ use Rattle.co_sheet_warnings.specs.Keys.{WrittenKey}
 use Rattle.co_sheet_warnings.specs.Lines.{first_other, numbered}
 use Rattle.co_sheet_warnings.specs.Lists.{wrong_listings, list_order}
 use Rattle.co_sheet_warnings.specs.ReadTexts.{ReadText}
-use Rattle.co_sheet_warnings.specs.Repeats.{Placed, ScopedName}
+use Rattle.co_sheet_warnings.specs.Repeats.{Placed, ScopedName, equal_names, identifier_in, name_in, shared_cob_ids}
 use Rattle.co_sheet_warnings.specs.SubIndices.{is_constant_word}
 
 -- the lines of a section that fail a check of lists
@@ -44,15 +45,28 @@ names i listings = list_any (λ l. l.index == i) listings
 abbrev pub key_view : CodeKey → WrittenKey
 key_view k = record { topic = k.topic; name = k.name.now; value = k.value.now; line = k.line }
 
--- an identifier, and a name among others, with its line
-abbrev pub identifier_view : UsedIdentifier → Placed ℕ
-identifier_view i = record { key = i.identifier; line = i.line }
-
+-- a name among others, with its line
 abbrev pub scoped_view : CodeName → ScopedName
 scoped_view n = record { scope = n.scope; text = n.text.now }
 
 abbrev pub name_view : PlacedName → Placed ScopedName
 name_view n = record { key = scoped_view n.name; line = n.line }
+
+-- an identifier as a name
+abbrev pub id_name : ℕ → ScopedName
+id_name n = record { scope = n; text = [] }
+
+abbrev pub as_name : Placed ℕ → Placed ScopedName
+as_name p = record { key = id_name p.key; line = p.line }
+
+-- what a section has of what should come once, and the lines of what comes again
+abbrev pub placed_in : Once → TextSection → Option (Placed ScopedName)
+placed_in (Identifiers node) s = option_map as_name (identifier_in node s)
+placed_in Names s = name_in s
+
+abbrev pub repeats_of : Once → List TextSection → List ℕ
+repeats_of (Identifiers node) sections = shared_cob_ids (Some node) sections
+repeats_of Names sections = equal_names sections
 
 -- a text, by its lists
 abbrev pub text_view :

@@ -3,7 +3,7 @@ use Rattle.std.specs.Option.{option_or}
 use Rattle.co_sheet_adapt.specs.Named.{text_in_body}
 use Rattle.co_sheet_adapt.specs.private.Named.{texts_at}
 use Rattle.co_sheet_changes.specs.Views.{line_view}
-use Rattle.co_sheet_adapt.proofs.named.Texts.add_group.Given as goal
+use Rattle.co_sheet_adapt.proofs.named.Texts.add_named.Given as goal
 
 -- what there is so far, and what the rest of the lines give
 abbrev pub invariant-loop-line : goal.invariant-loop-line
