@@ -1,8 +1,8 @@
 #!/bin/sh
 # Gives canopen-device random frames and lines, ten million, or as many as are asked for: bench/device_soak.sh [COUNT [SEED]].
 # Half of them are frames and event lines, each played to conode replay too: both write the same. The others are all kinds of
-# lines, with mistakes, to a device with AddressSanitizer and a client that watches; among them a question with a known answer
-# each 1,000 lines. Status 1 where an answer differs, or the memory grows.
+# lines, with mistakes, to a client that watches, without and with AddressSanitizer; among them a question with a known answer
+# each 1,000 lines. Status 1 where an answer differs, memory leaks or grows.
 set -eu
 # shellcheck source=bench/program.sh
 . "$(dirname "$(readlink -f "$0")")/program.sh"
@@ -63,14 +63,17 @@ lines $half frames > "$folder/lines"
 cmp "$folder/by_device" "$folder/by_replay"
 echo "$half frames and event lines: as conode replay, $(wc -l < "$folder/by_device") lines"
 
-# so many lines of all kinds; the peak of memory in kB goes into a file
+# so many lines of all kinds, to one of the two; the peak of memory in kB goes into a file
 run() {
-    lines "$1" all | /usr/bin/time -f %M -o "$folder/memory" "$folder/asan/canopen-device" "8=$sheet" --stdio --stamps |
-        awk '/^; 1018:02 / { if ($3 == 2622465) right++; else wrong++ } END { print right + 0, wrong + 0 }' > "$folder/answers"
+    lines "$1" all | {
+        /usr/bin/time -f %M -o "$folder/memory" "$folder/$2/canopen-device" "8=$sheet" --stdio --stamps || echo $? > "$folder/failed"
+    } | awk '/^; 1018:02 / { if ($3 == 2622465) right++; else wrong++ } END { print right + 0, wrong + 0 }' > "$folder/answers"
 }
-run $((half / 100))
+run $((half / 100)) made
 few=$(cat "$folder/memory")
-run $half
+run $half made
+most=$(cat "$folder/memory")
+run $half asan
 read -r right wrong < "$folder/answers"
-echo "$half lines of all kinds: $right questions answered, $wrong wrong; $few kB after a hundredth of them, $(cat "$folder/memory") kB"
-[ "$right" -ge $((half / 1000)) ] && [ "$wrong" -eq 0 ] && [ "$(cat "$folder/memory")" -le $((few + 4096)) ]
+echo "$half lines of all kinds: $right questions answered, $wrong wrong; $few kB after a hundredth of them, $most kB"
+[ ! -e "$folder/failed" ] && [ "$right" -ge $((half / 1000)) ] && [ "$wrong" -eq 0 ] && [ "$most" -le $((few + 1024)) ]

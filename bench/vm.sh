@@ -1,11 +1,13 @@
 #!/bin/sh
 # Boots Debian's kernel under qemu, since many a machine has no CAN, and puts canopen-device on a virtual bus there: what it answers,
 # how exact its heartbeats are, what it takes while the bus is quiet, bus trouble, random frames at full speed for a minute,
-# or as many seconds as are given, and a recording, which conode replay answers in the same way, and in which conode compare finds
-# no difference: bench/vm.sh [SECONDS]. The machine's files are there read-only, so its candump, canplayer, cansend, cangen and ip
-# are used. ACCELERATOR=kvm makes it faster where the machine can. Status 1 where something is wrong.
+# or as many seconds as are given, a recording, which conode replay answers in the same way, and in which conode compare finds
+# no difference, and what a new user types from a clone on, by docs/EMBED.md: bench/vm.sh [SECONDS]. The machine's files are there
+# read-only, so its candump, canplayer, cansend, cangen and ip are used. ACCELERATOR=kvm makes it faster where the machine can.
+# Status 1 where something is wrong.
 #
 # Debian's packages: qemu-system-x86 linux-image-amd64 busybox-static cpio kmod can-utils iproute2 gcc make libc6-dev
+# gcc-aarch64-linux-gnu libc6-dev-arm64-cross pkg-config
 set -eu
 # shellcheck source=bench/folder.sh
 . "$(dirname "$(readlink -f "$0")")/folder.sh"
@@ -25,6 +27,9 @@ iproute2 ip
 gcc gcc
 make make
 libc6-dev /usr/include/stdio.h
+gcc-aarch64-linux-gnu aarch64-linux-gnu-gcc
+libc6-dev-arm64-cross /usr/aarch64-linux-gnu/include/stdio.h
+pkg-config pkg-config
 linux-image-amd64 /lib/modules
 END
 )
@@ -41,6 +46,7 @@ ln -s busybox "$folder/disk/bin/sh"
 cp "$folder/made/canopen-device" "$root/examples/temperature-sensor.eds" "$root/examples/io-module.eds" "$folder/disk/run"
 cp "$("$root/bin/conode" --which | head -n 1)" "$folder/disk/run"
 echo "$seconds" > "$folder/disk/run/seconds"
+echo "$root" > "$folder/disk/run/root"
 
 # frames for node 8, up to 8 ms apart: SDO requests for entries that no time depends on, NMT, SYNC and RPDOs, at last a reset
 awk '
@@ -221,6 +227,38 @@ is "a recording with $(wc -l < sent) frames of the device, against conode replay
 status=$?
 is "conode compare of it: $(tail -n 1 compared)" "$status $(head -n 1 compared)" "0 $(tail -n 1 compared)"
 [ $status -eq 0 ] || { cat compared; grep -n -e ' 000#' -e ' 708#' recording; }
+# as a new user: from a clone, without its proofs, the commands of the first section of docs/EMBED.md, and a live device
+began=$(cut -d . -f 1 /proc/uptime)
+mkdir clone
+(cd "$(cat root)" && cp -R bin crates.txt docs examples include python release share tools /tmp/clone)
+rm -rf clone/examples/device/out clone/tools/device/out
+cd clone
+export HOME=/tmp
+sed -n '1,/^## /s/^    //p' docs/EMBED.md | sed 's/^\$ //' | grep -vx -e compiled -e 'as recorded' > ../commands
+sed '$d' ../commands > ../first
+sh -e ../first > ../said 2> ../err
+is "all but the last of the $(wc -l < ../commands) commands" "$? $(grep -x -e compiled -e 'as recorded' ../said | tr '\n' ' ')" \
+    '0 compiled as recorded '
+[ -s ../said ] || cat ../err
+listen 705 boot
+sh -c "exec $(tail -n 1 ../commands)" < /dev/null &
+device=$!
+await '705#00' boot
+kill $listener
+is 'the last: boot-up' "$(cut -d ' ' -f 3 boot | head -n 1)" '705#00'
+is 'its SDO' "$(answer 605#4000100000000000 585 | cut -c 1-12)" '585#43001000'
+kill "$device"
+make -s -C tools/device 2> ../err || cat ../err
+listen 705 boot
+tools/device/out/canopen-device 5=examples/temperature-sensor.eds 8=examples/io-module.eds --can vcan0 --socket /tmp/bus < /dev/null &
+device=$!
+await '705#00' boot
+kill $listener
+is 'a live device' "$(answer 605#4000100000000000 585)" '585#4300100094010200'
+echo "from a clone to that in $(($(cut -d . -f 1 /proc/uptime) - began)) s"
+kill -TERM "$device"
+wait "$device"
+is 'the status' $? 0
 echo "$failed failed"
 MACHINE
 

@@ -1,17 +1,12 @@
 /* SocketCAN: a socket for each device, what waits, and trouble: said once, given to the device and mended. */
-#include "device.h"
-
-#include <linux/can.h>
-#include <linux/can/error.h>
-#include <linux/can/raw.h>
-#include <net/if.h>
 
 #define MOST_TAKEN 64 /* frames that are read in one turn of the loop */
 #define RETRY_MS 100  /* an interface that is down is looked at again */
 #define PASSIVE_BITS (CAN_ERR_CRTL_RX_PASSIVE | CAN_ERR_CRTL_TX_PASSIVE)
 #define BETTER_BITS (CAN_ERR_CRTL_RX_WARNING | CAN_ERR_CRTL_TX_WARNING | CAN_ERR_CRTL_ACTIVE)
 
-const char *const health_names[] = { "error active", "error passive", "bus-off", "down" };
+/* Sends the frames that the last call gave. */
+static void send_frames(struct device *device, size_t count);
 
 /* The bus is now like this to a device. An interface that was down has recovered, as from bus-off. */
 static void become(struct device *device, enum health health)
@@ -36,21 +31,17 @@ static void go_down(struct device *device)
 }
 
 /* Opens the socket of a device. False, with errno: there is no such interface, or it is down. */
-bool open_bus(struct device *device)
+static bool open_bus(struct device *device)
 {
     static const can_err_mask_t errors = CAN_ERR_BUSOFF | CAN_ERR_CRTL | CAN_ERR_RESTARTED;
     struct sockaddr_can at = { .can_family = AF_CAN, .can_ifindex = (int)if_nametoindex(device->interface) };
-    int reason = 0;
-    socklen_t size = sizeof reason;
     device->retry = elapsed + RETRY_MS;
     if (at.can_ifindex == 0) return false; /* as the index to bind to that would be every interface */
     int fd = device->bus = socket(PF_CAN, SOCK_RAW | SOCK_NONBLOCK | SOCK_CLOEXEC, CAN_RAW);
-    /* that the interface is down waits at the socket */
     if (fd >= 0 && setsockopt(fd, SOL_CAN_RAW, CAN_RAW_ERR_FILTER, &errors, sizeof errors) == 0
-        && bind(fd, (struct sockaddr *)&at, sizeof at) == 0
-        && getsockopt(fd, SOL_SOCKET, SO_ERROR, &reason, &size) == 0 && reason == 0
-        && wake_by(fd, EPOLLIN)) return true;
-    if (reason == 0) reason = errno;
+        && bind(fd, (struct sockaddr *)&at, sizeof at) == 0 && wake_by(fd, EPOLLIN)
+        && getsockopt(fd, SOL_SOCKET, SO_ERROR, &errno, &(socklen_t){ sizeof errno }) == 0 && errno == 0) return true;
+    int reason = errno;
     go_down(device);
     errno = reason;
     return false;
@@ -67,33 +58,26 @@ static bool send_now(struct device *device, const bafokun_frame *frame)
     return false;
 }
 
-/* Whether a frame has the COB-ID of a TPDO. */
-static bool is_tpdo(struct device *device, const bafokun_frame *frame)
-{
-    uint8_t id[4];
-    size_t length;
-    for (uint16_t index = 0x1800; index < 0x1A00; index++)
-        if (bafokun_value(&device->node, index, 1, id, sizeof id, &length) && length == 4 && !(id[3] & 0x80)
-            && (id[0] | (id[1] & 7) << 8) == frame->id) return true;
-    return false;
-}
-
 /* A frame waits no longer. */
 static void forget(struct device *device, struct waiting *at)
 {
     device->others -= !at->is_tpdo;
-    device->waiting--;
-    memmove(at, at + 1, (size_t)(device->queue + device->waiting - at) * sizeof *at);
+    memmove(at, at + 1, (size_t)(device->queue + --device->waiting - at) * sizeof *at);
 }
 
 /* Sends a frame, or lets it wait: a TPDO in the place of its older one, a heartbeat in that of its like. */
-void put_on_bus(struct device *device, const bafokun_frame *frame)
+static void put_on_bus(struct device *device, const bafokun_frame *frame)
 {
+    struct waiting new = { *frame, false }, *same = NULL, *oldest = NULL;
+    uint8_t id[4];
+    size_t length;
     if (device->waiting == 0 && send_now(device, frame)) return;
-    struct waiting new = { *frame, is_tpdo(device, frame) }, *same = NULL, *oldest = NULL;
-    for (struct waiting *at = device->queue; at < device->queue + device->waiting; at++) {
-        if (at->frame.id == frame->id && at->is_tpdo == new.is_tpdo) same = at;
-        if (at->is_tpdo && !oldest) oldest = at;
+    for (uint16_t index = 0x1800; index < 0x1A00; index++)
+        new.is_tpdo |= bafokun_value(&device->node, index, 1, id, sizeof id, &length) && length == sizeof id
+            && !(id[3] & 0x80) && (id[0] | (id[1] & 7) << 8) == frame->id;
+    for (struct waiting *at = device->queue + device->waiting; at-- > device->queue; ) {
+        if (!same && at->frame.id == frame->id && at->is_tpdo == new.is_tpdo) same = at;
+        if (at->is_tpdo) oldest = at;
     }
     bool is_heartbeat = frame->id > 0x700 && frame->bytes[0] != 0; /* and no boot-up */
     if (same && (new.is_tpdo || (is_heartbeat && same->frame.bytes[0] == frame->bytes[0]))) {
@@ -108,8 +92,20 @@ void put_on_bus(struct device *device, const bafokun_frame *frame)
     device->others += !new.is_tpdo;
 }
 
-/* Whether so much waits that the device gets no input: no frame, no tick, and nothing of the application. */
-bool is_crowded(const struct device *device) { return device->others >= MOST_WAITING; }
+static void send_frames(struct device *device, size_t count)
+{
+    for (size_t i = 0; i < count; i++) (in_stdio ? print_frame : put_on_bus)(device, &frames[i]);
+}
+
+/* So much waits that the device gets no input: no frame, no tick, and nothing of the application. */
+static bool is_crowded(const struct device *device) { return device->others >= MOST_WAITING; }
+
+/* A device gets the ticks that elapsed, while there is room for what it sends. */
+static void catch_up(struct device *device)
+{
+    for (uint32_t done; device->ticks < elapsed && !is_crowded(device); device->ticks += done)
+        send_frames(device, bafokun_ticks(&device->node, MIN(elapsed - device->ticks, DAY_MS), &done, FRAMES));
+}
 
 static void take_frame(struct device *device, const struct can_frame *in)
 {
@@ -120,13 +116,13 @@ static void take_frame(struct device *device, const struct can_frame *in)
     if (error & CAN_ERR_RESTARTED) become(device, ACTIVE);
     if (device->health != BUS_OFF && controller & PASSIVE_BITS) become(device, PASSIVE);
     else if (device->health != BUS_OFF && controller & BETTER_BITS) become(device, ACTIVE);
-    if (error || in->can_id & (CAN_EFF_FLAG | CAN_RTR_FLAG) || in->can_dlc > 8) return;
+    if (in->can_id > CAN_SFF_MASK || in->can_dlc > 8) return;
     memcpy(frame.bytes, in->data, in->can_dlc);
     send_frames(device, bafokun_take(&device->node, &frame, FRAMES));
 }
 
 /* At each turn of the loop: what is down or waits is tried again, what came is taken. True: more may have. */
-bool tend_bus(struct device *device)
+static bool tend_bus(struct device *device)
 {
     struct can_frame in;
     int taken = 0;
@@ -135,12 +131,11 @@ bool tend_bus(struct device *device)
     while (device->waiting > 0 && send_now(device, &device->queue[0].frame)) forget(device, device->queue);
     if (device->bus >= 0 && device->health == DOWN && !is_crowded(device)) become(device, ACTIVE);
     catch_up(device);
-    for (; taken < MOST_TAKEN && device->bus >= 0 && !is_crowded(device); taken++) {
-        ssize_t size = read(device->bus, &in, sizeof in);
-        if (size < 0 && errno != EAGAIN && errno != EINTR) go_down(device);
-        if (size < 0) break;
+    for (ssize_t size = 0; taken < MOST_TAKEN && device->bus >= 0 && !is_crowded(device) && size >= 0; taken++) {
+        size = read(device->bus, &in, sizeof in);
         if (size == (ssize_t)sizeof in) take_frame(device, &in);
+        if (size < 0 && errno != EAGAIN && errno != EINTR) go_down(device);
     }
     if (device->bus >= 0) device->retry = device->waiting > 0 ? elapsed + 1 : UINT64_MAX;
-    return taken > 0;
+    return taken > 1;
 }

@@ -1,0 +1,76 @@
+/* Clients: who gives lines, and how they are answered. */
+
+#define MOST_LINE 8191                 /* bytes of a line */
+#define PIECE 4096                     /* bytes that are read or written at once */
+#define MOST_TEXT (4 * UINT16_MAX + 1) /* bytes of a value that people read: each may be \xHH */
+#define MOST_UNREAD 262144             /* bytes of answers that wait, before their reader is dropped */
+#define MOST_WATCHES 32                /* of a client */
+#define LAST_MS 1000                   /* a signal that ends the run waits so long for each piece of output */
+
+/* Standard input and output, the file of --play, or a connection. */
+static struct client {
+    int in, out;
+    bool has_ended, is_broken; /* no line comes any more; no answer can be written */
+    const char *numbered;      /* "line" where lines may have stamps, and errors their number; else NULL */
+    bool has_first;            /* there was a stamp, */
+    uint64_t first, due;       /* and which; when the next line is due, in ms since the start */
+    size_t number, used, unread, watched; /* of lines that are done; of bytes; of watches */
+    struct watch { /* an entry whose changes it is told; the bytes that were said last */
+        struct device *device;
+        bafokun_entry_info entry;
+        uint8_t *said;
+    } watches[MOST_WATCHES + 1]; /* the last is for a get */
+    struct client *next;
+    char text[MOST_LINE + PIECE + 4], answers[MOST_UNREAD + MOST_TEXT + 100]; /* used; unread */
+} standard = { .out = STDOUT_FILENO }, player = { .numbered = "play", .has_ended = true, .next = &standard };
+static struct client *clients = &player; /* after the connections come these two */
+static int epoll, timer, signals;
+
+/* A descriptor wakes the loop when it becomes ready. epoll doesn't take a file, which always is. */
+static bool wake_by(int fd, uint32_t events)
+{
+    struct epoll_event event = { .events = events | EPOLLET };
+    return epoll_ctl(epoll, EPOLL_CTL_ADD, fd, &event) == 0 || errno == EPERM;
+}
+
+/* Whether there is something to read, or room to write. If it waits, that ends a second after a signal. */
+static bool is_ready(int fd, short events, bool waits)
+{
+    struct pollfd either[] = { { fd, events, 0 }, { signals, POLLIN, 0 } };
+    if (waits) poll(either, 2, -1);
+    return poll(either, 1, waits ? LAST_MS : 0) > 0;
+}
+
+/* Writes what can be written without a wait, or all of a trace, unless nobody reads it and a signal came. */
+static void flush(struct client *client)
+{
+    bool is_trace = client == &standard && in_stdio;
+    size_t done = 0;
+    while (done < client->unread && !client->is_broken && is_ready(client->out, POLLOUT, is_trace)) {
+        ssize_t size = write(client->out, client->answers + done, MIN(client->unread - done, PIECE));
+        client->is_broken = size < 0 && errno != EAGAIN && errno != EINTR;
+        done += (size_t)MAX(size, 0);
+    }
+    client->is_broken |= is_trace && done < client->unread;
+    memmove(client->answers, client->answers + done, client->unread -= done);
+}
+
+/* Says a line: in a trace an answer is a comment; trouble has the number of the line. False, for callers. */
+enum kind { FRAME, ANSWER, TROUBLE };
+__attribute__((format(printf, 3, 4)))
+static bool say(struct client *client, enum kind kind, const char *format, ...)
+{
+    struct client *reader = client == &player ? &standard : client;
+    va_list values;
+    if (reader->unread > MOST_UNREAD) flush(reader);
+    if (reader->unread > MOST_UNREAD) return false;
+    char *end = reader->answers + reader->unread;
+    if (reader == &standard && in_stdio && kind != FRAME) end = stpcpy(end, "; ");
+    if (client->numbered && kind == TROUBLE) end += sprintf(end, "%s %zu ", client->numbered, client->number + 1);
+    va_start(values, format);
+    end += vsprintf(end, format, values);
+    va_end(values);
+    *end++ = '\n';
+    reader->unread = (size_t)(end - reader->answers);
+    return false;
+}
