@@ -17,7 +17,7 @@ module _ {X A E : Type 0} (r : Result A E) (old : List X) where
   pub three : (t u now a b c : List X) → t ≡ old ++ a → u ≡ t ++ b → OnOk r (now ≡ u ++ c) → OnOk r (now ≡ old ++ (a ++ b ++ c))
   three t u now a b c e f last = two u now (a ++ b) c (both old t u a b e f) last
 
-  four : (t u v now a b c d : List X) → t ≡ old ++ a → u ≡ t ++ b → v ≡ u ++ c → OnOk r (now ≡ v ++ d)
+  pub four : (t u v now a b c d : List X) → t ≡ old ++ a → u ≡ t ++ b → v ≡ u ++ c → OnOk r (now ≡ v ++ d)
       → OnOk r (now ≡ old ++ (a ++ b ++ c ++ d))
   four t u v now a b c d e f g last = three u v now (a ++ b) c d (both old t u a b e f) g last
 

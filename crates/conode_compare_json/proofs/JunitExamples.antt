@@ -13,8 +13,8 @@ use Rattle.conode_compare_text.specs.Tallies.{no_frames}
 use Rattle.conode_compare_report.specs.declared.kind.Kind.TheVariants.{HeartbeatLate}
 use Rattle.conode_compare_report.specs.Reports.{nothing_kept}
 use Rattle.conode_compare_report.specs.declared.outcome.Outcome.TheVariants.{NoFrame, SeveralInterfaces}
-use Rattle.conode_compare_json.specs.JunitCases.{case_begin, case_markup, differences_word, failed_markup, failure_begin, is_of_kind, line_markup, lines_markup, outcome_case}
-use Rattle.conode_compare_json.specs.JunitDocument.{junit_document, node_property, properties_markup, property_markup, span_of, suite_begin, suite_tag}
+use Rattle.conode_compare_json.specs.JunitCases.{differences_word, failed_markup, failure_begin, is_of_kind, line_markup, lines_markup, outcome_case, passed_markup}
+use Rattle.conode_compare_json.specs.JunitDocument.{junit_document, numbers_of, span_of, suite_begin}
 use Rattle.conode_compare_json.proofs.Reported.{about, late, report}
 
 -- ---- the lines of a case
@@ -57,15 +57,14 @@ span_back = refl
 -- ---- a comparison that couldn't be made
 
 no_frame : outcome_case 5 NoFrame ≡ codes "<testcase classname=\"conode.compare\" name=\"compared\"><error type=\"not-compared\" message=\"no frame of node 5\"/></testcase>\n"
-unfolding outcome_case case_begin digits
+unfolding outcome_case digits
 no_frame = refl
 
 several_interfaces : outcome_case 5 SeveralInterfaces ≡ codes "<testcase classname=\"conode.compare\" name=\"compared\"><error type=\"not-compared\" message=\"several interfaces: name one with --interface\"/></testcase>\n"
-unfolding outcome_case case_begin
+unfolding outcome_case
 several_interfaces = refl
 
-one_more_case : suite_begin (record about { tally = no_frames }) report ≡ codes "<testsuite name=\"a.log\" tests=\"4\" failures=\"1\" errors=\"1\" skipped=\"1\" time=\"2.020001\">\n"
-unfolding suite_tag seconds_text escaped_character characters_of is_utf8 chars encode digits_text digits
+one_more_case : numbers_of (record about { tally = no_frames }) report ≡ record { tests = 4; failures = 1; errors = 1; skipped = 1 }
 one_more_case = refl
 
 -- ---- the document
@@ -81,5 +80,5 @@ document : junit_document about report
     ++ codes "<testcase classname=\"conode.compare\" name=\"pdo-sync\"/>\n"
     ++ codes "<testcase classname=\"conode.compare\" name=\"answer-crc\"><skipped message=\"no occasion in this recording\"/></testcase>\n"
     ++ codes "</testsuite>\n</testsuites>\n"
-unfolding junit_document suite_tag properties_markup property_markup node_property case_markup case_begin failed_markup failure_begin lines_markup line_markup outcome_case finding_line finding_text timed_number millis_text numbered seconds_text escaped_character characters_of is_utf8 chars encode digits_text digits
+unfolding junit_document suite_begin passed_markup failed_markup failure_begin lines_markup line_markup outcome_case finding_line finding_text timed_number millis_text numbered seconds_text escaped_character characters_of is_utf8 chars encode digits_text digits
 document = refl

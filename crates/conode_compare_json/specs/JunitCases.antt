@@ -26,16 +26,14 @@ unfoldable pub lines_markup : List ℕ → ℕ → List Noted → List ℕ
 lines_markup recording found own =
     flat_map (line_markup recording) (take 100 own) ++ more_markup (found - min (length own) 100)
 
-unfoldable pub case_begin : List ℕ → List ℕ
-case_begin name = codes "<testcase classname=\"conode.compare\" name=\"" ++ name ++ codes "\""
-
 abbrev pub differences_word : ℕ → List ℕ
 differences_word count = if count == 1 then codes " difference: " else codes " differences: "
 
--- the tag that begins a failure: how many differences were found, and what is prescribed
+-- the beginning of a test case that failed: how many differences were found, and what is prescribed
 unfoldable pub failure_begin : List ℕ → ℕ → List ℕ → List ℕ → List ℕ
 failure_begin kind found word rule = concat (
-    codes "><failure type=\"" ∷ kind ∷ codes "\" message=\"" ∷ decimal found ∷ word ∷ escaped rule ∷ codes "\">" ∷ [])
+    codes "<testcase classname=\"conode.compare\" name=\"" ∷ kind ∷ codes "\"><failure type=\"" ∷ kind
+    ∷ codes "\" message=\"" ∷ decimal found ∷ word ∷ escaped rule ∷ codes "\">" ∷ [])
 
 unfoldable pub failed_markup : List ℕ → Counted → List Noted → List ℕ
 failed_markup recording counted noted =
@@ -43,21 +41,28 @@ failed_markup recording counted noted =
     ++ lines_markup recording counted.found (filter (is_of_kind counted.kind) noted)
     ++ codes "</failure></testcase>\n"
 
--- a test case: failed if a difference was found, skipped if there was no occasion for one
-unfoldable pub case_markup : List ℕ → List Noted → Counted → List ℕ
+-- the end of a test case that passed, or was skipped since there was no occasion for a difference
+abbrev pub case_end : ℕ → List ℕ
+case_end occasions =
+    if occasions == 0 then codes "\"><skipped message=\"no occasion in this recording\"/></testcase>\n" else codes "\"/>\n"
+
+-- a test case that passed, or was skipped
+unfoldable pub passed_markup : Counted → List ℕ
+passed_markup counted = concat (
+    codes "<testcase classname=\"conode.compare\" name=\"" ∷ kind_name counted.kind ∷ case_end counted.occasions ∷ [])
+
+-- a test case: failed if a difference was found
+abbrev pub case_markup : List ℕ → List Noted → Counted → List ℕ
 case_markup recording noted counted =
-    case_begin (kind_name counted.kind)
-    ++ (if nat_lt 0 counted.found then failed_markup recording counted noted
-    else (if counted.occasions == 0 then codes "><skipped message=\"no occasion in this recording\"/></testcase>\n"
-    else codes "/>\n"))
+    if nat_lt 0 counted.found then failed_markup recording counted noted else passed_markup counted
 
 -- one more test case, with an error, if nothing could be compared
 unfoldable pub outcome_case : ℕ → Outcome → List ℕ
 outcome_case node NoDifference = []
 outcome_case node Differences = []
 outcome_case node NoFrame =
-    case_begin (codes "compared") ++ codes "><error type=\"not-compared\" message=\"no frame of node " ++ decimal node
-    ++ codes "\"/></testcase>\n"
+    codes "<testcase classname=\"conode.compare\" name=\"compared\"><error type=\"not-compared\" message=\"no frame of node "
+    ++ decimal node ++ codes "\"/></testcase>\n"
 outcome_case node SeveralInterfaces =
-    case_begin (codes "compared")
-    ++ codes "><error type=\"not-compared\" message=\"several interfaces: name one with --interface\"/></testcase>\n"
+    codes "<testcase classname=\"conode.compare\" name=\"compared\">"
+    ++ codes "<error type=\"not-compared\" message=\"several interfaces: name one with --interface\"/></testcase>\n"

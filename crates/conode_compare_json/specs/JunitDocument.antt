@@ -10,6 +10,7 @@ use Rattle.conode_markup.specs.Pieces.{seconds_text}
 use Rattle.conode_compare_report.specs.declared.outcome.Outcome.{Outcome}
 use Rattle.conode_compare_report.specs.declared.outcome.Outcome.TheVariants.{NoDifference, Differences, NoFrame, SeveralInterfaces}
 use Rattle.conode_compare_json.specs.declared.junit.Numbers.{Numbers}
+use Rattle.conode_compare_json.specs.declared.junit.TheConstants.{OPENING}
 use Rattle.conode_compare_json.specs.JunitCases.{case_markup, outcome_case}
 use Rattle.conode_compare_report.specs.Outcomes.{outcome_of}
 
@@ -38,32 +39,20 @@ numbers_of about report = record {
   skipped = count_by is_skipped report.kinds;
 }
 
--- the tag that begins the test cases: a name, their numbers, and a time in seconds
-unfoldable pub suite_tag : List ℕ → Numbers → ℕ → List ℕ
-suite_tag name numbers micros = concat (
-    codes "<testsuite name=\"" ∷ escaped name ∷ codes "\" tests=\"" ∷ decimal numbers.tests
+-- up to the test cases: the recording's name, their numbers, a time in seconds, and what was compared, by which version of the
+-- program
+unfoldable pub suite_begin : Described → Numbers → ℕ → List ℕ
+suite_begin about numbers micros = concat (
+    OPENING.now ∷ escaped about.recording ∷ codes "\" tests=\"" ∷ decimal numbers.tests
     ∷ codes "\" failures=\"" ∷ decimal numbers.failures ∷ codes "\" errors=\"" ∷ decimal numbers.errors
-    ∷ codes "\" skipped=\"" ∷ decimal numbers.skipped ∷ codes "\" time=\"" ∷ seconds_text micros ∷ codes "\">\n" ∷ [])
-
-abbrev pub suite_begin : Described → Kept → List ℕ
-suite_begin about report = suite_tag about.recording (numbers_of about report) (span_of report)
-
-unfoldable pub property_markup : List ℕ → List ℕ → List ℕ
-property_markup name value = concat (
-    codes "<property name=\"" ∷ name ∷ codes "\" value=\"" ∷ escaped value ∷ codes "\"/>\n" ∷ [])
-
-unfoldable pub node_property : ℕ → List ℕ
-node_property node = concat (codes "<property name=\"node\" value=\"" ∷ decimal node ∷ codes "\"/>\n" ∷ [])
-
--- what was compared, and the version of the program
-unfoldable pub properties_markup : Described → List ℕ
-properties_markup about =
-    codes "<properties>\n" ++ property_markup (codes "version") about.version
-    ++ property_markup (codes "sheet") about.sheet ++ property_markup (codes "recording") about.recording
-    ++ node_property about.node ++ codes "</properties>\n"
+    ∷ codes "\" skipped=\"" ∷ decimal numbers.skipped ∷ codes "\" time=\"" ∷ seconds_text micros
+    ∷ codes "\">\n<properties>\n<property name=\"version\" value=\"" ∷ escaped about.version
+    ∷ codes "\"/>\n<property name=\"sheet\" value=\"" ∷ escaped about.sheet
+    ∷ codes "\"/>\n<property name=\"recording\" value=\"" ∷ escaped about.recording
+    ∷ codes "\"/>\n<property name=\"node\" value=\"" ∷ decimal about.node ∷ codes "\"/>\n</properties>\n" ∷ [])
 
 unfoldable pub junit_document : Described → Kept → List ℕ
 junit_document about report =
-    codes "<?xml version=\"1.0\" encoding=\"UTF-8\"?>\n<testsuites>\n" ++ suite_begin about report
-    ++ properties_markup about ++ flat_map (case_markup about.recording report.noted) report.kinds
+    suite_begin about (numbers_of about report) (span_of report)
+    ++ flat_map (case_markup about.recording report.noted) report.kinds
     ++ outcome_case about.node (outcome_of about) ++ codes "</testsuite>\n</testsuites>\n"

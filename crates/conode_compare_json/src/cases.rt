@@ -6,7 +6,7 @@ ghost use Rattle.std.specs.List.{flat_map};
 ghost use Rattle.conode_compare_report.specs.Abouts.{about_view};
 ghost use Rattle.conode_compare_report.specs.Outcomes.{outcome_of};
 ghost use Rattle.conode_compare_json.specs.JunitCases.{
-  case_begin,
+  case_end,
   case_markup,
   differences_word,
   failed_markup,
@@ -16,6 +16,7 @@ ghost use Rattle.conode_compare_json.specs.JunitCases.{
   lines_markup,
   more_markup,
   outcome_case,
+  passed_markup,
 };
 
 use conode_compare_report::{About, Counted, Kind, Noted, Outcome, Report};
@@ -121,22 +122,6 @@ fn push_first_lines(
     push_more(alloc, text, found.saturating_sub(count as u64))
 }
 
-// the beginning of a test case, without the end of its tag
-#[tactic(auto, unfolding(crate::specs::JunitCases::case_begin))]
-fn push_begin(alloc: Global, text: &mut String, name: &str) -> Result<(), AllocError>
-    ensures { OnOk result (string_bytes text.new ≡ string_bytes text.old ++ case_begin name.now) }
-{
-    push_pieces(
-        alloc,
-        text,
-        &[
-            Piece::Markup("<testcase classname=\"conode.compare\" name=\""),
-            Piece::Markup(name),
-            Piece::Markup("\""),
-        ],
-    )
-}
-
 fn differences_word(count: u64) -> &'static str
     ensures { result.now ≡ differences_word count }
 {
@@ -147,7 +132,7 @@ fn differences_word(count: u64) -> &'static str
     }
 }
 
-// the tag that begins a failure
+// the beginning of a test case that failed
 #[tactic(auto, unfolding(crate::specs::JunitCases::failure_begin))]
 fn push_failure<'t>(
     alloc: Global,
@@ -164,7 +149,9 @@ fn push_failure<'t>(
         alloc,
         text,
         &[
-            Piece::Markup("><failure type=\""),
+            Piece::Markup("<testcase classname=\"conode.compare\" name=\""),
+            Piece::Markup(kind),
+            Piece::Markup("\"><failure type=\""),
             Piece::Markup(kind),
             Piece::Markup("\" message=\""),
             Piece::Number(found),
@@ -175,7 +162,7 @@ fn push_failure<'t>(
     )
 }
 
-// what a failed test case has
+// a test case that failed
 #[tactic(auto, unfolding(crate::specs::JunitCases::failed_markup))]
 fn push_failed(
     alloc: Global,
@@ -196,8 +183,35 @@ fn push_failed(
     push_words(text, "</failure></testcase>\n")
 }
 
+// the end of a test case that passed, or was skipped
+fn case_end(occasions: u64) -> &'static str
+    ensures { result.now ≡ case_end occasions }
+{
+    if occasions == 0 {
+        "\"><skipped message=\"no occasion in this recording\"/></testcase>\n"
+    } else {
+        "\"/>\n"
+    }
+}
+
+// a test case that passed, or was skipped
+#[tactic(auto, unfolding(crate::specs::JunitCases::passed_markup))]
+fn push_passed(alloc: Global, text: &mut String, counted: Counted) -> Result<(), AllocError>
+    ensures { OnOk result
+        (string_bytes text.new ≡ string_bytes text.old ++ passed_markup counted) }
+{
+    push_pieces(
+        alloc,
+        text,
+        &[
+            Piece::Markup("<testcase classname=\"conode.compare\" name=\""),
+            Piece::Markup(counted.kind.name()),
+            Piece::Markup(case_end(counted.occasions)),
+        ],
+    )
+}
+
 /// The test case of a kind: failed with its differences, skipped if there was no occasion for one.
-#[tactic(auto, unfolding(crate::specs::JunitCases::case_markup))]
 pub(crate) fn push_case(
     alloc: Global,
     text: &mut String,
@@ -208,21 +222,15 @@ pub(crate) fn push_case(
     ensures { OnOk result (string_bytes text.new
         ≡ string_bytes text.old ++ case_markup recording.now report.now.noted counted) }
 {
-    push_begin(alloc, text, counted.kind.name())?;
     if counted.found > 0 {
         push_failed(alloc, text, recording, counted, report)
-    } else if counted.occasions == 0 {
-        push_words(
-            text,
-            "><skipped message=\"no occasion in this recording\"/></testcase>\n",
-        )
     } else {
-        push_words(text, "/>\n")
+        push_passed(alloc, text, counted)
     }
 }
 
 /// The test case of a comparison that couldn't be made; nothing if it was.
-#[tactic(auto, unfolding(crate::specs::JunitCases::outcome_case, crate::specs::JunitCases::case_begin))]
+#[tactic(auto, unfolding(crate::specs::JunitCases::outcome_case))]
 pub(crate) fn push_outcome(
     alloc: Global,
     text: &mut String,

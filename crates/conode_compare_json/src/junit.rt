@@ -10,19 +10,20 @@ ghost use Rattle.conode_compare_json.specs.JunitDocument.{
   is_failed,
   is_skipped,
   junit_document,
-  node_property,
   numbers_of,
-  properties_markup,
-  property_markup,
   span_of,
   suite_begin,
-  suite_tag,
 };
 
 use crate::cases::{push_case, push_outcome, push_words};
 use conode_compare_report::{About, Counted, Outcome, Report};
 use conode_markup::{Piece, push_pieces};
 use std::alloc::{AllocError, Global};
+
+/// The document up to the name of its test cases.
+const OPENING: &str = "<?xml version=\"1.0\" encoding=\"UTF-8\"?>\n\
+    <testsuites>\n\
+    <testsuite name=\"";
 
 /// How many test cases there are, and how many of them are failed, have an error, or are skipped.
 #[derive(Clone, Copy)]
@@ -83,39 +84,6 @@ fn span_of(report: &Report) -> u64
     }
 }
 
-// the tag that begins the test cases, with their numbers
-#[tactic(auto, unfolding(crate::specs::JunitDocument::suite_tag))]
-fn push_tag(
-    alloc: Global,
-    text: &mut String,
-    name: &[u8],
-    numbers: Numbers,
-    micros: u64,
-) -> Result<(), AllocError>
-    ensures { OnOk result (string_bytes text.new
-        ≡ string_bytes text.old ++ suite_tag name.now numbers micros) }
-{
-    push_pieces(
-        alloc,
-        text,
-        &[
-            Piece::Markup("<testsuite name=\""),
-            Piece::Text(name),
-            Piece::Markup("\" tests=\""),
-            Piece::Number(numbers.tests),
-            Piece::Markup("\" failures=\""),
-            Piece::Number(numbers.failures),
-            Piece::Markup("\" errors=\""),
-            Piece::Number(numbers.errors),
-            Piece::Markup("\" skipped=\""),
-            Piece::Number(numbers.skipped),
-            Piece::Markup("\" time=\""),
-            Piece::Seconds(micros),
-            Piece::Markup("\">\n"),
-        ],
-    )
-}
-
 // how many test cases there are, and how they ended
 fn numbers_of(about: &About<'_, '_>, report: &Report) -> Numbers
     ensures { result ≡ numbers_of (about_view about.now) report.now }
@@ -130,74 +98,45 @@ fn numbers_of(about: &About<'_, '_>, report: &Report) -> Numbers
     }
 }
 
-fn push_suite(
+// up to the test cases: their numbers, and what was compared
+#[tactic(auto, unfolding(crate::specs::JunitDocument::suite_begin))]
+fn begin_suite(
     alloc: Global,
     text: &mut String,
     about: &About<'_, '_>,
-    report: &Report,
+    numbers: Numbers,
+    micros: u64,
 ) -> Result<(), AllocError>
     ensures { OnOk result (string_bytes text.new
-        ≡ string_bytes text.old ++ suite_begin (about_view about.now) report.now) }
-{
-    let numbers = numbers_of(about, report);
-    let name = about.recording.as_bytes();
-    push_tag(alloc, text, name, numbers, span_of(report))
-}
-
-#[tactic(auto, unfolding(crate::specs::JunitDocument::property_markup))]
-fn push_property<'t>(
-    alloc: Global,
-    text: &mut String,
-    name: &'t str,
-    value: &'t [u8],
-) -> Result<(), AllocError>
-    ensures { OnOk result (string_bytes text.new
-        ≡ string_bytes text.old ++ property_markup name.now value.now) }
+        ≡ string_bytes text.old ++ suite_begin (about_view about.now) numbers micros) }
 {
     push_pieces(
         alloc,
         text,
         &[
-            Piece::Markup("<property name=\""),
-            Piece::Markup(name),
-            Piece::Markup("\" value=\""),
-            Piece::Text(value),
-            Piece::Markup("\"/>\n"),
+            Piece::Markup(OPENING),
+            Piece::Text(about.recording.as_bytes()),
+            Piece::Markup("\" tests=\""),
+            Piece::Number(numbers.tests),
+            Piece::Markup("\" failures=\""),
+            Piece::Number(numbers.failures),
+            Piece::Markup("\" errors=\""),
+            Piece::Number(numbers.errors),
+            Piece::Markup("\" skipped=\""),
+            Piece::Number(numbers.skipped),
+            Piece::Markup("\" time=\""),
+            Piece::Seconds(micros),
+            Piece::Markup("\">\n<properties>\n<property name=\"version\" value=\""),
+            Piece::Text(about.version.as_bytes()),
+            Piece::Markup("\"/>\n<property name=\"sheet\" value=\""),
+            Piece::Text(about.sheet.as_bytes()),
+            Piece::Markup("\"/>\n<property name=\"recording\" value=\""),
+            Piece::Text(about.recording.as_bytes()),
+            Piece::Markup("\"/>\n<property name=\"node\" value=\""),
+            Piece::Number(about.node as u64),
+            Piece::Markup("\"/>\n</properties>\n"),
         ],
     )
-}
-
-#[tactic(auto, unfolding(crate::specs::JunitDocument::node_property))]
-fn push_node(alloc: Global, text: &mut String, node: u64) -> Result<(), AllocError>
-    ensures { OnOk result (string_bytes text.new ≡ string_bytes text.old ++ node_property node) }
-{
-    push_pieces(
-        alloc,
-        text,
-        &[
-            Piece::Markup("<property name=\"node\" value=\""),
-            Piece::Number(node),
-            Piece::Markup("\"/>\n"),
-        ],
-    )
-}
-
-// what was compared
-#[tactic(auto, unfolding(crate::specs::JunitDocument::properties_markup))]
-fn push_properties(
-    alloc: Global,
-    text: &mut String,
-    about: &About<'_, '_>,
-) -> Result<(), AllocError>
-    ensures { OnOk result (string_bytes text.new
-        ≡ string_bytes text.old ++ properties_markup (about_view about.now)) }
-{
-    push_words(text, "<properties>\n")?;
-    push_property(alloc, text, "version", about.version.as_bytes())?;
-    push_property(alloc, text, "sheet", about.sheet.as_bytes())?;
-    push_property(alloc, text, "recording", about.recording.as_bytes())?;
-    push_node(alloc, text, u64::from(about.node))?;
-    push_words(text, "</properties>\n")
 }
 
 fn push_cases(
@@ -225,12 +164,8 @@ fn push_document(
     ensures { OnOk result (string_bytes text.new
         ≡ string_bytes text.old ++ junit_document (about_view about.now) report.now) }
 {
-    push_words(
-        text,
-        "<?xml version=\"1.0\" encoding=\"UTF-8\"?>\n<testsuites>\n",
-    )?;
-    push_suite(alloc, text, about, report)?;
-    push_properties(alloc, text, about)?;
+    let numbers = numbers_of(about, report);
+    begin_suite(alloc, text, about, numbers, span_of(report))?;
     push_cases(alloc, text, about.recording, report)?;
     push_outcome(alloc, text, about)?;
     push_words(text, "</testsuite>\n</testsuites>\n")

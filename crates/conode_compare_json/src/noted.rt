@@ -2,9 +2,7 @@
 //! some tokens may be there.
 
 ghost use Rattle.std.specs.Prelude.{◌≡◌, ◌++◌, IfOk, OnOk, string_bytes};
-ghost use Rattle.std.specs.List.{flat_map};
 ghost use Rattle.conode_compare_text.specs.FindingTexts.{finding_text};
-ghost use Rattle.conode_compare_report.specs.Contexts.{around};
 ghost use Rattle.conode_compare_json.specs.NotedTokens.{
   context_member,
   context_tokens,

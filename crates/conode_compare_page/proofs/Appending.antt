@@ -30,3 +30,7 @@ module _ {X A E : Type 0} (r : Result A E) (old : List X) where
   pub five : (t u v w now a b c d i : List X) → t ≡ old ++ a → u ≡ t ++ b → v ≡ u ++ c → w ≡ v ++ d → OnOk r (now ≡ w ++ i)
       → OnOk r (now ≡ old ++ (a ++ b ++ c ++ d ++ i))
   five t u v w now a b c d i e f g h last = three v w now (a ++ b ++ c) d i (both old u v (a ++ b) c (both old t u a b e f) g) h last
+
+  pub six : (t u v w x now a b c d i j : List X) → t ≡ old ++ a → u ≡ t ++ b → v ≡ u ++ c → w ≡ v ++ d → x ≡ w ++ i → OnOk r (now ≡ x ++ j)
+      → OnOk r (now ≡ old ++ (a ++ b ++ c ++ d ++ i ++ j))
+  six t u v w x now a b c d i j e f g h k last = five u v w x now (a ++ b) c d i j (both old t u a b e f) g h k last

@@ -23,12 +23,15 @@ use Rattle.conode_markup.specs.Escapes.{escaped_character}
 use Rattle.conode_markup.specs.Pieces.{seconds_text}
 use Rattle.conode_compare_report.specs.declared.outcome.Outcome.TheVariants.{NoDifference, Differences, NoFrame, SeveralInterfaces}
 use Rattle.conode_compare_page.specs.declared.states.Shown.TheVariants.{Nothing, Initialising, PreOperational, Operational, Stopped, Several}
-use Rattle.conode_compare_page.specs.Coverage.{class_of, count_or, found_cell, state_item, transferred_count, transfers_text, type_item, types_list, types_text}
+use Rattle.conode_compare_page.specs.declared.coverage.Listed.TheVariants.{TransmissionTypes, AbortCodes}
+use Rattle.conode_compare_page.specs.declared.picture.TheConstants.{LEGEND}
+use Rattle.conode_compare_page.specs.declared.coverage.TheConstants.{NO_TYPES, TYPES}
+use Rattle.conode_compare_page.specs.Coverage.{class_of, count_or, entry_end, found_class, is_listed, numbers_text, state_item, transferred_count}
 use Rattle.conode_compare_page.specs.Device.{identity_row, interface_row}
-use Rattle.conode_compare_page.specs.Differences.{context_line, numbered_line, said, unlisted_text}
+use Rattle.conode_compare_page.specs.Differences.{context_line, list_end, said}
 use Rattle.conode_compare_page.specs.Head.{headline}
 use Rattle.conode_compare_page.specs.Indexed.{indexed}
-use Rattle.conode_compare_page.specs.Picture.{across, areas, axis_text, corner, difference_mark, is_quiet, line_at, mark_text, next_shown, outline, quarter_of, shown_of, span_of, state_area, top_of}
+use Rattle.conode_compare_page.specs.Picture.{across, areas, axis_text, count_in, difference_mark, is_quiet, mark_text, next_shown, outline, quarter_of, shown_of, span_of, state_area, top_of}
 
 -- ---- the verdict
 
@@ -54,17 +57,18 @@ abbrev late : Noted
 late = record { line = 7; micros = 4120000; finding = HeartbeatLate 1021000 1000; value_type = Plain Unsigned32; first = 0 }
 
 without_kind : said late ≡ codes "1021.000 ms since the last one, 1017:00 has 1000 ms"
-unfolding said finding_text timed_number millis_text digits_text digits
+unfolding finding_text timed_number millis_text digits_text digits
 without_kind = refl
 
 abbrev line : ℕ → KeptLine
 line number = record { number = number; bytes = codes "a&b" }
 
 context : flat_map (context_line 7) (line 6 ∷ line 7 ∷ line 8 ∷ []) ≡ codes "6: a&amp;b\n<mark>7: a&amp;b\n</mark>8: a&amp;b\n"
-unfolding numbered_line digits escaped_character characters_of is_utf8 chars lib.Utf8.encode
+unfolding context_line digits escaped_character characters_of is_utf8 chars lib.Utf8.encode
 context = refl
 
-unlisted : unlisted_text 0 ∷ unlisted_text 12 ∷ [] ≡ [] ∷ codes "<p>12 more came after these, and aren't listed.</p>\n" ∷ []
+unlisted : list_end 0 ∷ list_end 12 ∷ []
+    ≡ codes "</table>\n</section>\n" ∷ codes "</table>\n<p>12 more came after these, and aren't listed.</p>\n</section>\n" ∷ []
 unfolding digits
 unlisted = refl
 
@@ -85,13 +89,12 @@ abbrev frames : ℕ → Bin
 frames count = record (in_states unknown) { heartbeats = count; emergencies = 2; transfers = 4; tpdos = 8; rpdos = 1 }
 
 -- the outline of no frame, one, one, four and none: it ends where the last span does
-outlines : outline Heartbeats 0 100 (frames 0 ∷ frames 1 ∷ frames 1 ∷ frames 4 ∷ frames 0 ∷ []) ≡ codes "H1V50H3V20H4V100H5V100Z"
-unfolding corner digits
+outlines : outline Heartbeats 0 100 (frames 0 ∷ frames 1 ∷ frames 1 ∷ frames 4 ∷ frames 0 ∷ [])
+    ≡ codes "H1V50H3V20H4V100H5V100Z\"/><use href=\"#across\"/></svg></div>\n"
+unfolding digits
 outlines = refl
 
-other_lanes : outline Emergencies 0 100 (frames 0 ∷ []) ++ outline Transfers 0 100 (frames 0 ∷ []) ++ outline Tpdos 0 100 (frames 0 ∷ [])
-    ++ outline Rpdos 0 100 (frames 0 ∷ []) ≡ codes "H0V35H1V100ZH0V20H1V100ZH0V5H1V100ZH0V50H1V100Z"
-unfolding corner digits
+other_lanes : map (λ lane. top_of (count_in lane (frames 0))) (Heartbeats ∷ Emergencies ∷ Transfers ∷ Tpdos ∷ Rpdos ∷ []) ≡ 100 ∷ 35 ∷ 20 ∷ 5 ∷ 50 ∷ []
 other_lanes = refl
 
 -- ---- states
@@ -138,7 +141,7 @@ abbrev with_differences : ℕ → Bin
 with_differences count = record (in_states unknown) { differences = count }
 
 lines_across : indexed across 0 (with_differences 1 ∷ with_differences 0 ∷ with_differences 9 ∷ []) ≡ codes "M0.5 0v100M2.5 0v100"
-unfolding line_at digits
+unfolding digits
 lines_across = refl
 
 abbrev three_spans : LanesView
@@ -154,18 +157,14 @@ unfolding mark_text seconds_text digits_text digits
 mark = refl
 
 axis : axis_text (quarter_of three_spans)
-    ≡ codes "<div class=\"axis\"><span>0.000000 s</span><span>0.037500 s</span><span>0.075000 s</span><span>0.112500 s</span><span>0.150000 s</span></div>\n"
+    ≡ codes "<div class=\"axis\"><span>0.000000 s</span><span>0.037500 s</span><span>0.075000 s</span><span>0.112500 s</span><span>0.150000" ++ LEGEND.now
 unfolding axis_text seconds_text digits_text digits
 axis = refl
 
 -- ---- what the recording tested
 
-abbrev came : ℕ → List ℕ
-came count = class_of count ++ codes ">" ++ count_or (codes "none") count ++ found_cell count
-
-counts : came 0 ∷ came 12 ∷ []
-    ≡ codes " class=\"not\">none</td><td class=\"n\" data-is=\"Found\">0</td></tr>\n"
-    ∷ codes ">12</td><td class=\"n\" data-is=\"Found\"><span class=\"found\">12</span></td></tr>\n" ∷ []
+counts : class_of 0 ∷ count_or (codes "none") 0 ∷ found_class 0 ∷ class_of 12 ∷ count_or (codes "none") 12 ∷ found_class 12 ∷ []
+    ≡ codes " class=\"not\"" ∷ codes "none" ∷ [] ∷ [] ∷ codes "12" ∷ codes " found" ∷ []
 unfolding digits
 counts = refl
 
@@ -183,19 +182,27 @@ all_transfers =
     no_transfer ∷ read ∷ written ∷ record no_transfer { refused = true } ∷ record read { written = true } ∷ record read { refused = true }
     ∷ record written { refused = true } ∷ record { read = true; written = true; refused = true } ∷ []
 
-transfers : map transfers_text all_transfers
-    ≡ [] ∷ codes "read" ∷ codes "written" ∷ codes "refused" ∷ codes "read, written" ∷ codes "read, refused" ∷ codes "written, refused" ∷ codes "read, written, refused" ∷ []
+transfers : map entry_end all_transfers
+    ≡ codes "</li>\n" ∷ codes "<b>read</b></li>\n" ∷ codes "<b>written</b></li>\n" ∷ codes "<b>refused</b></li>\n" ∷ codes "<b>read, written</b></li>\n"
+    ∷ codes "<b>read, refused</b></li>\n" ∷ codes "<b>written, refused</b></li>\n" ∷ codes "<b>read, written, refused</b></li>\n" ∷ []
 transfers = refl
 
 one_has_none : transferred_count all_transfers ≡ 7
 one_has_none = refl
 
+lists : is_listed true read ∷ is_listed true no_transfer ∷ is_listed false read ∷ is_listed false no_transfer ∷ [] ≡ true ∷ false ∷ false ∷ true ∷ []
+lists = refl
+
 states_seen : state_item (codes "stopped") true ∷ state_item (codes "stopped") false ∷ []
     ≡ codes "<li>stopped<b>seen</b></li>\n" ∷ codes "<li class=\"not\">stopped<b>not seen</b></li>\n" ∷ []
+unfolding state_item
 states_seen = refl
 
-types : types_text [] ∷ types_text (record { number = 254; count = 3 } ∷ []) ∷ []
-    ≡ codes "<h3>Transmission types</h3>\n<p class=\"not\">No TPDO was sent.</p>\n"
-    ∷ codes "<h3>Transmission types of the TPDOs that were sent</h3>\n<ul>\n<li>type 254<b>3</b></li>\n</ul>\n" ∷ []
-unfolding types_list type_item digits
+types : numbers_text TransmissionTypes TYPES.now NO_TYPES.now [] ∷ numbers_text TransmissionTypes TYPES.now NO_TYPES.now (record { number = 254; count = 3 } ∷ []) ∷ []
+    ≡ NO_TYPES.now ∷ (TYPES.now ++ codes "<li>type 254<b>3</b></li>\n</ul>\n") ∷ []
+unfolding digits
 types = refl
+
+aborts : numbers_text AbortCodes [] [] (record { number = 0x06020000; count = 2 } ∷ []) ≡ codes "<li><code>06020000h</code><b>2</b></li>\n</ul>\n"
+unfolding digits_text digits
+aborts = refl

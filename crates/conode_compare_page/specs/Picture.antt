@@ -12,19 +12,16 @@ use Rattle.conode_compare_report.specs.declared.lanes.Lane.{Lane}
 use Rattle.conode_compare_report.specs.declared.lanes.Lane.TheVariants.{Heartbeats, Emergencies, Transfers, Tpdos, Rpdos}
 use Rattle.conode_compare_page.specs.declared.states.Shown.{Shown}
 use Rattle.conode_compare_page.specs.declared.states.Shown.TheVariants.{Nothing, Initialising, PreOperational, Operational, Stopped, Several}
-use Rattle.conode_compare_page.specs.declared.picture.TheConstants.{LEGEND}
+use Rattle.conode_compare_page.specs.declared.lane.TheConstants.{OUTLINE, OUTLINE_END}
+use Rattle.conode_compare_page.specs.declared.picture.TheConstants.{ACROSS, LEGEND}
 use Rattle.conode_compare_page.specs.Indexed.{indexed}
 
--- a lane up to its picture, with its name, of so many spans
-unfoldable pub lane_begin : List ℕ → ℕ → List ℕ
-lane_begin name spans = concat (
+-- a lane up to its picture, with its name, of so many spans, and what its picture begins with
+unfoldable pub lane_begin : List ℕ → ℕ → List ℕ → List ℕ
+lane_begin name spans within = concat (
     codes "<div class=\"lane\"><span>" ∷ name
     ∷ codes "</span><svg xmlns=\"http://www.w3.org/2000/svg\" viewBox=\"0 0 " ∷ decimal spans
-    ∷ codes " 100\" preserveAspectRatio=\"none\">" ∷ [])
-
--- the end of a lane, with the lines of the differences
-abbrev pub lane_end : List ℕ
-lane_end = codes "<use href=\"#across\"/></svg></div>\n"
+    ∷ codes " 100\" preserveAspectRatio=\"none\">" ∷ within ∷ [])
 
 -- ---- frames
 
@@ -49,23 +46,17 @@ top_of count =
     else if nat_le count 3 then 35 else if nat_le count 7 then 20 else 5
 
 -- a step of the outline
-unfoldable pub corner : ℕ → ℕ → List ℕ
-corner at top = concat (codes "H" ∷ decimal at ∷ codes "V" ∷ decimal top ∷ [])
-
 abbrev pub step : ℕ → ℕ → ℕ → List ℕ
-step at before top = if top == before then [] else corner at top
+step at before top = if top == before then [] else concat (codes "H" ∷ decimal at ∷ codes "V" ∷ decimal top ∷ [])
 
--- the outline of spans, from this one on, where the one before it has its top there
+-- the outline of spans, from this one on, where the one before it has its top there; its end, and that of its lane
 abbrev pub outline : Lane → ℕ → ℕ → List Bin → List ℕ
-outline lane at before [] = concat (codes "H" ∷ decimal at ∷ codes "V100Z" ∷ [])
+outline lane at before [] = concat (codes "H" ∷ decimal at ∷ OUTLINE_END.now ∷ [])
 outline lane at before (bin ∷ rest) =
     step at before (top_of (count_in lane bin)) ++ outline lane (at + 1) (top_of (count_in lane bin)) rest
 
-unfoldable pub frames_path : List Bin → Lane → List ℕ
-frames_path bins lane = codes "<path class=\"frames\" d=\"M0 100" ++ outline lane 0 100 bins ++ codes "\"/>"
-
 unfoldable pub frames_lane : List Bin → Lane → List ℕ
-frames_lane bins lane = lane_begin (lane_name lane) (length bins) ++ frames_path bins lane ++ lane_end
+frames_lane bins lane = lane_begin (lane_name lane) (length bins) OUTLINE.now ++ outline lane 0 100 bins
 
 -- ---- NMT states
 
@@ -82,14 +73,15 @@ abbrev pub is_quiet : Bin → Bool
 is_quiet bin =
     bin.heartbeats == 0 && bin.emergencies == 0 && bin.transfers == 0 && bin.tpdos == 0 && bin.rpdos == 0
 
--- of several states it isn't known which goes on
-abbrev pub going_on : Shown → Shown
-going_on Several = Nothing
-going_on shown = shown
+-- what a span of no known state shows after one that showed this: it goes on where no frame came, but of several it isn't
+-- known which
+abbrev pub going_on : Shown → Bin → Shown
+going_on Several bin = Nothing
+going_on shown bin = if is_quiet bin then shown else Nothing
 
 -- what a span shows after one that showed this
 abbrev pub shown_after : Shown → Bin → Shown → Shown
-shown_after shown bin Nothing = if is_quiet bin then going_on shown else Nothing
+shown_after shown bin Nothing = going_on shown bin
 shown_after shown bin own = own
 
 abbrev pub next_shown : Shown → Bin → Shown
@@ -119,6 +111,7 @@ state_area shown from to = concat (
     ∷ codes "\" width=\"" ∷ decimal (to - from) ∷ codes "\" height=\"100\"><title>" ∷ state_class shown
     ∷ codes "</title></rect>\n" ∷ [])
 
+-- nothing, if the state isn't known
 abbrev pub any_area : Shown → ℕ → ℕ → List ℕ
 any_area shown from to = if state_top shown == 100 then [] else state_area shown from to
 
@@ -130,16 +123,18 @@ areas shown from at (bin ∷ rest) =
     else any_area shown from at ++ areas (next_shown shown bin) at (at + 1) rest
 
 unfoldable pub states_lane : List Bin → List ℕ
-states_lane bins = lane_begin (codes "NMT state") (length bins) ++ areas Nothing 0 0 bins ++ lane_end
+states_lane bins =
+    lane_begin (codes "NMT state") (length bins) [] ++ areas Nothing 0 0 bins ++ codes "<use href=\"#across\"/></svg></div>\n"
 
 -- ---- differences
 
 -- a line across the lanes where a span has differences
-unfoldable pub line_at : ℕ → List ℕ
-line_at at = concat (codes "M" ∷ decimal at ∷ codes ".5 0v100" ∷ [])
-
 abbrev pub across : ℕ → Bin → List ℕ
-across at bin = if bin.differences == 0 then [] else line_at at
+across at bin = if bin.differences == 0 then [] else concat (codes "M" ∷ decimal at ∷ codes ".5 0v100" ∷ [])
+
+-- all of them, and their end
+unfoldable pub across_text : List Bin → List ℕ
+across_text bins = indexed across 0 bins ++ codes "\"/></defs>\n"
 
 -- the span of a stamp
 abbrev pub span_of : LanesView → ℕ → ℕ
@@ -156,33 +151,26 @@ mark_text at span since noted = concat (
 abbrev pub difference_mark : LanesView → ℕ → Noted → List ℕ
 difference_mark lanes at noted = mark_text at (span_of lanes noted.micros) (noted.micros - lanes.begin) noted
 
--- the lines, under the name by which each lane shows them
-unfoldable pub across_path : List Bin → List ℕ
-across_path bins = codes "<defs><path id=\"across\" class=\"across\" d=\"" ++ indexed across 0 bins ++ codes "\"/></defs>\n"
-
 -- the marks, and the end of their lane
 unfoldable pub marks_text : LanesView → List Noted → List ℕ
 marks_text lanes noted = indexed (difference_mark lanes) 0 noted ++ codes "</svg></div>\n"
 
+-- the lines across are there under the name by which each lane shows them
 unfoldable pub differences_lane : List Bin → LanesView → List Noted → List ℕ
 differences_lane bins lanes noted =
-    lane_begin (codes "Differences") (length bins) ++ across_path bins ++ marks_text lanes noted
+    lane_begin (codes "Differences") (length bins) ACROSS.now ++ across_text bins ++ marks_text lanes noted
 
 -- ---- the picture
 
--- times since the first frame: at the begin, after each quarter, at the end
+-- times since the first frame: at the begin, after each quarter, at the end; and the colours of the states
 unfoldable pub axis_text : ℕ → List ℕ
 axis_text quarter = concat (
     codes "<div class=\"axis\"><span>" ∷ seconds_text 0 ∷ codes " s</span><span>" ∷ seconds_text quarter
     ∷ codes " s</span><span>" ∷ seconds_text (quarter * 2) ∷ codes " s</span><span>" ∷ seconds_text (quarter * 3)
-    ∷ codes " s</span><span>" ∷ seconds_text (quarter * 4) ∷ codes " s</span></div>\n" ∷ [])
+    ∷ codes " s</span><span>" ∷ seconds_text (quarter * 4) ∷ LEGEND.now ∷ [])
 
 abbrev pub quarter_of : LanesView → ℕ
 quarter_of lanes = min (length lanes.bins * lanes.width) (2 ^ 64 - 1) / 4
-
--- the colours of the states
-abbrev pub legend : List ℕ
-legend = LEGEND.now
 
 unfoldable pub frame_lanes : List Bin → List ℕ
 frame_lanes bins =
@@ -192,11 +180,12 @@ frame_lanes bins =
 unfoldable pub lanes_picture : Kept → List ℕ
 lanes_picture report =
     differences_lane report.lanes.bins report.lanes report.noted ++ states_lane report.lanes.bins ++ frame_lanes report.lanes.bins
-    ++ axis_text (quarter_of report.lanes) ++ legend
+    ++ axis_text (quarter_of report.lanes)
 
+-- the lanes, if there is a frame; the end of the section
 abbrev pub any_picture : Kept → List ℕ
 any_picture report =
-    if length report.lanes.bins == 0 then codes "<p>No frame was compared.</p>\n" else lanes_picture report
+    if length report.lanes.bins == 0 then codes "<p>No frame was compared.</p>\n</section>\n" else lanes_picture report
 
 unfoldable pub picture : Kept → List ℕ
-picture report = codes "<section>\n<h2>The bus over time</h2>\n" ++ any_picture report ++ codes "</section>\n"
+picture report = codes "<section>\n<h2>The bus over time</h2>\n" ++ any_picture report

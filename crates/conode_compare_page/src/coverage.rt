@@ -5,60 +5,59 @@ ghost use Rattle.std.specs.Prelude.{◌≡◌, ◌++◌, OnOk, string_bytes};
 ghost use Rattle.std.specs.List.{flat_map};
 ghost use Rattle.conode_compare_report.specs.Abouts.{about_view};
 ghost use Rattle.conode_compare_page.specs.Coverage.{
-  abort_item,
-  aborts_list,
   aborts_text,
+  numbered_item,
+  numbers_text,
   seen_text,
-  service_begin,
   service_item,
   services_text,
   state_item,
-  state_items,
   states_text,
   tested,
-  tested_parts,
-  type_item,
-  types_list,
   types_text,
 };
 
 use crate::entries::push_entries;
-use crate::kinds::{class_of, push_count_or, push_kinds};
+use crate::kinds::push_kinds;
+use crate::words::either;
 use conode_compare_report::{About, Coverage, Numbered, Report, Served, States};
 use conode_markup::{Piece, push_pieces};
 use std::alloc::{AllocError, Global};
 
-/// What stands in place of an empty list.
+/// What a list of numbers has.
+#[derive(Clone, Copy)]
+pub(crate) enum Listed {
+    TransmissionTypes,
+    AbortCodes,
+}
+
+/// The heads of these lists, and what stands in place of an empty one.
+const TYPES: &str = "<h3>Transmission types of the TPDOs that were sent</h3>\n<ul>\n";
+
 const NO_TYPES: &str = "<h3>Transmission types</h3>\n<p class=\"not\">No TPDO was sent.</p>\n";
 
-const NO_ABORTS: &str = "<h3>SDO abort codes</h3>\n<p class=\"not\">No transfer was aborted.</p>\n";
+const ABORTS: &str = "<h3>SDO abort codes</h3>\n<ul>\n";
 
-#[tactic(auto, unfolding(crate::specs::Coverage::service_begin))]
-fn begin_service(alloc: Global, text: &mut String, served: &Served) -> Result<(), AllocError>
-    ensures { OnOk result
-        (string_bytes text.new ≡ string_bytes text.old ++ service_begin served.now) }
-{
-    push_pieces(
-        alloc,
-        text,
-        &[
-            Piece::Markup("<li"),
-            Piece::Markup(class_of(served.count)),
-            Piece::Markup(">"),
-            Piece::Markup(served.service.name()),
-            Piece::Markup("<b>"),
-        ],
-    )
-}
+const NO_ABORTS: &str = "<h3>SDO abort codes</h3>\n<p class=\"not\">No transfer was aborted.</p>\n";
 
 #[tactic(auto, unfolding(crate::specs::Coverage::service_item))]
 fn push_service(alloc: Global, text: &mut String, served: &Served) -> Result<(), AllocError>
     ensures { OnOk result
         (string_bytes text.new ≡ string_bytes text.old ++ service_item served.now) }
 {
-    begin_service(alloc, text, served)?;
-    push_count_or(alloc, text, "not seen", served.count)?;
-    text.push_str("</b></li>\n")
+    push_pieces(
+        alloc,
+        text,
+        &[
+            Piece::Markup("<li"),
+            Piece::Markup(either(served.count == 0, " class=\"not\"", "")),
+            Piece::Markup(">"),
+            Piece::Markup(served.service.name()),
+            Piece::Markup("<b>"),
+            Piece::Count(served.count, "not seen"),
+            Piece::Markup("</b></li>\n"),
+        ],
+    )
 }
 
 fn push_service_items(
@@ -85,41 +84,24 @@ fn push_services(alloc: Global, text: &mut String, services: &[Served]) -> Resul
     text.push_str("</ul>\n")
 }
 
+#[tactic(auto, unfolding(crate::specs::Coverage::state_item))]
 fn push_state(alloc: Global, text: &mut String, name: &str, seen: bool) -> Result<(), AllocError>
     ensures { OnOk result
         (string_bytes text.new ≡ string_bytes text.old ++ state_item name.now seen) }
 {
-    if seen {
-        push_pieces(
-            alloc,
-            text,
-            &[
-                Piece::Markup("<li>"),
-                Piece::Markup(name),
-                Piece::Markup("<b>seen</b></li>\n"),
-            ],
-        )
-    } else {
-        push_pieces(
-            alloc,
-            text,
-            &[
-                Piece::Markup("<li class=\"not\">"),
-                Piece::Markup(name),
-                Piece::Markup("<b>not seen</b></li>\n"),
-            ],
-        )
-    }
-}
-
-#[tactic(auto, unfolding(crate::specs::Coverage::state_items))]
-fn push_state_items(alloc: Global, text: &mut String, states: States) -> Result<(), AllocError>
-    ensures { OnOk result (string_bytes text.new ≡ string_bytes text.old ++ state_items states) }
-{
-    push_state(alloc, text, "initialising", states.initialising)?;
-    push_state(alloc, text, "pre-operational", states.pre_operational)?;
-    push_state(alloc, text, "operational", states.operational)?;
-    push_state(alloc, text, "stopped", states.stopped)
+    push_pieces(
+        alloc,
+        text,
+        &[
+            Piece::Markup("<li"),
+            Piece::Markup(either(seen, "", " class=\"not\"")),
+            Piece::Markup(">"),
+            Piece::Markup(name),
+            Piece::Markup("<b>"),
+            Piece::Markup(either(seen, "seen", "not seen")),
+            Piece::Markup("</b></li>\n"),
+        ],
+    )
 }
 
 #[tactic(auto, unfolding(crate::specs::Coverage::states_text))]
@@ -127,106 +109,91 @@ fn push_states(alloc: Global, text: &mut String, states: States) -> Result<(), A
     ensures { OnOk result (string_bytes text.new ≡ string_bytes text.old ++ states_text states) }
 {
     text.push_str("<h3>NMT states</h3>\n<ul>\n")?;
-    push_state_items(alloc, text, states)?;
+    push_state(alloc, text, "initialising", states.initialising)?;
+    push_state(alloc, text, "pre-operational", states.pre_operational)?;
+    push_state(alloc, text, "operational", states.operational)?;
+    push_state(alloc, text, "stopped", states.stopped)?;
     text.push_str("</ul>\n")
 }
 
-#[tactic(auto, unfolding(crate::specs::Coverage::type_item))]
-fn push_type(alloc: Global, text: &mut String, numbered: &Numbered) -> Result<(), AllocError>
+fn push_numbered(
+    alloc: Global,
+    text: &mut String,
+    listed: Listed,
+    numbered: &Numbered,
+) -> Result<(), AllocError>
     ensures { OnOk result
-        (string_bytes text.new ≡ string_bytes text.old ++ type_item numbered.now) }
+        (string_bytes text.new ≡ string_bytes text.old ++ numbered_item listed numbered.now) }
 {
-    push_pieces(
-        alloc,
-        text,
-        &[
-            Piece::Markup("<li>type "),
-            Piece::Number(u64::from(numbered.number)),
-            Piece::Markup("<b>"),
-            Piece::Number(numbered.count),
-            Piece::Markup("</b></li>\n"),
-        ],
-    )
-}
-
-fn push_types(alloc: Global, text: &mut String, types: &[Numbered]) -> Result<(), AllocError>
-    ensures { OnOk result (string_bytes text.new
-        ≡ string_bytes text.old ++ flat_map type_item types.now) }
-{
-    for numbered in types {
-        push_type(alloc, text, numbered)?;
+    match listed {
+        Listed::TransmissionTypes => push_pieces(
+            alloc,
+            text,
+            &[
+                Piece::Markup("<li>type "),
+                Piece::Number(u64::from(numbered.number)),
+                Piece::Markup("<b>"),
+                Piece::Number(numbered.count),
+                Piece::Markup("</b></li>\n"),
+            ],
+        ),
+        Listed::AbortCodes => push_pieces(
+            alloc,
+            text,
+            &[
+                Piece::Markup("<li><code>"),
+                Piece::Code(numbered.number),
+                Piece::Markup("h</code><b>"),
+                Piece::Number(numbered.count),
+                Piece::Markup("</b></li>\n"),
+            ],
+        ),
     }
-    Ok(())
 }
 
-#[tactic(auto, unfolding(crate::specs::Coverage::types_list))]
-fn push_some_types(alloc: Global, text: &mut String, types: &[Numbered]) -> Result<(), AllocError>
-    ensures { OnOk result
-        (string_bytes text.new ≡ string_bytes text.old ++ types_list types.now) }
+// a list under its head; of no number other words
+fn push_numbers(
+    alloc: Global,
+    text: &mut String,
+    listed: Listed,
+    head: &str,
+    none: &str,
+    numbers: &[Numbered],
+) -> Result<(), AllocError>
+    ensures { OnOk result (string_bytes text.new
+        ≡ string_bytes text.old ++ numbers_text listed head.now none.now numbers.now) }
 {
-    text.push_str("<h3>Transmission types of the TPDOs that were sent</h3>\n<ul>\n")?;
-    push_types(alloc, text, types)?;
+    if numbers.is_empty() {
+        return text.push_str(none);
+    }
+    text.push_str(head)?;
+    for numbered in numbers {
+        push_numbered(alloc, text, listed, numbered)?;
+    }
     text.push_str("</ul>\n")
 }
 
-fn push_types_text(alloc: Global, text: &mut String, types: &[Numbered]) -> Result<(), AllocError>
+#[tactic(auto, unfolding(crate::specs::Coverage::types_text))]
+fn push_types(alloc: Global, text: &mut String, types: &[Numbered]) -> Result<(), AllocError>
     ensures { OnOk result
         (string_bytes text.new ≡ string_bytes text.old ++ types_text types.now) }
 {
-    if types.is_empty() {
-        text.push_str(NO_TYPES)
-    } else {
-        push_some_types(alloc, text, types)
-    }
-}
-
-#[tactic(auto, unfolding(crate::specs::Coverage::abort_item))]
-fn push_abort(alloc: Global, text: &mut String, numbered: &Numbered) -> Result<(), AllocError>
-    ensures { OnOk result
-        (string_bytes text.new ≡ string_bytes text.old ++ abort_item numbered.now) }
-{
-    push_pieces(
+    push_numbers(
         alloc,
         text,
-        &[
-            Piece::Markup("<li><code>"),
-            Piece::Code(numbered.number),
-            Piece::Markup("h</code><b>"),
-            Piece::Number(numbered.count),
-            Piece::Markup("</b></li>\n"),
-        ],
+        Listed::TransmissionTypes,
+        TYPES,
+        NO_TYPES,
+        types,
     )
 }
 
+#[tactic(auto, unfolding(crate::specs::Coverage::aborts_text))]
 fn push_aborts(alloc: Global, text: &mut String, aborts: &[Numbered]) -> Result<(), AllocError>
-    ensures { OnOk result (string_bytes text.new
-        ≡ string_bytes text.old ++ flat_map abort_item aborts.now) }
-{
-    for numbered in aborts {
-        push_abort(alloc, text, numbered)?;
-    }
-    Ok(())
-}
-
-#[tactic(auto, unfolding(crate::specs::Coverage::aborts_list))]
-fn push_some_aborts(alloc: Global, text: &mut String, aborts: &[Numbered]) -> Result<(), AllocError>
-    ensures { OnOk result
-        (string_bytes text.new ≡ string_bytes text.old ++ aborts_list aborts.now) }
-{
-    text.push_str("<h3>SDO abort codes</h3>\n<ul>\n")?;
-    push_aborts(alloc, text, aborts)?;
-    text.push_str("</ul>\n")
-}
-
-fn push_aborts_text(alloc: Global, text: &mut String, aborts: &[Numbered]) -> Result<(), AllocError>
     ensures { OnOk result
         (string_bytes text.new ≡ string_bytes text.old ++ aborts_text aborts.now) }
 {
-    if aborts.is_empty() {
-        text.push_str(NO_ABORTS)
-    } else {
-        push_some_aborts(alloc, text, aborts)
-    }
+    push_numbers(alloc, text, Listed::AbortCodes, ABORTS, NO_ABORTS, aborts)
 }
 
 #[tactic(auto, unfolding(crate::specs::Coverage::seen_text))]
@@ -236,26 +203,11 @@ fn push_seen(alloc: Global, text: &mut String, coverage: &Coverage) -> Result<()
 {
     push_services(alloc, text, coverage.services.as_slice())?;
     push_states(alloc, text, coverage.states)?;
-    push_types_text(alloc, text, coverage.types.as_slice())?;
-    push_aborts_text(alloc, text, coverage.aborts.as_slice())
+    push_types(alloc, text, coverage.types.as_slice())?;
+    push_aborts(alloc, text, coverage.aborts.as_slice())
 }
 
-#[tactic(auto, unfolding(crate::specs::Coverage::tested_parts))]
-fn push_parts(
-    alloc: Global,
-    text: &mut String,
-    about: &About<'_, '_>,
-    report: &Report,
-) -> Result<(), AllocError>
-    ensures { OnOk result (string_bytes text.new
-        ≡ string_bytes text.old ++ tested_parts (about_view about.now) report.now) }
-{
-    push_kinds(alloc, text, report.kinds.as_slice())?;
-    push_entries(alloc, text, about.rows, report.coverage.entries.as_slice())?;
-    push_seen(alloc, text, &report.coverage)
-}
-
-/// Appends what the recording tested.
+/// Appends what the recording tested, without the end of the section.
 #[tactic(auto, unfolding(crate::specs::Coverage::tested))]
 pub(crate) fn push_coverage(
     alloc: Global,
@@ -266,7 +218,7 @@ pub(crate) fn push_coverage(
     ensures { OnOk result (string_bytes text.new
         ≡ string_bytes text.old ++ tested (about_view about.now) report.now) }
 {
-    text.push_str("<section>\n<h2>What this recording tested</h2>\n")?;
-    push_parts(alloc, text, about, report)?;
-    text.push_str("</section>\n")
+    push_kinds(alloc, text, report.kinds.as_slice())?;
+    push_entries(alloc, text, about.rows, report.coverage.entries.as_slice())?;
+    push_seen(alloc, text, &report.coverage)
 }

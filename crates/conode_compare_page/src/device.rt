@@ -5,21 +5,16 @@ ghost use Rattle.std.specs.Prelude.{◌≡◌, ◌++◌, OnOk, string_bytes};
 ghost use Rattle.std.specs.Option.{option_copied};
 ghost use Rattle.conode_compare_report.specs.Abouts.{about_view};
 ghost use Rattle.conode_compare_page.specs.Device.{
+  compared_rows,
   device,
-  device_rows,
   foot,
   identity,
   identity_row,
   interface_row,
-  limits_text,
-  made_by,
-  recording_row,
-  sheet_row,
   stamps_row,
 };
 
 use conode_compare_report::{About, Report};
-use conode_compare_rules::Limits;
 use conode_markup::{Piece, push_pieces};
 use std::alloc::{AllocError, Global};
 
@@ -67,6 +62,7 @@ fn push_identity(alloc: Global, text: &mut String, about: &About<'_, '_>) -> Res
     ensures { OnOk result (string_bytes text.new
         ≡ string_bytes text.old ++ identity (about_view about.now)) }
 {
+    text.push_str("<section>\n<h2>Device</h2>\n<dl>\n")?;
     push_identity_row(alloc, text, "Vendor-ID", about.vendor)?;
     push_identity_row(alloc, text, "Product code", about.product)?;
     push_identity_row(alloc, text, "Revision number", about.revision)
@@ -94,12 +90,13 @@ fn push_interface(
     }
 }
 
+// the stamps, if there is a frame, and the end of the section
 fn push_stamps(alloc: Global, text: &mut String, report: &Report) -> Result<(), AllocError>
     ensures { OnOk result (string_bytes text.new
         ≡ string_bytes text.old ++ stamps_row report.now report.now.begin) }
 {
     match report.begin {
-        None => Ok(()),
+        None => text.push_str("</dl>\n</section>\n"),
         Some(begin) => push_pieces(
             alloc,
             text,
@@ -108,55 +105,37 @@ fn push_stamps(alloc: Global, text: &mut String, report: &Report) -> Result<(), 
                 Piece::Seconds(begin),
                 Piece::Markup(" to "),
                 Piece::Seconds(report.end),
-                Piece::Markup(" s</dd>\n"),
+                Piece::Markup(" s</dd>\n</dl>\n</section>\n"),
             ],
         ),
     }
 }
 
-#[tactic(auto, unfolding(crate::specs::Device::sheet_row))]
-fn push_sheet_row(
+// the node-ID, the data sheet with so many entries, and the recording with its lines
+#[tactic(auto, unfolding(crate::specs::Device::compared_rows))]
+fn push_compared(
     alloc: Global,
     text: &mut String,
-    node: u8,
-    sheet: &[u8],
+    about: &About<'_, '_>,
     entries: usize,
+    lines: u64,
+    bad: u64,
 ) -> Result<(), AllocError>
     ensures { OnOk result (string_bytes text.new
-        ≡ string_bytes text.old ++ sheet_row node sheet.now entries) }
+        ≡ string_bytes text.old ++ compared_rows (about_view about.now) entries lines bad) }
 {
     push_pieces(
         alloc,
         text,
         &[
             Piece::Markup("<dt>Node-ID</dt><dd>"),
-            Piece::Number(node as u64),
+            Piece::Number(about.node as u64),
             Piece::Markup("</dd>\n<dt>Data sheet</dt><dd>"),
-            Piece::Text(sheet),
+            Piece::Text(about.sheet.as_bytes()),
             Piece::Markup(", "),
             Piece::Number(entries as u64),
-            Piece::Markup(" entries</dd>\n"),
-        ],
-    )
-}
-
-#[tactic(auto, unfolding(crate::specs::Device::recording_row))]
-fn push_recording_row(
-    alloc: Global,
-    text: &mut String,
-    recording: &[u8],
-    lines: u64,
-    bad: u64,
-) -> Result<(), AllocError>
-    ensures { OnOk result (string_bytes text.new
-        ≡ string_bytes text.old ++ recording_row recording.now lines bad) }
-{
-    push_pieces(
-        alloc,
-        text,
-        &[
-            Piece::Markup("<dt>Recording</dt><dd>"),
-            Piece::Text(recording),
+            Piece::Markup(" entries</dd>\n<dt>Recording</dt><dd>"),
+            Piece::Text(about.recording.as_bytes()),
             Piece::Markup(", "),
             Piece::Number(lines),
             Piece::Markup(" lines, "),
@@ -164,35 +143,6 @@ fn push_recording_row(
             Piece::Markup(" of them bad</dd>\n"),
         ],
     )
-}
-
-#[tactic(auto, unfolding(crate::specs::Device::device_rows))]
-fn push_device_rows(
-    alloc: Global,
-    text: &mut String,
-    about: &About<'_, '_>,
-    report: &Report,
-) -> Result<(), AllocError>
-    ensures { OnOk result (string_bytes text.new
-        ≡ string_bytes text.old ++ device_rows (about_view about.now) report.now) }
-{
-    push_identity(alloc, text, about)?;
-    push_sheet_row(
-        alloc,
-        text,
-        about.node,
-        about.sheet.as_bytes(),
-        about.rows.len(),
-    )?;
-    push_recording_row(
-        alloc,
-        text,
-        about.recording.as_bytes(),
-        report.lines,
-        report.bad_lines,
-    )?;
-    push_interface(alloc, text, about.interface)?;
-    push_stamps(alloc, text, report)
 }
 
 /// Appends what was compared.
@@ -206,49 +156,20 @@ pub(crate) fn push_device(
     ensures { OnOk result (string_bytes text.new
         ≡ string_bytes text.old ++ device (about_view about.now) report.now) }
 {
-    text.push_str("<section>\n<h2>Device</h2>\n<dl>\n")?;
-    push_device_rows(alloc, text, about, report)?;
-    text.push_str("</dl>\n</section>\n")
-}
-
-// how exactly the device was judged
-#[tactic(auto, unfolding(crate::specs::Device::limits_text))]
-fn push_limits(alloc: Global, text: &mut String, limits: Limits) -> Result<(), AllocError>
-    ensures { OnOk result (string_bytes text.new ≡ string_bytes text.old ++ limits_text limits) }
-{
-    push_pieces(
+    push_identity(alloc, text, about)?;
+    push_compared(
         alloc,
         text,
-        &[
-            Piece::Markup(" --tolerance "),
-            Piece::Number(limits.tolerance as u64),
-            Piece::Markup(" --drift "),
-            Piece::Number(limits.drift as u64),
-            Piece::Markup(" --answer "),
-            Piece::Number(limits.answer as u64),
-            Piece::Markup(" --boot "),
-            Piece::Number(limits.boot as u64),
-        ],
-    )
+        about,
+        about.rows.len(),
+        report.lines,
+        report.bad_lines,
+    )?;
+    push_interface(alloc, text, about.interface)?;
+    push_stamps(alloc, text, report)
 }
 
-#[tactic(auto, unfolding(crate::specs::Device::made_by))]
-fn push_made_by(alloc: Global, text: &mut String, version: &str) -> Result<(), AllocError>
-    ensures { OnOk result
-        (string_bytes text.new ≡ string_bytes text.old ++ made_by version.now) }
-{
-    push_pieces(
-        alloc,
-        text,
-        &[
-            Piece::Markup("<footer>Made by conode "),
-            Piece::Text(version.as_bytes()),
-            Piece::Markup(", as <code>conode compare --format html"),
-        ],
-    )
-}
-
-/// Appends how the page was made, and ends it.
+/// Ends the last section, and appends how the page was made.
 #[tactic(auto, unfolding(crate::specs::Device::foot))]
 pub(crate) fn push_foot(
     alloc: Global,
@@ -258,7 +179,21 @@ pub(crate) fn push_foot(
     ensures { OnOk result (string_bytes text.new
         ≡ string_bytes text.old ++ foot (about_view about.now)) }
 {
-    push_made_by(alloc, text, about.version)?;
-    push_limits(alloc, text, about.limits)?;
-    text.push_str(CLOSING)
+    push_pieces(
+        alloc,
+        text,
+        &[
+            Piece::Markup("</section>\n<footer>Made by conode "),
+            Piece::Text(about.version.as_bytes()),
+            Piece::Markup(", as <code>conode compare --format html --tolerance "),
+            Piece::Number(about.limits.tolerance as u64),
+            Piece::Markup(" --drift "),
+            Piece::Number(about.limits.drift as u64),
+            Piece::Markup(" --answer "),
+            Piece::Number(about.limits.answer as u64),
+            Piece::Markup(" --boot "),
+            Piece::Number(about.limits.boot as u64),
+            Piece::Markup(CLOSING),
+        ],
+    )
 }

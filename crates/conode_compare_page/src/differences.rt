@@ -1,35 +1,36 @@
 //! The differences, each with the lines of the recording around it. Each function appends a text.
 //! `Err`: out of memory; a part of it may be there.
 
-ghost use Rattle.std.specs.Prelude.{◌≡◌, ◌++◌, OnOk, IfOk, string_bytes};
+ghost use Rattle.std.specs.Prelude.{◌≡◌, ◌++◌, OnOk, string_bytes};
 ghost use Rattle.std.specs.List.{flat_map};
-ghost use Rattle.conode_markup.specs.Escapes.{escaped};
+ghost use Rattle.conode_compare_page.specs.Indexed.{indexed};
 ghost use Rattle.conode_compare_page.specs.Differences.{
   after_name,
-  any_differences,
   context_line,
   difference,
   difference_list,
   difference_row,
   difference_table,
   differences,
-  numbered_line,
-  row_begin,
-  row_end,
-  said,
-  unlisted_text,
+  list_end,
+  row_cells,
 };
-ghost use Rattle.conode_compare_page.specs.Indexed.{indexed};
 
+use crate::words::either;
 use conode_compare_report::{ContextLine, Kind, Noted, Report};
 use conode_compare_text::push_finding;
-use conode_markup::{Piece, push_escaped, push_pieces};
+use conode_markup::{Piece, push_pieces};
 use std::alloc::{AllocError, Global};
 
-/// The table up to its rows.
-const OPENING: &str = "<table class=\"differences\">\n\
+/// The section up to the rows of its table.
+const OPENING: &str = "<section>\n\
+    <h2>Differences</h2>\n\
+    <table class=\"differences\">\n\
     <thead><tr><th class=\"n\">Line</th><th class=\"n\">Seconds</th>\
     <th>Difference</th><th>Prescribed</th></tr></thead>\n";
+
+/// The section of a comparison without a difference.
+const NONE: &str = "<section>\n<h2>Differences</h2>\n<p>None was found.</p>\n</section>\n";
 
 // a text without the name that it begins with
 fn after_name<'t>(name: &str, text: &'t [u8]) -> &'t [u8]
@@ -39,36 +40,8 @@ fn after_name<'t>(name: &str, text: &'t [u8]) -> &'t [u8]
     &text[begin..]
 }
 
-// what differs, without the name of its kind
-#[tactic(auto, unfolding(crate::specs::Differences::said))]
-fn push_said(alloc: Global, text: &mut String, noted: &Noted) -> Result<(), AllocError>
-    ensures { OnOk result
-        (string_bytes text.new ≡ string_bytes text.old ++ escaped (said noted.now)) }
-{
-    let mut whole = String::new(alloc);
-    push_finding(&mut whole, noted.value_type, noted.finding)?;
-    let name = Kind::of(noted.finding).name();
-    push_escaped(alloc, text, after_name(name, whole.as_bytes()))
-}
-
-#[tactic(auto, unfolding(crate::specs::Differences::numbered_line))]
-fn push_numbered(alloc: Global, text: &mut String, line: &ContextLine) -> Result<(), AllocError>
-    ensures { OnOk result
-        (string_bytes text.new ≡ string_bytes text.old ++ numbered_line line.now) }
-{
-    push_pieces(
-        alloc,
-        text,
-        &[
-            Piece::Number(line.number),
-            Piece::Markup(": "),
-            Piece::Text(line.bytes.as_slice()),
-            Piece::Markup("\n"),
-        ],
-    )
-}
-
-// a line of the recording, marked if it has the number of the difference's
+// a line of the recording with its number, marked if it has the number of the difference's
+#[tactic(auto, unfolding(crate::specs::Differences::context_line))]
 fn push_context_line(
     alloc: Global,
     text: &mut String,
@@ -78,13 +51,18 @@ fn push_context_line(
     ensures { OnOk result
         (string_bytes text.new ≡ string_bytes text.old ++ context_line number line.now) }
 {
-    if line.number == number {
-        text.push_str("<mark>")?;
-        push_numbered(alloc, text, line)?;
-        text.push_str("</mark>")
-    } else {
-        push_numbered(alloc, text, line)
-    }
+    let marked = line.number == number;
+    push_pieces(
+        alloc,
+        text,
+        &[
+            Piece::Markup(either(marked, "<mark>", "")),
+            Piece::Number(line.number),
+            Piece::Markup(": "),
+            Piece::Text(line.bytes.as_slice()),
+            Piece::Markup(either(marked, "\n</mark>", "\n")),
+        ],
+    )
 }
 
 fn push_context(
@@ -102,17 +80,19 @@ fn push_context(
     Ok(())
 }
 
-#[tactic(auto, unfolding(crate::specs::Differences::row_begin))]
-fn begin_row(
+#[tactic(auto, unfolding(crate::specs::Differences::row_cells))]
+fn push_cells(
     alloc: Global,
     text: &mut String,
     begin: u64,
     at: usize,
     noted: &Noted,
+    said: &[u8],
 ) -> Result<(), AllocError>
     ensures { OnOk result (string_bytes text.new
-        ≡ string_bytes text.old ++ row_begin begin at noted.now) }
+        ≡ string_bytes text.old ++ row_cells begin at noted.now said.now) }
 {
+    let kind = Kind::of(noted.finding);
     push_pieces(
         alloc,
         text,
@@ -124,28 +104,17 @@ fn begin_row(
             Piece::Markup("</td><td class=\"n\" data-is=\"Seconds\">"),
             Piece::Seconds(noted.micros.saturating_sub(begin)),
             Piece::Markup("</td><td><span class=\"found\">"),
-            Piece::Markup(Kind::of(noted.finding).name()),
+            Piece::Markup(kind.name()),
             Piece::Markup("</span> "),
-        ],
-    )
-}
-
-#[tactic(auto, unfolding(crate::specs::Differences::row_end))]
-fn end_row(alloc: Global, text: &mut String, noted: &Noted) -> Result<(), AllocError>
-    ensures { OnOk result (string_bytes text.new ≡ string_bytes text.old ++ row_end noted.now) }
-{
-    push_pieces(
-        alloc,
-        text,
-        &[
+            Piece::Text(said),
             Piece::Markup("</td><td data-is=\"Prescribed:\">"),
-            Piece::Markup(Kind::of(noted.finding).rule()),
+            Piece::Markup(kind.rule()),
             Piece::Markup("</td></tr>\n<tr class=\"around\"><td colspan=\"4\"><pre>"),
         ],
     )
 }
 
-#[tactic(auto, unfolding(crate::specs::Differences::difference_row))]
+// the row of a difference, up to the lines around it
 fn push_row(
     alloc: Global,
     text: &mut String,
@@ -156,9 +125,10 @@ fn push_row(
     ensures { OnOk result (string_bytes text.new
         ≡ string_bytes text.old ++ difference_row report.now at noted.now) }
 {
-    begin_row(alloc, text, report.lanes.begin, at, noted)?;
-    push_said(alloc, text, noted)?;
-    end_row(alloc, text, noted)
+    let mut whole = String::new(alloc);
+    push_finding(&mut whole, noted.value_type, noted.finding)?;
+    let said = after_name(Kind::of(noted.finding).name(), whole.as_bytes());
+    push_cells(alloc, text, report.lanes.begin, at, noted, said)
 }
 
 #[tactic(auto, unfolding(crate::specs::Differences::difference))]
@@ -177,6 +147,24 @@ fn push_difference(
     text.push_str("</pre></td></tr>\n</tbody>\n")
 }
 
+// the end of the table, and how many differences aren't in it
+fn push_end(alloc: Global, text: &mut String, unlisted: u64) -> Result<(), AllocError>
+    ensures { OnOk result (string_bytes text.new ≡ string_bytes text.old ++ list_end unlisted) }
+{
+    if unlisted == 0 {
+        return text.push_str("</table>\n</section>\n");
+    }
+    push_pieces(
+        alloc,
+        text,
+        &[
+            Piece::Markup("</table>\n<p>"),
+            Piece::Number(unlisted),
+            Piece::Markup(" more came after these, and aren't listed.</p>\n</section>\n"),
+        ],
+    )
+}
+
 fn push_rows(
     alloc: Global,
     text: &mut String,
@@ -192,23 +180,6 @@ fn push_rows(
     Ok(())
 }
 
-fn push_unlisted(alloc: Global, text: &mut String, count: u64) -> Result<(), AllocError>
-    ensures { OnOk result (string_bytes text.new ≡ string_bytes text.old ++ unlisted_text count) }
-{
-    if count == 0 {
-        return Ok(());
-    }
-    push_pieces(
-        alloc,
-        text,
-        &[
-            Piece::Markup("<p>"),
-            Piece::Number(count),
-            Piece::Markup(" more came after these, and aren't listed.</p>\n"),
-        ],
-    )
-}
-
 #[tactic(auto, unfolding(crate::specs::Differences::difference_list))]
 fn push_list(
     alloc: Global,
@@ -220,8 +191,7 @@ fn push_list(
         ≡ string_bytes text.old ++ difference_list report.now noted.now) }
 {
     text.push_str(OPENING)?;
-    push_rows(alloc, text, report, noted)?;
-    text.push_str("</table>\n")
+    push_rows(alloc, text, report, noted)
 }
 
 #[tactic(auto, unfolding(crate::specs::Differences::difference_table))]
@@ -230,22 +200,10 @@ fn push_table(alloc: Global, text: &mut String, report: &Report) -> Result<(), A
         ≡ string_bytes text.old ++ difference_table report.now) }
 {
     push_list(alloc, text, report, report.noted.as_slice())?;
-    push_unlisted(alloc, text, report.unlisted)
-}
-
-fn push_any(alloc: Global, text: &mut String, report: &Report) -> Result<(), AllocError>
-    ensures { OnOk result (string_bytes text.new
-        ≡ string_bytes text.old ++ any_differences report.now) }
-{
-    if report.noted.is_empty() {
-        text.push_str("<p>None was found.</p>\n")
-    } else {
-        push_table(alloc, text, report)
-    }
+    push_end(alloc, text, report.unlisted)
 }
 
 /// Appends the differences.
-#[tactic(auto, unfolding(crate::specs::Differences::differences))]
 pub(crate) fn push_differences(
     alloc: Global,
     text: &mut String,
@@ -254,7 +212,9 @@ pub(crate) fn push_differences(
     ensures { OnOk result (string_bytes text.new
         ≡ string_bytes text.old ++ differences report.now) }
 {
-    text.push_str("<section>\n<h2>Differences</h2>\n")?;
-    push_any(alloc, text, report)?;
-    text.push_str("</section>\n")
+    if report.noted.is_empty() {
+        text.push_str(NONE)
+    } else {
+        push_table(alloc, text, report)
+    }
 }

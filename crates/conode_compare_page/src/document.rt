@@ -7,7 +7,7 @@ ghost use Rattle.conode_compare_page.specs.Page.{page};
 use crate::coverage::push_coverage;
 use crate::device::{push_device, push_foot};
 use crate::differences::push_differences;
-use crate::head::{push_head, push_verdict};
+use crate::head::push_head;
 use crate::picture::push_picture;
 use conode_compare_report::{About, Report};
 use std::alloc::{AllocError, Global};
@@ -21,7 +21,6 @@ pub fn page(alloc: Global, about: &About<'_, '_>, report: &Report) -> Result<Str
 {
     let mut text = String::new(alloc);
     push_head(alloc, &mut text, about, report)?;
-    push_verdict(alloc, &mut text, about, report)?;
     push_device(alloc, &mut text, about, report)?;
     push_differences(alloc, &mut text, report)?;
     push_picture(alloc, &mut text, report)?;

@@ -7,51 +7,46 @@ ghost use Rattle.conode_compare_page.specs.Coverage.{
   covered_at,
   entries_begin,
   entries_text,
+  entry_end,
+  entry_item,
+  entry_items,
   entry_text,
+  is_listed,
   is_transferred,
-  other_item,
-  other_list,
-  other_text,
   transferred_count,
-  transferred_end,
-  transferred_item,
-  transferred_list,
-  transferred_text,
-  transfers_text,
 };
-ghost use Rattle.conode_compare_page.specs.Indexed.{indexed};
 
 use co_sheet::EntryRow;
 use conode_compare_report::Covered;
 use conode_markup::{Piece, push_pieces};
 use std::alloc::{AllocError, Global};
 
-// which transfers came, in words
-fn transfers_text(covered: Covered) -> &'static str
-    ensures { result.now ≡ transfers_text covered }
+// the end of an entry's item: which transfers came, in words
+fn entry_end(covered: Covered) -> &'static str
+    ensures { result.now ≡ entry_end covered }
 {
     if covered.read {
         if covered.written {
             if covered.refused {
-                "read, written, refused"
+                "<b>read, written, refused</b></li>\n"
             } else {
-                "read, written"
+                "<b>read, written</b></li>\n"
             }
         } else if covered.refused {
-            "read, refused"
+            "<b>read, refused</b></li>\n"
         } else {
-            "read"
+            "<b>read</b></li>\n"
         }
     } else if covered.written {
         if covered.refused {
-            "written, refused"
+            "<b>written, refused</b></li>\n"
         } else {
-            "written"
+            "<b>written</b></li>\n"
         }
     } else if covered.refused {
-        "refused"
+        "<b>refused</b></li>\n"
     } else {
-        ""
+        "</li>\n"
     }
 }
 
@@ -59,6 +54,17 @@ fn is_transferred(covered: Covered) -> bool
     ensures { result ≡ is_transferred covered }
 {
     covered.read || covered.written || covered.refused
+}
+
+// whether an entry is in the list of those that were transferred, or in that of the others
+fn is_listed(transferred: bool, covered: Covered) -> bool
+    ensures { result ≡ is_listed transferred covered }
+{
+    if transferred {
+        is_transferred(covered)
+    } else {
+        !is_transferred(covered)
+    }
 }
 
 fn covered_at(entries: &[Covered], at: usize) -> Covered
@@ -87,9 +93,14 @@ fn transferred_count(entries: &[Covered]) -> usize
 }
 
 #[tactic(auto, unfolding(crate::specs::Coverage::entry_text))]
-fn push_entry(alloc: Global, text: &mut String, row: &EntryRow<'_>) -> Result<(), AllocError>
+fn push_entry(
+    alloc: Global,
+    text: &mut String,
+    covered: Covered,
+    row: &EntryRow<'_>,
+) -> Result<(), AllocError>
     ensures { OnOk result (string_bytes text.new
-        ≡ string_bytes text.old ++ entry_text (row_view row.now)) }
+        ≡ string_bytes text.old ++ entry_text covered (row_view row.now)) }
 {
     let name = match row.name {
         Some(name) => name,
@@ -103,110 +114,42 @@ fn push_entry(alloc: Global, text: &mut String, row: &EntryRow<'_>) -> Result<()
             Piece::Key(row.key),
             Piece::Markup("</code>"),
             Piece::Text(name),
+            Piece::Markup(entry_end(covered)),
         ],
     )
 }
 
-#[tactic(auto, unfolding(crate::specs::Coverage::transferred_end))]
-fn end_transferred(alloc: Global, text: &mut String, covered: Covered) -> Result<(), AllocError>
-    ensures { OnOk result
-        (string_bytes text.new ≡ string_bytes text.old ++ transferred_end covered) }
-{
-    push_pieces(
-        alloc,
-        text,
-        &[
-            Piece::Markup("<b>"),
-            Piece::Markup(transfers_text(covered)),
-            Piece::Markup("</b></li>\n"),
-        ],
-    )
-}
-
-#[tactic(auto, unfolding(crate::specs::Coverage::transferred_text))]
-fn push_transferred(
+fn push_item(
     alloc: Global,
     text: &mut String,
-    covered: Covered,
-    row: &EntryRow<'_>,
-) -> Result<(), AllocError>
-    ensures { OnOk result (string_bytes text.new
-        ≡ string_bytes text.old ++ transferred_text covered (row_view row.now)) }
-{
-    push_entry(alloc, text, row)?;
-    end_transferred(alloc, text, covered)
-}
-
-#[tactic(auto, unfolding(crate::specs::Coverage::other_text))]
-fn push_other(alloc: Global, text: &mut String, row: &EntryRow<'_>) -> Result<(), AllocError>
-    ensures { OnOk result (string_bytes text.new
-        ≡ string_bytes text.old ++ other_text (row_view row.now)) }
-{
-    push_entry(alloc, text, row)?;
-    text.push_str("</li>\n")
-}
-
-fn push_transferred_item(
-    alloc: Global,
-    text: &mut String,
+    transferred: bool,
     entries: &[Covered],
     at: usize,
     row: &EntryRow<'_>,
 ) -> Result<(), AllocError>
     ensures { OnOk result (string_bytes text.new
-        ≡ string_bytes text.old ++ transferred_item entries.now at (row_view row.now)) }
+        ≡ string_bytes text.old ++ entry_item transferred entries.now at (row_view row.now)) }
 {
     let covered = covered_at(entries, at);
-    if is_transferred(covered) {
-        push_transferred(alloc, text, covered, row)
+    if is_listed(transferred, covered) {
+        push_entry(alloc, text, covered, row)
     } else {
         Ok(())
     }
 }
 
-fn push_other_item(
+fn push_items(
     alloc: Global,
     text: &mut String,
+    transferred: bool,
+    rows: &[EntryRow<'_>],
     entries: &[Covered],
-    at: usize,
-    row: &EntryRow<'_>,
 ) -> Result<(), AllocError>
     ensures { OnOk result (string_bytes text.new
-        ≡ string_bytes text.old ++ other_item entries.now at (row_view row.now)) }
-{
-    if is_transferred(covered_at(entries, at)) {
-        Ok(())
-    } else {
-        push_other(alloc, text, row)
-    }
-}
-
-fn push_all_transferred(
-    alloc: Global,
-    text: &mut String,
-    entries: &[Covered],
-    rows: &[EntryRow<'_>],
-) -> Result<(), AllocError>
-    ensures { OnOk result (string_bytes text.new ≡ string_bytes text.old
-        ++ indexed (transferred_item entries.now) 0 (map row_view rows.now)) }
+        ≡ string_bytes text.old ++ entry_items transferred (map row_view rows.now) entries.now) }
 {
     for (at, row) in rows.iter().enumerate() {
-        push_transferred_item(alloc, text, entries, at, row)?;
-    }
-    Ok(())
-}
-
-fn push_all_others(
-    alloc: Global,
-    text: &mut String,
-    entries: &[Covered],
-    rows: &[EntryRow<'_>],
-) -> Result<(), AllocError>
-    ensures { OnOk result (string_bytes text.new
-        ≡ string_bytes text.old ++ indexed (other_item entries.now) 0 (map row_view rows.now)) }
-{
-    for (at, row) in rows.iter().enumerate() {
-        push_other_item(alloc, text, entries, at, row)?;
+        push_item(alloc, text, transferred, entries, at, row)?;
     }
     Ok(())
 }
@@ -234,36 +177,6 @@ fn begin_entries(
     )
 }
 
-#[tactic(auto, unfolding(crate::specs::Coverage::transferred_list))]
-fn push_transferred_list(
-    alloc: Global,
-    text: &mut String,
-    rows: &[EntryRow<'_>],
-    entries: &[Covered],
-) -> Result<(), AllocError>
-    ensures { OnOk result (string_bytes text.new
-        ≡ string_bytes text.old ++ transferred_list (map row_view rows.now) entries.now) }
-{
-    begin_entries(alloc, text, transferred_count(entries), rows.len())?;
-    push_all_transferred(alloc, text, entries, rows)?;
-    text.push_str("</ul>\n")
-}
-
-#[tactic(auto, unfolding(crate::specs::Coverage::other_list))]
-fn push_other_list(
-    alloc: Global,
-    text: &mut String,
-    rows: &[EntryRow<'_>],
-    entries: &[Covered],
-) -> Result<(), AllocError>
-    ensures { OnOk result (string_bytes text.new
-        ≡ string_bytes text.old ++ other_list (map row_view rows.now) entries.now) }
-{
-    text.push_str("<h3>Entries that weren't</h3>\n<ul class=\"not\">\n")?;
-    push_all_others(alloc, text, entries, rows)?;
-    text.push_str("</ul>\n")
-}
-
 /// Appends the entries: those that were transferred, and the others.
 #[tactic(auto, unfolding(crate::specs::Coverage::entries_text))]
 pub(crate) fn push_entries(
@@ -275,6 +188,9 @@ pub(crate) fn push_entries(
     ensures { OnOk result (string_bytes text.new
         ≡ string_bytes text.old ++ entries_text (map row_view rows.now) entries.now) }
 {
-    push_transferred_list(alloc, text, rows, entries)?;
-    push_other_list(alloc, text, rows, entries)
+    begin_entries(alloc, text, transferred_count(entries), rows.len())?;
+    push_items(alloc, text, true, rows, entries)?;
+    text.push_str("</ul>\n<h3>Entries that weren't</h3>\n<ul class=\"not\">\n")?;
+    push_items(alloc, text, false, rows, entries)?;
+    text.push_str("</ul>\n")
 }

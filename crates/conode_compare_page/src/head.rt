@@ -5,21 +5,17 @@ ghost use Rattle.std.specs.Prelude.{◌≡◌, ◌++◌, OnOk, string_bytes};
 ghost use Rattle.conode_compare_report.specs.Abouts.{about_view};
 ghost use Rattle.conode_compare_page.specs.Head.{
   compared,
-  count_text,
-  counts,
   difference_count,
   head,
-  head_end,
   headline,
   outcome_class,
   reason,
-  verdict,
-  verdict_begin,
+  title_end,
 };
 
 use crate::style::STYLE;
+use crate::words::either;
 use conode_compare_report::{About, Outcome, Report};
-use conode_compare_text::Tally;
 use conode_markup::{Piece, push_pieces};
 use std::alloc::{AllocError, Global};
 
@@ -37,20 +33,6 @@ fn difference_count(report: &Report) -> u64
     (report.noted.len() as u64).saturating_add(report.unlisted)
 }
 
-fn push_count(alloc: Global, text: &mut String, count: u64) -> Result<(), AllocError>
-    ensures { OnOk result (string_bytes text.new ≡ string_bytes text.old ++ count_text count) }
-{
-    if count == 1 {
-        text.push_str("1 difference")
-    } else {
-        push_pieces(
-            alloc,
-            text,
-            &[Piece::Number(count), Piece::Markup(" differences")],
-        )
-    }
-}
-
 // how the comparison ended, with so many differences
 fn push_headline(
     alloc: Global,
@@ -63,7 +45,14 @@ fn push_headline(
 {
     match outcome {
         Outcome::NoDifference => text.push_str("No difference"),
-        Outcome::Differences => push_count(alloc, text, count),
+        Outcome::Differences => push_pieces(
+            alloc,
+            text,
+            &[
+                Piece::Number(count),
+                Piece::Markup(either(count == 1, " difference", " differences")),
+            ],
+        ),
         Outcome::NoFrame | Outcome::SeveralInterfaces => text.push_str("Not compared"),
     }
 }
@@ -91,11 +80,16 @@ fn reason(outcome: Outcome) -> &'static str
     }
 }
 
-// from the recording's name in the title to the page's body
-#[tactic(auto, unfolding(crate::specs::Head::head_end))]
-fn push_head_end(alloc: Global, text: &mut String, recording: &str) -> Result<(), AllocError>
+// from the recording's name in the title to the headline in the body
+#[tactic(auto, unfolding(crate::specs::Head::title_end))]
+fn end_title(
+    alloc: Global,
+    text: &mut String,
+    recording: &str,
+    outcome: Outcome,
+) -> Result<(), AllocError>
     ensures { OnOk result
-        (string_bytes text.new ≡ string_bytes text.old ++ head_end recording.now) }
+        (string_bytes text.new ≡ string_bytes text.old ++ title_end recording.now outcome) }
 {
     push_pieces(
         alloc,
@@ -105,63 +99,15 @@ fn push_head_end(alloc: Global, text: &mut String, recording: &str) -> Result<()
             Piece::Text(recording.as_bytes()),
             Piece::Markup("</title>\n<style>\n"),
             Piece::Markup(STYLE),
-            Piece::Markup("</style>\n</head>\n<body>\n"),
-        ],
-    )
-}
-
-/// Appends what comes before the page's body.
-#[tactic(auto, unfolding(crate::specs::Head::head))]
-pub(crate) fn push_head(
-    alloc: Global,
-    text: &mut String,
-    about: &About<'_, '_>,
-    report: &Report,
-) -> Result<(), AllocError>
-    ensures { OnOk result (string_bytes text.new
-        ≡ string_bytes text.old ++ head (about_view about.now) report.now) }
-{
-    text.push_str(OPENING)?;
-    push_headline(alloc, text, Outcome::of(about), difference_count(report))?;
-    push_head_end(alloc, text, about.recording)
-}
-
-// how many frames of the device have which verdict
-#[tactic(auto, unfolding(crate::specs::Head::counts))]
-fn push_counts(alloc: Global, text: &mut String, tally: Tally) -> Result<(), AllocError>
-    ensures { OnOk result (string_bytes text.new ≡ string_bytes text.old ++ counts tally) }
-{
-    push_pieces(
-        alloc,
-        text,
-        &[
-            Piece::Markup("<dl class=\"counts\">\n<div><dt>frames as prescribed</dt><dd>"),
-            Piece::Number(tally.prescribed),
-            Piece::Markup("</dd></div>\n<div><dt>with a difference</dt><dd>"),
-            Piece::Number(tally.different),
-            Piece::Markup("</dd></div>\n<div><dt>unjudged</dt><dd>"),
-            Piece::Number(tally.unjudged),
-            Piece::Markup("</dd></div>\n</dl>\n</header>\n"),
-        ],
-    )
-}
-
-#[tactic(auto, unfolding(crate::specs::Head::verdict_begin))]
-fn begin_verdict(alloc: Global, text: &mut String, outcome: Outcome) -> Result<(), AllocError>
-    ensures { OnOk result (string_bytes text.new ≡ string_bytes text.old ++ verdict_begin outcome) }
-{
-    push_pieces(
-        alloc,
-        text,
-        &[
-            Piece::Markup("<header class=\""),
+            Piece::Markup("</style>\n</head>\n<body>\n<header class=\""),
             Piece::Markup(outcome_class(outcome)),
             Piece::Markup("\">\n<h1>"),
         ],
     )
 }
 
-// what was compared with what, and why nothing was
+// what was compared with what, why nothing was, and how many frames of the device have which
+// verdict
 #[tactic(auto, unfolding(crate::specs::Head::compared))]
 fn push_compared(
     alloc: Global,
@@ -184,24 +130,33 @@ fn push_compared(
             Piece::Text(about.sheet.as_bytes()),
             Piece::Markup("</code> and CiA 301</p>\n"),
             Piece::Markup(reason(outcome)),
+            Piece::Markup("<dl class=\"counts\">\n<div><dt>frames as prescribed</dt><dd>"),
+            Piece::Number(about.tally.prescribed),
+            Piece::Markup("</dd></div>\n<div><dt>with a difference</dt><dd>"),
+            Piece::Number(about.tally.different),
+            Piece::Markup("</dd></div>\n<div><dt>unjudged</dt><dd>"),
+            Piece::Number(about.tally.unjudged),
+            Piece::Markup("</dd></div>\n</dl>\n</header>\n"),
         ],
     )
 }
 
-/// Appends how the comparison ended, of what.
-#[tactic(auto, unfolding(crate::specs::Head::verdict))]
-pub(crate) fn push_verdict(
+/// Appends what comes before the page's body, and how the comparison ended, of what.
+#[tactic(auto, unfolding(crate::specs::Head::head))]
+pub(crate) fn push_head(
     alloc: Global,
     text: &mut String,
     about: &About<'_, '_>,
     report: &Report,
 ) -> Result<(), AllocError>
     ensures { OnOk result (string_bytes text.new
-        ≡ string_bytes text.old ++ verdict (about_view about.now) report.now) }
+        ≡ string_bytes text.old ++ head (about_view about.now) report.now) }
 {
     let outcome = Outcome::of(about);
-    begin_verdict(alloc, text, outcome)?;
-    push_headline(alloc, text, outcome, difference_count(report))?;
-    push_compared(alloc, text, about, outcome)?;
-    push_counts(alloc, text, about.tally)
+    let count = difference_count(report);
+    text.push_str(OPENING)?;
+    push_headline(alloc, text, outcome, count)?;
+    end_title(alloc, text, about.recording, outcome)?;
+    push_headline(alloc, text, outcome, count)?;
+    push_compared(alloc, text, about, outcome)
 }

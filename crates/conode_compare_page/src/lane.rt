@@ -3,12 +3,9 @@
 
 ghost use Rattle.std.specs.Prelude.{◌≡◌, ◌++◌, OnOk, string_bytes};
 ghost use Rattle.conode_compare_page.specs.Picture.{
-  corner,
   count_in,
   frames_lane,
-  frames_path,
   lane_begin,
-  lane_end,
   lane_name,
   outline,
   step,
@@ -18,6 +15,11 @@ ghost use Rattle.conode_compare_page.specs.Picture.{
 use conode_compare_report::{Bin, Lane};
 use conode_markup::{Piece, push_pieces};
 use std::alloc::{AllocError, Global};
+
+/// The beginning of an outline, and what ends it and its lane.
+const OUTLINE: &str = "<path class=\"frames\" d=\"M0 100";
+
+const OUTLINE_END: &str = "V100Z\"/><use href=\"#across\"/></svg></div>\n";
 
 fn lane_name(lane: Lane) -> &'static str
     ensures { result.now ≡ lane_name lane }
@@ -60,16 +62,17 @@ fn top_of(count: u32) -> u8
     }
 }
 
-/// Appends a lane up to its picture.
+/// Appends a lane up to its picture, and what its picture begins with.
 #[tactic(auto, unfolding(crate::specs::Picture::lane_begin))]
-pub(crate) fn begin_lane(
+pub(crate) fn begin_lane<'t>(
     alloc: Global,
     text: &mut String,
-    name: &str,
+    name: &'t str,
     spans: usize,
+    within: &'t str,
 ) -> Result<(), AllocError>
     ensures { OnOk result (string_bytes text.new
-        ≡ string_bytes text.old ++ lane_begin name.now spans) }
+        ≡ string_bytes text.old ++ lane_begin name.now spans within.now) }
 {
     push_pieces(
         alloc,
@@ -80,29 +83,7 @@ pub(crate) fn begin_lane(
             Piece::Markup("</span><svg xmlns=\"http://www.w3.org/2000/svg\" viewBox=\"0 0 "),
             Piece::Number(spans as u64),
             Piece::Markup(" 100\" preserveAspectRatio=\"none\">"),
-        ],
-    )
-}
-
-/// Appends the end of a lane.
-pub(crate) fn end_lane(text: &mut String) -> Result<(), AllocError>
-    ensures { OnOk result (string_bytes text.new ≡ string_bytes text.old ++ lane_end) }
-{
-    text.push_str("<use href=\"#across\"/></svg></div>\n")
-}
-
-#[tactic(auto, unfolding(crate::specs::Picture::corner))]
-fn push_corner(alloc: Global, text: &mut String, at: usize, top: u8) -> Result<(), AllocError>
-    ensures { OnOk result (string_bytes text.new ≡ string_bytes text.old ++ corner at top) }
-{
-    push_pieces(
-        alloc,
-        text,
-        &[
-            Piece::Markup("H"),
-            Piece::Number(at as u64),
-            Piece::Markup("V"),
-            Piece::Number(top as u64),
+            Piece::Markup(within),
         ],
     )
 }
@@ -117,10 +98,18 @@ fn push_step(
     ensures { OnOk result (string_bytes text.new ≡ string_bytes text.old ++ step at before top) }
 {
     if top == before {
-        Ok(())
-    } else {
-        push_corner(alloc, text, at, top)
+        return Ok(());
     }
+    push_pieces(
+        alloc,
+        text,
+        &[
+            Piece::Markup("H"),
+            Piece::Number(at as u64),
+            Piece::Markup("V"),
+            Piece::Number(top as u64),
+        ],
+    )
 }
 
 fn push_outline(
@@ -144,19 +133,9 @@ fn push_outline(
         &[
             Piece::Markup("H"),
             Piece::Number(bins.len() as u64),
-            Piece::Markup("V100Z"),
+            Piece::Markup(OUTLINE_END),
         ],
     )
-}
-
-#[tactic(auto, unfolding(crate::specs::Picture::frames_path))]
-fn push_path(alloc: Global, text: &mut String, bins: &[Bin], lane: Lane) -> Result<(), AllocError>
-    ensures { OnOk result (string_bytes text.new
-        ≡ string_bytes text.old ++ frames_path bins.now lane) }
-{
-    text.push_str("<path class=\"frames\" d=\"M0 100")?;
-    push_outline(alloc, text, lane, bins)?;
-    text.push_str("\"/>")
 }
 
 /// Appends a lane of frames.
@@ -170,7 +149,6 @@ pub(crate) fn push_frames(
     ensures { OnOk result (string_bytes text.new
         ≡ string_bytes text.old ++ frames_lane bins.now lane) }
 {
-    begin_lane(alloc, text, lane_name(lane), bins.len())?;
-    push_path(alloc, text, bins, lane)?;
-    end_lane(text)
+    begin_lane(alloc, text, lane_name(lane), bins.len(), OUTLINE)?;
+    push_outline(alloc, text, lane, bins)
 }

@@ -12,5 +12,6 @@ mod lane;
 mod picture;
 mod states;
 mod style;
+mod words;
 
 pub use document::page;

@@ -5,15 +5,13 @@ ghost use Rattle.std.specs.Prelude.{◌≡◌, ◌++◌, ◌-◌, ◌*◌, ◌�
 ghost use Rattle.conode_compare_page.specs.Indexed.{indexed};
 ghost use Rattle.conode_compare_page.specs.Picture.{
   across,
-  across_path,
+  across_text,
   any_picture,
   axis_text,
   difference_mark,
   differences_lane,
   frame_lanes,
   lanes_picture,
-  legend,
-  line_at,
   mark_text,
   marks_text,
   picture,
@@ -27,10 +25,27 @@ use conode_compare_report::{Bin, Kind, Lane, Lanes, Noted, Report};
 use conode_markup::{Piece, push_pieces};
 use std::alloc::{AllocError, Global};
 
-#[tactic(auto, unfolding(crate::specs::Picture::line_at))]
-fn push_line(alloc: Global, text: &mut String, at: usize) -> Result<(), AllocError>
-    ensures { OnOk result (string_bytes text.new ≡ string_bytes text.old ++ line_at at) }
+/// The end of the times, the colours of the states, and the end of the section.
+const LEGEND: &str = " s</span></div>\n\
+    <ul class=\"key\">\n\
+    <li><i class=\"initialising\"></i>initialising</li>\n\
+    <li><i class=\"pre-operational\"></i>pre-operational</li>\n\
+    <li><i class=\"operational\"></i>operational</li>\n\
+    <li><i class=\"stopped\"></i>stopped</li>\n\
+    <li><i class=\"several\"></i>several</li>\n\
+    </ul>\n\
+    </section>\n";
+
+/// The beginning of the lines across the lanes: each lane shows them by their name.
+const ACROSS: &str = "<defs><path id=\"across\" class=\"across\" d=\"";
+
+// a line across the lanes, if a span has differences
+fn push_across(alloc: Global, text: &mut String, at: usize, bin: &Bin) -> Result<(), AllocError>
+    ensures { OnOk result (string_bytes text.new ≡ string_bytes text.old ++ across at bin.now) }
 {
+    if bin.differences == 0 {
+        return Ok(());
+    }
     push_pieces(
         alloc,
         text,
@@ -40,16 +55,6 @@ fn push_line(alloc: Global, text: &mut String, at: usize) -> Result<(), AllocErr
             Piece::Markup(".5 0v100"),
         ],
     )
-}
-
-fn push_across(alloc: Global, text: &mut String, at: usize, bin: &Bin) -> Result<(), AllocError>
-    ensures { OnOk result (string_bytes text.new ≡ string_bytes text.old ++ across at bin.now) }
-{
-    if bin.differences == 0 {
-        Ok(())
-    } else {
-        push_line(alloc, text, at)
-    }
 }
 
 fn push_all_across(alloc: Global, text: &mut String, bins: &[Bin]) -> Result<(), AllocError>
@@ -62,12 +67,11 @@ fn push_all_across(alloc: Global, text: &mut String, bins: &[Bin]) -> Result<(),
     Ok(())
 }
 
-#[tactic(auto, unfolding(crate::specs::Picture::across_path))]
-fn push_across_path(alloc: Global, text: &mut String, bins: &[Bin]) -> Result<(), AllocError>
+#[tactic(auto, unfolding(crate::specs::Picture::across_text))]
+fn push_across_text(alloc: Global, text: &mut String, bins: &[Bin]) -> Result<(), AllocError>
     ensures { OnOk result
-        (string_bytes text.new ≡ string_bytes text.old ++ across_path bins.now) }
+        (string_bytes text.new ≡ string_bytes text.old ++ across_text bins.now) }
 {
-    text.push_str("<defs><path id=\"across\" class=\"across\" d=\"")?;
     push_all_across(alloc, text, bins)?;
     text.push_str("\"/></defs>\n")
 }
@@ -129,23 +133,8 @@ fn push_mark(
     push_mark_text(alloc, text, at, span, since, noted)
 }
 
-fn push_marks(
-    alloc: Global,
-    text: &mut String,
-    lanes: &Lanes,
-    noted: &[Noted],
-) -> Result<(), AllocError>
-    ensures { OnOk result (string_bytes text.new
-        ≡ string_bytes text.old ++ indexed (difference_mark lanes.now) 0 noted.now) }
-{
-    for (at, difference) in noted.iter().enumerate() {
-        push_mark(alloc, text, lanes, at, difference)?;
-    }
-    Ok(())
-}
-
 #[tactic(auto, unfolding(crate::specs::Picture::marks_text))]
-fn push_marks_text(
+fn push_marks(
     alloc: Global,
     text: &mut String,
     lanes: &Lanes,
@@ -154,7 +143,9 @@ fn push_marks_text(
     ensures { OnOk result (string_bytes text.new
         ≡ string_bytes text.old ++ marks_text lanes.now noted.now) }
 {
-    push_marks(alloc, text, lanes, noted)?;
+    for (at, difference) in noted.iter().enumerate() {
+        push_mark(alloc, text, lanes, at, difference)?;
+    }
     text.push_str("</svg></div>\n")
 }
 
@@ -169,9 +160,9 @@ fn push_differences_lane(
     ensures { OnOk result (string_bytes text.new
         ≡ string_bytes text.old ++ differences_lane bins.now lanes.now noted.now) }
 {
-    begin_lane(alloc, text, "Differences", bins.len())?;
-    push_across_path(alloc, text, bins)?;
-    push_marks_text(alloc, text, lanes, noted)
+    begin_lane(alloc, text, "Differences", bins.len(), ACROSS)?;
+    push_across_text(alloc, text, bins)?;
+    push_marks(alloc, text, lanes, noted)
 }
 
 fn quarter_of(lanes: &Lanes) -> u64
@@ -181,7 +172,7 @@ fn quarter_of(lanes: &Lanes) -> u64
     (lanes.bins.len() as u64).saturating_mul(lanes.width) / 4
 }
 
-// the times below the lanes, since the first frame
+// the times below the lanes, since the first frame, and the colours of the states
 #[tactic(auto, unfolding(crate::specs::Picture::axis_text))]
 fn push_axis(alloc: Global, text: &mut String, quarter: u64) -> Result<(), AllocError>
     requires { quarter * 4 ≤ 2 ^ 64 - 1 }
@@ -201,24 +192,9 @@ fn push_axis(alloc: Global, text: &mut String, quarter: u64) -> Result<(), Alloc
             Piece::Seconds(quarter * 3),
             Piece::Markup(" s</span><span>"),
             Piece::Seconds(quarter * 4),
-            Piece::Markup(" s</span></div>\n"),
+            Piece::Markup(LEGEND),
         ],
     )
-}
-
-/// The colours of the states.
-const LEGEND: &str = "<ul class=\"key\">\n\
-    <li><i class=\"initialising\"></i>initialising</li>\n\
-    <li><i class=\"pre-operational\"></i>pre-operational</li>\n\
-    <li><i class=\"operational\"></i>operational</li>\n\
-    <li><i class=\"stopped\"></i>stopped</li>\n\
-    <li><i class=\"several\"></i>several</li>\n\
-    </ul>\n";
-
-fn push_legend(text: &mut String) -> Result<(), AllocError>
-    ensures { OnOk result (string_bytes text.new ≡ string_bytes text.old ++ legend) }
-{
-    text.push_str(LEGEND)
 }
 
 #[tactic(auto, unfolding(crate::specs::Picture::frame_lanes))]
@@ -242,8 +218,7 @@ fn push_lanes(alloc: Global, text: &mut String, report: &Report) -> Result<(), A
     push_differences_lane(alloc, text, bins, &report.lanes, report.noted.as_slice())?;
     push_states(alloc, text, bins)?;
     push_frame_lanes(alloc, text, bins)?;
-    push_axis(alloc, text, quarter_of(&report.lanes))?;
-    push_legend(text)
+    push_axis(alloc, text, quarter_of(&report.lanes))
 }
 
 fn push_any(alloc: Global, text: &mut String, report: &Report) -> Result<(), AllocError>
@@ -251,7 +226,7 @@ fn push_any(alloc: Global, text: &mut String, report: &Report) -> Result<(), All
         ≡ string_bytes text.old ++ any_picture report.now) }
 {
     if report.lanes.bins.is_empty() {
-        text.push_str("<p>No frame was compared.</p>\n")
+        text.push_str("<p>No frame was compared.</p>\n</section>\n")
     } else {
         push_lanes(alloc, text, report)
     }
@@ -267,6 +242,5 @@ pub(crate) fn push_picture(
     ensures { OnOk result (string_bytes text.new ≡ string_bytes text.old ++ picture report.now) }
 {
     text.push_str("<section>\n<h2>The bus over time</h2>\n")?;
-    push_any(alloc, text, report)?;
-    text.push_str("</section>\n")
+    push_any(alloc, text, report)
 }

@@ -5,7 +5,6 @@ ghost use Rattle.std.specs.Prelude.{◌≡◌, ◌++◌, OnOk, string_bytes};
 ghost use Rattle.conode_compare_page.specs.Picture.{
   any_area,
   areas,
-  going_on,
   is_quiet,
   next_shown,
   shown_of,
@@ -15,7 +14,7 @@ ghost use Rattle.conode_compare_page.specs.Picture.{
   states_lane,
 };
 
-use crate::lane::{begin_lane, end_lane};
+use crate::lane::begin_lane;
 use conode_compare_report::{Bin, States};
 use conode_markup::{Piece, push_pieces};
 use std::alloc::{AllocError, Global};
@@ -70,27 +69,15 @@ fn is_quiet(bin: &Bin) -> bool
         && bin.rpdos == 0
 }
 
-fn going_on(shown: Shown) -> Shown
-    ensures { result ≡ going_on shown }
-{
-    match shown {
-        Shown::Several => Shown::Nothing,
-        shown => shown,
-    }
-}
-
 // what a span shows after one that showed this: without a frame of the device its state goes on
 fn next_shown(shown: Shown, bin: &Bin) -> Shown
     ensures { result ≡ next_shown shown bin.now }
 {
     match shown_of(bin.states) {
-        Shown::Nothing => {
-            if is_quiet(bin) {
-                going_on(shown)
-            } else {
-                Shown::Nothing
-            }
-        }
+        Shown::Nothing => match shown {
+            Shown::Several => Shown::Nothing,
+            shown => { if is_quiet(bin) { shown } else { Shown::Nothing } }
+        },
         own => own,
     }
 }
@@ -193,7 +180,7 @@ pub(crate) fn push_states(alloc: Global, text: &mut String, bins: &[Bin]) -> Res
     ensures { OnOk result
         (string_bytes text.new ≡ string_bytes text.old ++ states_lane bins.now) }
 {
-    begin_lane(alloc, text, "NMT state", bins.len())?;
+    begin_lane(alloc, text, "NMT state", bins.len(), "")?;
     push_areas(alloc, text, bins)?;
-    end_lane(text)
+    text.push_str("<use href=\"#across\"/></svg></div>\n")
 }

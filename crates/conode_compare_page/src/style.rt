@@ -14,7 +14,7 @@ pub(crate) const STYLE: &str = "\
       :root {\n\
         --paper: #14171b; --panel: #1d2127; --line: #363c45; --ink: #e7e9ec; --soft: #a3abb6;\n\
         --bad: #ff8d84; --good: #6fcf97; --open: #e5b454; --mark: #46211f;\n\
-        --frames: #7fa8d8; --initialising: #8b93a0; --pre-operational: #d9a441;\n\
+        --frames: #7fa8d8; --initialising: #6a7380; --pre-operational: #d9a441;\n\
         --operational: #56b27f; --stopped: #b79be3;\n\
       }\n\
     }\n\
@@ -60,6 +60,7 @@ pub(crate) const STYLE: &str = "\
     .n { text-align: right; white-space: nowrap; width: 6.5rem; }\n\
     .differences .n { text-align: left; width: 5.5rem; padding-right: 1.25rem; }\n\
     td:last-child, th:last-child { padding-right: 0; }\n\
+    tbody td:first-child { white-space: nowrap; }\n\
     .found { color: var(--bad); font-weight: 650; }\n\
     .not { color: var(--soft); }\n\
     .around td { padding: 0 0 1.25rem; border-top: 0; }\n\
@@ -120,7 +121,9 @@ pub(crate) const STYLE: &str = "\
       td, .n, .differences .n { width: auto; padding: 0; text-align: left; border-top: 0; }\n\
       .n, .differences .n { display: inline-block; margin-right: 1rem; }\n\
       tr { padding: .75rem 0; border-top: 1px solid var(--line); }\n\
-      td[data-is]::before { content: attr(data-is) ' '; color: var(--soft); font-size: .875rem; }\n\
+      td[data-is]::before {\n\
+        content: attr(data-is) ' '; color: var(--soft); font-size: .875rem; font-weight: 400;\n\
+      }\n\
       .around { padding: 0 0 1rem; border-top: 0; }\n\
       .lane { display: block; }\n\
       .lane > span { font-size: .875rem; color: var(--soft); }\n\
@@ -139,8 +142,10 @@ pub(crate) const STYLE: &str = "\
       html { font-size: 9.5pt; }\n\
       body { padding: 0; max-width: none; }\n\
       h2 { margin-top: 2rem; }\n\
-      h2, h3, thead { break-after: avoid; }\n\
-      .one, .lane, header { break-inside: avoid; }\n\
+      .n { width: 4.5rem; }\n\
+      h2, h3, thead, .lane, .axis { break-after: avoid; }\n\
+      .one, .lane, .key, dl, header, footer, tr { break-inside: avoid; }\n\
+      footer { margin-top: 1.5rem; break-before: avoid; }\n\
       header, svg, pre, mark, i { print-color-adjust: exact; -webkit-print-color-adjust: exact; }\n\
     }\n\
     ";

@@ -49,6 +49,7 @@ use Rattle.conode_compare_report.specs.Reports.{nothing_kept, with_bad_line, wit
 use Rattle.conode_compare_report.specs.Services.{service_number}
 use Rattle.conode_compare_report.specs.Spans.{LanesView, bin_with, both_bins, empty_bin, joined, lanes_with, no_lanes, no_states, widened}
 use Rattle.conode_compare_report.specs.Views.{Kept}
+use Rattle.conode_compare_report.specs.Widths.{Seen, spans_of}
 
 -- ---- kinds and services by their places
 
@@ -122,6 +123,15 @@ states_of_both_spans = refl
 up_to_the_most : (both_bins (record empty_bin { transfers = 0xFFFFFFFF }) (record empty_bin { transfers = 2 })).transfers ≡ 0xFFFFFFFF
 unfolding both_bins
 up_to_the_most = refl
+
+-- a whole recording at one width: two frames in the first 2 ms, one in the next; one before the first frame is in the first span
+abbrev seen_at : ℕ → Seen
+seen_at micros = record { micros = micros; state = Operational; lane = Some Heartbeats; differences = 1 }
+
+of_one_width : spans_of 5000000 2000 (seen_at 5002000 ∷ seen_at 5001999 ∷ seen_at 5000000 ∷ []) ∷ spans_of 5000000 2000 (seen_at 4000000 ∷ []) ∷ []
+    ≡ (two_beats ∷ one_beat ∷ []) ∷ (one_beat ∷ []) ∷ []
+unfolding spans_of bin_with
+of_one_width = refl
 
 -- ---- lines around differences
 

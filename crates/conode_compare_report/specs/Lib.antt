@@ -11,3 +11,4 @@ pub mod Reports
 pub mod Services
 pub mod Spans
 pub mod Views
+pub mod Widths

@@ -114,9 +114,13 @@ no_lanes = record { begin = 0; width = 1000; bins = [] }
 abbrev pub begun_at : ℕ → LanesView → LanesView
 begun_at micros lanes = if length lanes.bins == 0 then record lanes { begin = micros } else lanes
 
+-- the span at a place is changed; there are spans up to it
+abbrev pub spans_with : ℕ → (Bin → Bin) → List Bin → List Bin
+spans_with place change bins = changed_at empty_bin place change (filled place bins)
+
 -- one frame more with this stamp, which changes its span
 abbrev pub placed : ℕ → (Bin → Bin) → LanesView → LanesView
-placed place change lanes = record lanes { bins = changed_at empty_bin place change (filled place lanes.bins) }
+placed place change lanes = record lanes { bins = spans_with place change lanes.bins }
 
 abbrev pub widened_for : ℕ → LanesView → LanesView
 widened_for micros lanes = widened 64 (micros - lanes.begin) lanes

@@ -8,11 +8,9 @@ ghost use Rattle.co_value.specs.Keys.{is_key_before};
 ghost use Rattle.conode_compare_report.specs.Coverages.{
   aborts_with,
   coverage_with,
-  covered_once,
   covered_with,
   entries_with,
   no_coverage,
-  not_covered,
   place_of,
   transfers_with,
   type_with,
@@ -32,7 +30,7 @@ use std::alloc::{AllocError, Global};
 use std::marker::Model;
 
 /// Which SDO transfers of an entry the recording has.
-#[derive(Clone, Copy, Debug, PartialEq, Eq)]
+#[derive(Clone, Copy)]
 pub struct Covered {
     /// An upload was confirmed.
     pub read: bool,
@@ -43,7 +41,7 @@ pub struct Covered {
 }
 
 /// How often a number came: an abort code, or the transmission type of a TPDO that is sent.
-#[derive(Clone, Copy, Debug, PartialEq, Eq)]
+#[derive(Clone, Copy)]
 pub struct Numbered {
     pub number: u32,
     /// At most 2^64 - 1.
@@ -87,31 +85,15 @@ const MOST_ABORTS: usize = 64;
 const MOST_TYPES: usize = 256;
 
 impl Covered {
-    fn none() -> Covered
-        ensures { result ≡ not_covered }
-    {
-        Covered {
-            read: false,
-            written: false,
-            refused: false,
-        }
-    }
-
-    fn note_done(&mut self, direction: Direction)
-        ensures { self.new ≡ covered_once direction self.old }
-    {
-        match direction {
-            Direction::Upload => self.read = true,
-            Direction::Download => self.written = true,
-        }
-    }
-
     // a transfer ended
     fn note(&mut self, direction: Direction, ending: Ending)
         ensures { self.new ≡ covered_with direction ending self.old }
     {
         match ending {
-            Ending::Done { crc: _ } => self.note_done(direction),
+            Ending::Done { crc: _ } => match direction {
+                Direction::Upload => self.read = true,
+                Direction::Download => self.written = true,
+            },
             Ending::Aborted {
                 by: Side::Server,
                 code: _,
@@ -186,7 +168,11 @@ impl Coverage {
         ensures { IfOk result (λ coverage. coverage ≡ no_coverage rows) }
     {
         let services = no_services(alloc)?;
-        let entry = Covered::none();
+        let entry = Covered {
+            read: false,
+            written: false,
+            refused: false,
+        };
         let entries = vec![in alloc; entry; rows]?;
         Ok(Coverage {
             entries,

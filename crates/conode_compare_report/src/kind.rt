@@ -10,7 +10,7 @@ use conode_compare_transfers::Breach;
 use conode_compare_values::Mismatch;
 
 /// A kind of difference, in the order of the table in docs/COMPARE.md.
-#[derive(Clone, Copy, Debug, PartialEq, Eq)]
+#[derive(Clone, Copy)]
 pub enum Kind {
     HeartbeatLate,
     HeartbeatState,
@@ -42,8 +42,40 @@ pub enum Kind {
     AccessLimits,
 }
 
+/// Each kind once, in this order.
+pub(crate) const KINDS: [Kind; 28] = [
+    Kind::HeartbeatLate,
+    Kind::HeartbeatState,
+    Kind::HeartbeatLength,
+    Kind::PdoLength,
+    Kind::PdoState,
+    Kind::PdoSync,
+    Kind::PdoInhibit,
+    Kind::PdoLate,
+    Kind::BootMissing,
+    Kind::SecondSender,
+    Kind::EmergencyLength,
+    Kind::EmergencyState,
+    Kind::EmergencyRegister,
+    Kind::EmergencyInhibit,
+    Kind::NoAnswer,
+    Kind::AnswerKey,
+    Kind::AnswerForm,
+    Kind::AnswerToggle,
+    Kind::AnswerSize,
+    Kind::AnswerCrc,
+    Kind::AnswerState,
+    Kind::AbortKey,
+    Kind::ValueLength,
+    Kind::ValueConst,
+    Kind::ValueHeld,
+    Kind::AccessRead,
+    Kind::AccessWrite,
+    Kind::AccessLimits,
+];
+
 /// How often a kind was found, and how often it could have been.
-#[derive(Clone, Copy, Debug, PartialEq, Eq)]
+#[derive(Clone, Copy)]
 pub struct Counted {
     pub kind: Kind,
     /// Its differences, up to 2^64 - 1.

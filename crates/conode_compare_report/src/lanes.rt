@@ -17,7 +17,6 @@ ghost use Rattle.conode_compare_report.specs.Spans.{
   placed_at,
   states_of_both,
   states_with,
-  summed,
   widened,
 };
 
@@ -26,7 +25,7 @@ use std::alloc::{AllocError, Global};
 use std::marker::Model;
 
 /// In which NMT states the device is known to have been (CiA 301, 7.3.2.2).
-#[derive(Clone, Copy, Debug, PartialEq, Eq)]
+#[derive(Clone, Copy)]
 pub struct States {
     pub initialising: bool,
     pub pre_operational: bool,
@@ -35,7 +34,7 @@ pub struct States {
 }
 
 /// The lane of a frame in a picture of the bus.
-#[derive(Clone, Copy, Debug, PartialEq, Eq)]
+#[derive(Clone, Copy)]
 pub enum Lane {
     Heartbeats,
     Emergencies,
@@ -45,7 +44,7 @@ pub enum Lane {
 }
 
 /// The frames in one span of time; each number is at most 2^32 - 1.
-#[derive(Clone, Copy, Debug, PartialEq, Eq)]
+#[derive(Clone, Copy)]
 pub struct Bin {
     /// The states that are known after its frames.
     pub states: States,
@@ -134,13 +133,6 @@ impl States {
     }
 }
 
-// a sum, up to 2^32 - 1
-fn summed(a: u32, b: u32) -> u32
-    ensures { result ≡ summed a b }
-{
-    a.saturating_add(b)
-}
-
 impl Bin {
     fn empty() -> Bin
         ensures { result ≡ empty_bin }
@@ -161,11 +153,11 @@ impl Bin {
         ensures { self.new ≡ in_lane lane self.old }
     {
         match lane {
-            Some(Lane::Heartbeats) => self.heartbeats = summed(self.heartbeats, 1),
-            Some(Lane::Emergencies) => self.emergencies = summed(self.emergencies, 1),
-            Some(Lane::Transfers) => self.transfers = summed(self.transfers, 1),
-            Some(Lane::Tpdos) => self.tpdos = summed(self.tpdos, 1),
-            Some(Lane::Rpdos) => self.rpdos = summed(self.rpdos, 1),
+            Some(Lane::Heartbeats) => self.heartbeats = self.heartbeats.saturating_add(1),
+            Some(Lane::Emergencies) => self.emergencies = self.emergencies.saturating_add(1),
+            Some(Lane::Transfers) => self.transfers = self.transfers.saturating_add(1),
+            Some(Lane::Tpdos) => self.tpdos = self.tpdos.saturating_add(1),
+            Some(Lane::Rpdos) => self.rpdos = self.rpdos.saturating_add(1),
             None => {}
         }
     }
@@ -176,7 +168,7 @@ impl Bin {
         ensures { self.new ≡ bin_with state lane differences self.old }
     {
         self.states.note(state);
-        self.differences = summed(self.differences, differences);
+        self.differences = self.differences.saturating_add(differences);
         self.count(lane);
     }
 
@@ -187,12 +179,12 @@ impl Bin {
     {
         Bin {
             states: self.states.with(other.states),
-            heartbeats: summed(self.heartbeats, other.heartbeats),
-            emergencies: summed(self.emergencies, other.emergencies),
-            transfers: summed(self.transfers, other.transfers),
-            tpdos: summed(self.tpdos, other.tpdos),
-            rpdos: summed(self.rpdos, other.rpdos),
-            differences: summed(self.differences, other.differences),
+            heartbeats: self.heartbeats.saturating_add(other.heartbeats),
+            emergencies: self.emergencies.saturating_add(other.emergencies),
+            transfers: self.transfers.saturating_add(other.transfers),
+            tpdos: self.tpdos.saturating_add(other.tpdos),
+            rpdos: self.rpdos.saturating_add(other.rpdos),
+            differences: self.differences.saturating_add(other.differences),
         }
     }
 }

@@ -28,7 +28,6 @@ ghost use Rattle.conode_compare_report.specs.Occasions.{
   is_done,
   is_expedited,
   is_refused,
-  is_segment,
   is_set,
   is_stopped,
   is_synchronous,
@@ -45,7 +44,7 @@ ghost use Rattle.conode_compare_report.specs.Occasions.{
 };
 
 use crate::before::{Before, Role};
-use crate::kind::{Counted, Kind};
+use crate::kind::{Counted, KINDS, Kind};
 use co_sheet::EntryRow;
 use conode_compare_pdos::Parameters;
 use conode_compare_rules::{FrameKind, NmtState, Verdict};
@@ -55,16 +54,6 @@ use conode_explain_transfers::{Direction, Ended, Ending, Heard, Protocol, Side, 
 use std::alloc::{AllocError, Global};
 
 impl Counted {
-    fn none_of(kind: Kind) -> Counted
-        ensures { result ≡ none_of kind }
-    {
-        Counted {
-            kind,
-            found: 0,
-            occasions: 0,
-        }
-    }
-
     fn pass(&mut self)
         ensures { self.new ≡ passed self.old }
     {
@@ -79,41 +68,26 @@ impl Counted {
     }
 }
 
+// each of these kinds, which nothing showed so far
+fn none_of_all(alloc: Global, kinds: &[Kind]) -> Result<Vec<Counted>, AllocError>
+    ensures { IfOk result (λ counts. counts.items ≡ map none_of kinds.now) }
+{
+    let mut counts = Vec::new(alloc);
+    for kind in kinds {
+        counts.push(Counted {
+            kind: *kind,
+            found: 0,
+            occasions: 0,
+        })?;
+    }
+    Ok(counts)
+}
+
 /// Each kind once, in the order of the table.
 pub(crate) fn no_counts(alloc: Global) -> Result<Vec<Counted>, AllocError>
     ensures { IfOk result (λ counts. counts.items ≡ no_counts) }
 {
-    let counts = [
-        Counted::none_of(Kind::HeartbeatLate),
-        Counted::none_of(Kind::HeartbeatState),
-        Counted::none_of(Kind::HeartbeatLength),
-        Counted::none_of(Kind::PdoLength),
-        Counted::none_of(Kind::PdoState),
-        Counted::none_of(Kind::PdoSync),
-        Counted::none_of(Kind::PdoInhibit),
-        Counted::none_of(Kind::PdoLate),
-        Counted::none_of(Kind::BootMissing),
-        Counted::none_of(Kind::SecondSender),
-        Counted::none_of(Kind::EmergencyLength),
-        Counted::none_of(Kind::EmergencyState),
-        Counted::none_of(Kind::EmergencyRegister),
-        Counted::none_of(Kind::EmergencyInhibit),
-        Counted::none_of(Kind::NoAnswer),
-        Counted::none_of(Kind::AnswerKey),
-        Counted::none_of(Kind::AnswerForm),
-        Counted::none_of(Kind::AnswerToggle),
-        Counted::none_of(Kind::AnswerSize),
-        Counted::none_of(Kind::AnswerCrc),
-        Counted::none_of(Kind::AnswerState),
-        Counted::none_of(Kind::AbortKey),
-        Counted::none_of(Kind::ValueLength),
-        Counted::none_of(Kind::ValueConst),
-        Counted::none_of(Kind::ValueHeld),
-        Counted::none_of(Kind::AccessRead),
-        Counted::none_of(Kind::AccessWrite),
-        Counted::none_of(Kind::AccessLimits),
-    ];
-    Ok(Vec::from_array(alloc, counts)?)
+    none_of_all(alloc, &KINDS)
 }
 
 // a frame could have shown a difference of this kind
@@ -240,25 +214,19 @@ fn pass_role(counts: &mut [Counted], role: Role)
 }
 
 // a segment of a sub-block, which has no command
-fn is_segment(what: What) -> bool
-    ensures { result ≡ is_segment what }
+fn has_segment(heard: &Option<Heard>) -> bool
+    ensures { result ≡ has_segment heard.now }
 {
-    match what {
+    let Some(heard) = heard else {
+        return false;
+    };
+    match heard.what {
         What::Segment { number: _ } => true,
         What::OutOfSequence {
             number: _,
             awaited: _,
         } => true,
         _ => false,
-    }
-}
-
-fn has_segment(heard: &Option<Heard>) -> bool
-    ensures { result ≡ has_segment heard.now }
-{
-    match heard {
-        Some(heard) => is_segment(heard.what),
-        None => false,
     }
 }
 

@@ -8,6 +8,7 @@ ghost use Rattle.co_value.specs.Keys.{is_key_before};
 ghost use Rattle.conode_compare_report.specs.Befores.{before_at};
 ghost use Rattle.conode_compare_report.specs.Contexts.{around};
 ghost use Rattle.conode_compare_report.specs.Histories.{Happening, kept_of, lines_of, near};
+ghost use Rattle.conode_compare_report.specs.Widths.{StampsFit, seen_of, spans_of};
 ghost use Rattle.conode_compare_report.specs.Reports.{
   begin_with,
   channel_after,
@@ -288,6 +289,24 @@ impl Report {
         }
         self.unlisted = self.unlisted.saturating_add(1);
         Ok(())
+    }
+
+    fn kept_lanes(&self) -> &Lanes
+        ensures { result.now ≡ self.now.lanes }
+    {
+        &self.lanes
+    }
+
+    /// The bus over time.
+    pub fn lanes(&self) -> &Lanes
+        ensures kept { result.now ≡ self.now.lanes }
+        // Holds after all that happened: the spans are those of all frames at the last width, so
+        // nothing is lost where spans were joined.
+        ensures spans { (rows : List Row) → (node : ℕ) → (happenings : List Happening)
+            → self.now ≡ kept_of rows node happenings → StampsFit (seen_of happenings)
+            → result.now.bins ≡ spans_of result.now.begin result.now.width (seen_of happenings) }
+    {
+        self.kept_lanes()
     }
 
     fn kept_around(&self, noted: &Noted) -> &[ContextLine]

@@ -1,6 +1,6 @@
 //! The services of CiA 301 that a recording may have.
 
-ghost use Rattle.std.specs.Prelude.{◌≡◌, IfOk};
+ghost use Rattle.std.specs.Prelude.{◌≡◌, map, IfOk};
 ghost use Rattle.std.specs.Option.{option_copied};
 ghost use Rattle.conode_compare_report.specs.Coverages.{
   command_service,
@@ -12,11 +12,9 @@ ghost use Rattle.conode_compare_report.specs.Coverages.{
   none_of,
   role_lane,
   role_service,
-  rpdo_service,
   served_once_more,
   service_of,
   services_with,
-  tpdo_service,
   transfer_service,
 };
 ghost use Rattle.conode_compare_report.specs.Services.{service_name, service_number};
@@ -29,7 +27,7 @@ use conode_explain_transfers::{Direction, Ended, Ending, Protocol};
 use std::alloc::{AllocError, Global};
 
 /// A service of a device, or one that it takes.
-#[derive(Clone, Copy, Debug, PartialEq, Eq)]
+#[derive(Clone, Copy)]
 pub enum Service {
     Start,
     Stop,
@@ -58,8 +56,37 @@ pub enum Service {
     Rpdo4,
 }
 
+// each service once, in this order
+const SERVICES: [Service; 25] = [
+    Service::Start,
+    Service::Stop,
+    Service::EnterPreOperational,
+    Service::ResetNode,
+    Service::ResetCommunication,
+    Service::BootUp,
+    Service::Heartbeat,
+    Service::NodeGuarding,
+    Service::Emergency,
+    Service::Sync,
+    Service::Time,
+    Service::ExpeditedUpload,
+    Service::SegmentedUpload,
+    Service::BlockUpload,
+    Service::ExpeditedDownload,
+    Service::SegmentedDownload,
+    Service::BlockDownload,
+    Service::Tpdo1,
+    Service::Tpdo2,
+    Service::Tpdo3,
+    Service::Tpdo4,
+    Service::Rpdo1,
+    Service::Rpdo2,
+    Service::Rpdo3,
+    Service::Rpdo4,
+];
+
 /// How often a service was seen: frames of it, or SDO transfers that were confirmed.
-#[derive(Clone, Copy, Debug, PartialEq, Eq)]
+#[derive(Clone, Copy)]
 pub struct Served {
     pub service: Service,
     /// At most 2^64 - 1.
@@ -135,12 +162,6 @@ impl Service {
 }
 
 impl Served {
-    fn none_of(service: Service) -> Served
-        ensures { result ≡ none_of service }
-    {
-        Served { service, count: 0 }
-    }
-
     fn add(&mut self)
         ensures { self.new ≡ served_once_more self.old }
     {
@@ -148,38 +169,25 @@ impl Served {
     }
 }
 
+// each of these services, none of which was seen so far
+fn none_of_all(alloc: Global, services: &[Service]) -> Result<Vec<Served>, AllocError>
+    ensures { IfOk result (λ counts. counts.items ≡ map none_of services.now) }
+{
+    let mut counts = Vec::new(alloc);
+    for service in services {
+        counts.push(Served {
+            service: *service,
+            count: 0,
+        })?;
+    }
+    Ok(counts)
+}
+
 /// Each service once.
 pub(crate) fn no_services(alloc: Global) -> Result<Vec<Served>, AllocError>
     ensures { IfOk result (λ services. services.items ≡ no_services) }
 {
-    let services = [
-        Served::none_of(Service::Start),
-        Served::none_of(Service::Stop),
-        Served::none_of(Service::EnterPreOperational),
-        Served::none_of(Service::ResetNode),
-        Served::none_of(Service::ResetCommunication),
-        Served::none_of(Service::BootUp),
-        Served::none_of(Service::Heartbeat),
-        Served::none_of(Service::NodeGuarding),
-        Served::none_of(Service::Emergency),
-        Served::none_of(Service::Sync),
-        Served::none_of(Service::Time),
-        Served::none_of(Service::ExpeditedUpload),
-        Served::none_of(Service::SegmentedUpload),
-        Served::none_of(Service::BlockUpload),
-        Served::none_of(Service::ExpeditedDownload),
-        Served::none_of(Service::SegmentedDownload),
-        Served::none_of(Service::BlockDownload),
-        Served::none_of(Service::Tpdo1),
-        Served::none_of(Service::Tpdo2),
-        Served::none_of(Service::Tpdo3),
-        Served::none_of(Service::Tpdo4),
-        Served::none_of(Service::Rpdo1),
-        Served::none_of(Service::Rpdo2),
-        Served::none_of(Service::Rpdo3),
-        Served::none_of(Service::Rpdo4),
-    ];
-    Ok(Vec::from_array(alloc, services)?)
+    none_of_all(alloc, &SERVICES)
 }
 
 fn command_service(service: NmtService) -> Service
@@ -207,36 +215,20 @@ fn control_service(byte: u8) -> Service
     }
 }
 
-fn tpdo_service(number: u8) -> Service
-    ensures { result ≡ tpdo_service number }
-{
-    match number {
-        1 => Service::Tpdo1,
-        2 => Service::Tpdo2,
-        3 => Service::Tpdo3,
-        _ => Service::Tpdo4,
-    }
-}
-
-fn rpdo_service(number: u8) -> Service
-    ensures { result ≡ rpdo_service number }
-{
-    match number {
-        1 => Service::Rpdo1,
-        2 => Service::Rpdo2,
-        3 => Service::Rpdo3,
-        _ => Service::Rpdo4,
-    }
-}
-
 fn role_service(role: Role) -> Option<Service>
     ensures { result ≡ role_service role }
 {
     match role {
         Role::Sync => Some(Service::Sync),
         Role::Time => Some(Service::Time),
-        Role::Tpdo(number, _) => Some(tpdo_service(number)),
-        Role::Rpdo(number) => Some(rpdo_service(number)),
+        Role::Tpdo(1, _) => Some(Service::Tpdo1),
+        Role::Tpdo(2, _) => Some(Service::Tpdo2),
+        Role::Tpdo(3, _) => Some(Service::Tpdo3),
+        Role::Tpdo(_, _) => Some(Service::Tpdo4),
+        Role::Rpdo(1) => Some(Service::Rpdo1),
+        Role::Rpdo(2) => Some(Service::Rpdo2),
+        Role::Rpdo(3) => Some(Service::Rpdo3),
+        Role::Rpdo(_) => Some(Service::Rpdo4),
         Role::Other => None,
     }
 }

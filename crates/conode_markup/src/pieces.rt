@@ -20,6 +20,8 @@ pub enum Piece<'a> {
     Text(&'a [u8]),
     /// A number in decimal digits.
     Number(u64),
+    /// How often something came, in decimal digits; these words for 0.
+    Count(u64, &'a str),
     /// Microseconds, as seconds with six digits after the point: `12.345678`.
     Seconds(u64),
     /// The key of an entry, `1018:01`.
@@ -59,6 +61,8 @@ fn push_piece(alloc: Global, text: &mut String, piece: &Piece<'_>) -> Result<(),
         Piece::Markup(part) => text.push_str(part),
         Piece::Text(bytes) => push_escaped(alloc, text, bytes),
         Piece::Number(number) => push_decimal(text, number),
+        Piece::Count(0, none) => text.push_str(none),
+        Piece::Count(count, _) => push_decimal(text, count),
         Piece::Seconds(micros) => push_seconds(text, micros),
         Piece::Key(key) => text.push_str(key.text().as_str()),
         Piece::Code(code) => push_u32(text, code),

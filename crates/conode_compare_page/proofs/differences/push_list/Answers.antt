@@ -1,8 +1,8 @@
 -- One part after another.
 use Rattle.conode_compare_page.specs.Differences.{difference_list}
-use Rattle.conode_compare_page.proofs.Appending.{on_ok, three}
+use Rattle.conode_compare_page.proofs.Appending.{two}
 use Rattle.conode_compare_page.proofs.differences.push_list.Goals as goal
 
 pub returns : goal.returns
 unfolding difference_list
-returns c = three c.push_str-2.result _ _ _ _ _ _ _ c.in_ok-push_str.ensures.bytes c.in_ok-push_rows.ensures (on_ok c.push_str-2.result _ _ _ c.push_str-2.ensures.bytes)
+returns c = two c.push_rows.result _ _ _ _ _ c.in_ok-push_str.ensures.bytes c.push_rows.ensures

@@ -5,4 +5,4 @@ use Rattle.conode_compare_page.proofs.picture.push_differences_lane.Goals as goa
 
 pub returns : goal.returns
 unfolding differences_lane
-returns c = three c.push_marks_text.result _ _ _ _ _ _ _ c.in_ok-begin_lane.ensures c.in_ok-push_across_path.ensures c.push_marks_text.ensures
+returns c = three c.push_marks.result _ _ _ _ _ _ _ c.in_ok-begin_lane.ensures c.in_ok-push_across_text.ensures c.push_marks.ensures
