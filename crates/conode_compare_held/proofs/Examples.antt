@@ -195,7 +195,7 @@ said_once = refl
 -- ---- requests
 
 abbrev asks : Bool → ℕ → ℕ → Option Asked
-asks writes index sub = Some (record { key = record { index = index; sub = sub }; micros = 1; writes = writes })
+asks writes index sub = Some (record { key = record { index = index; sub = sub }; micros = 1; writes = writes; switches = false })
 
 asked_to_read : number_at (written_heard held wrote true None (asks false 0x2000 0)) (Some 1) ≡ Some 0x102
 unfolding written_heard nothing_written

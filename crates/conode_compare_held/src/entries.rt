@@ -63,9 +63,9 @@ pub enum HeldFault {
     TooMany,
 }
 
-// How many bytes a value of a type has, where it can be held: an integer of up to four bytes. Of the
-// byte of a BOOLEAN only one bit may count.
-fn held_width(data_type: DataType) -> Option<usize>
+/// How many bytes a value of a type has, where it can be held: an integer of up to four bytes. Of
+/// the byte of a BOOLEAN only one bit may count.
+pub fn held_width(data_type: DataType) -> Option<usize>
     ensures { result ≡ held_width data_type }
 {
     if let DataType::Boolean = data_type {
@@ -153,7 +153,7 @@ impl HeldEntries {
     }
 
     /// The entry of a key, if it is held.
-    pub(crate) fn entry(&self, key: Key) -> Option<HeldEntry>
+    pub fn entry(&self, key: Key) -> Option<HeldEntry>
         ensures { result ≡ entry_of self.now.entries.items key }
     {
         let entries = self.entries.as_slice();

@@ -55,8 +55,8 @@ pub fn is_whole(ended: &Ended) -> bool
     )
 }
 
-// the number that so many bytes are
-fn number_written(width: usize, bytes: &[u8]) -> Option<u64>
+/// The number that so many bytes are, if they are as many.
+pub fn number_written(width: usize, bytes: &[u8]) -> Option<u64>
     ensures { result ≡ number_written width bytes.now }
 {
     if bytes.len() == width {
@@ -88,8 +88,8 @@ fn uploaded(held: &HeldEntries, certain: bool, ended: &Ended) -> Option<u64>
     shown_number(entry.width, ended.first.as_slice())
 }
 
-// whether both numbers are known and differ
-fn differs(key: Key, shown: Option<u64>, written: Option<u64>) -> Option<HeldMismatch>
+/// What differs, where both numbers are known and aren't the same.
+pub fn differs(key: Key, shown: Option<u64>, written: Option<u64>) -> Option<HeldMismatch>
     ensures { result ≡ differs key shown written }
 {
     match (shown, written) {

@@ -13,7 +13,8 @@ use Rattle.co_value.specs.declared.key.Key.{Key}
 use Rattle.conode_compare_pdos.specs.Followed.{pdos_of}
 use Rattle.conode_explain_transfers.specs.declared.ended.Ended.{Ended}
 use Rattle.conode_explain_transfers.specs.declared.ended.Ending.TheVariants.{Done}
-use Rattle.conode_explain_transfers.specs.declared.kinds.Direction.TheVariants.{Download}
+use Rattle.conode_explain_transfers.specs.declared.kinds.Direction.{Direction}
+use Rattle.conode_explain_transfers.specs.declared.kinds.Direction.TheVariants.{Download, Upload}
 use Rattle.conode_explain_transfers.specs.declared.kinds.Protocol.{Protocol}
 use Rattle.conode_explain_transfers.specs.declared.kinds.Protocol.TheVariants.{Expedited, Segmented}
 use Rattle.conode_explain_transfers.specs.declared.kinds.Side.TheVariants.{Client}
@@ -22,6 +23,7 @@ use Rattle.conode_compare_transfers.specs.declared.breach.Breach.TheVariants.{To
 use Rattle.conode_compare_transfers.specs.declared.dialogue.Exchange.{Exchange}
 use Rattle.conode_compare_rules.specs.declared.entries.Entries.{Entries}
 use Rattle.conode_compare_rules.specs.declared.finding.Finding.TheVariants.{BootMissing, SecondBootUp, NoState, WrongState, HeartbeatLate, EmergencyStopped, EmergencyRegister, EmergencyInhibit, AnswerStopped, Transfer}
+use Rattle.conode_compare_rules.specs.declared.finding.Remark.TheVariants.{Restarted, EarlyHeartbeat}
 use Rattle.conode_compare_rules.specs.declared.finding.NmtState.{NmtState}
 use Rattle.conode_compare_rules.specs.declared.finding.NmtState.TheVariants.{Unknown, Initialising, PreOperational, Operational, Stopped}
 use Rattle.conode_compare_rules.specs.declared.heartbeats.Heartbeats.{Heartbeats}
@@ -34,9 +36,9 @@ use Rattle.conode_compare_transfers.specs.NewestFrames.{newest_after, newest_wit
 use Rattle.conode_compare_rules.specs.EmergencyRules.{emergency_finding, inhibit_finding}
 use Rattle.conode_compare_rules.specs.EntriesInForce.{ended_entries, facts_of, initial_entries, sheet_entries, shown_inhibit, shown_period}
 use Rattle.conode_compare_rules.specs.FrameKinds.{command_kind}
-use Rattle.conode_compare_rules.specs.Heartbeats.{follows_closely, late_finding, overdue_by, is_gap}
+use Rattle.conode_compare_rules.specs.Heartbeats.{after_byte, after_transfer, early_remark, follows_closely, late_finding, overdue_by, is_gap}
 use Rattle.conode_compare_rules.specs.Progresses.{free_at, still_awaited}
-use Rattle.conode_compare_rules.specs.States.{either_state, after_boot_up, after_command, after_other, awaits_boot_up, boot_finding, is_settled, nothing_commanded, second_boot_up, state_finding}
+use Rattle.conode_compare_rules.specs.States.{either_state, after_boot_up, after_command, after_other, awaits_boot_up, boot_finding, is_settled, nothing_commanded, restart_remark, second_boot_up, state_finding}
 
 -- 10 ms, 1 %, 1 s and 10 s
 abbrev limits : Limits
@@ -45,7 +47,7 @@ limits = record { tolerance = 10; drift = 1; answer = 1000; boot = 10000 }
 -- ---- heartbeats
 
 abbrev pulse : Heartbeats
-pulse = record { guarded = false; since = Some 5 }
+pulse = record { guarded = false; since = Some 5; sent = Some 4 }
 
 -- late after 1000 ms, 10 ms and 1 %
 in_time : late_finding limits (Some 1000) pulse 1020005 1020005 ≡ None
@@ -94,6 +96,40 @@ guarded_late = refl
 not_since : late_finding limits (Some 1000) (record pulse { since = None }) 9000000 9000000 ≡ None
 unfolding late_finding overdue_by
 not_since = refl
+
+-- early before 1000 ms, less 10 ms and 1 %
+early : early_remark limits (Some 1000) pulse 980003 5 ≡ Some (EarlyHeartbeat 979999 1000)
+unfolding early_remark
+early = refl
+
+not_early : early_remark limits (Some 1000) pulse 980004 5 ≡ None
+unfolding early_remark
+not_early = refl
+
+no_period : early_remark limits (Some 0) pulse 5 5 ≡ None
+unfolding early_remark
+no_period = refl
+
+period_unknown : early_remark limits None pulse 5 5 ≡ None
+unfolding early_remark
+period_unknown = refl
+
+none_before : early_remark limits (Some 1000) (record pulse { sent = None }) 5 5 ≡ None
+unfolding early_remark
+none_before = refl
+
+-- answers of node guarding aren't heartbeats
+guarded_early : early_remark limits (Some 1000) (record pulse { guarded = true }) 5 5 ≡ None
+unfolding early_remark
+guarded_early = refl
+
+toggled : early_remark limits (Some 1000) pulse 5 0x85 ≡ None
+unfolding early_remark
+toggled = refl
+
+-- one that waited counts from when the bus was free
+waited : after_byte pulse 1000 2000 5 ≡ record { guarded = false; since = Some 2000; sent = Some 1000 }
+waited = refl
 
 -- more than three periods without a frame are a gap
 no_gap : is_gap limits (Some 1000) 7 3000007 ≡ false
@@ -198,6 +234,34 @@ second = refl
 again : second_boot_up (Some 0) 1000001 ≡ None
 unfolding second_boot_up
 again = refl
+
+-- a boot-up without a reset
+restarted : restart_remark (record { state = Stopped; commanded = None; reset = Some 5; several = false; booted = None }) 9000000 ≡ Some Restarted
+unfolding restart_remark second_boot_up
+restarted = refl
+
+commanded_boot_up : restart_remark (reset_at 1) 9000000 ≡ None
+unfolding restart_remark second_boot_up
+commanded_boot_up = refl
+
+-- of a device that wasn't seen before
+power_on : restart_remark nothing_commanded 9000000 ≡ None
+unfolding restart_remark second_boot_up
+power_on = refl
+
+-- of which more than one boot-up may come
+perhaps_commanded : restart_remark (record { state = PreOperational; commanded = None; reset = Some 5; several = true; booted = None }) 9000000 ≡ None
+unfolding restart_remark second_boot_up
+perhaps_commanded = refl
+
+-- a second one within a second is another device's
+of_another : restart_remark (record { state = PreOperational; commanded = None; reset = None; several = false; booted = Some 0 }) 1000000 ≡ None
+unfolding restart_remark second_boot_up
+of_another = refl
+
+restarted_again : restart_remark (record { state = PreOperational; commanded = None; reset = None; several = false; booted = Some 0 }) 1000001 ≡ Some Restarted
+unfolding restart_remark second_boot_up
+restarted_again = refl
 
 -- a device that is up answers a reset by one boot-up
 one_due : (after_boot_up limits (after_command (record { state = Stopped; commanded = None; reset = None; several = false; booted = None }) ResetNode false 0) 5).booted ≡ Some 5
@@ -382,6 +446,22 @@ other_written : ended_entries entries (transferred (key 0x1017 1) Expedited) ≡
 unfolding shown_period shown_inhibit
 other_written = refl
 
+-- with a download of it the period begins anew, perhaps since the request
+abbrev after_period : Direction → Heartbeats
+after_period direction = after_transfer pulse (Some (record (transferred (key 0x1017 0) Expedited) { direction = direction })) 90
+
+begun_anew : after_period Download ≡ record { guarded = false; since = Some 90; sent = Some 1 }
+unfolding shown_period
+begun_anew = refl
+
+read_period : after_period Upload ≡ record { guarded = false; since = Some 90; sent = Some 4 }
+unfolding shown_period
+read_period = refl
+
+other_transfer : after_transfer pulse (Some (transferred (key 0x1017 1) Expedited)) 90 ≡ pulse
+unfolding shown_period
+other_transfer = refl
+
 -- ---- what a data sheet says
 
 abbrev row : ℕ → ℕ → DataType → Access → Default → Row
@@ -406,6 +486,7 @@ plain_sheet : facts_of rows 5 false ≡ record {
   pdos = pdos_of rows 5;
   starts_itself = false;
   modular = false;
+  stores = false;
 }
 unfolding facts_of initial_entries sheet_entries
 plain_sheet = refl
@@ -414,6 +495,10 @@ plain_sheet = refl
 storing_sheet : (facts_of (row 0x1010 0 Unsigned8 Constant absent ∷ rows) 5 false).booted ≡ record { period = None; emergencies = false; inhibit = Some 0; inhibit_shown = None }
 unfolding facts_of initial_entries sheet_entries
 storing_sheet = refl
+
+may_have_stored : map (λ configured. (facts_of (row 0x1010 0 Unsigned8 Constant absent ∷ rows) 5 configured).stores) (false ∷ true ∷ []) ≡ true ∷ false ∷ []
+unfolding facts_of
+may_have_stored = refl
 
 configuration : (facts_of rows 5 true).booted ≡ record { period = None; emergencies = false; inhibit = Some 0; inhibit_shown = None }
 unfolding facts_of initial_entries sheet_entries
@@ -452,7 +537,7 @@ stopped_at micros = record {
 abbrev answered_in : Bool → Exchange
 answered_in certain = record {
   heard = record { what = Part; of = None; ended = None };
-  asked = Some (record { key = key 0x1000 0; micros = 110001; writes = false });
+  asked = Some (record { key = key 0x1000 0; micros = 110001; writes = false; switches = false });
   owed = true;
   certain = certain;
   breach = Some (Toggle (key 0x1000 0));

@@ -80,6 +80,7 @@ facts_of rows node configured =
       pdos = if has_object rows store_parameters || configured then unknown_pdos else pdos_of rows node;
       starts_itself = has_object rows nmt_startup;
       modular = has_object rows module_list;
+      stores = has_object rows store_parameters && not configured;
     }
 
 -- ---- a recording

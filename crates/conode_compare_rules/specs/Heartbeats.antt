@@ -1,19 +1,49 @@
--- Heartbeats that are late (CiA 301, 7.2.8.3.2).
-use Rattle.std.specs.Prelude.{ℕ, ◌+◌, ◌-◌, ◌*◌, ◌==◌, nat_lt, nat_le, Bool, false, ◌||◌, if◌then◌else◌, Option, Some, None, option_map}
+-- Heartbeats that are late, and those that come early (CiA 301, 7.2.8.3.2).
+use Rattle.std.specs.Prelude.{ℕ, ◌+◌, ◌-◌, ◌*◌, ◌==◌, nat_lt, nat_le, Bool, false, ◌||◌, if◌then◌else◌, Option, Some, None, is_some, option_map}
+use Rattle.conode_explain_transfers.specs.declared.ended.Ended.{Ended}
+use Rattle.conode_explain_transfers.specs.declared.kinds.Direction.{Direction}
+use Rattle.conode_explain_transfers.specs.declared.kinds.Direction.TheVariants.{Download, Upload}
 use Rattle.conode_compare_rules.specs.declared.finding.Finding.{Finding}
 use Rattle.conode_compare_rules.specs.declared.finding.Finding.TheVariants.{HeartbeatLate}
+use Rattle.conode_compare_rules.specs.declared.finding.Remark.{Remark}
+use Rattle.conode_compare_rules.specs.declared.finding.Remark.TheVariants.{EarlyHeartbeat}
 use Rattle.conode_compare_rules.specs.declared.heartbeats.Heartbeats.{Heartbeats}
 use Rattle.conode_compare_rules.specs.declared.limits.Limits.{Limits}
+use Rattle.conode_compare_rules.specs.EntriesInForce.{shown_period}
 use Rattle.conode_compare_rules.specs.States.{is_guarded_state}
 use Rattle.conode_compare_transfers.specs.Times.{is_past, micros_of}
 use Rattle.conode_compare_rules.specs.Times.{drift_of}
 
 abbrev pub no_heartbeat : Heartbeats
-no_heartbeat = record { guarded = false; since = None }
+no_heartbeat = record { guarded = false; since = None; sent = None }
 
--- a heartbeat came, or an answer of node guarding
-abbrev pub after_byte : Heartbeats → ℕ → ℕ → Heartbeats
-after_byte heartbeats micros byte = record { guarded = heartbeats.guarded || is_guarded_state byte; since = Some micros }
+-- A heartbeat came, or an answer of node guarding. It may have waited since the bus was free last,
+-- `free`.
+abbrev pub after_byte : Heartbeats → ℕ → ℕ → ℕ → Heartbeats
+after_byte heartbeats free micros byte = record {
+  guarded = heartbeats.guarded || is_guarded_state byte;
+  since = Some micros;
+  sent = Some free;
+}
+
+-- With a transfer of 1017:00 the wait for the next one begins anew. By a download the device counts
+-- its period anew, from the request on or later.
+abbrev pub sent_after : Direction → Ended → Option ℕ → Option ℕ
+sent_after Download ended sent = Some ended.begun
+sent_after Upload ended sent = sent
+
+abbrev pub after_ended : Heartbeats → Ended → ℕ → Heartbeats
+after_ended heartbeats ended micros =
+    if is_some (shown_period ended) then record {
+      guarded = heartbeats.guarded;
+      since = Some micros;
+      sent = sent_after ended.direction ended heartbeats.sent;
+    }
+    else heartbeats
+
+abbrev pub after_transfer : Heartbeats → Option Ended → ℕ → Heartbeats
+after_transfer heartbeats None micros = heartbeats
+after_transfer heartbeats (Some ended) micros = after_ended heartbeats ended micros
 
 -- a heartbeat is late after its period, the tolerance, and by how much the clocks may differ
 abbrev pub allowance : Limits → ℕ → ℕ
@@ -52,3 +82,27 @@ overdue_by limits period heartbeats free micros = overdue_with limits period hea
 unfoldable pub late_finding : Limits → Option ℕ → Heartbeats → ℕ → ℕ → Option Finding
 late_finding limits period heartbeats free micros =
     option_map (λ late. HeartbeatLate late.0 late.1) (overdue_by limits period heartbeats free micros)
+
+-- ---- early ones
+
+-- a heartbeat is early before its period, less the tolerance and by how much the clocks may differ;
+-- with a period of 0 none is
+abbrev pub least_time : Limits → ℕ → ℕ
+least_time limits period = micros_of period - micros_of limits.tolerance - drift_of limits period
+
+abbrev pub early_after : Limits → ℕ → ℕ → Option Remark
+early_after limits period passed = if nat_le (least_time limits period) passed then None else Some (EarlyHeartbeat passed period)
+
+abbrev pub early_since : Limits → ℕ → Option ℕ → ℕ → Option Remark
+early_since limits period None micros = None
+early_since limits period (Some sent) micros = early_after limits period (micros - sent)
+
+abbrev pub early_with : Limits → Option ℕ → Option ℕ → ℕ → Option Remark
+early_with limits None sent micros = None
+early_with limits (Some period) sent micros = early_since limits period sent micros
+
+-- `choice-heartbeat`: it comes sooner than its period after the last one, the boot-up, or the request
+-- to write 1017:00; answers of node guarding aren't looked at
+unfoldable pub early_remark : Limits → Option ℕ → Heartbeats → ℕ → ℕ → Option Remark
+early_remark limits period heartbeats micros byte =
+    if heartbeats.guarded || is_guarded_state byte then None else early_with limits period heartbeats.sent micros

@@ -32,10 +32,10 @@ use Rattle.conode_compare_rules.specs.Answers.{answer_finding, confirmed_finding
 use Rattle.conode_compare_transfers.specs.Dialogues.{dialogue_heard, given_up, interrupted, nothing_asked, nothing_left, exchange_in}
 use Rattle.conode_compare_held.specs.HeldNumbers.{is_kept, nothing_written, written_heard}
 use Rattle.conode_compare_rules.specs.EmergencyRules.{emergency_finding, length_finding}
-use Rattle.conode_compare_rules.specs.EntriesInForce.{asked_to_write, ended_entries, reset_entries, shown_period}
-use Rattle.conode_compare_rules.specs.Heartbeats.{after_byte, follows_closely, late_finding, no_heartbeat, is_gap}
+use Rattle.conode_compare_rules.specs.EntriesInForce.{asked_to_write, ended_entries, reset_entries}
+use Rattle.conode_compare_rules.specs.Heartbeats.{after_byte, after_transfer, early_remark, follows_closely, late_finding, no_heartbeat, is_gap}
 use Rattle.conode_compare_rules.specs.States as states
-use Rattle.conode_compare_rules.specs.States.{boot_finding, control_finding, is_reset, is_settled, nothing_commanded}
+use Rattle.conode_compare_rules.specs.States.{boot_finding, control_finding, is_reset, is_settled, nothing_commanded, restart_remark}
 use Rattle.conode_compare_transfers.specs.Times.{is_past}
 use Rattle.conode_compare_rules.specs.Verdicts.{found, nothing_found}
 
@@ -54,6 +54,7 @@ before_recording subject = record {
   pdos = tpdos.unknown_pdos;
   written = nothing_written;
   exchange = None;
+  remark = None;
 }
 
 -- a recording begins anew at its first frame, where a stamp steps back, and where the recorder may
@@ -99,12 +100,13 @@ begun subject progress micros =
       dialogue = with_quiet subject.limits progress micros;
       pdos = pdos_with_quiet subject.limits progress micros;
       exchange = None;
+      remark = None;
     }
 
 -- what is open isn't known any more: after a reset, a boot-up, and an error frame
 unfoldable pub with_gap : Progress → ℕ → Progress
 with_gap progress micros = record progress {
-  heartbeats = record progress.heartbeats { since = None };
+  heartbeats = record progress.heartbeats { since = None; sent = None };
   emergency = None;
   dialogue = interrupted progress.dialogue micros;
   pdos = tpdos.interrupted progress.pdos;
@@ -139,12 +141,13 @@ boot_findings subject progress micros =
 unfoldable pub booted : Subject → Progress → ℕ → Progress
 booted subject progress micros = record progress {
   nmt = states.after_control subject.limits progress.started progress.nmt micros 0;
-  heartbeats = record progress.heartbeats { since = Some micros };
+  heartbeats = record progress.heartbeats { since = Some micros; sent = Some progress.free };
   entries = subject.facts.booted;
   emergency = None;
   dialogue = record (interrupted progress.dialogue micros) { slow = nothing_left };
   pdos = subject.facts.pdos;
   written = nothing_written;
+  remark = restart_remark progress.nmt micros;
 }
 
 -- ---- heartbeats
@@ -179,9 +182,10 @@ control_findings subject progress micros byte = heartbeat_findings subject progr
 unfoldable pub after_control : Subject → Progress → ℕ → ℕ → Progress
 after_control subject progress micros byte = record progress {
   nmt = states.after_control subject.limits progress.started progress.nmt micros byte;
-  heartbeats = after_byte progress.heartbeats micros byte;
+  heartbeats = after_byte progress.heartbeats progress.free micros byte;
   pdos = if byte == 5 then progress.pdos else tpdos.commanded progress.pdos;
   dialogue = if is_some (silence_at subject progress micros) then given_up progress.dialogue micros else progress.dialogue;
+  remark = early_remark subject.limits progress.entries.period progress.heartbeats micros byte;
 }
 
 -- of another number of bytes than one
@@ -196,7 +200,7 @@ odd_control_findings subject progress micros length =
 unfoldable pub after_odd_control : Subject → Progress → ℕ → Progress
 after_odd_control subject progress micros = record progress {
   nmt = states.after_other subject.limits progress.nmt micros;
-  heartbeats = record progress.heartbeats { since = Some micros };
+  heartbeats = record progress.heartbeats { since = Some micros; sent = None };
 }
 
 -- ---- EMCY
@@ -215,13 +219,6 @@ unfoldable pub after_emergency : Progress → ℕ → Progress
 after_emergency progress micros = record progress { nmt = record progress.nmt { booted = None }; emergency = Some micros }
 
 -- ---- the SDO channel
-
--- a download to 1017:00 starts the period anew; with an upload of it the wait begins anew too
-abbrev pub restarts : Ended → Bool
-restarts ended = is_some (shown_period ended)
-
-abbrev pub since_heard : Option ℕ → Option Ended → ℕ → Option ℕ
-since_heard since ended micros = if option_map_or restarts ended false then Some micros else since
 
 -- what a transfer that ended shows, and what a request asks to write
 abbrev pub entries_ended : Entries → Option Ended → Entries
@@ -254,7 +251,7 @@ channel_heard subject progress micros side frame =
     let next = dialogue_heard subject.limits.answer progress.started progress.dialogue micros side frame in
     let ended = (exchange_at subject progress micros side frame).heard.ended in
     record progress {
-      heartbeats = record progress.heartbeats { since = since_heard progress.heartbeats.since ended micros };
+      heartbeats = after_transfer progress.heartbeats ended micros;
       entries = entries_heard progress.entries ended next.asked;
       pdos = pdos_heard progress.pdos ended next.asked micros;
       dialogue = next;

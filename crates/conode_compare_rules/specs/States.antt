@@ -6,6 +6,8 @@ use Rattle.co_frame.specs.declared.nmt.NmtService.{NmtService}
 use Rattle.co_frame.specs.declared.nmt.NmtService.TheVariants.{Start, Stop, EnterPreOperational, ResetNode, ResetCommunication}
 use Rattle.conode_compare_rules.specs.declared.finding.Finding.{Finding}
 use Rattle.conode_compare_rules.specs.declared.finding.Finding.TheVariants.{BootMissing, SecondBootUp, NoState, WrongState}
+use Rattle.conode_compare_rules.specs.declared.finding.Remark.{Remark}
+use Rattle.conode_compare_rules.specs.declared.finding.Remark.TheVariants.{Restarted}
 use Rattle.conode_compare_rules.specs.declared.finding.NmtState.{NmtState}
 use Rattle.conode_compare_rules.specs.declared.finding.NmtState.TheVariants.{Unknown, Initialising, PreOperational, Operational, Stopped}
 use Rattle.conode_compare_rules.specs.declared.limits.Limits.{Limits}
@@ -96,6 +98,12 @@ boot_finding limits nmt micros = option_map (λ waited. BootMissing waited) (awa
 unfoldable pub second_boot_up : Option ℕ → ℕ → Option Finding
 second_boot_up None micros = None
 second_boot_up (Some booted) micros = if is_past booted 1000 micros then None else Some (SecondBootUp (micros - booted))
+
+-- `restarted`: a boot-up of a device that was seen up, though no reset was commanded since; none of
+-- several that may be due, and not where it is taken for another device's
+unfoldable pub restart_remark : Nmt → ℕ → Option Remark
+restart_remark nmt micros =
+    if not (is_up nmt.state) || (nmt.several || is_some (second_boot_up nmt.booted micros)) then None else Some Restarted
 
 -- After a boot-up a device is pre-operational. Where another command than a reset came shortly
 -- before, it may have taken it.

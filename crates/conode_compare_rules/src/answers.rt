@@ -10,19 +10,15 @@ ghost use Rattle.conode_compare_rules.specs.Answers.{
   confirmed_finding,
   ended_finding,
   first_of,
-  form_finding,
   held_finding,
   is_abort,
   is_indicated,
-  key_finding,
   known_answer,
   late_answer,
   overdue_answer,
   refuses_other,
   silence_finding,
   stopped_finding,
-  unasked_finding,
-  value_finding,
   what_finding,
 };
 
@@ -35,7 +31,7 @@ use conode_compare_held::Written;
 use conode_compare_transfers::{
     Asked, Breach, Dialogue, Exchange, byte_at, is_past, is_timed, key_in,
 };
-use conode_compare_values::{Mismatch, mismatch_at};
+use conode_compare_values::mismatch_at;
 use conode_explain_transfers::{Ended, What};
 
 // an abort (CiA 301, 7.2.4.3.17)
@@ -64,34 +60,6 @@ fn late_answer(limits: &Limits, asked: Option<Asked>, micros: u64) -> Option<Fin
     }
 }
 
-fn unasked_finding(frame: &Frame) -> Option<Finding>
-    ensures { result ≡ unasked_finding frame.now }
-{
-    if is_abort(frame) {
-        None
-    } else {
-        Some(Finding::Unasked)
-    }
-}
-
-fn key_finding(asked: Option<Asked>) -> Option<Finding>
-    ensures { result ≡ key_finding asked }
-{
-    match asked {
-        Some(asked) => Some(Finding::AnswerKey(asked.key)),
-        None => None,
-    }
-}
-
-fn form_finding(asked: Option<Asked>) -> Option<Finding>
-    ensures { result ≡ form_finding asked }
-{
-    match asked {
-        Some(asked) => Some(Finding::AnswerForm(asked.key)),
-        None => None,
-    }
-}
-
 // an abort of another entry, whose request came earlier
 fn refuses_other(frame: &Frame, ended: &Ended) -> bool
     ensures { result ≡ refuses_other frame.now ended.now }
@@ -99,15 +67,7 @@ fn refuses_other(frame: &Frame, ended: &Ended) -> bool
     is_abort(frame) && key_in(frame) != ended.key
 }
 
-fn value_finding(mismatch: Option<Mismatch>) -> Option<Finding>
-    ensures { result ≡ value_finding mismatch }
-{
-    match mismatch {
-        Some(mismatch) => Some(Finding::Value(mismatch)),
-        None => None,
-    }
-}
-
+// otherwise than the data sheet has the entry of a transfer that ended
 fn ended_finding(
     subject: &Subject,
     rows: &[EntryRow<'_>],
@@ -121,7 +81,10 @@ fn ended_finding(
         Some(ended) if !refuses_other(frame, ended) => {
             let indicated = is_indicated(frame);
             let modular = subject.facts.modular;
-            value_finding(mismatch_at(subject.node, modular, rows, indicated, ended))
+            match mismatch_at(subject.node, modular, rows, indicated, ended) {
+                Some(mismatch) => Some(Finding::Value(mismatch)),
+                None => None,
+            }
         }
         _ => None,
     }
@@ -138,11 +101,11 @@ fn what_finding(
     requires { AllPairs (λ e f. is_key_before e.key f.key ≡ true) rows.now }
     ensures { result ≡ what_finding subject.now (map row_view rows.now) exchange.now frame.now }
 {
-    match exchange.heard.what {
-        What::Stray => unasked_finding(frame),
-        What::Overtaken => key_finding(exchange.asked),
-        What::Unexpected => form_finding(exchange.asked),
-        What::Part => ended_finding(subject, rows, frame, &exchange.heard.ended),
+    match (exchange.heard.what, exchange.asked) {
+        (What::Stray, _) if !is_abort(frame) => Some(Finding::Unasked),
+        (What::Overtaken, Some(asked)) => Some(Finding::AnswerKey(asked.key)),
+        (What::Unexpected, Some(asked)) => Some(Finding::AnswerForm(asked.key)),
+        (What::Part, _) => ended_finding(subject, rows, frame, &exchange.heard.ended),
         _ => None,
     }
 }

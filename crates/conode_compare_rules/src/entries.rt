@@ -57,6 +57,9 @@ pub struct Facts {
     pub starts_itself: bool,
     /// Whether modules decide which entries it has: it has the module list, 1027h.
     pub modular: bool,
+    /// Whether it can store parameters (1010h), and the sheet has the values of all devices of its
+    /// kind: it is no configuration.
+    pub stores: bool,
 }
 
 // NMT startup (CiA 302-2)
@@ -144,6 +147,7 @@ pub fn facts_of(rows: &[EntryRow<'_>], node: u8, configured: bool) -> Facts
         },
         modular: has_object(rows, MODULES),
         starts_itself: has_object(rows, NMT_STARTUP),
+        stores: stores && !configured,
     }
 }
 

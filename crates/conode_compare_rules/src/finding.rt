@@ -66,3 +66,13 @@ pub enum Finding {
     /// A difference of the TPDO with this number, from 1 on.
     Pdo(u8, Deviation),
 }
+
+/// What a frame of a device shows that is no difference.
+#[derive(Clone, Copy)]
+pub enum Remark {
+    /// A boot-up of a device that was seen before, without a reset command since.
+    Restarted,
+    /// A heartbeat so many microseconds after the last one, the boot-up, or the request to write
+    /// 1017:00, which has so many ms.
+    EarlyHeartbeat(u64, u16),
+}

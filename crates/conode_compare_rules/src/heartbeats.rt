@@ -1,9 +1,11 @@
-//! Heartbeats that are late (CiA 301, 7.2.8.3.2).
+//! Heartbeats that are late, and those that come early (CiA 301, 7.2.8.3.2).
 
 ghost use Rattle.std.specs.Prelude.{◌≡◌};
 ghost use Rattle.conode_compare_rules.specs.Heartbeats.{
   after_byte,
+  after_transfer,
   allowance,
+  early_remark,
   late_finding,
   no_heartbeat,
   overdue_by,
@@ -11,11 +13,12 @@ ghost use Rattle.conode_compare_rules.specs.Heartbeats.{
   follows_closely,
 };
 
-use crate::entries::Entries;
-use crate::finding::Finding;
+use crate::entries::{Entries, shown_period};
+use crate::finding::{Finding, Remark};
 use crate::limits::{Limits, drift_of};
 use crate::nmt::is_guarded_state;
 use conode_compare_transfers::{is_past, micros_of};
+use conode_explain_transfers::{Direction, Ended};
 
 /// What a recording shows of a device's heartbeats.
 #[derive(Clone, Copy)]
@@ -24,6 +27,9 @@ pub(crate) struct Heartbeats {
     pub(crate) guarded: bool,
     /// Since when the next one is awaited.
     pub(crate) since: Option<u64>,
+    /// When the bus was free before the newest one or the boot-up, or 1017:00 was asked to be
+    /// written: from then on the device counts its period, or from later.
+    pub(crate) sent: Option<u64>,
 }
 
 /// After how many microseconds a heartbeat is late.
@@ -64,17 +70,60 @@ impl Heartbeats {
         Heartbeats {
             guarded: false,
             since: None,
+            sent: None,
         }
     }
 
-    /// A heartbeat came, or an answer of node guarding.
-    pub(crate) fn after_control(self, micros: u64, byte: u8) -> Heartbeats
-        ensures { result ≡ after_byte self micros byte }
+    /// A heartbeat came, or an answer of node guarding; the bus was free last at `free`.
+    pub(crate) fn after_control(self, free: u64, micros: u64, byte: u8) -> Heartbeats
+        ensures { result ≡ after_byte self free micros byte }
     {
         Heartbeats {
             guarded: self.guarded || is_guarded_state(byte),
             since: Some(micros),
+            sent: Some(free),
         }
+    }
+
+    /// A transfer may have ended: with one of 1017:00 the wait begins anew, and with a download to
+    /// it the period.
+    pub(crate) fn heard(self, ended: &Option<Ended>, micros: u64) -> Heartbeats
+        ensures { result ≡ after_transfer self ended.now micros }
+    {
+        match ended {
+            Some(ended) if shown_period(ended).is_some() => Heartbeats {
+                guarded: self.guarded,
+                since: Some(micros),
+                sent: match ended.direction {
+                    Direction::Download => Some(ended.begun),
+                    Direction::Upload => self.sent,
+                },
+            },
+            _ => self,
+        }
+    }
+
+    /// What is remarked of a heartbeat with this byte that comes early: sooner after the last one
+    /// than its period, less the tolerance and by how much the clocks may differ.
+    #[tactic(auto, unfolding(crate::specs::Heartbeats::early_remark))]
+    pub(crate) fn early_remark(
+        &self,
+        limits: &Limits,
+        entries: &Entries,
+        micros: u64,
+        byte: u8,
+    ) -> Option<Remark>
+        ensures { result ≡ early_remark limits.now entries.now.period self.now micros byte }
+    {
+        let period = entries.period?;
+        let passed = micros.saturating_sub(self.sent?);
+        let least = micros_of(u32::from(period))
+            .saturating_sub(micros_of(limits.tolerance))
+            .saturating_sub(drift_of(limits, period));
+        if self.guarded || is_guarded_state(byte) || passed >= least {
+            return None;
+        }
+        Some(Remark::EarlyHeartbeat(passed, period))
     }
 
     // how late the next heartbeat is, where it is, and the period

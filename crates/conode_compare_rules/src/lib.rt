@@ -11,12 +11,14 @@ mod kind;
 mod known;
 mod limits;
 mod nmt;
+mod process;
 mod progress;
 mod verdict;
 
 pub use entries::{Entries, Facts, facts_of};
-pub use finding::{Finding, NmtState};
+pub use finding::{Finding, NmtState, Remark};
 pub use kind::{FrameKind, kind_of};
 pub use limits::{Limits, Subject};
+pub use nmt::is_reset;
 pub use progress::Progress;
 pub use verdict::{Findings, Verdict};

@@ -21,12 +21,13 @@ ghost use Rattle.conode_compare_rules.specs.States.{
   state_commanded,
   state_of,
   nothing_commanded,
+  restart_remark,
   second_boot_up,
   several_left,
   state_finding,
 };
 
-use crate::finding::{Finding, NmtState};
+use crate::finding::{Finding, NmtState, Remark};
 use crate::limits::{Limits, Subject};
 use co_frame::NmtService;
 use conode_compare_transfers::is_past;
@@ -58,7 +59,7 @@ pub(crate) struct Nmt {
 }
 
 /// Whether a command is a reset.
-pub(crate) fn is_reset(service: NmtService) -> bool
+pub fn is_reset(service: NmtService) -> bool
     ensures { result ≡ is_reset service }
 {
     matches!(
@@ -218,6 +219,18 @@ impl Nmt {
                 Some(Finding::SecondBootUp(micros.saturating_sub(booted)))
             }
             _ => None,
+        }
+    }
+
+    /// What is remarked of a boot-up, where the device was up and no reset was commanded since.
+    #[tactic(auto, unfolding(crate::specs::States::restart_remark))]
+    pub(crate) fn restart_remark(&self, micros: u64) -> Option<Remark>
+        ensures { result ≡ restart_remark self.now micros }
+    {
+        if !is_up(self.state) || self.several || self.second_boot_up(micros).is_some() {
+            None
+        } else {
+            Some(Remark::Restarted)
         }
     }
 

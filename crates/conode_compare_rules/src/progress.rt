@@ -19,7 +19,6 @@ ghost use Rattle.conode_compare_rules.specs.Progresses.{
   begun,
   boot_findings,
   booted,
-  confirmed_findings,
   control_findings,
   control_judged,
   progress_with,
@@ -34,16 +33,9 @@ ghost use Rattle.conode_compare_rules.specs.Progresses.{
   odd_control_findings,
   odd_emergency_findings,
   with_gap,
-  since_heard,
   after_frame,
-  after_process,
-  is_idle,
-  moment_at,
   pdos_heard,
-  process_findings,
   request_findings,
-  settled_when_free,
-  sighting_findings,
   channel_heard,
   exchange_at,
   late_noted,
@@ -55,8 +47,8 @@ use crate::answers::{
     answer_finding, confirmed_finding, first_of, held_finding, silence_finding, stopped_finding,
 };
 use crate::emergencies::{emergency_finding, length_finding};
-use crate::entries::{Entries, shown_period};
-use crate::finding::{Finding, NmtState};
+use crate::entries::Entries;
+use crate::finding::{Finding, NmtState, Remark};
 use crate::heartbeats::{Heartbeats, follows_closely, is_gap};
 use crate::kind::FrameKind;
 use crate::limits::{Limits, Subject};
@@ -65,7 +57,7 @@ use crate::verdict::Findings;
 use co_frame::{Frame, NmtService};
 use co_sheet::EntryRow;
 use conode_compare_held::Written;
-use conode_compare_pdos::{Moment, Pdos, Sighting};
+use conode_compare_pdos::Pdos;
 use conode_compare_transfers::{Asked, Dialogue, Exchange, Left, is_past};
 use conode_explain_transfers::{Ended, Side, What};
 
@@ -73,9 +65,9 @@ use conode_explain_transfers::{Ended, Side, What};
 #[derive(Drop)]
 pub struct Progress {
     /// The stamp of the newest frame.
-    pub(crate) newest: Option<u64>,
+    pub newest: Option<u64>,
     /// The stamp of the first frame, or of the first one after a gap.
-    pub(crate) started: u64,
+    pub started: u64,
     /// When the bus was free last: the stamp of the first of the frames that follow one another
     /// closely.
     pub(crate) free: u64,
@@ -90,17 +82,8 @@ pub struct Progress {
     pub(crate) written: Written,
     /// What the newest frame is on its SDO channel, if it is of that.
     pub exchange: Option<Exchange>,
-}
-
-// Since when the next heartbeat is awaited after a transfer ended: one of 1017:00 starts the wait
-// anew.
-fn since_heard(since: Option<u64>, ended: &Option<Ended>, micros: u64) -> Option<u64>
-    ensures { result ≡ since_heard since ended.now micros }
-{
-    match ended {
-        Some(ended) if shown_period(ended).is_some() => Some(micros),
-        _ => since,
-    }
+    /// What else the newest frame shows.
+    pub remark: Option<Remark>,
 }
 
 // the entries after a frame of the SDO channel
@@ -130,42 +113,6 @@ fn hear_pdos(pdos: &mut Pdos, ended: &Option<Ended>, asked: Option<Asked>, micro
     }
 }
 
-// a state in which no PDO is sent
-fn is_idle(starts_itself: bool, state: NmtState) -> bool
-    ensures { result ≡ is_idle starts_itself state }
-{
-    match state {
-        NmtState::PreOperational => !starts_itself,
-        NmtState::Stopped => true,
-        _ => false,
-    }
-}
-
-fn sighting_findings(sighting: Option<Sighting>) -> Findings
-    ensures { result ≡ sighting_findings sighting }
-{
-    match sighting {
-        Some(sighting) => {
-            let frame = match sighting.deviation {
-                Some(deviation) => Some(Finding::Pdo(sighting.number, deviation)),
-                None => None,
-            };
-            Findings::of(None, None, None, frame, sighting.judged)
-        }
-        None => Findings::none(),
-    }
-}
-
-// what the client's frame shows of the transfer that ends with it
-fn confirmed_findings(finding: Option<Finding>) -> Findings
-    ensures { result ≡ confirmed_findings finding }
-{
-    match finding {
-        Some(finding) => Findings::of(None, None, None, Some(finding), false),
-        None => Findings::none(),
-    }
-}
-
 // whether an answer is judged: it follows its initiate request, and answers that
 fn is_judged(exchange: &Exchange) -> bool
     ensures { result ≡ is_judged exchange.now }
@@ -190,6 +137,7 @@ impl Progress {
             pdos: Pdos::unknown(),
             written: Written::nothing(),
             exchange: None,
+            remark: None,
         }
     }
 
@@ -244,6 +192,7 @@ impl Progress {
         self.free = self.free_at(micros);
         self.newest = Some(micros);
         self.exchange = None;
+        self.remark = None;
     }
 
     // What is open is no longer known.
@@ -252,6 +201,7 @@ impl Progress {
         ensures { self.new ≡ with_gap self.old micros }
     {
         self.heartbeats.since = None;
+        self.heartbeats.sent = None;
         self.emergency = None;
         self.dialogue.interrupt(micros);
         self.pdos.interrupt();
@@ -293,6 +243,7 @@ impl Progress {
         let frame = self
             .nmt
             .control_finding(subject, self.started, guarded, micros, 0);
+        self.remark = self.nmt.restart_remark(micros);
         self.nmt = self
             .nmt
             .after_control(&subject.limits, self.started, micros, 0);
@@ -301,6 +252,7 @@ impl Progress {
         self.entries = subject.facts.booted;
         self.pdos = subject.facts.pdos;
         self.heartbeats.since = Some(micros);
+        self.heartbeats.sent = Some(self.free);
         Findings::of(None, None, None, frame, true)
     }
 
@@ -352,8 +304,11 @@ impl Progress {
         let limits = &subject.limits;
         let answer = silence_finding(limits, self.started, &self.nmt, &self.dialogue, micros);
         let findings = self.heartbeat_findings(subject, answer, micros, byte);
+        self.remark = self
+            .heartbeats
+            .early_remark(limits, &self.entries, micros, byte);
         self.nmt = self.nmt.after_control(limits, self.started, micros, byte);
-        self.heartbeats = self.heartbeats.after_control(micros, byte);
+        self.heartbeats = self.heartbeats.after_control(self.free, micros, byte);
         if byte != 5 {
             self.pdos.command();
         }
@@ -376,6 +331,7 @@ impl Progress {
             .late_finding(limits, &self.entries, self.free, micros);
         self.nmt = self.nmt.after_other(limits, micros);
         self.heartbeats.since = Some(micros);
+        self.heartbeats.sent = None;
         let frame = Some(Finding::HeartbeatLength(length));
         Findings::of(boot, heartbeat, None, frame, true)
     }
@@ -438,7 +394,7 @@ impl Progress {
             .dialogue
             .hear(subject.limits.answer, self.started, micros, side, frame);
         self.entries = entries_heard(self.entries, &exchange.heard.ended, self.dialogue.asked);
-        self.heartbeats.since = since_heard(self.heartbeats.since, &exchange.heard.ended, micros);
+        self.heartbeats = self.heartbeats.heard(&exchange.heard.ended, micros);
         hear_pdos(
             &mut self.pdos,
             &exchange.heard.ended,
@@ -514,44 +470,10 @@ impl Progress {
         let exchange = self.hear(subject, micros, Side::Client, frame);
         let finding = confirmed_finding(&exchange);
         self.note_exchange(subject, exchange);
-        confirmed_findings(finding)
-    }
-
-    // whether the tolerance was over when the bus was free last
-    fn settled_when_free(&self, subject: &Subject) -> bool
-        ensures { result ≡ settled_when_free subject.now self.now }
-    {
-        self.nmt
-            .is_settled(&subject.limits, self.started, self.free)
-    }
-
-    // how a PDO is judged that comes now
-    #[tactic(auto, unfolding(crate::specs::Progresses::moment_at))]
-    fn moment_at(&self, subject: &Subject, micros: u64) -> Moment
-        ensures { result ≡ moment_at subject.now self.now micros }
-    {
-        let settled = self.settled_when_free(subject);
-        let is_known = !matches!(self.nmt.state, NmtState::Unknown | NmtState::Initialising);
-        Moment {
-            micros,
-            free: self.free,
-            tolerance: subject.limits.tolerance,
-            drift: subject.limits.drift,
-            idle: settled && is_idle(subject.facts.starts_itself, self.nmt.state),
-            known: settled && is_known,
+        match finding {
+            Some(finding) => Findings::of(None, None, None, Some(finding), false),
+            None => Findings::none(),
         }
-    }
-
-    // a data frame that is none of the others: a SYNC, or a PDO
-    #[tactic(auto, unfolding(crate::specs::Progresses::process_findings, crate::specs::Progresses::after_process))]
-    fn take_process(&mut self, subject: &Subject, micros: u64, id: u16, length: u8) -> Findings
-        ensures findings { result ≡ process_findings subject.now self.old micros id length }
-        ensures progress { self.new ≡ after_process subject.now self.old micros id }
-    {
-        let moment = self.moment_at(subject, micros);
-        let sighting = self.pdos.sighting(&moment, id, length);
-        self.pdos.frame(&moment, id);
-        sighting_findings(sighting)
     }
 
     // a frame, once the recording is begun

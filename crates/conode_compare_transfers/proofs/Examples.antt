@@ -21,7 +21,7 @@ use Rattle.conode_compare_transfers.specs.declared.dialogue.Dialogue.{Dialogue}
 use Rattle.conode_compare_transfers.specs.declared.left.Left.{Left}
 use Rattle.conode_compare_transfers.specs.declared.newest.Newest.TheVariants.{Acknowledge, AllAcknowledged, Answer, Data, LastData, LaterAcknowledge, LaterData, Request}
 use Rattle.conode_compare_transfers.specs.Breaches.{breach_at, server_breach}
-use Rattle.conode_compare_transfers.specs.Dialogues.{dialogue_heard, exchange_in, is_certain, is_late_answer, is_timed, is_awaited, is_in_turn, leaves_slow, left_after, left_after_answer, nothing_asked, nothing_left, owes}
+use Rattle.conode_compare_transfers.specs.Dialogues.{dialogue_heard, exchange_in, is_certain, is_late_answer, is_timed, is_awaited, is_in_turn, leaves_slow, left_after, left_after_answer, may_switch, nothing_asked, nothing_left, owes}
 use Rattle.conode_compare_transfers.specs.NewestFrames.{newest_after, newest_with}
 
 abbrev key : Key
@@ -310,7 +310,7 @@ by_client = refl
 
 abbrev asked_at : ℕ → ℕ → Dialogue
 asked_at doubted micros = record nothing_asked {
-  asked = Some (record { key = record { index = 0x1000; sub = 0 }; micros = micros; writes = false });
+  asked = Some (record { key = record { index = 0x1000; sub = 0 }; micros = micros; writes = false; switches = false });
   doubted = Some doubted;
 }
 
@@ -325,6 +325,10 @@ not_owed = refl
 
 nothing_owed : owes 1000 0 nothing_asked ≡ false
 nothing_owed = refl
+
+-- initiate of a block upload with a threshold; without one; and of an upload
+by_another_protocol : map (λ request. may_switch (record { id = 0x605; bytes = request })) ((0xA4 ∷ 0 ∷ 0x20 ∷ 1 ∷ 127 ∷ 1 ∷ []) ∷ (0xA4 ∷ 0 ∷ 0x20 ∷ 1 ∷ 127 ∷ 0 ∷ []) ∷ (0x40 ∷ 0 ∷ 0x20 ∷ 1 ∷ 0 ∷ 1 ∷ []) ∷ []) ≡ true ∷ false ∷ false ∷ []
+by_another_protocol = refl
 
 -- ---- requests that may take long
 
@@ -480,7 +484,7 @@ no_turn = refl
 
 -- the same entry that may take long may have been left before
 abbrev asked_slow : Dialogue
-asked_slow = record (asked_later 3000001) { asked = Some (record { key = record { index = 0x1010; sub = 1 }; micros = 3000001; writes = true }) }
+asked_slow = record (asked_later 3000001) { asked = Some (record { key = record { index = 0x1010; sub = 1 }; micros = 3000001; writes = true; switches = false }) }
 
 slow_turn : is_in_turn 1000 0 asked_slow Server Part (reply 0x60 0x10) ≡ false
 slow_turn = refl

@@ -40,9 +40,18 @@ nothing_asked = record { channel = nothing_heard; asked = None; doubted = None; 
 abbrev pub asks_to_write : FrameContent → Bool
 asks_to_write frame = (byte_at frame 0 / 32 == 1) || (byte_at frame 0 / 32 == 6)
 
+-- initiate of a block upload, ccs = 5, with a protocol switch threshold
+abbrev pub may_switch : FrameContent → Bool
+may_switch frame = (byte_at frame 0 / 32 == 5) && nat_lt 0 (byte_at frame 5)
+
 -- the initiate request that is not answered after a frame
 abbrev pub asked_after : What → ℕ → FrameContent → Option Asked
-asked_after Initiate micros frame = Some (record { key = key_in frame; micros = micros; writes = asks_to_write frame })
+asked_after Initiate micros frame = Some (record {
+  key = key_in frame;
+  micros = micros;
+  writes = asks_to_write frame;
+  switches = may_switch frame;
+})
 asked_after what micros frame = None
 
 -- ---- doubts

@@ -23,6 +23,7 @@ ghost use Rattle.conode_compare_transfers.specs.Dialogues.{
   is_slow_answer,
   is_timed,
   leaves_slow,
+  may_switch,
   names_other,
   newest_heard,
   nothing_asked,
@@ -51,6 +52,9 @@ pub struct Asked {
     pub micros: u64,
     /// Whether it asks to write.
     pub writes: bool,
+    /// Whether it is one of a block upload with a protocol switch threshold (pst) other than 0: a
+    /// short value may be uploaded by another protocol then.
+    pub switches: bool,
 }
 
 /// What a recording shows of a device's default SDO channel.
@@ -199,12 +203,20 @@ fn is_late_answer(side: Side, heard: &Heard, frame: &Frame) -> bool
     }
 }
 
-// whether an initiate request is one of a download, by its command specifier
-fn asks_to_write(frame: &Frame) -> bool
+/// Whether an initiate request is one of a download, by its command specifier.
+pub fn asks_to_write(frame: &Frame) -> bool
     ensures { result ≡ asks_to_write frame.now }
 {
     let specifier = byte_at(frame, 0) / 32;
     specifier == 1 || specifier == 6
+}
+
+// whether an initiate request is one of a block upload that may be answered by another protocol: ccs
+// = 5, and a threshold
+fn may_switch(frame: &Frame) -> bool
+    ensures { result ≡ may_switch frame.now }
+{
+    byte_at(frame, 0) / 32 == 5 && byte_at(frame, 5) > 0
 }
 
 // the initiate request that is not answered after a frame
@@ -216,6 +228,7 @@ fn asked_after(what: What, micros: u64, frame: &Frame) -> Option<Asked>
             key: key_in(frame),
             micros,
             writes: asks_to_write(frame),
+            switches: may_switch(frame),
         }),
         _ => None,
     }

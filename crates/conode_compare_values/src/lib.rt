@@ -6,4 +6,6 @@ mod mismatch;
 mod values;
 
 pub use mismatch::Mismatch;
-pub use values::{has_limits, is_held, is_read_only, is_readable, mismatch_at, shown_number};
+pub use values::{
+    beyond_mismatch, has_limits, is_held, is_read_only, is_readable, mismatch_at, shown_number,
+};

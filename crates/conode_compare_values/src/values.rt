@@ -185,8 +185,8 @@ fn limit_mismatch(row: &EntryRow<'_>, value: i128) -> Option<Mismatch>
     }
 }
 
-// the difference of bytes that were downloaded, where they are a number
-fn beyond_mismatch(row: &EntryRow<'_>, bytes: &[u8]) -> Option<Mismatch>
+/// The difference of bytes that were downloaded, where they are a number: beyond the limits.
+pub fn beyond_mismatch(row: &EntryRow<'_>, bytes: &[u8]) -> Option<Mismatch>
     ensures { result ≡ beyond_mismatch (row_view row.now) bytes.now }
 {
     if !has_limits(row) {

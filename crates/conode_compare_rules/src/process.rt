@@ -1,0 +1,81 @@
+//! PDOs and SYNCs of a recording.
+
+ghost use Rattle.std.specs.Prelude.{◌≡◌};
+ghost use Rattle.conode_compare_rules.specs.Progresses.{
+  after_process,
+  is_idle,
+  moment_at,
+  process_findings,
+  sighting_findings,
+};
+
+use crate::finding::{Finding, NmtState};
+use crate::limits::Subject;
+use crate::progress::Progress;
+use crate::verdict::Findings;
+use conode_compare_pdos::{Moment, Sighting};
+
+// a state in which no PDO is sent
+fn is_idle(starts_itself: bool, state: NmtState) -> bool
+    ensures { result ≡ is_idle starts_itself state }
+{
+    match state {
+        NmtState::PreOperational => !starts_itself,
+        NmtState::Stopped => true,
+        _ => false,
+    }
+}
+
+fn sighting_findings(sighting: Option<Sighting>) -> Findings
+    ensures { result ≡ sighting_findings sighting }
+{
+    match sighting {
+        Some(sighting) => {
+            let frame = match sighting.deviation {
+                Some(deviation) => Some(Finding::Pdo(sighting.number, deviation)),
+                None => None,
+            };
+            Findings::of(None, None, None, frame, sighting.judged)
+        }
+        None => Findings::none(),
+    }
+}
+
+impl Progress {
+    // how a PDO is judged that comes now: by whether the tolerance was over when the bus was free
+    #[tactic(auto, unfolding(crate::specs::Progresses::moment_at))]
+    fn moment_at(&self, subject: &Subject, micros: u64) -> Moment
+        ensures { result ≡ moment_at subject.now self.now micros }
+    {
+        let settled = self
+            .nmt
+            .is_settled(&subject.limits, self.started, self.free);
+        let is_known = !matches!(self.nmt.state, NmtState::Unknown | NmtState::Initialising);
+        Moment {
+            micros,
+            free: self.free,
+            tolerance: subject.limits.tolerance,
+            drift: subject.limits.drift,
+            idle: settled && is_idle(subject.facts.starts_itself, self.nmt.state),
+            known: settled && is_known,
+        }
+    }
+
+    /// A data frame that is none of the others comes: a SYNC, or a PDO. Returns what is found at it.
+    #[tactic(auto, unfolding(crate::specs::Progresses::process_findings, crate::specs::Progresses::after_process))]
+    pub(crate) fn take_process(
+        &mut self,
+        subject: &Subject,
+        micros: u64,
+        id: u16,
+        length: u8,
+    ) -> Findings
+        ensures findings { result ≡ process_findings subject.now self.old micros id length }
+        ensures progress { self.new ≡ after_process subject.now self.old micros id }
+    {
+        let moment = self.moment_at(subject, micros);
+        let sighting = self.pdos.sighting(&moment, id, length);
+        self.pdos.frame(&moment, id);
+        sighting_findings(sighting)
+    }
+}
