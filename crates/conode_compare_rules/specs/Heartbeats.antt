@@ -90,19 +90,20 @@ late_finding limits period heartbeats free micros =
 abbrev pub least_time : Limits → ℕ → ℕ
 least_time limits period = micros_of period - micros_of limits.tolerance - drift_of limits period
 
-abbrev pub early_after : Limits → ℕ → ℕ → Option Remark
-early_after limits period passed = if nat_le (least_time limits period) passed then None else Some (EarlyHeartbeat passed period)
+abbrev pub early_after : Limits → Bool → ℕ → ℕ → Option Remark
+early_after limits guarded period passed =
+    if guarded || nat_le (least_time limits period) passed then None else Some (EarlyHeartbeat passed period)
 
-abbrev pub early_since : Limits → ℕ → Option ℕ → ℕ → Option Remark
-early_since limits period None micros = None
-early_since limits period (Some sent) micros = early_after limits period (micros - sent)
+abbrev pub early_since : Limits → Bool → ℕ → Option ℕ → ℕ → Option Remark
+early_since limits guarded period None micros = None
+early_since limits guarded period (Some sent) micros = early_after limits guarded period (micros - sent)
 
-abbrev pub early_with : Limits → Option ℕ → Option ℕ → ℕ → Option Remark
-early_with limits None sent micros = None
-early_with limits (Some period) sent micros = early_since limits period sent micros
+abbrev pub early_with : Limits → Bool → Option ℕ → Option ℕ → ℕ → Option Remark
+early_with limits guarded None sent micros = None
+early_with limits guarded (Some period) sent micros = early_since limits guarded period sent micros
 
 -- `choice-heartbeat`: it comes sooner than its period after the last one, the boot-up, or the request
 -- to write 1017:00; answers of node guarding aren't looked at
 unfoldable pub early_remark : Limits → Option ℕ → Heartbeats → ℕ → ℕ → Option Remark
 early_remark limits period heartbeats micros byte =
-    if heartbeats.guarded || is_guarded_state byte then None else early_with limits period heartbeats.sent micros
+    early_with limits (heartbeats.guarded || is_guarded_state byte) period heartbeats.sent micros

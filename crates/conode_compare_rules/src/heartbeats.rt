@@ -116,7 +116,8 @@ impl Heartbeats {
         ensures { result ≡ early_remark limits.now entries.now.period self.now micros byte }
     {
         let period = entries.period?;
-        let passed = micros.saturating_sub(self.sent?);
+        let sent = self.sent?;
+        let passed = micros.saturating_sub(sent);
         let least = micros_of(u32::from(period))
             .saturating_sub(micros_of(limits.tolerance))
             .saturating_sub(drift_of(limits, period));
