@@ -7,7 +7,7 @@ use Rattle.co_profile.specs.declared.access.Access.TheVariants.{Ro, Rw, Wo}
 use Rattle.co_sheet.specs.Content.{Row}
 use Rattle.co_sheet.specs.Limits.{absent, number}
 use Rattle.co_value.specs.declared.data_type.DataType.{DataType}
-use Rattle.co_value.specs.declared.data_type.DataType.TheVariants.{Unsigned16, VisibleString}
+use Rattle.co_value.specs.declared.data_type.DataType.TheVariants.{Unsigned8, Unsigned16, Unsigned32, VisibleString}
 use Rattle.co_value.specs.declared.key.Key.{Key}
 use Rattle.conode_explain_transfers.specs.declared.ended.Ended.{Ended}
 use Rattle.conode_explain_transfers.specs.declared.ended.Ending.{Ending}
