@@ -26,19 +26,22 @@ use Rattle.conode_compare_rules.specs.declared.finding.Finding.TheVariants.{Valu
 use Rattle.conode_compare_values.specs.declared.mismatch.Mismatch.TheVariants.{ValueConst}
 use Rattle.conode_compare_rules.specs.declared.limits.Subject.{Subject}
 use Rattle.conode_compare_rules.specs.declared.verdict.Findings.{Findings}
-use Rattle.conode_compare_notes.specs.declared.choice.Choice.{Choice}
+use Rattle.conode_compare_notes.specs.declared.warning.Warning.{Warning}
+use Rattle.conode_compare_notes.specs.declared.warning.Warning.TheVariants.{Restarted, Stored, Changed}
 use Rattle.conode_compare_rules.specs.declared.kind.FrameKind.{FrameKind}
 use Rattle.conode_compare_rules.specs.declared.progress.Progress.{Progress}
 use Rattle.conode_compare_rules.specs.FrameKinds.{kind_of}
 use Rattle.conode_compare_rules.specs.Progresses.{before_recording, findings_at, is_number_kept, progress_with}
 use Rattle.conode_compare_text.specs.FindingTexts.{finding_line}
 use Rattle.conode_compare_text.specs.Tallies.{no_frames, tally_with}
+use Rattle.conode_compare_text.specs.WarningTexts.{warning_line}
 use Rattle.conode_compare_report.specs.Befores.{before_at}
 use Rattle.conode_compare_report.specs.declared.kind.Kind.TheVariants.{ValueHeld}
 use Rattle.conode_compare_report.specs.Reports.{with_bad_line, with_finding, with_frame, with_line, with_passed}
 use Rattle.conode_compare_report.specs.Views.{Kept}
 use Rattle.conode_compare.specs.declared.comparing.Comparing.{Comparing}
-use Rattle.conode_compare.specs.Noted.{choice_lines, noted_choice, nothing_noted, notes_with}
+use Rattle.conode_compare.specs.declared.notes.Noted.{Noted}
+use Rattle.conode_compare.specs.Noted.{choice_lines, noted_at, nothing_noted, notes_with}
 
 -- what is compared: a device, the entries of its data sheet, the codes of their original data types
 -- by the line of their sections, the name of the recording, the interface, if it is named, and
@@ -71,6 +74,20 @@ listed c number (Some finding) = finding_line c.recording number (shown_type c f
 unfoldable pub findings_lines : Comparison → ℕ → Findings → List (List ℕ)
 findings_lines c number found =
     listed c number found.boot ++ (listed c number found.heartbeat ++ (listed c number found.answer ++ listed c number found.frame))
+
+-- the data type in which the values of a warning are shown
+abbrev pub warned_type : Comparison → Warning → ValueType
+warned_type c Restarted = Plain Unsigned32
+warned_type c (Stored key shown sheet) = type_at c key
+warned_type c (Changed mismatch) = type_at c mismatch.key
+
+abbrev pub warning_lines : Comparison → ℕ → Option Warning → List (List ℕ)
+warning_lines c number None = []
+warning_lines c number (Some warning) = warning_line c.recording number (warned_type c warning) warning ∷ []
+
+-- a warning, then what the device chose
+unfoldable pub noted_lines : Comparison → ℕ → Noted → List (List ℕ)
+noted_lines c number noted = warning_lines c number noted.warning ++ choice_lines c.recording number noted.choice
 
 -- ---- what is kept for a document
 
@@ -127,15 +144,15 @@ found_at c so_far frame kind = findings_at c.subject c.rows so_far.progress fram
 abbrev pub progress_at : Comparison → Comparing → Record → FrameKind → Progress
 progress_at c so_far frame kind = progress_with c.subject so_far.progress frame.micros kind
 
-abbrev pub chosen_at : Comparison → Comparing → Record → FrameKind → Option Choice
-chosen_at c so_far frame kind = noted_choice c.choices kind (progress_at c so_far frame kind).exchange
+abbrev pub noted_with : Comparison → Comparing → Record → FrameKind → Noted
+noted_with c so_far frame kind = noted_at c.choices c.subject c.rows so_far.notes kind (progress_at c so_far frame kind)
 
--- its differences, then what the device chose with it
-unfoldable pub shown_lines : Comparison → ℕ → Findings → Option Choice → List (List ℕ)
-shown_lines c number found choice = findings_lines c number found ++ choice_lines c.recording number choice
+-- its differences, then what is noted at it
+unfoldable pub shown_lines : Comparison → ℕ → Findings → Noted → List (List ℕ)
+shown_lines c number found noted = findings_lines c number found ++ noted_lines c number noted
 
 abbrev pub taken_lines : Comparison → ℕ → Comparing → Record → FrameKind → List (List ℕ)
-taken_lines c number so_far frame kind = shown_lines c number (found_at c so_far frame kind) (chosen_at c so_far frame kind)
+taken_lines c number so_far frame kind = shown_lines c number (found_at c so_far frame kind) (noted_with c so_far frame kind)
 
 abbrev pub kind_at : Comparison → Record → FrameKind
 kind_at c frame = kind_of c.subject.node frame.id frame.content
@@ -155,7 +172,7 @@ frame_taken c so_far frame kind = record {
   tally = tally_with so_far.tally (found_at c so_far frame kind).verdict;
   first = first_with so_far.first frame.interface;
   several = so_far.several;
-  notes = notes_with c.choices c.learned c.rows so_far.notes kind (progress_at c so_far frame kind).exchange;
+  notes = notes_with c.choices c.learned c.subject c.rows so_far.notes kind (progress_at c so_far frame kind);
   report = option_map (kind_noted c so_far.progress frame.micros kind) so_far.report;
 }
 

@@ -9,7 +9,6 @@ ghost use Rattle.conode_record.specs.Grammar.{IsIdentifier};
 ghost use Rattle.conode_compare_rules.specs.Progresses.{findings_at, progress_with};
 ghost use Rattle.conode_compare.specs.Compared.{
   bad_noted,
-  chosen_at,
   first_with,
   found_at,
   frame_lines,
@@ -18,16 +17,16 @@ ghost use Rattle.conode_compare.specs.Compared.{
   is_compared,
   kind_noted,
   line_noted,
+  noted_with,
   nothing_compared,
   other_seen,
 };
 ghost use Rattle.conode_compare.specs.Views.{comparison_view};
 
 use crate::kept::note_findings;
-use crate::notes::Notes;
+use crate::notes::{Noted, Notes};
 use crate::writes::{Settings, write_shown};
 use arrayvec::ArrayVec;
-use conode_compare_notes::Choice;
 use conode_compare_report::{Kind, Report};
 use conode_compare_rules::{Findings, FrameKind, Progress, Subject, kind_of};
 use conode_compare_text::Tally;
@@ -170,20 +169,20 @@ impl Comparing {
         }
     }
 
-    // What is found at a frame of the interface, by what it is to the device, and what the device
-    // chose with it. On an `Err` memory ran out.
+    // What is found at a frame of the interface, by what it is to the device, and what is noted at
+    // it. On an `Err` memory ran out.
     #[tactic(auto, unfolding(crate::specs::Compared::frame_taken))]
     fn take(
         &mut self,
         settings: &Settings<'_, '_>,
         frame: &Record<'_>,
         kind: &FrameKind,
-    ) -> Result<(Findings, Option<Choice>), AllocError>
+    ) -> Result<(Findings, Noted), AllocError>
         requires { AllPairs (λ e f. is_key_before e.key f.key ≡ true) settings.now.rows.now }
         ensures found { IfOk result (λ shown. shown.0
             ≡ found_at (comparison_view settings.now) self.old frame.now kind.now) }
-        ensures choice { IfOk result (λ shown. shown.1
-            ≡ chosen_at (comparison_view settings.now) self.old frame.now kind.now) }
+        ensures noted { IfOk result (λ shown. shown.1
+            ≡ noted_with (comparison_view settings.now) self.old frame.now kind.now) }
         ensures next { OnOk result (self.new
             ≡ frame_taken (comparison_view settings.now) self.old frame.now kind.now) }
     {
@@ -196,8 +195,8 @@ impl Comparing {
         )?;
         self.tally.count(found.verdict);
         self.note_first(frame.interface.bytes());
-        let choice = self.notes.take(settings, kind, &self.progress.exchange)?;
-        Ok((found, choice))
+        let noted = self.notes.take(settings, kind, &self.progress)?;
+        Ok((found, noted))
     }
 
     /// Takes a frame, and writes the lines of what is found at it, unless a document is wanted.
@@ -225,10 +224,10 @@ impl Comparing {
         }
         let is_documented = self.report.is_some();
         let kind = kind_of(settings.subject.node, frame.id, &frame.content);
-        let (found, choice) = self.take(settings, frame, &kind)?;
+        let (found, noted) = self.take(settings, frame, &kind)?;
         if is_documented {
             return Ok(());
         }
-        write_shown(text, settings, number, found, choice, out)
+        write_shown(text, settings, number, found, noted, out)
     }
 }

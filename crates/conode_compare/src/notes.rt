@@ -1,13 +1,16 @@
-//! What is noted of a device beside differences: its choices, and the values of its entries.
+//! What is noted of a device beside differences: warnings, its choices, and the values of its
+//! entries.
 
-ghost use Rattle.std.specs.Prelude.{◌≡◌, ◌⊎◌, OnOk, IfOk, IfErr, true};
+ghost use Rattle.std.specs.Prelude.{◌≡◌, ◌⊎◌, OnOk, IfOk, IfErr, true, map};
 ghost use Rattle.std.specs.List.{AllPairs};
+ghost use Rattle.co_sheet.specs.SheetViews.{row_view};
 ghost use Rattle.co_value.specs.Keys.{is_key_before};
 ghost use Rattle.conode_io.specs.Written.{WritesLines};
 ghost use Rattle.conode_compare.specs.Noted.{
   choice_lines,
   counted,
   learned_by,
+  noted_at,
   noted_choice,
   nothing_noted,
   notes_with,
@@ -15,8 +18,9 @@ ghost use Rattle.conode_compare.specs.Noted.{
 ghost use Rattle.conode_compare.specs.Views.{comparison_view};
 
 use crate::writes::Settings;
-use conode_compare_notes::{Choice, Learned, choice_at};
-use conode_compare_rules::FrameKind;
+use co_sheet::EntryRow;
+use conode_compare_notes::{Choice, Learned, Warning, Watched, choice_at};
+use conode_compare_rules::{FrameKind, Progress};
 use conode_compare_text::set_choice_line;
 use conode_compare_transfers::Exchange;
 use conode_io::{CmdFault, hand_over};
@@ -26,18 +30,35 @@ use std::io::Write;
 /// What is noted of a device beside differences, as far as it is asked for.
 #[derive(Drop)]
 pub struct Notes {
+    /// What warnings rest on.
+    pub watched: Watched,
     /// How many frames show a choice, up to 2^64 - 1.
     pub choices: u64,
     /// The values of its entries.
     pub learned: Learned,
 }
 
+/// What is noted at a frame.
+#[derive(Clone, Copy)]
+pub(crate) struct Noted {
+    /// What a user may want to know of the device.
+    pub(crate) warning: Option<Warning>,
+    /// What the device chose, if that is asked for.
+    pub(crate) choice: Option<Choice>,
+}
+
 // what the device chose with a frame, if that is asked for
-fn noted_choice(wanted: bool, kind: &FrameKind, exchange: &Option<Exchange>) -> Option<Choice>
-    ensures { result ≡ noted_choice wanted kind.now exchange.now }
+fn noted_choice(
+    wanted: bool,
+    rows: &[EntryRow<'_>],
+    kind: &FrameKind,
+    progress: &Progress,
+) -> Option<Choice>
+    requires { AllPairs (λ e f. is_key_before e.key f.key ≡ true) rows.now }
+    ensures { result ≡ noted_choice wanted (map row_view rows.now) kind.now progress.now }
 {
     if wanted {
-        choice_at(kind, exchange)
+        choice_at(rows, kind, &progress.exchange, progress.remark)
     } else {
         None
     }
@@ -71,6 +92,7 @@ impl Notes {
         ensures { result ≡ nothing_noted }
     {
         Notes {
+            watched: Watched::new(alloc),
             choices: 0,
             learned: Learned::new(alloc),
         }
@@ -101,25 +123,29 @@ impl Notes {
         Ok(())
     }
 
-    /// Takes a frame, by what it is to the device, and on its SDO channel. Returns what the device
-    /// chose with it, if that is asked for. On an `Err` memory ran out.
-    #[tactic(auto, unfolding(crate::specs::Noted::notes_with))]
+    /// Takes a frame, by what it is to the device, and what the recording shows with it. Returns what
+    /// is noted at it. On an `Err` memory ran out.
+    #[tactic(auto, unfolding(crate::specs::Noted::notes_with, crate::specs::Noted::noted_at))]
     pub(crate) fn take(
         &mut self,
         settings: &Settings<'_, '_>,
         kind: &FrameKind,
-        exchange: &Option<Exchange>,
-    ) -> Result<Option<Choice>, AllocError>
+        progress: &Progress,
+    ) -> Result<Noted, AllocError>
         requires { AllPairs (λ e f. is_key_before e.key f.key ≡ true) settings.now.rows.now }
-        ensures choice { IfOk result (λ choice.
-            choice ≡ noted_choice settings.now.choices kind.now exchange.now) }
+        ensures noted { IfOk result (λ noted. noted ≡ noted_at (comparison_view settings.now).choices
+            (comparison_view settings.now).subject (comparison_view settings.now).rows
+            self.old kind.now progress.now) }
         ensures next { OnOk result (self.new ≡ notes_with (comparison_view settings.now).choices
-            (comparison_view settings.now).learned (comparison_view settings.now).rows
-            self.old kind.now exchange.now) }
+            (comparison_view settings.now).learned (comparison_view settings.now).subject
+            (comparison_view settings.now).rows self.old kind.now progress.now) }
     {
-        let choice = noted_choice(settings.choices, kind, exchange);
+        let warning = self
+            .watched
+            .take(&settings.subject, settings.rows, kind, progress)?;
+        let choice = noted_choice(settings.choices, settings.rows, kind, progress);
         self.count(choice);
-        self.learn(settings, exchange)?;
-        Ok(choice)
+        self.learn(settings, &progress.exchange)?;
+        Ok(Noted { warning, choice })
     }
 }

@@ -4,16 +4,25 @@ ghost use Rattle.std.specs.Prelude.{◌≡◌, ◌⊎◌, OnOk, IfErr, true};
 ghost use Rattle.std.specs.List.{AllPairs};
 ghost use Rattle.co_value.specs.Keys.{is_key_before};
 ghost use Rattle.conode_io.specs.Written.{WritesLines};
-ghost use Rattle.conode_compare.specs.Compared.{findings_lines, listed, shown_lines, shown_type, type_at};
+ghost use Rattle.conode_compare.specs.Compared.{
+  findings_lines,
+  listed,
+  noted_lines,
+  shown_lines,
+  shown_type,
+  type_at,
+  warned_type,
+  warning_lines,
+};
 ghost use Rattle.conode_compare.specs.Views.{comparison_view};
 
-use crate::notes::write_choice;
+use crate::notes::{Noted, write_choice};
 use co_sheet::EntryRow;
 use co_sheet_changes::Originals;
 use co_value::{DataType, Key};
-use conode_compare_notes::Choice;
+use conode_compare_notes::Warning;
 use conode_compare_rules::{Finding, Findings, Subject};
-use conode_compare_text::set_finding_line;
+use conode_compare_text::{set_finding_line, set_warning_line};
 use conode_compare_values::Mismatch;
 use conode_decode::row_at;
 use conode_explain_values::ValueType;
@@ -106,21 +115,75 @@ fn write_findings<W: Write>(
     write_listed(text, settings, number, found.frame, out)
 }
 
-/// Writes the lines of what is found at a line of the recording, then that of what the device chose.
+// the data type in which the values of a warning are shown
+fn warned_type(settings: &Settings<'_, '_>, warning: Warning) -> ValueType
+    requires { AllPairs (λ e f. is_key_before e.key f.key ≡ true) settings.now.rows.now }
+    ensures { result ≡ warned_type (comparison_view settings.now) warning }
+{
+    match warning {
+        Warning::Restarted => ValueType::Plain(DataType::Unsigned32),
+        Warning::Stored(key, _, _) => type_at(settings, key),
+        Warning::Changed(mismatch) => type_at(settings, mismatch.key),
+    }
+}
+
+// Writes the line of a warning, if there is one.
+#[tactic(auto, using(conode_io::proofs::WriteLemmas::line_alone))]
+fn write_warning<W: Write>(
+    text: &mut String,
+    settings: &Settings<'_, '_>,
+    number: u64,
+    warning: Option<Warning>,
+    out: &mut W,
+) -> Result<(), CmdFault>
+    requires { AllPairs (λ e f. is_key_before e.key f.key ≡ true) settings.now.rows.now }
+    ensures lines { OnOk result (WritesLines (W.contents out.old) (W.contents out.new)
+        (warning_lines (comparison_view settings.now) number warning)) }
+    ensures err { IfErr result (λ fault. (fault ≡ CmdFault.Write) ⊎ (fault ≡ CmdFault.Memory)) }
+{
+    match warning {
+        Some(warning) => {
+            let value_type = warned_type(settings, warning);
+            set_warning_line(text, settings.recording, number, value_type, warning)?;
+            hand_over(text.as_bytes(), out)
+        }
+        None => Ok(()),
+    }
+}
+
+// Writes the lines of what is noted at a line of the recording.
+#[tactic(auto, unfolding(crate::specs::Compared::noted_lines), using(conode_io::proofs::WriteLemmas::lines_after))]
+fn write_noted<W: Write>(
+    text: &mut String,
+    settings: &Settings<'_, '_>,
+    number: u64,
+    noted: Noted,
+    out: &mut W,
+) -> Result<(), CmdFault>
+    requires { AllPairs (λ e f. is_key_before e.key f.key ≡ true) settings.now.rows.now }
+    ensures lines { OnOk result (WritesLines (W.contents out.old) (W.contents out.new)
+        (noted_lines (comparison_view settings.now) number noted)) }
+    ensures err { IfErr result (λ fault. (fault ≡ CmdFault.Write) ⊎ (fault ≡ CmdFault.Memory)) }
+{
+    write_warning(text, settings, number, noted.warning, out)?;
+    write_choice(text, settings.recording, number, noted.choice, out)
+}
+
+/// Writes the lines of what is found at a line of the recording, then those of what is noted at it.
 #[tactic(auto, unfolding(crate::specs::Compared::shown_lines), using(conode_io::proofs::WriteLemmas::lines_after))]
 pub(crate) fn write_shown<W: Write>(
     text: &mut String,
     settings: &Settings<'_, '_>,
     number: u64,
     found: Findings,
-    choice: Option<Choice>,
+    noted: Noted,
     out: &mut W,
 ) -> Result<(), CmdFault>
     requires { AllPairs (λ e f. is_key_before e.key f.key ≡ true) settings.now.rows.now }
     ensures lines { OnOk result (WritesLines (W.contents out.old) (W.contents out.new)
-        (shown_lines (comparison_view settings.now) number found choice)) }
+        (shown_lines (comparison_view settings.now) number found noted)) }
     ensures err { IfErr result (λ fault. (fault ≡ CmdFault.Write) ⊎ (fault ≡ CmdFault.Memory)) }
 {
     write_findings(text, settings, number, found, out)?;
-    write_choice(text, settings.recording, number, choice, out)
+    write_noted(text, settings, number, noted, out)
 }

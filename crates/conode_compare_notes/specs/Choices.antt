@@ -1,8 +1,10 @@
 -- What a device chose where CiA 301 leaves a choice (7.2.4.3).
-use Rattle.std.specs.Prelude.{ℕ, ◌-◌, ◌/◌, ◌%◌, ◌==◌, nat_le, nat_lt, Bool, not, ◌&&◌, if◌then◌else◌, Option, Some, None, option_and_then}
+use Rattle.std.specs.Prelude.{ℕ, ◌-◌, ◌/◌, ◌%◌, ◌==◌, nat_le, nat_lt, Bool, not, ◌&&◌, ◌||◌, if◌then◌else◌, List, Option, Some, None, option_and_then}
+use Rattle.std.specs.Option.{option_or}
 use Rattle.co_frame.specs.AbortCodes.{timed_out}
 use Rattle.co_frame.specs.FrameContent.{FrameContent}
 use Rattle.co_frame.specs.declared.abort_code.AbortCode.{AbortCode}
+use Rattle.co_sheet.specs.Content.{Row}
 use Rattle.co_value.specs.declared.key.Key.{Key}
 use Rattle.conode_explain_transfers.specs.declared.ended.Ended.{Ended}
 use Rattle.conode_explain_transfers.specs.declared.ended.Ending.{Ending}
@@ -14,18 +16,23 @@ use Rattle.conode_explain_transfers.specs.declared.kinds.Protocol.TheVariants.{E
 use Rattle.conode_explain_transfers.specs.declared.kinds.Side.TheVariants.{Server}
 use Rattle.conode_explain_transfers.specs.declared.kinds.What.{What}
 use Rattle.conode_explain_transfers.specs.declared.kinds.What.TheVariants.{Part, Stray}
+use Rattle.conode_compare_transfers.specs.declared.dialogue.Asked.{Asked}
 use Rattle.conode_compare_transfers.specs.declared.dialogue.Exchange.{Exchange}
 use Rattle.conode_compare_transfers.specs.Breaches.{byte_at, key_in}
+use Rattle.conode_compare_rules.specs.declared.finding.Remark.{Remark}
+use Rattle.conode_compare_rules.specs.declared.finding.Remark.TheVariants.{Restarted, EarlyHeartbeat}
 use Rattle.conode_compare_rules.specs.declared.kind.FrameKind.{FrameKind}
 use Rattle.conode_compare_rules.specs.declared.kind.FrameKind.TheVariants.{Sdo}
 use Rattle.conode_compare_notes.specs.declared.choice.Choice.{Choice}
-use Rattle.conode_compare_notes.specs.declared.choice.Choice.TheVariants.{Segments, NoSize, ShortSegment, NoCrc, BlockSize, Timeout}
+use Rattle.conode_compare_notes.specs.declared.choice.Choice.TheVariants.{Segments, NoSize, ShortSegment, NoCrc, BlockSize, Switched, Timeout, Heartbeat}
+use Rattle.conode_compare_notes.specs.RefusalCodes.{code_choice}
 
 -- ---- the end of a transfer
 
 -- `choice-timeout`: a server may abort a transfer that timed out, or leave it
-abbrev pub aborted_choice : Key → AbortCode → Option Choice
-aborted_choice key code = if code.0 == timed_out then Some (Timeout key) else None
+abbrev pub aborted_choice : List Row → FrameContent → Ended → AbortCode → Option Choice
+aborted_choice rows frame ended code =
+    if code.0 == timed_out then Some (Timeout ended.key) else code_choice rows frame ended code.0
 
 -- `choice-segments`: up to four bytes could go in one frame
 abbrev pub segments_choice : Ended → Option Choice
@@ -35,15 +42,15 @@ segments_choice ended = if nat_le 1 ended.bytes && nat_le ended.bytes 4 then Som
 abbrev pub expedited_choice : ℕ → Ended → Option Choice
 expedited_choice first ended = if first % 2 == 0 then Some (NoSize ended.key) else None
 
-abbrev pub ending_choice : ℕ → Ended → Direction → Protocol → Ending → Option Choice
-ending_choice first ended direction protocol (Aborted Server code) = aborted_choice ended.key code
-ending_choice first ended Upload Segmented (Done crc) = segments_choice ended
-ending_choice first ended Upload Expedited (Done crc) = expedited_choice first ended
-ending_choice first ended direction protocol ending = None
+abbrev pub ending_choice : List Row → FrameContent → Ended → Direction → Protocol → Ending → Option Choice
+ending_choice rows frame ended direction protocol (Aborted Server code) = aborted_choice rows frame ended code
+ending_choice rows frame ended Upload Segmented (Done crc) = segments_choice ended
+ending_choice rows frame ended Upload Expedited (Done crc) = expedited_choice (byte_at frame 0) ended
+ending_choice rows frame ended direction protocol ending = None
 
--- with a frame that has this first byte
-abbrev pub ended_choice : ℕ → Ended → Option Choice
-ended_choice first ended = ending_choice first ended ended.direction ended.protocol ended.ending
+-- by the frame that ends it
+abbrev pub ended_choice : List Row → FrameContent → Ended → Option Choice
+ended_choice rows frame ended = ending_choice rows frame ended ended.direction ended.protocol ended.ending
 
 -- ---- an answer after which the transfer goes on
 
@@ -64,6 +71,13 @@ block_download_choice key first size =
     if not (first % 4 == 0) then None
     else (if first / 4 % 2 == 0 then Some (NoCrc key) else (if size == 127 then None else Some (BlockSize key size)))
 
+-- `choice-block-size`, in the acknowledge of a sub-block: scs = 5, ss = 2; 0 is no size
+abbrev pub next_choice : ℕ → Key → Option Choice
+next_choice size key = if (size == 0) || (size == 127) then None else Some (BlockSize key size)
+
+abbrev pub acknowledge_choice : Option Key → ℕ → Option Choice
+acknowledge_choice of size = option_and_then (next_choice size) of
+
 -- `choice-crc`, `choice-size`: scs = 6, ss = 0
 abbrev pub block_upload_choice : Key → ℕ → Option Choice
 block_upload_choice key first =
@@ -76,9 +90,20 @@ part_choice of frame =
     let first = byte_at frame 0 in
     if first / 32 == 0 then segment_choice of first
     else (if first / 32 == 2 then initiate_choice (key_in frame) first
-    else (if first / 32 == 5 then block_download_choice (key_in frame) first (byte_at frame 4)
+    else (if first / 32 == 5 then
+    (if first % 4 == 2 then acknowledge_choice of (byte_at frame 2) else block_download_choice (key_in frame) first (byte_at frame 4))
     else (if first / 32 == 6 then block_upload_choice (key_in frame) first
     else None)))
+
+-- ---- an answer by another protocol
+
+-- `choice-switch`: the response to initiate of an upload, scs = 2, to initiate of a block upload with
+-- a threshold
+abbrev pub switched_from : FrameContent → Asked → Option Choice
+switched_from frame asked = if asked.switches && (byte_at frame 0 / 32 == 2) then Some (Switched asked.key) else None
+
+abbrev pub switched_choice : Option Asked → FrameContent → Option Choice
+switched_choice asked frame = option_and_then (switched_from frame) asked
 
 -- ---- a frame without an open transfer
 
@@ -93,16 +118,32 @@ stray_choice frame = if is_abort frame then Some (Timeout (key_in frame)) else N
 
 -- ---- every frame
 
-abbrev pub heard_choice : Exchange → FrameContent → What → Option Ended → Option Choice
-heard_choice exchange frame Part (Some ended) = ended_choice (byte_at frame 0) ended
-heard_choice exchange frame Part None = part_choice exchange.heard.of frame
-heard_choice exchange frame Stray None = stray_choice frame
-heard_choice exchange frame what ended = None
+-- in the open transfer, which ends with the frame or goes on
+abbrev pub in_transfer : List Row → Exchange → FrameContent → Option Ended → Option Choice
+in_transfer rows exchange frame (Some ended) = ended_choice rows frame ended
+in_transfer rows exchange frame None = part_choice exchange.heard.of frame
 
-abbrev pub exchange_choice : Exchange → FrameContent → Option Choice
-exchange_choice exchange frame = if exchange.certain then heard_choice exchange frame exchange.heard.what exchange.heard.ended else None
+abbrev pub server_choice : List Row → Exchange → FrameContent → Option Choice
+server_choice rows exchange frame =
+    option_or (switched_choice exchange.asked frame) (in_transfer rows exchange frame exchange.heard.ended)
 
--- what the device chose with a frame, by what that is to it, and on its SDO channel
-unfoldable pub choice_at : FrameKind → Option Exchange → Option Choice
-choice_at (Sdo Server frame) (Some exchange) = exchange_choice exchange frame
-choice_at kind exchange = None
+abbrev pub heard_choice : List Row → Exchange → FrameContent → What → Option Ended → Option Choice
+heard_choice rows exchange frame Part ended = server_choice rows exchange frame
+heard_choice rows exchange frame Stray None = stray_choice frame
+heard_choice rows exchange frame what ended = None
+
+abbrev pub exchange_choice : List Row → Exchange → FrameContent → Option Choice
+exchange_choice rows exchange frame =
+    if exchange.certain then heard_choice rows exchange frame exchange.heard.what exchange.heard.ended else None
+
+-- `choice-heartbeat`: a heartbeat comes early
+abbrev pub remark_choice : Option Remark → Option Choice
+remark_choice None = None
+remark_choice (Some Restarted) = None
+remark_choice (Some (EarlyHeartbeat passed period)) = Some (Heartbeat passed period)
+
+-- what the device chose with a frame, by what that is to it, and on its SDO channel, and what else it
+-- shows
+unfoldable pub choice_at : List Row → FrameKind → Option Exchange → Option Remark → Option Choice
+choice_at rows (Sdo Server frame) (Some exchange) remark = exchange_choice rows exchange frame
+choice_at rows kind exchange remark = remark_choice remark

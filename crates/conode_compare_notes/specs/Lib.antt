@@ -1,2 +1,5 @@
 pub mod Choices
 pub mod LearnedValues
+pub mod RefusalCodes
+pub mod Warnings
+pub mod WrittenNumbers

@@ -2,7 +2,7 @@
 
 use co_value::Key;
 
-/// What a device chose where CiA 301 leaves a choice (7.2.4.3).
+/// What a device chose where CiA 301 leaves a choice (7.2.4.3, 7.2.8.3.2).
 #[derive(Clone, Copy)]
 pub enum Choice {
     /// `choice-segments`: an upload of so many bytes, one to four, goes in segments.
@@ -13,8 +13,17 @@ pub enum Choice {
     ShortSegment(Key, u8),
     /// `choice-crc`: the device doesn't support the CRC of a block transfer.
     NoCrc(Key),
-    /// `choice-block-size`: a block download has sub-blocks of so many segments, not of 127.
+    /// `choice-block-size`: of a block download sub-blocks of so many segments are asked for, not of
+    /// 127.
     BlockSize(Key, u8),
+    /// `choice-switch`: a block upload is answered by another protocol.
+    Switched(Key),
+    /// `choice-code`: a request is refused with the first code, and by the data sheet the second fits
+    /// too.
+    Code(Key, u32, u32),
     /// `choice-timeout`: the device aborts a transfer since it timed out.
     Timeout(Key),
+    /// `choice-heartbeat`: a heartbeat comes so many microseconds after the last one, and 1017:00
+    /// has so many ms.
+    Heartbeat(u64, u16),
 }

@@ -1,8 +1,12 @@
-//! What a device chose in a transfer (CiA 301, 7.2.4.3).
+//! What a device chose in a transfer (CiA 301, 7.2.4.3), and with a heartbeat (7.2.8.3.2).
 
-ghost use Rattle.std.specs.Prelude.{◌≡◌};
+ghost use Rattle.std.specs.Prelude.{◌≡◌, true, map};
+ghost use Rattle.std.specs.List.{AllPairs};
+ghost use Rattle.co_sheet.specs.SheetViews.{row_view};
+ghost use Rattle.co_value.specs.Keys.{is_key_before};
 ghost use Rattle.conode_compare_notes.specs.Choices.{
   aborted_choice,
+  acknowledge_choice,
   block_download_choice,
   block_upload_choice,
   choice_at,
@@ -11,31 +15,43 @@ ghost use Rattle.conode_compare_notes.specs.Choices.{
   initiate_choice,
   is_abort,
   part_choice,
+  remark_choice,
   segment_choice,
+  server_choice,
   stray_choice,
+  switched_choice,
 };
 
 use crate::choice::Choice;
+use crate::codes::code_choice;
 use co_frame::{AbortCode, Frame};
+use co_sheet::EntryRow;
 use co_value::Key;
-use conode_compare_rules::FrameKind;
-use conode_compare_transfers::{Exchange, byte_at, key_in};
+use conode_compare_rules::{FrameKind, Remark};
+use conode_compare_transfers::{Asked, Exchange, byte_at, key_in};
 use conode_explain_transfers::{Direction, Ended, Ending, Protocol, Side, What};
 
-// an abort with this code, of this entry
-fn aborted_choice(key: Key, code: AbortCode) -> Option<Choice>
-    ensures { result ≡ aborted_choice key code }
+// an abort with this code
+fn aborted_choice(
+    rows: &[EntryRow<'_>],
+    frame: &Frame,
+    ended: &Ended,
+    code: AbortCode,
+) -> Option<Choice>
+    requires { AllPairs (λ e f. is_key_before e.key f.key ≡ true) rows.now }
+    ensures { result ≡ aborted_choice (map row_view rows.now) frame.now ended.now code }
 {
     if code == AbortCode::TIMED_OUT {
-        Some(Choice::Timeout(key))
+        Some(Choice::Timeout(ended.key))
     } else {
-        None
+        code_choice(rows, frame, ended, code)
     }
 }
 
-// by how a transfer ends, with a frame that has this first byte
-fn ended_choice(first: u8, ended: &Ended) -> Option<Choice>
-    ensures { result ≡ ended_choice first ended.now }
+// by how a transfer ends with a frame
+fn ended_choice(rows: &[EntryRow<'_>], frame: &Frame, ended: &Ended) -> Option<Choice>
+    requires { AllPairs (λ e f. is_key_before e.key f.key ≡ true) rows.now }
+    ensures { result ≡ ended_choice (map row_view rows.now) frame.now ended.now }
 {
     match (ended.direction, ended.protocol, ended.ending) {
         (
@@ -45,14 +61,13 @@ fn ended_choice(first: u8, ended: &Ended) -> Option<Choice>
                 by: Side::Server,
                 code,
             },
-        ) => aborted_choice(ended.key, code),
+        ) => aborted_choice(rows, frame, ended, code),
         (Direction::Upload, Protocol::Segmented, Ending::Done { crc: _ })
             if 1 <= ended.bytes && ended.bytes <= 4 => {
             Some(Choice::Segments(ended.key, ended.bytes))
         }
-        (Direction::Upload, Protocol::Expedited, Ending::Done { crc: _ }) if first % 2 == 0 => {
-            Some(Choice::NoSize(ended.key))
-        }
+        (Direction::Upload, Protocol::Expedited, Ending::Done { crc: _ })
+            if byte_at(frame, 0) % 2 == 0 => { Some(Choice::NoSize(ended.key)) }
         _ => None,
     }
 }
@@ -94,6 +109,16 @@ fn block_download_choice(key: Key, first: u8, size: u8) -> Option<Choice>
     }
 }
 
+// the acknowledge of a sub-block of a block download, ss = 2, with the size of the next one
+fn acknowledge_choice(of: Option<Key>, size: u8) -> Option<Choice>
+    ensures { result ≡ acknowledge_choice of size }
+{
+    match of {
+        Some(key) if size != 0 && size != 127 => Some(Choice::BlockSize(key, size)),
+        _ => None,
+    }
+}
+
 // the response to initiate of a block upload, ss = 0
 fn block_upload_choice(key: Key, first: u8) -> Option<Choice>
     ensures { result ≡ block_upload_choice key first }
@@ -117,6 +142,7 @@ fn part_choice(of: Option<Key>, frame: &Frame) -> Option<Choice>
     match first / 32 {
         0 => segment_choice(of, first),
         2 => initiate_choice(key_in(frame), first),
+        5 if first % 4 == 2 => acknowledge_choice(of, byte_at(frame, 2)),
         5 => block_download_choice(key_in(frame), first, byte_at(frame, 4)),
         6 => block_upload_choice(key_in(frame), first),
         _ => None,
@@ -145,28 +171,75 @@ fn stray_choice(frame: &Frame) -> Option<Choice>
     }
 }
 
+// the answer to a request that may be answered by another protocol: the response to initiate of an
+// upload, scs = 2
+fn switched_choice(asked: Option<Asked>, frame: &Frame) -> Option<Choice>
+    ensures { result ≡ switched_choice asked frame.now }
+{
+    match asked {
+        Some(asked) if asked.switches && byte_at(frame, 0) / 32 == 2 => {
+            Some(Choice::Switched(asked.key))
+        }
+        _ => None,
+    }
+}
+
+// by an answer that goes on with the open transfer, or ends it
+fn server_choice(rows: &[EntryRow<'_>], exchange: &Exchange, frame: &Frame) -> Option<Choice>
+    requires { AllPairs (λ e f. is_key_before e.key f.key ≡ true) rows.now }
+    ensures { result ≡ server_choice (map row_view rows.now) exchange.now frame.now }
+{
+    match (
+        switched_choice(exchange.asked, frame),
+        &exchange.heard.ended,
+    ) {
+        (Some(choice), _) => Some(choice),
+        (None, Some(ended)) => ended_choice(rows, frame, ended),
+        (None, None) => part_choice(exchange.heard.of, frame),
+    }
+}
+
 // by an answer, where no earlier request can be answered
-fn exchange_choice(exchange: &Exchange, frame: &Frame) -> Option<Choice>
-    ensures { result ≡ exchange_choice exchange.now frame.now }
+fn exchange_choice(rows: &[EntryRow<'_>], exchange: &Exchange, frame: &Frame) -> Option<Choice>
+    requires { AllPairs (λ e f. is_key_before e.key f.key ≡ true) rows.now }
+    ensures { result ≡ exchange_choice (map row_view rows.now) exchange.now frame.now }
 {
     if !exchange.certain {
         return None;
     }
     match (exchange.heard.what, &exchange.heard.ended) {
-        (What::Part, Some(ended)) => ended_choice(byte_at(frame, 0), ended),
-        (What::Part, None) => part_choice(exchange.heard.of, frame),
+        (What::Part, _) => server_choice(rows, exchange, frame),
         (What::Stray, None) => stray_choice(frame),
         _ => None,
     }
 }
 
-/// What the device chose with a frame, by what that is to it, and on its SDO channel.
+// a heartbeat that comes early
+fn remark_choice(remark: Option<Remark>) -> Option<Choice>
+    ensures { result ≡ remark_choice remark }
+{
+    match remark {
+        Some(Remark::EarlyHeartbeat(passed, period)) => Some(Choice::Heartbeat(passed, period)),
+        _ => None,
+    }
+}
+
+/// What the device chose with a frame, by what that is to it, and on its SDO channel, and what else
+/// it shows; `rows` are the data sheet's entries, in increasing key.
 #[tactic(auto, unfolding(crate::specs::Choices::choice_at))]
-pub fn choice_at(kind: &FrameKind, exchange: &Option<Exchange>) -> Option<Choice>
-    ensures { result ≡ choice_at kind.now exchange.now }
+pub fn choice_at(
+    rows: &[EntryRow<'_>],
+    kind: &FrameKind,
+    exchange: &Option<Exchange>,
+    remark: Option<Remark>,
+) -> Option<Choice>
+    requires { AllPairs (λ e f. is_key_before e.key f.key ≡ true) rows.now }
+    ensures { result ≡ choice_at (map row_view rows.now) kind.now exchange.now remark }
 {
     match (kind, exchange) {
-        (FrameKind::Sdo(Side::Server, frame), Some(exchange)) => exchange_choice(exchange, frame),
-        _ => None,
+        (FrameKind::Sdo(Side::Server, frame), Some(exchange)) => {
+            exchange_choice(rows, exchange, frame)
+        }
+        _ => remark_choice(remark),
     }
 }

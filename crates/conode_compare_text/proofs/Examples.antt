@@ -13,11 +13,13 @@ use Rattle.conode_compare_transfers.specs.declared.breach.Breach.TheVariants.{To
 use Rattle.conode_compare_values.specs.declared.mismatch.Mismatch.TheVariants.{ValueLength, ValueConst, ReadRefused, Written, AboveLimit, BelowLimit}
 use Rattle.conode_compare_rules.specs.declared.finding.Finding.TheVariants.{BootMissing, SecondBootUp, HeartbeatLength, NoState, WrongState, HeartbeatLate, EmergencyLength, EmergencyRegister, EmergencyInhibit, NoAnswer, AnswerKey, AnswerForm, AnswerStopped, Transfer, Value, Held, Pdo}
 use Rattle.conode_compare_rules.specs.declared.finding.NmtState.TheVariants.{PreOperational, Operational}
-use Rattle.conode_compare_notes.specs.declared.choice.Choice.TheVariants.{Segments, NoSize, ShortSegment, NoCrc, BlockSize, Timeout}
+use Rattle.conode_compare_notes.specs.declared.choice.Choice.TheVariants.{Segments, NoSize, ShortSegment, NoCrc, BlockSize, Switched, Code, Timeout, Heartbeat}
+use Rattle.conode_compare_notes.specs.declared.warning.Warning.TheVariants.{Changed, Restarted, Stored}
 use Rattle.conode_compare_text.specs.ChoiceTexts.{choice_line, choice_text, choices_summary}
 use Rattle.conode_compare_text.specs.FindingTexts.{coded, finding_line, finding_text, hexadecimal, keyed, keyed_code, keyed_codes, keyed_number, keyed_numbers, keyed_time, keyed_values, millis_text, mismatch_text, named, numbered, numbered_time, numbered_times, pdo_text, shown_value, three_numbers, timed, timed_number, transfer_text, two_codes, two_times}
 use Rattle.conode_compare_text.specs.LearnedTexts.{learned_line, other_text, typed_text}
 use Rattle.conode_compare_text.specs.Tallies.{summary, tally_text}
+use Rattle.conode_compare_text.specs.WarningTexts.{warning_line, warning_text}
 
 abbrev key : Key
 key = record { index = 0x1018; sub = 1 }
@@ -182,9 +184,21 @@ choice_crc : choice_text (NoCrc key) ≡ codes "choice-crc: 1018:01 is transferr
 unfolding choice_text keyed digits_text
 choice_crc = refl
 
-choice_block : choice_text (BlockSize key 21) ≡ codes "choice-block-size: 1018:01 is downloaded in sub-blocks of 21 segments"
+choice_block : choice_text (BlockSize key 21) ≡ codes "choice-block-size: 1018:01 is downloaded, sub-blocks of 21 segments are asked for"
 unfolding choice_text keyed_number digits_text digits
 choice_block = refl
+
+choice_switch : choice_text (Switched key) ≡ codes "choice-switch: 1018:01 is asked for in blocks, and uploaded by another protocol"
+unfolding choice_text keyed digits_text
+choice_switch = refl
+
+choice_code : choice_text (Code key 0x06010000 0x06010002) ≡ codes "choice-code: 1018:01 is refused with 06010000h, and not with 06010002h"
+unfolding choice_text keyed_codes hexadecimal digits_text
+choice_code = refl
+
+choice_heartbeat : choice_text (Heartbeat 300001 1000) ≡ codes "choice-heartbeat: 300.001 ms since the last one, 1017:00 has 1000 ms"
+unfolding choice_text timed_number millis_text digits_text digits
+choice_heartbeat = refl
 
 choice_timeout : choice_text (Timeout key) ≡ codes "choice-timeout: the transfer of 1018:01 is aborted since it timed out"
 unfolding choice_text keyed digits_text
@@ -198,6 +212,20 @@ sums_choices : choices_summary 5 (record { prescribed = 118; different = 2; unju
     ≡ codes "node 5: 118 frames as prescribed, 2 with a difference, 14 unjudged, 3 choices" ++ 10 ∷ []
 unfolding choices_summary tally_text numbered digits
 sums_choices = refl
+
+-- ---- warnings
+
+restarted : warning_line (codes "r.log") 12 plain Restarted ≡ codes "r.log:12: warning: restarted: a boot-up, and no reset was commanded" ++ 10 ∷ []
+unfolding warning_line warning_text numbered digits
+restarted = refl
+
+stored : warning_text plain (Stored key 0x1F4 0x3E8) ≡ codes "warning: stored: 1018:01 has 000001F4h after the boot-up, the sheet 000003E8h"
+unfolding warning_text keyed_values shown_value hexadecimal digits_text
+stored = refl
+
+changed : warning_text plain (Changed (record { key = key; shown = 0x5; written = 0x12345678 })) ≡ codes "warning: changed-after-write: 1018:01 has 00000005h, written was 12345678h"
+unfolding warning_text keyed_values shown_value hexadecimal digits_text
+changed = refl
 
 -- ---- learned values
 

@@ -2,3 +2,4 @@ pub mod ChoiceTexts
 pub mod FindingTexts
 pub mod LearnedTexts
 pub mod Tallies
+pub mod WarningTexts

@@ -3,7 +3,9 @@
 ghost use Rattle.std.specs.Prelude.{◌≡◌, ◌++◌, OnOk, string_bytes};
 ghost use Rattle.conode_compare_text.specs.ChoiceTexts.{choice_line, choice_text, choices_summary};
 
-use crate::parts::{push_key, push_key_number, push_number, push_words};
+use crate::parts::{
+    push_key, push_key_codes, push_key_number, push_number, push_time_number, push_words,
+};
 use crate::tally::{Tally, push_tally};
 use conode_compare_notes::Choice;
 use std::alloc::AllocError;
@@ -43,15 +45,38 @@ fn push_choice(text: &mut String, choice: Choice) -> Result<(), AllocError>
             text,
             "choice-block-size: ",
             key,
-            " is downloaded in sub-blocks of ",
+            " is downloaded, sub-blocks of ",
             u64::from(segments),
-            " segments",
+            " segments are asked for",
+        ),
+        Choice::Switched(key) => push_key(
+            text,
+            "choice-switch: ",
+            key,
+            " is asked for in blocks, and uploaded by another protocol",
+        ),
+        Choice::Code(key, came, fitting) => push_key_codes(
+            text,
+            "choice-code: ",
+            key,
+            " is refused with ",
+            u64::from(came),
+            ", and not with ",
+            u64::from(fitting),
         ),
         Choice::Timeout(key) => push_key(
             text,
             "choice-timeout: the transfer of ",
             key,
             " is aborted since it timed out",
+        ),
+        Choice::Heartbeat(passed, period) => push_time_number(
+            text,
+            "choice-heartbeat: ",
+            passed,
+            " since the last one, 1017:00 has ",
+            u64::from(period),
+            " ms",
         ),
     }
 }

@@ -6,8 +6,10 @@ mod finding_text;
 mod learned_text;
 mod parts;
 mod tally;
+mod warning_text;
 
 pub use choice_text::{set_choice_line, set_choices_summary};
 pub use finding_text::{push_finding, set_finding_line};
 pub use learned_text::set_learned_line;
 pub use tally::{Tally, set_summary};
+pub use warning_text::set_warning_line;

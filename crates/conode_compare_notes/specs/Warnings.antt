@@ -1,0 +1,214 @@
+-- What a user may want to know of a device, though it is no difference: that it restarted by itself,
+-- that it may have stored values, that a value changed after it was written.
+use Rattle.std.specs.Prelude.{ℕ, ◌==◌, nat_le, nat_lt, Bool, true, false, not, ◌&&◌, ◌||◌, if◌then◌else◌, List, [], Option, Some, None, is_some, option_map, option_and_then}
+use Rattle.std.specs.Option.{option_map_or}
+use Rattle.co_frame.specs.FrameContent.{FrameContent}
+use Rattle.co_sheet.specs.Content.{Row}
+use Rattle.co_value.specs.declared.key.Key.{Key}
+use Rattle.conode_decode.specs.Names.{row_at}
+use Rattle.conode_explain_transfers.specs.declared.ended.Ended.{Ended}
+use Rattle.conode_explain_transfers.specs.declared.kinds.Direction.{Direction}
+use Rattle.conode_explain_transfers.specs.declared.kinds.Direction.TheVariants.{Download, Upload}
+use Rattle.conode_explain_transfers.specs.declared.kinds.Side.{Side}
+use Rattle.conode_explain_transfers.specs.declared.kinds.Side.TheVariants.{Client, Server}
+use Rattle.conode_explain_transfers.specs.declared.kinds.What.{What}
+use Rattle.conode_explain_transfers.specs.declared.kinds.What.TheVariants.{Initiate}
+use Rattle.conode_compare_pdos.specs.SheetNumbers.{number_of as sheet_number}
+use Rattle.conode_compare_transfers.specs.declared.dialogue.Exchange.{Exchange}
+use Rattle.conode_compare_transfers.specs.Breaches.{key_in}
+use Rattle.conode_compare_transfers.specs.Dialogues.{asks_to_write, is_timed}
+use Rattle.conode_compare_values.specs.SheetValues.{is_read_only, shown_number}
+use Rattle.conode_compare_held.specs.HeldNumbers.{differs, is_whole, number_written}
+use Rattle.conode_compare_held.specs.HeldWords.{entry_of, held_width}
+use Rattle.conode_compare_rules.specs.declared.finding.Remark.{Remark}
+use Rattle.conode_compare_rules.specs.declared.finding.Remark.TheVariants.{Restarted as RestartedRemark, EarlyHeartbeat}
+use Rattle.conode_compare_rules.specs.declared.kind.FrameKind.{FrameKind}
+use Rattle.conode_compare_rules.specs.declared.kind.FrameKind.TheVariants.{Command, CommandToAll, Control, Sdo}
+use Rattle.conode_compare_rules.specs.declared.limits.Subject.{Subject}
+use Rattle.conode_compare_rules.specs.declared.progress.Progress.{Progress}
+use Rattle.conode_compare_rules.specs.States.{is_reset}
+use Rattle.conode_compare_notes.specs.declared.warning.Warning.{Warning}
+use Rattle.conode_compare_notes.specs.declared.warning.Warning.TheVariants.{Restarted, Stored, Changed}
+use Rattle.conode_compare_notes.specs.declared.watched.Watched.{Watched}
+use Rattle.conode_compare_notes.specs.declared.writes.Wrote.{Wrote}
+use Rattle.conode_compare_notes.specs.WrittenNumbers.{number_of, with_number}
+
+-- ---- entries
+
+-- A setting of the communication profile, which a client alone writes (CiA 301, 7.5): COB-IDs and
+-- times of SYNC, TIME, EMCY and heartbeats, the error behaviour, the parameters of SDOs and PDOs. Not
+-- what a write of 1010h or 1011h does, nor the running time 1013h.
+abbrev pub is_setting : ℕ → Bool
+is_setting index =
+    (nat_le 0x1005 index && (nat_le index 0x1019 && not ((index == 0x1010) || ((index == 0x1011) || (index == 0x1013)))))
+    || ((index == 0x1029) || (nat_le 0x1200 index && nat_lt index 0x1C00))
+
+-- An entry that a client can write, and that keeps its value as far as the data sheet shows: no PDO
+-- may have it.
+abbrev pub is_kept : Row → Bool
+is_kept row =
+    not row.mappable && (not (is_read_only row.access) && (is_setting row.key.index || nat_le 0x2000 row.key.index))
+
+-- ---- an upload
+
+-- `changed-after-write`: another number than a download wrote; not of an entry that is held, of which
+-- it is a difference
+abbrev pub changed_warning : Subject → Key → ℕ → Option ℕ → Option Warning
+changed_warning subject key shown number =
+    if is_some (entry_of subject.held.entries.items key) then None else option_map (λ m. Changed m) (differs key (Some shown) number)
+
+-- `stored`: another number than the data sheet's, of a setting that wasn't asked to be written
+abbrev pub stored_with : Key → ℕ → ℕ → Option Warning
+stored_with key shown sheet = if shown == sheet then None else Some (Stored key shown sheet)
+
+abbrev pub stored_warning : ℕ → Row → ℕ → Option Warning
+stored_warning node row shown =
+    if is_setting row.key.index then option_and_then (stored_with row.key shown) (sheet_number node row.default) else None
+
+abbrev pub warning_by : Subject → Bool → Row → ℕ → Option (Option ℕ) → Option Warning
+warning_by subject fresh row shown None = if fresh then stored_warning subject.node row shown else None
+warning_by subject fresh row shown (Some number) = changed_warning subject row.key shown number
+
+-- by the number that an upload shows of an entry
+abbrev pub number_warning : Subject → Watched → Row → ℕ → Option Warning
+number_warning subject watched row shown =
+    if is_kept row then warning_by subject watched.fresh row shown (number_of watched.writes row.key) else None
+
+abbrev pub row_warning : Subject → Watched → Ended → Row → Option Warning
+row_warning subject watched ended row =
+    option_and_then (λ width. option_and_then (number_warning subject watched row) (shown_number width ended.first.items))
+    (held_width row.data_type)
+
+abbrev pub upload_warning : Subject → List Row → Watched → Ended → Option Warning
+upload_warning subject rows watched ended = option_and_then (row_warning subject watched ended) (row_at rows ended.key)
+
+-- ---- the end of a transfer
+
+-- a transfer that is done with all its bytes in one frame, where no earlier request can be answered
+abbrev pub is_plain : Bool → Ended → Bool
+is_plain certain ended = certain && is_whole ended.protocol ended.ending
+
+abbrev pub warning_of : Subject → List Row → Watched → Bool → Direction → Ended → Option Warning
+warning_of subject rows watched certain Upload ended = if is_plain certain ended then upload_warning subject rows watched ended else None
+warning_of subject rows watched certain Download ended = None
+
+abbrev pub ended_warning : Subject → List Row → Watched → Bool → Ended → Option Warning
+ended_warning subject rows watched certain ended = warning_of subject rows watched certain ended.direction ended
+
+-- the number that a download wrote, where that is known
+abbrev pub downloaded : Row → Bool → Ended → Option ℕ
+downloaded row certain ended =
+    if is_plain certain ended
+    then option_and_then (λ width. number_written width ended.first.items) (held_width row.data_type) else None
+
+abbrev pub wrote_by : List Wrote → Bool → Ended → Option Row → List Wrote
+wrote_by writes certain ended None = writes
+wrote_by writes certain ended (Some row) = with_number writes ended.key (downloaded row certain ended)
+
+-- what was written is compared with the next upload alone
+abbrev pub read_by : List Wrote → Bool → Ended → Option (Option ℕ) → List Wrote
+read_by writes certain ended (Some (Some number)) = if is_plain certain ended then with_number writes ended.key None else writes
+read_by writes certain ended number = writes
+
+abbrev pub writes_of : List Row → List Wrote → Bool → Direction → Ended → List Wrote
+writes_of rows writes certain Download ended = wrote_by writes certain ended (row_at rows ended.key)
+writes_of rows writes certain Upload ended = read_by writes certain ended (number_of writes ended.key)
+
+abbrev pub is_stored : Option Warning → Bool
+is_stored (Some (Stored key shown sheet)) = true
+is_stored warning = false
+
+-- the first value that it may have stored is warned of
+abbrev pub after_end : Subject → List Row → Watched → Bool → Ended → Watched
+after_end subject rows watched certain ended = record {
+  fresh = watched.fresh && not (is_stored (ended_warning subject rows watched certain ended));
+  writes = writes_of rows watched.writes certain ended.direction ended;
+}
+
+abbrev pub with_end : Subject → List Row → Watched → Bool → Option Ended → Watched
+with_end subject rows watched certain None = watched
+with_end subject rows watched certain (Some ended) = after_end subject rows watched certain ended
+
+-- ---- a request
+
+-- nothing is known of what was written
+abbrev pub nothing_watched : Watched
+nothing_watched = record { fresh = false; writes = [] }
+
+-- A download is requested: what its entry has is unknown until it ends. A write that restores
+-- parameters, or loads a program, may change any entry.
+abbrev pub after_request : List Row → Watched → Key → Watched
+after_request rows watched key =
+    if is_timed key then (if is_some (row_at rows key) then record watched { writes = with_number watched.writes key None } else watched)
+    else nothing_watched
+
+abbrev pub is_initiate : What → Bool
+is_initiate Initiate = true
+is_initiate what = false
+
+abbrev pub with_request : List Row → Watched → Side → What → FrameContent → Watched
+with_request rows watched Client what frame = if is_initiate what && asks_to_write frame then after_request rows watched (key_in frame) else watched
+with_request rows watched Server what frame = watched
+
+-- ---- every frame
+
+-- the recording begins with the newest frame, or begins anew; or that is an error frame
+abbrev pub is_begun : Progress → Bool
+is_begun progress = option_map_or (λ newest. newest == progress.started) progress.newest false
+
+-- before a frame, by what the recording shows with it
+abbrev pub watched_before : Watched → Progress → Watched
+watched_before watched progress = if is_begun progress then nothing_watched else watched
+
+-- after a boot-up all entries have the data sheet's values, or stored ones
+abbrev pub booted : Subject → Watched
+booted subject = record { fresh = subject.facts.stores; writes = [] }
+
+-- by another frame than one of the SDO channel; a reset ends what is known
+abbrev pub after_other : Subject → Watched → FrameKind → Watched
+after_other subject watched (Control byte) = if byte == 0 then booted subject else watched
+after_other subject watched (Command service) = if is_reset service then nothing_watched else watched
+after_other subject watched (CommandToAll service) = if is_reset service then nothing_watched else watched
+after_other subject watched kind = watched
+
+-- by a frame of the SDO channel: it may end a transfer, or request one
+unfoldable pub exchanged : Subject → List Row → Watched → Side → FrameContent → Exchange → Watched
+exchanged subject rows watched side frame exchange =
+    with_request rows (with_end subject rows watched exchange.certain exchange.heard.ended) side exchange.heard.what frame
+
+abbrev pub heard : Subject → List Row → Watched → Side → FrameContent → Option Exchange → Watched
+heard subject rows watched side frame None = watched
+heard subject rows watched side frame (Some exchange) = exchanged subject rows watched side frame exchange
+
+-- by what the frame is to the device, and on its SDO channel
+abbrev pub watched_at : Subject → List Row → Watched → FrameKind → Option Exchange → Watched
+watched_at subject rows watched (Sdo side frame) exchange = heard subject rows watched side frame exchange
+watched_at subject rows watched kind exchange = after_other subject watched kind
+
+-- after a frame, by what the recording shows with it
+unfoldable pub watched_with : Subject → List Row → Watched → FrameKind → Progress → Watched
+watched_with subject rows watched kind progress = watched_at subject rows (watched_before watched progress) kind progress.exchange
+
+-- ---- the warning of a frame
+
+-- `restarted`: a boot-up that is remarked
+abbrev pub remark_warning : Option Remark → Option Warning
+remark_warning None = None
+remark_warning (Some RestartedRemark) = Some Restarted
+remark_warning (Some (EarlyHeartbeat passed period)) = None
+
+abbrev pub exchange_warning : Subject → List Row → Watched → Exchange → Option Warning
+exchange_warning subject rows watched exchange =
+    option_and_then (ended_warning subject rows watched exchange.certain) exchange.heard.ended
+
+abbrev pub heard_warning : Subject → List Row → Watched → Option Exchange → Option Warning
+heard_warning subject rows watched exchange = option_and_then (exchange_warning subject rows watched) exchange
+
+abbrev pub warning_in : Subject → List Row → Watched → FrameKind → Option Exchange → Option Remark → Option Warning
+warning_in subject rows watched (Sdo side frame) exchange remark = heard_warning subject rows watched exchange
+warning_in subject rows watched kind exchange remark = remark_warning remark
+
+-- by what the recording shows with it
+unfoldable pub warning_at : Subject → List Row → Watched → FrameKind → Progress → Option Warning
+warning_at subject rows watched kind progress =
+    warning_in subject rows (watched_before watched progress) kind progress.exchange progress.remark

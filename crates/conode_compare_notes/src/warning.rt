@@ -1,0 +1,15 @@
+//! The kinds of warnings.
+
+use co_value::Key;
+use conode_compare_held::HeldMismatch;
+
+/// What a user may want to know of a device, though it is no difference.
+#[derive(Clone, Copy)]
+pub enum Warning {
+    /// `restarted`: a boot-up, and no reset was commanded since the device was seen.
+    Restarted,
+    /// `stored`: after a boot-up this entry has the first number, and the data sheet the second.
+    Stored(Key, u64, u64),
+    /// `changed-after-write`: an upload shows another number than the last download wrote.
+    Changed(HeldMismatch),
+}

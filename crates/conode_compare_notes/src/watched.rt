@@ -1,0 +1,352 @@
+//! Warnings: that a device restarted by itself, that it may have stored values, that a value changed
+//! after it was written.
+
+ghost use Rattle.std.specs.Prelude.{◌≡◌, IfOk, OnOk, true, map};
+ghost use Rattle.std.specs.List.{AllPairs};
+ghost use Rattle.co_sheet.specs.SheetViews.{row_view};
+ghost use Rattle.co_value.specs.Keys.{is_key_before};
+ghost use Rattle.conode_compare_notes.specs.Warnings.{
+  after_end,
+  after_other,
+  after_request,
+  changed_warning,
+  downloaded,
+  ended_warning,
+  exchange_warning,
+  exchanged,
+  is_begun,
+  is_kept,
+  is_plain,
+  is_setting,
+  is_stored,
+  nothing_watched,
+  number_warning,
+  remark_warning,
+  row_warning,
+  stored_warning,
+  upload_warning,
+  warning_at,
+  watched_with,
+  writes_of,
+};
+
+use crate::warning::Warning;
+use crate::writes::Writes;
+use co_frame::Frame;
+use co_profile::{RESTORE_PARAMETERS, STORE_PARAMETERS};
+use co_sheet::EntryRow;
+use co_value::Key;
+use conode_compare_held::{differs, held_width, is_whole, number_written};
+use conode_compare_pdos::number_of;
+use conode_compare_rules::{FrameKind, Progress, Remark, Subject, is_reset};
+use conode_compare_transfers::{Exchange, asks_to_write, is_timed, key_in};
+use conode_compare_values::{is_read_only, shown_number};
+use conode_decode::row_at;
+use conode_explain_transfers::{Direction, Ended, Side, What};
+use std::alloc::{AllocError, Global};
+
+/// What warnings rest on.
+#[derive(Drop)]
+pub struct Watched {
+    /// Whether a value that the device may have stored is looked for: it booted up, and none was
+    /// found since.
+    pub fresh: bool,
+    /// What clients asked to write since.
+    pub writes: Writes,
+}
+
+// Whether the entries of an object are settings of the communication profile, which a client alone
+// writes (CiA 301, 7.5).
+fn is_setting(index: u16) -> bool
+    ensures { result ≡ is_setting index }
+{
+    (0x1005 <= index
+        && index <= 0x1019
+        && !(index == STORE_PARAMETERS || index == RESTORE_PARAMETERS || index == 0x1013))
+        || index == 0x1029
+        || (0x1200 <= index && index < 0x1C00)
+}
+
+// Whether an entry can be written, and keeps its value as far as the data sheet shows.
+fn is_kept(row: &EntryRow<'_>) -> bool
+    ensures { result ≡ is_kept (row_view row.now) }
+{
+    !row.mappable
+        && !is_read_only(row.access)
+        && (is_setting(row.key.index) || 0x2000 <= row.key.index)
+}
+
+// an upload shows another number than a download wrote, of an entry that isn't held
+fn changed_warning(subject: &Subject, key: Key, shown: u64, number: Option<u64>) -> Option<Warning>
+    ensures { result ≡ changed_warning subject.now key shown number }
+{
+    if subject.held.entry(key).is_some() {
+        return None;
+    }
+    match differs(key, Some(shown), number) {
+        Some(mismatch) => Some(Warning::Changed(mismatch)),
+        None => None,
+    }
+}
+
+// another number than the data sheet's, of a setting
+fn stored_warning(node: u8, row: &EntryRow<'_>, shown: u64) -> Option<Warning>
+    ensures { result ≡ stored_warning node (row_view row.now) shown }
+{
+    if !is_setting(row.key.index) {
+        return None;
+    }
+    match number_of(node, row.default) {
+        Some(sheet) if shown != sheet => Some(Warning::Stored(row.key, shown, sheet)),
+        _ => None,
+    }
+}
+
+// whether a transfer is done with all its bytes in one frame, and no earlier request can be answered
+fn is_plain(certain: bool, ended: &Ended) -> bool
+    ensures { result ≡ is_plain certain ended.now }
+{
+    certain && is_whole(ended)
+}
+
+// the number that a download wrote, where that is known
+fn downloaded(row: &EntryRow<'_>, certain: bool, ended: &Ended) -> Option<u64>
+    ensures { result ≡ downloaded (row_view row.now) certain ended.now }
+{
+    if !is_plain(certain, ended) {
+        return None;
+    }
+    let width = held_width(row.data_type)?;
+    number_written(width, ended.first.as_slice())
+}
+
+// of a boot-up that is remarked
+fn remark_warning(remark: Option<Remark>) -> Option<Warning>
+    ensures { result ≡ remark_warning remark }
+{
+    match remark {
+        Some(Remark::Restarted) => Some(Warning::Restarted),
+        _ => None,
+    }
+}
+
+// whether the recording begins with the newest frame, or begins anew; or that is an error frame
+fn is_begun(progress: &Progress) -> bool
+    ensures { result ≡ is_begun progress.now }
+{
+    match progress.newest {
+        Some(newest) => newest == progress.started,
+        None => false,
+    }
+}
+
+fn is_stored(warning: Option<Warning>) -> bool
+    ensures { result ≡ is_stored warning }
+{
+    matches!(warning, Some(Warning::Stored(_, _, _)))
+}
+
+impl Watched {
+    /// Nothing is known.
+    pub fn new(alloc: Global) -> Watched
+        ensures { result ≡ nothing_watched }
+    {
+        Watched {
+            fresh: false,
+            writes: Writes::new(alloc),
+        }
+    }
+
+    // Nothing is known any more.
+    fn forget(&mut self)
+        ensures { self.new ≡ nothing_watched }
+    {
+        self.fresh = false;
+        self.writes.clear();
+    }
+
+    // by the number that an upload shows of an entry
+    fn number_warning(&self, subject: &Subject, row: &EntryRow<'_>, shown: u64) -> Option<Warning>
+        ensures { result ≡ number_warning subject.now self.now (row_view row.now) shown }
+    {
+        if !is_kept(row) {
+            return None;
+        }
+        match self.writes.number(row.key) {
+            Some(number) => changed_warning(subject, row.key, shown, number),
+            None if self.fresh => stored_warning(subject.node, row, shown),
+            None => None,
+        }
+    }
+
+    // by an upload that is done
+    fn upload_warning(
+        &self,
+        subject: &Subject,
+        rows: &[EntryRow<'_>],
+        ended: &Ended,
+    ) -> Option<Warning>
+        requires { AllPairs (λ e f. is_key_before e.key f.key ≡ true) rows.now }
+        ensures { result ≡ upload_warning subject.now (map row_view rows.now) self.now ended.now }
+    {
+        let row = row_at(rows, ended.key)?;
+        let width = held_width(row.data_type)?;
+        let shown = shown_number(width, ended.first.as_slice())?;
+        self.number_warning(subject, row, shown)
+    }
+
+    // by the end of a transfer
+    fn ended_warning(
+        &self,
+        subject: &Subject,
+        rows: &[EntryRow<'_>],
+        certain: bool,
+        ended: &Ended,
+    ) -> Option<Warning>
+        requires { AllPairs (λ e f. is_key_before e.key f.key ≡ true) rows.now }
+        ensures { result
+            ≡ ended_warning subject.now (map row_view rows.now) self.now certain ended.now }
+    {
+        match ended.direction {
+            Direction::Upload if is_plain(certain, ended) => {
+                self.upload_warning(subject, rows, ended)
+            }
+            _ => None,
+        }
+    }
+
+    // Notes the end of a transfer: what a download wrote is compared with the next upload.
+    fn note_end(
+        &mut self,
+        rows: &[EntryRow<'_>],
+        certain: bool,
+        ended: &Ended,
+    ) -> Result<(), AllocError>
+        requires { AllPairs (λ e f. is_key_before e.key f.key ≡ true) rows.now }
+        ensures { OnOk result (self.new ≡ record self.old {
+          writes = writes_of
+              (map row_view rows.now) self.old.writes certain ended.now.direction ended.now;
+        }) }
+    {
+        match ended.direction {
+            Direction::Download => match row_at(rows, ended.key) {
+                Some(row) => self.writes.note(ended.key, downloaded(row, certain, ended)),
+                None => Ok(()),
+            },
+            Direction::Upload => match self.writes.number(ended.key) {
+                Some(Some(_)) if is_plain(certain, ended) => self.writes.note(ended.key, None),
+                _ => Ok(()),
+            },
+        }
+    }
+
+    // A transfer ended.
+    fn take_end(
+        &mut self,
+        subject: &Subject,
+        rows: &[EntryRow<'_>],
+        certain: bool,
+        ended: &Ended,
+    ) -> Result<Option<Warning>, AllocError>
+        requires { AllPairs (λ e f. is_key_before e.key f.key ≡ true) rows.now }
+        ensures warning { IfOk result (λ warning. warning
+            ≡ ended_warning subject.now (map row_view rows.now) self.old certain ended.now) }
+        ensures next { OnOk result (self.new
+            ≡ after_end subject.now (map row_view rows.now) self.old certain ended.now) }
+    {
+        let warning = self.ended_warning(subject, rows, certain, ended);
+        self.note_end(rows, certain, ended)?;
+        self.fresh = self.fresh && !is_stored(warning);
+        Ok(warning)
+    }
+
+    // A download is requested.
+    fn take_request(&mut self, rows: &[EntryRow<'_>], key: Key) -> Result<(), AllocError>
+        requires { AllPairs (λ e f. is_key_before e.key f.key ≡ true) rows.now }
+        ensures { OnOk result
+            (self.new ≡ after_request (map row_view rows.now) self.old key) }
+    {
+        if !is_timed(key) {
+            self.forget();
+        } else if row_at(rows, key).is_some() {
+            self.writes.note(key, None)?;
+        }
+        Ok(())
+    }
+
+    // A frame of the SDO channel by an end.
+    #[tactic(auto, unfolding(crate::specs::Warnings::exchanged))]
+    fn take_exchange(
+        &mut self,
+        subject: &Subject,
+        rows: &[EntryRow<'_>],
+        side: Side,
+        frame: &Frame,
+        exchange: &Exchange,
+    ) -> Result<Option<Warning>, AllocError>
+        requires { AllPairs (λ e f. is_key_before e.key f.key ≡ true) rows.now }
+        ensures warning { IfOk result (λ warning. warning
+            ≡ exchange_warning subject.now (map row_view rows.now) self.old exchange.now) }
+        ensures next { OnOk result (self.new ≡ exchanged
+            subject.now (map row_view rows.now) self.old side frame.now exchange.now) }
+    {
+        let warning = match &exchange.heard.ended {
+            Some(ended) => self.take_end(subject, rows, exchange.certain, ended)?,
+            None => None,
+        };
+        match (side, exchange.heard.what) {
+            (Side::Client, What::Initiate) if asks_to_write(frame) => {
+                self.take_request(rows, key_in(frame))?;
+            }
+            _ => {}
+        }
+        Ok(warning)
+    }
+
+    // A frame that isn't one of the SDO channel.
+    fn take_other(&mut self, subject: &Subject, kind: &FrameKind)
+        ensures { self.new ≡ after_other subject.now self.old kind.now }
+    {
+        match kind {
+            FrameKind::Control(0) => {
+                self.forget();
+                self.fresh = subject.facts.stores;
+            }
+            FrameKind::Command(service) if is_reset(*service) => self.forget(),
+            FrameKind::CommandToAll(service) if is_reset(*service) => self.forget(),
+            _ => {}
+        }
+    }
+
+    /// Takes a frame by what it is to the device, and what the recording shows with it. Returns what
+    /// a user may want to know of the device; `rows` are the data sheet's entries, in increasing
+    /// key. On an `Err` memory ran out.
+    #[tactic(auto, unfolding(crate::specs::Warnings::watched_with, crate::specs::Warnings::warning_at))]
+    pub fn take(
+        &mut self,
+        subject: &Subject,
+        rows: &[EntryRow<'_>],
+        kind: &FrameKind,
+        progress: &Progress,
+    ) -> Result<Option<Warning>, AllocError>
+        requires { AllPairs (λ e f. is_key_before e.key f.key ≡ true) rows.now }
+        ensures warning { IfOk result (λ warning. warning ≡ warning_at
+            subject.now (map row_view rows.now) self.old kind.now progress.now) }
+        ensures next { OnOk result (self.new ≡ watched_with
+            subject.now (map row_view rows.now) self.old kind.now progress.now) }
+    {
+        if is_begun(progress) {
+            self.forget();
+        }
+        match (kind, &progress.exchange) {
+            (FrameKind::Sdo(side, frame), Some(exchange)) => {
+                self.take_exchange(subject, rows, *side, frame, exchange)
+            }
+            (FrameKind::Sdo(_, _), None) => Ok(None),
+            _ => {
+                self.take_other(subject, kind);
+                Ok(remark_warning(progress.remark))
+            }
+        }
+    }
+}

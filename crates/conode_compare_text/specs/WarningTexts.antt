@@ -1,0 +1,19 @@
+-- The line of a warning.
+use Rattle.std.specs.Prelude.{ℕ, List, [], ◌∷◌, ◌++◌, codes}
+use Rattle.conode_explain_values.specs.declared.value_type.ValueType.{ValueType}
+use Rattle.conode_compare_notes.specs.declared.warning.Warning.{Warning}
+use Rattle.conode_compare_notes.specs.declared.warning.Warning.TheVariants.{Restarted, Stored, Changed}
+use Rattle.conode_compare_text.specs.FindingTexts.{keyed_values, numbered}
+
+-- the name of the kind, and what was seen, where the values of the entry have this type
+unfoldable pub warning_text : ValueType → Warning → List ℕ
+warning_text t Restarted = codes "warning: restarted: a boot-up, and no reset was commanded"
+warning_text t (Stored key shown sheet) =
+    keyed_values (codes "warning: stored: ") key (codes " has ") t shown (codes " after the boot-up, the sheet ") sheet
+warning_text t (Changed mismatch) =
+    keyed_values (codes "warning: changed-after-write: ") mismatch.key (codes " has ") t mismatch.shown (codes ", written was ")
+    mismatch.written
+
+-- `recording.log:123: warning: restarted: ..`
+unfoldable pub warning_line : List ℕ → ℕ → ValueType → Warning → List ℕ
+warning_line recording line t warning = recording ++ numbered (codes ":") line (codes ": ") ++ warning_text t warning ++ 10 ∷ []
