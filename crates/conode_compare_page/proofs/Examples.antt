@@ -1,6 +1,5 @@
 -- The parts of the page, evaluated.
 use Rattle.std.proofs.Common.{◌≡◌, ℕ, List, [], ◌∷◌, ◌++◌, true, false, None, Some, refl, codes, map}
-use Rattle.std.specs.Prelude.{◌^◌, ◌-◌}
 use Rattle.std.specs.Fmt.{digits}
 use Rattle.std.specs.List.{flat_map}
 use Rattle.std.specs.Str.{chars, is_utf8}
@@ -8,8 +7,6 @@ use Rattle.co_text.specs.Printed.{digits_text}
 use Rattle.co_value.specs.declared.data_type.DataType.TheVariants.{Unsigned32}
 use Rattle.conode_compare_rules.specs.declared.finding.Finding.TheVariants.{HeartbeatLate}
 use Rattle.conode_compare_report.specs.declared.coverage.Covered.{Covered}
-use Rattle.conode_compare_report.specs.declared.kind.Counted.{Counted}
-use Rattle.conode_compare_report.specs.declared.kind.Kind.TheVariants as kind
 use Rattle.conode_compare_report.specs.declared.lanes.Bin.{Bin}
 use Rattle.conode_compare_report.specs.declared.lanes.Lane.TheVariants.{Heartbeats, Emergencies, Transfers, Tpdos, Rpdos}
 use Rattle.conode_compare_report.specs.declared.lanes.States.{States}
