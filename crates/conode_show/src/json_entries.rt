@@ -1,8 +1,16 @@
 //! Entries and objects as objects of JSON.
 
-ghost use Rattle.std.specs.Prelude.{◌≡◌, ◌++◌, OnOk};
+ghost use Rattle.std.specs.Prelude.{◌≡◌, ◌++◌, codes, OnOk};
 ghost use Rattle.co_sheet_text.specs.Views.{section_view};
-ghost use Rattle.conode_show.specs.JsonForm.{entry_tokens, object_tokens, section_tokens, value_members};
+ghost use Rattle.conode_show.specs.JsonForm.{
+  entry_tokens,
+  key_members,
+  named_members,
+  object_tokens,
+  property_member,
+  section_tokens,
+  value_members,
+};
 
 use crate::parts::{Part, put_parts};
 use co_sheet_text::{SectionKind, TextSection};
@@ -34,7 +42,32 @@ fn put_values<'p>(
     )
 }
 
-#[tactic(auto, unfolding(crate::specs::JsonForm::entry_tokens, crate::specs::JsonForm::key_members, crate::specs::JsonForm::named_members))]
+// the key of an entry, its name, type and access
+#[tactic(auto, unfolding(crate::specs::JsonForm::key_members, crate::specs::JsonForm::named_members))]
+fn put_named<'p>(
+    alloc: Global,
+    writer: &mut JsonWriter,
+    key: Key,
+    section: &'p TextSection<'p, 'p>,
+) -> Result<(), AllocError>
+    ensures { OnOk result (writer.new ≡ writer.old
+        ++ key_members key ++ named_members (section_view section.entry.now)
+        ++ property_member (codes "access") (codes "AccessType") (section_view section.entry.now)) }
+{
+    put_parts(
+        alloc,
+        writer,
+        &[
+            Part::Number("index", Some(i128::from(key.index))),
+            Part::Number("subIndex", Some(i128::from(key.sub))),
+            Part::Property("name", b"ParameterName", section),
+            Part::Shown("type", None, Content::TypeOf(section)),
+            Part::Property("access", b"AccessType", section),
+        ],
+    )
+}
+
+#[tactic(auto, unfolding(crate::specs::JsonForm::entry_tokens))]
 fn put_entry<'p>(
     alloc: Global,
     writer: &mut JsonWriter,
@@ -45,18 +78,8 @@ fn put_entry<'p>(
     ensures { OnOk result
         (writer.new ≡ writer.old ++ entry_tokens node key (section_view section.entry.now)) }
 {
-    put_parts(
-        alloc,
-        writer,
-        &[
-            Part::BeginObject,
-            Part::Number("index", Some(i128::from(key.index))),
-            Part::Number("subIndex", Some(i128::from(key.sub))),
-            Part::Property("name", b"ParameterName", section),
-            Part::Shown("type", None, Content::TypeOf(section)),
-            Part::Property("access", b"AccessType", section),
-        ],
-    )?;
+    writer.begin_object()?;
+    put_named(alloc, writer, key, section)?;
     put_values(alloc, writer, node, section)?;
     writer.put_flag("mappable", is_mappable(section))?;
     writer.end_object()
