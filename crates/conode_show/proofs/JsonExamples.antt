@@ -1,5 +1,5 @@
 -- Documents of JSON, evaluated: each kind of object, and both sides of each edge.
-use Rattle.std.proofs.Common.{◌≡◌, ℕ, [], ◌∷◌, List, Some, None, refl, false, true, pos, negsuc}
+use Rattle.std.proofs.Common.{◌≡◌, ℕ, [], ◌∷◌, List, Some, None, refl, false, true}
 use Rattle.std.specs.Prelude.{codes}
 use Rattle.std.specs.Fmt.{digits}
 use Rattle.std.specs.Str.{is_utf8, chars}
@@ -12,6 +12,7 @@ use Rattle.co_value.specs.declared.data_type.DataType.TheVariants.{Unsigned64}
 use Rattle.co_sheet_text.specs.declared.section_kind.SectionKind.{SectionKind}
 use Rattle.co_sheet_text.specs.declared.section_kind.SectionKind.TheVariants.{Object, SubIndex, DeviceInfo}
 use Rattle.co_sheet_text.specs.Sections.{TextSection, Property}
+use Rattle.conode_json.specs.Members.{array_begin, flag_member, number_member, object_begin, text_member}
 use Rattle.conode_lint_text.specs.Characters.{characters_of, windows_1252}
 use Rattle.conode_show_text.specs.declared.meaning.Meaning.TheVariants.{PdoCobId}
 use Rattle.conode_show_text.specs.Numbers.{hex_text}
@@ -20,7 +21,7 @@ use Rattle.conode_show_text.specs.CobIds.{cob_id_text, identifier_text, pdo_cob_
 use Rattle.conode_show_text.specs.Meanings.{mapped_text, millis_text, said, time_text, word_text}
 use Rattle.conode_show_text.specs.Entries.{entry_type, type_name, type_text}
 use Rattle.conode_show_text.specs.Services.{service_name}
-use Rattle.conode_show.specs.JsonForm.{array_begin, chapter_member, document_tokens, entry_tokens, flag_member, json_document, key_members, limit_member, mapped_members, mapped_tokens, named_members, number_member, number_token, object_begin, object_tokens, property_member, quantity_member, said_at_member, said_member, said_members, section_tokens, service_of_section, service_tokens, text_member, value_member, value_members}
+use Rattle.conode_show.specs.JsonForm.{chapter_member, document_tokens, entry_tokens, json_document, key_members, limit_member, mapped_members, mapped_tokens, named_members, object_tokens, property_member, quantity_member, said_at_member, said_member, said_members, section_tokens, service_of_section, service_tokens, value_member, value_members}
 
 abbrev key_at : ℕ → ℕ → Key
 key_at index sub = record { index = index; sub = sub }
@@ -30,24 +31,6 @@ property name value = record { name = name; value = value; line = 1 }
 
 abbrev section : SectionKind → List Property → TextSection
 section kind properties = record { kind = kind; name = []; line = 1; properties = properties }
-
--- ---- numbers: up to 2^53 - 1 in magnitude, and past it
-
-greatest : number_token (pos 9007199254740991) ≡ number (codes "9007199254740991")
-unfolding digits
-greatest = refl
-
-past_greatest : number_token (pos 9007199254740992) ≡ string (codes "9007199254740992")
-unfolding digits
-past_greatest = refl
-
-least : number_token (negsuc 9007199254740990) ≡ number (codes "-9007199254740991")
-unfolding digits
-least = refl
-
-past_least : number_token (negsuc 9007199254740991) ≡ string (codes "-9007199254740992")
-unfolding digits
-past_least = refl
 
 -- ---- texts: a quote, a control character; a byte that is no UTF-8; none
 

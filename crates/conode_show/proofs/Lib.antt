@@ -1,3 +1,2 @@
 pub mod JsonExamples
 pub mod RetypedLemmas
-mod PartLemmas

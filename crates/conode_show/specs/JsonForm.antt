@@ -1,9 +1,8 @@
 -- The object dictionary of a sheet as one document of JSON, in tokens (RFC 8259).
-use Rattle.std.specs.Prelude.{ℕ, ◌%◌, ◌^◌, ◌-◌, nat_lt, Bool, if◌then◌else◌, List, [], ◌∷◌, ◌++◌, ℤ, pos, negsuc, codes, Option, Some, None, option_map, option_and_then}
-use Rattle.std.specs.Fmt.{signed_decimal}
+use Rattle.std.specs.Prelude.{ℕ, ◌%◌, if◌then◌else◌, List, [], ◌∷◌, ◌++◌, ℤ, pos, codes, Option, Some, None, option_map, option_and_then}
 use Rattle.std.specs.List.{flat_map}
 use Rattle.std.specs.Option.{option_map_or}
-use Rattle.json.specs.Token.{Token, begin_object, end_object, begin_array, end_array, key, string, number, boolean}
+use Rattle.json.specs.Token.{Token, begin_object, end_object, end_array}
 use Rattle.json.specs.Print.{print}
 use Rattle.co_value.specs.declared.key.Key.{Key}
 use Rattle.co_value.specs.declared.data_type.DataType.{DataType}
@@ -12,6 +11,7 @@ use Rattle.co_sheet_rows.specs.FaultTexts.{fault_text}
 use Rattle.co_sheet_text.specs.declared.section_kind.SectionKind.{SectionKind}
 use Rattle.co_sheet_text.specs.declared.section_kind.SectionKind.TheVariants.{Object, SubIndex}
 use Rattle.co_sheet_text.specs.Sections.{Property, TextSection, property_at, section_at}
+use Rattle.conode_json.specs.Members.{text_member, flag_member, object_begin, array_begin, number_member, number_if}
 use Rattle.conode_lint_text.specs.JsonForm.{utf8_of}
 use Rattle.conode_show_text.specs.declared.chapters.Chapter.{Chapter}
 use Rattle.conode_show_text.specs.declared.chapters.Chapter.TheVariants.{Entries, Pdos, Services}
@@ -26,35 +26,6 @@ use Rattle.conode_show_text.specs.Services.{key_of, service_meaning, service_nam
 use Rattle.conode_show_text.specs.Values.{limit_number, type_of, value_number}
 
 -- ---- members
-
-unfoldable pub text_member : List ℕ → List ℕ → List Token
-text_member name text = key name ∷ string text ∷ []
-
-unfoldable pub flag_member : List ℕ → Bool → List Token
-flag_member name is = key name ∷ boolean is ∷ []
-
--- the beginning of a member that is an object, and of one that is an array
-unfoldable pub object_begin : List ℕ → List Token
-object_begin name = key name ∷ begin_object ∷ []
-
-unfoldable pub array_begin : List ℕ → List Token
-array_begin name = key name ∷ begin_array ∷ []
-
--- whether a number is at most 2^53 - 1 in magnitude, which every reader of JSON keeps exactly
-abbrev pub is_exact : ℤ → Bool
-is_exact (pos n) = nat_lt n (2 ^ 53)
-is_exact (negsuc n) = nat_lt n (2 ^ 53 - 1)
-
--- a number; one that isn't exact as a string
-abbrev pub number_token : ℤ → Token
-number_token z = if is_exact z then number (signed_decimal z) else string (signed_decimal z)
-
-unfoldable pub number_member : List ℕ → ℤ → List Token
-number_member name z = key name ∷ number_token z ∷ []
-
--- a number, left out if there is none
-abbrev pub number_if : List ℕ → Option ℤ → List Token
-number_if name n = option_map_or (number_member name) n []
 
 -- a text of the sheet: as it is in UTF-8, else read as Windows-1252; left out if the section has
 -- none

@@ -1,98 +1,73 @@
 //! Entries and objects as objects of JSON.
 
-ghost use Rattle.std.specs.Prelude.{◌≡◌, ◌++◌, codes, option_map, pos, OnOk};
-ghost use Rattle.co_sheet_text.specs.Views.{property_view, section_view};
+ghost use Rattle.std.specs.Prelude.{◌≡◌, ◌++◌, codes, OnOk};
+ghost use Rattle.co_sheet_text.specs.Views.{section_view};
 ghost use Rattle.conode_show.specs.JsonForm.{
   entry_tokens,
-  flag_member,
-  limit_member,
-  number_member,
+  key_members,
+  named_members,
   object_tokens,
   property_member,
   section_tokens,
-  value_member,
+  value_members,
 };
-ghost use Rattle.conode_show.specs.Parts.{part_tokens};
-ghost use Rattle.conode_show_text.specs.Entries.{is_mappable};
 
-use crate::json_writer::{JsonWriter, Part};
-use co_sheet_text::{Property, SectionKind, TextSection};
-use co_value::{DataType, Key};
-use conode_show_text::{has_sub_indices, is_mappable, limit_number, type_of, value_number};
+use crate::parts::{Part, put_parts};
+use co_sheet_text::{SectionKind, TextSection};
+use co_value::Key;
+use conode_json::JsonWriter;
+use conode_show_text::{Content, has_sub_indices, is_mappable};
 use std::alloc::{AllocError, Global};
 
-#[tactic(auto, unfolding(crate::specs::JsonForm::value_member))]
-fn value_part<'p>(
-    name: &'static str,
+// the default, the value of a device configuration file, and the limits
+#[tactic(auto, unfolding(crate::specs::JsonForm::value_members))]
+fn put_values<'p>(
+    alloc: Global,
+    writer: &mut JsonWriter,
     node: Option<u8>,
-    data_type: Option<DataType>,
-    property: Option<Property<'p>>,
-) -> Part<'p>
-    ensures { part_tokens result
-        ≡ value_member name.now node data_type (option_map property_view property.entry) }
+    section: &'p TextSection<'p, 'p>,
+) -> Result<(), AllocError>
+    ensures { OnOk result
+        (writer.new ≡ writer.old ++ value_members node (section_view section.entry.now)) }
 {
-    match property {
-        Some(property) => {
-            let number = value_number(node, data_type, property.value);
-            Part::Quantity(name, number, property.value)
-        }
-        None => Part::Nothing,
-    }
+    put_parts(
+        alloc,
+        writer,
+        &[
+            Part::Value("default", node, b"DefaultValue", section),
+            Part::Value("value", node, b"ParameterValue", section),
+            Part::Limit("low", b"LowLimit", section),
+            Part::Limit("high", b"HighLimit", section),
+        ],
+    )
 }
 
-#[tactic(auto, unfolding(crate::specs::JsonForm::limit_member))]
-fn limit_part<'p>(
-    name: &'static str,
-    data_type: Option<DataType>,
-    limit: Option<Property<'p>>,
-) -> Part<'p>
-    ensures { part_tokens result
-        ≡ limit_member name.now data_type (option_map property_view limit.entry) }
+// the key of an entry, its name, type and access
+#[tactic(auto, unfolding(crate::specs::JsonForm::key_members, crate::specs::JsonForm::named_members))]
+fn put_named<'p>(
+    alloc: Global,
+    writer: &mut JsonWriter,
+    key: Key,
+    section: &'p TextSection<'p, 'p>,
+) -> Result<(), AllocError>
+    ensures { OnOk result (writer.new ≡ writer.old
+        ++ key_members key ++ named_members (section_view section.entry.now)
+        ++ property_member (codes "access") (codes "AccessType") (section_view section.entry.now)) }
 {
-    match limit {
-        Some(limit) => {
-            let number = limit_number(data_type, limit.value);
-            Part::Quantity(name, number, limit.value)
-        }
-        None => Part::Nothing,
-    }
+    put_parts(
+        alloc,
+        writer,
+        &[
+            Part::Number("index", Some(i128::from(key.index))),
+            Part::Number("subIndex", Some(i128::from(key.sub))),
+            Part::Property("name", b"ParameterName", section),
+            Part::Shown("type", None, Content::TypeOf(section)),
+            Part::Property("access", b"AccessType", section),
+        ],
+    )
 }
 
-pub(crate) fn index_part(index: u16) -> Part<'static>
-    ensures { part_tokens result ≡ number_member (codes "index") (pos index) }
-{
-    Part::Number("index", i128::from(index))
-}
-
-fn sub_index_part(sub: u8) -> Part<'static>
-    ensures { part_tokens result ≡ number_member (codes "subIndex") (pos sub) }
-{
-    Part::Number("subIndex", i128::from(sub))
-}
-
-fn mappable_part(section: &TextSection<'_, '_>) -> Part<'static>
-    ensures { part_tokens result
-        ≡ flag_member (codes "mappable") (is_mappable (section_view section.now)) }
-{
-    Part::Flag("mappable", is_mappable(section))
-}
-
-/// A text of the sheet, nothing if the section doesn't have it.
-#[tactic(auto, unfolding(crate::specs::JsonForm::property_member))]
-pub(crate) fn property_part<'p>(
-    name: &'static str,
-    property: &[u8],
-    section: &TextSection<'_, 'p>,
-) -> Part<'p>
-    ensures { part_tokens result
-        ≡ property_member name.now property.now (section_view section.now) }
-{
-    match section.property(property) {
-        Some(property) => Part::Own(name, property.value),
-        None => Part::Nothing,
-    }
-}
-
+#[tactic(auto, unfolding(crate::specs::JsonForm::entry_tokens))]
 fn put_entry<'p>(
     alloc: Global,
     writer: &mut JsonWriter,
@@ -103,34 +78,11 @@ fn put_entry<'p>(
     ensures { OnOk result
         (writer.new ≡ writer.old ++ entry_tokens node key (section_view section.entry.now)) }
 {
-    let data_type = type_of(section);
-    writer.put(
-        alloc,
-        &[
-            Part::BeginObject,
-            index_part(key.index),
-            sub_index_part(key.sub),
-            property_part("name", b"ParameterName", section),
-            Part::TypeOf(section),
-            property_part("access", b"AccessType", section),
-            value_part(
-                "default",
-                node,
-                data_type,
-                section.property(b"DefaultValue"),
-            ),
-            value_part(
-                "value",
-                node,
-                data_type,
-                section.property(b"ParameterValue"),
-            ),
-            limit_part("low", data_type, section.property(b"LowLimit")),
-            limit_part("high", data_type, section.property(b"HighLimit")),
-            mappable_part(section),
-            Part::EndObject,
-        ],
-    )
+    writer.begin_object()?;
+    put_named(alloc, writer, key, section)?;
+    put_values(alloc, writer, node, section)?;
+    writer.put_flag("mappable", is_mappable(section))?;
+    writer.end_object()
 }
 
 // an object with sub-indices
@@ -144,13 +96,14 @@ fn put_object<'p>(
     ensures { OnOk result
         (writer.new ≡ writer.old ++ object_tokens index (section_view section.entry.now)) }
 {
-    writer.put(
+    put_parts(
         alloc,
+        writer,
         &[
             Part::BeginObject,
-            Part::Number("index", i128::from(index)),
-            property_part("name", b"ParameterName", section),
-            Part::TypeOf(section),
+            Part::Number("index", Some(i128::from(index))),
+            Part::Property("name", b"ParameterName", section),
+            Part::Shown("type", None, Content::TypeOf(section)),
             Part::EndObject,
         ],
     )

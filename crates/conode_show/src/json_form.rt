@@ -16,9 +16,10 @@ ghost use Rattle.conode_show.specs.JsonForm.{
 use crate::json_entries::put_section;
 use crate::json_pdos::put_pdo;
 use crate::json_services::put_service;
-use crate::json_writer::{JsonWriter, Part, number_part};
+use crate::parts::{Part, put_parts};
 use co_sheet_rows::SheetFault;
 use co_sheet_text::TextSection;
+use conode_json::JsonWriter;
 use conode_show_text::Chapter;
 use std::alloc::{AllocError, Global};
 
@@ -62,11 +63,11 @@ fn put_chapter<'p>(
     ensures { OnOk result (writer.new
         ≡ writer.old ++ chapter_member chapter node (map section_view sections.entry.now)) }
 {
-    writer.put(alloc, &[Part::Array(chapter_name(chapter))])?;
+    writer.begin_array_of(chapter_name(chapter))?;
     for section in sections {
         put_tokens(alloc, writer, chapter, node, sections, section)?;
     }
-    writer.put(alloc, &[Part::EndArray])
+    writer.end_array()
 }
 
 fn node_number(node: Option<u8>) -> Option<i128>
@@ -85,18 +86,19 @@ fn put_document<'p>(
     ensures { OnOk result
         (writer.new ≡ writer.old ++ document_tokens node (map section_view sections.entry.now)) }
 {
-    writer.put(
+    put_parts(
         alloc,
+        writer,
         &[
             Part::BeginObject,
-            Part::Number("version", 1),
-            number_part("node", node_number(node)),
+            Part::Number("version", Some(1)),
+            Part::Number("node", node_number(node)),
         ],
     )?;
     put_chapter(alloc, writer, Chapter::Entries, node, sections)?;
     put_chapter(alloc, writer, Chapter::Pdos, node, sections)?;
     put_chapter(alloc, writer, Chapter::Services, node, sections)?;
-    writer.put(alloc, &[Part::EndObject])
+    writer.end_object()
 }
 
 /// The object dictionary of sections in order, as a JSON document. `Err`: out of memory.
@@ -119,15 +121,10 @@ fn put_fault(alloc: Global, writer: &mut JsonWriter, fault: SheetFault) -> Resul
     ensures { OnOk result (writer.new ≡ writer.old ++ fault_tokens fault) }
 {
     let text = fault.text();
-    writer.put(
-        alloc,
-        &[
-            Part::BeginObject,
-            Part::Number("version", 1),
-            Part::Text("fault", text.as_str()),
-            Part::EndObject,
-        ],
-    )
+    writer.begin_object()?;
+    writer.put_number(alloc, "version", 1)?;
+    writer.put_text("fault", text.as_str())?;
+    writer.end_object()
 }
 
 /// Why a text can't be shown, as a JSON document. `Err`: out of memory.

@@ -9,57 +9,22 @@ ghost use Rattle.conode_show.specs.JsonForm.{
   mapped_members,
   mapped_tokens,
   mapping_tokens,
-  name_at,
+  pdo_members,
   pdo_of,
   pdo_tokens,
-  said_at_member,
 };
-ghost use Rattle.conode_show.specs.Parts.{part_tokens};
 
-use crate::json_entries::{index_part, property_part};
-use crate::json_writer::{JsonWriter, Part};
-use co_sheet::section_at;
+use crate::parts::{Part, put_parts};
 use co_sheet_text::{SectionKind, TextSection};
 use co_value::Key;
+use conode_json::JsonWriter;
 use conode_show_text::{
-    Meaning, Word, entry_section, is_counted, is_pdo_cob_id, mapped_key, mapping_count,
-    section_word,
+    Content, Meaning, Word, is_counted, is_pdo_cob_id, mapped_key, mapping_count, section_word,
 };
 use std::alloc::{AllocError, Global};
 
-// the name of an entry
-fn name_part<'p>(sections: &'p [TextSection<'p, 'p>], key: Key) -> Part<'p>
-    ensures { part_tokens result ≡ name_at (map section_view sections.entry.now) key }
-{
-    match entry_section(sections, key) {
-        Some(section) => property_part("name", b"ParameterName", section),
-        None => Part::Nothing,
-    }
-}
-
-#[tactic(auto, unfolding(crate::specs::JsonForm::mapped_members, crate::specs::JsonForm::key_members))]
-fn put_mapped_members<'p>(
-    alloc: Global,
-    writer: &mut JsonWriter,
-    sections: &'p [TextSection<'p, 'p>],
-    word: Word,
-) -> Result<(), AllocError>
-    ensures { OnOk result
-        (writer.new ≡ writer.old ++ mapped_members (map section_view sections.entry.now) word) }
-{
-    let key = mapped_key(word.number);
-    writer.put(
-        alloc,
-        &[
-            Part::Number("index", i128::from(key.index)),
-            Part::Number("subIndex", i128::from(key.sub)),
-            Part::Number("bits", i128::from(word.number % 0x100)),
-            name_part(sections, key),
-        ],
-    )
-}
-
 // what a word of a mapping names, nothing if it is no number
+#[tactic(auto, unfolding(crate::specs::JsonForm::mapped_members, crate::specs::JsonForm::key_members))]
 fn put_mapped_if<'p>(
     alloc: Global,
     writer: &mut JsonWriter,
@@ -69,10 +34,20 @@ fn put_mapped_if<'p>(
     ensures { OnOk result (writer.new ≡ writer.old
         ++ option_map_or (mapped_members (map section_view sections.entry.now)) word []) }
 {
-    match word {
-        Some(word) => put_mapped_members(alloc, writer, sections, word),
-        None => Ok(()),
-    }
+    let Some(word) = word else {
+        return Ok(());
+    };
+    let key = mapped_key(word.number);
+    put_parts(
+        alloc,
+        writer,
+        &[
+            Part::Number("index", Some(i128::from(key.index))),
+            Part::Number("subIndex", Some(i128::from(key.sub))),
+            Part::Number("bits", Some(i128::from(word.number % 0x100))),
+            Part::NameAt(sections, key),
+        ],
+    )
 }
 
 #[tactic(auto, unfolding(crate::specs::JsonForm::mapped_tokens))]
@@ -86,11 +61,15 @@ fn put_mapped<'p>(
     ensures { OnOk result (writer.new ≡ writer.old ++ mapped_tokens node
         (map section_view sections.entry.now) (section_view section.entry.now)) }
 {
-    writer.put(alloc, &[Part::BeginObject])?;
+    writer.begin_object()?;
     put_mapped_if(alloc, writer, sections, section_word(node, section))?;
-    writer.put(
+    put_parts(
         alloc,
-        &[Part::Words(Meaning::Mapped, node, section), Part::EndObject],
+        writer,
+        &[
+            Part::Shown("words", node, Content::Said(Meaning::Mapped, section)),
+            Part::EndObject,
+        ],
     )
 }
 
@@ -132,24 +111,43 @@ fn put_mapping<'p>(
     Ok(())
 }
 
-// the value of a sub-index, nothing if it isn't there
-#[tactic(auto, unfolding(crate::specs::JsonForm::said_at_member))]
-fn said_at<'p>(
-    name: &'static str,
-    meaning: Meaning,
+// the COB-ID, transmission type and timers of a PDO
+#[tactic(auto, unfolding(crate::specs::JsonForm::pdo_members))]
+fn put_pdo_members<'p>(
+    alloc: Global,
+    writer: &mut JsonWriter,
     node: Option<u8>,
     sections: &'p [TextSection<'p, 'p>],
-    key: Key,
-) -> Part<'p>
-    ensures { part_tokens result
-        ≡ said_at_member name.now meaning node (map section_view sections.entry.now) key }
+    index: u16,
+    section: &'p TextSection<'p, 'p>,
+) -> Result<(), AllocError>
+    ensures { OnOk result (writer.new ≡ writer.old ++ pdo_members node
+        (map section_view sections.entry.now) index (section_view section.entry.now)) }
 {
-    match section_at(sections, SectionKind::SubIndex(key)) {
-        Some(section) => Part::Said(name, meaning, node, section),
-        None => Part::Nothing,
-    }
+    let transmission = Key { index, sub: 2 };
+    let inhibit = Key { index, sub: 3 };
+    let timer = Key { index, sub: 5 };
+    put_parts(
+        alloc,
+        writer,
+        &[
+            Part::Shown("pdo", None, Content::Pdo(index)),
+            Part::Number("index", Some(i128::from(index))),
+            Part::Said("cobId", Meaning::PdoCobId, node, section),
+            Part::SaidAt(
+                "transmissionType",
+                Meaning::Transmission,
+                node,
+                sections,
+                transmission,
+            ),
+            Part::SaidAt("inhibitTime", Meaning::PdoInhibit, node, sections, inhibit),
+            Part::SaidAt("eventTimer", Meaning::EventTimer, node, sections, timer),
+        ],
+    )
 }
 
+#[tactic(auto, unfolding(crate::specs::JsonForm::pdo_tokens))]
 fn put_pdo_tokens<'p>(
     alloc: Global,
     writer: &mut JsonWriter,
@@ -162,30 +160,12 @@ fn put_pdo_tokens<'p>(
     ensures { OnOk result (writer.new ≡ writer.old ++ pdo_tokens node
         (map section_view sections.entry.now) index (section_view section.entry.now)) }
 {
-    let transmission = Key { index, sub: 2 };
-    let inhibit = Key { index, sub: 3 };
-    let timer = Key { index, sub: 5 };
-    writer.put(
-        alloc,
-        &[
-            Part::BeginObject,
-            Part::Pdo(index),
-            index_part(index),
-            Part::Said("cobId", Meaning::PdoCobId, node, section),
-            said_at(
-                "transmissionType",
-                Meaning::Transmission,
-                node,
-                sections,
-                transmission,
-            ),
-            said_at("inhibitTime", Meaning::PdoInhibit, node, sections, inhibit),
-            said_at("eventTimer", Meaning::EventTimer, node, sections, timer),
-            Part::Array("mapped"),
-        ],
-    )?;
+    writer.begin_object()?;
+    put_pdo_members(alloc, writer, node, sections, index, section)?;
+    writer.begin_array_of("mapped")?;
     put_mapping(alloc, writer, node, sections, index + 0x200)?;
-    writer.put(alloc, &[Part::EndArray, Part::EndObject])
+    writer.end_array()?;
+    writer.end_object()
 }
 
 /// Appends a PDO, by the section of its COB-ID; nothing for any other section.

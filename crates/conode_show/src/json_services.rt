@@ -2,42 +2,17 @@
 
 ghost use Rattle.std.specs.Prelude.{◌≡◌, ◌++◌, OnOk};
 ghost use Rattle.co_sheet_text.specs.Views.{section_view};
-ghost use Rattle.conode_show.specs.JsonForm.{service_of_section, service_tokens};
+ghost use Rattle.conode_show.specs.JsonForm.{service_of_section};
 
-use crate::json_writer::{JsonWriter, Part, word_part};
+use crate::parts::{Part, put_parts, word_number};
 use co_sheet_text::TextSection;
-use co_value::Key;
-use conode_show_text::{Service, key_of};
+use conode_json::JsonWriter;
+use conode_show_text::{Content, Service, key_of};
 use std::alloc::{AllocError, Global};
-
-#[tactic(auto, unfolding(crate::specs::JsonForm::service_tokens, crate::specs::JsonForm::key_members, crate::specs::JsonForm::said_members))]
-fn put_service_tokens<'p>(
-    alloc: Global,
-    writer: &mut JsonWriter,
-    node: Option<u8>,
-    section: &'p TextSection<'p, 'p>,
-    key: Key,
-    service: Service,
-) -> Result<(), AllocError>
-    ensures { OnOk result (writer.new ≡ writer.old
-        ++ service_tokens node (section_view section.entry.now) key service) }
-{
-    writer.put(
-        alloc,
-        &[
-            Part::BeginObject,
-            Part::Number("index", i128::from(key.index)),
-            Part::Number("subIndex", i128::from(key.sub)),
-            Part::Service(service),
-            word_part(node, section),
-            Part::Words(service.meaning(), node, section),
-            Part::EndObject,
-        ],
-    )
-}
 
 /// Appends an entry of a service; nothing for any other section. `Err`: out of memory; some tokens
 /// may be there.
+#[tactic(auto, unfolding(crate::specs::JsonForm::service_tokens, crate::specs::JsonForm::key_members, crate::specs::JsonForm::said_members))]
 pub(crate) fn put_service<'p>(
     alloc: Global,
     writer: &mut JsonWriter,
@@ -53,5 +28,17 @@ pub(crate) fn put_service<'p>(
     let Some(service) = Service::of(key) else {
         return Ok(());
     };
-    put_service_tokens(alloc, writer, node, section, key, service)
+    put_parts(
+        alloc,
+        writer,
+        &[
+            Part::BeginObject,
+            Part::Number("index", Some(i128::from(key.index))),
+            Part::Number("subIndex", Some(i128::from(key.sub))),
+            Part::Shown("service", None, Content::Service(service)),
+            Part::Number("number", word_number(node, section)),
+            Part::Shown("words", node, Content::Said(service.meaning(), section)),
+            Part::EndObject,
+        ],
+    )
 }

@@ -6,7 +6,7 @@ mod json_entries;
 mod json_form;
 mod json_pdos;
 mod json_services;
-mod json_writer;
+mod parts;
 mod retyped;
 mod shown_file;
 

@@ -8,11 +8,12 @@ ghost use Rattle.conode_io.specs.Written.{AppendsFront};
 ghost use Rattle.co_sheet_text.specs.LinesAtFault.{sections_read};
 ghost use Rattle.co_sheet_text.specs.Text.{lines_of};
 ghost use Rattle.conode_show_text.specs.Document.{ordered};
+ghost use Rattle.conode_show.specs.Retyped.{retyped_view};
 ghost use Rattle.conode_show.specs.Shown.{document_in, document_of, fault_in, fault_line, is_too_large, sections_of, shown};
 
 use crate::form::Form;
 use crate::json_form::{json_document, json_fault};
-use crate::retyped::{all_retyped, sections_in as retyped_sections};
+use crate::retyped::{Retyped, all_retyped, sections_in as retyped_sections};
 use co_sheet::GREATEST_SIZE;
 use co_sheet_changes::Originals;
 use co_sheet_rows::{FaultKind, SheetFault};
@@ -54,7 +55,22 @@ fn ordered_document(
     document_in(alloc, form, node, sections)
 }
 
-// the document of a text's sections, with their original types if the sheet was adapted
+// the sections of a text, with their original types if the sheet was adapted
+fn retyped_in<'a>(
+    alloc: Global,
+    text: &[u8],
+    parsed: &ParsedText<'a>,
+) -> Result<Vec<Retyped<'a>>, AllocError>
+    requires size { length text.now ≤ 1048576 }
+    requires parsed { parsed.now ≡ sections_read (lines_of text.now) }
+    ensures { IfOk result (λ made. map retyped_view made.items ≡ sections_of text.now) }
+{
+    let originals = Originals::in_text(alloc, text)?;
+    let given = parsed.sections(alloc)?;
+    all_retyped(alloc, &originals, given.as_slice())
+}
+
+// the document of a text's sections
 fn document_of(
     alloc: Global,
     form: Form,
@@ -66,9 +82,7 @@ fn document_of(
     requires parsed { parsed.now ≡ sections_read (lines_of text.now) }
     ensures { IfOk result (λ made. made.items ≡ document_of form node (sections_of text.now)) }
 {
-    let originals = Originals::in_text(alloc, text)?;
-    let given = parsed.sections(alloc)?;
-    let retyped = all_retyped(alloc, &originals, given.as_slice())?;
+    let retyped = retyped_in(alloc, text, parsed)?;
     let mut sections = retyped_sections(alloc, retyped.as_slice())?;
     let node = node_for(node, sections.as_slice());
     ordered_document(alloc, form, node, sections.as_mut_slice())

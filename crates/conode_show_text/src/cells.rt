@@ -1,5 +1,4 @@
-//! A line by its cells. Each function appends to a text, or sets a line. `Err`: out of memory; a part
-//! may be there.
+//! A line by its cells. Each function appends to a text. `Err`: out of memory; a part may be there.
 
 ghost use Rattle.std.specs.Prelude.{◌≡◌, ◌++◌, map, OnOk, string_bytes};
 ghost use Rattle.conode_show_text.specs.Cells.{cell_part, cell_text};
@@ -21,7 +20,7 @@ use std::alloc::AllocError;
 
 /// What a cell has.
 #[derive(Clone, Copy)]
-pub(crate) enum Content<'p> {
+pub enum Content<'p> {
     Words(&'static str),
     Key(Key),
     Index(u16),
@@ -43,7 +42,8 @@ pub(crate) enum Content<'p> {
 #[derive(Clone, Copy)]
 pub(crate) struct Cell<'p>(pub(crate) usize, pub(crate) Content<'p>);
 
-fn push_content(
+/// Appends what a cell has.
+pub fn push_content(
     text: &mut String,
     node: Option<u8>,
     content: &Content<'_>,
@@ -65,15 +65,17 @@ fn push_content(
     }
 }
 
-/// Sets a line; `part` is for each of its cells in turn.
-pub(crate) fn set_line(
+/// Appends a line; `line` is for it, and `part` for each of its cells in turn.
+pub(crate) fn push_line(
+    text: &mut Vec<u8>,
     line: &mut Vec<u8>,
     part: &mut String,
     format: Format,
     node: Option<u8>,
     cells: &[Cell<'_>],
 ) -> Result<(), AllocError>
-    ensures { OnOk result (line.new.items ≡ line_of format (map (cell_part node) cells.now)) }
+    ensures { OnOk result (text.new.items
+        ≡ text.old.items ++ line_of format (map (cell_part node) cells.now)) }
 {
     begin(line, format)?;
     for cell in cells {
@@ -82,5 +84,5 @@ pub(crate) fn set_line(
         place(line, format, cell.0, part.as_bytes())?;
     }
     line.push(b'\n')?;
-    Ok(())
+    text.extend_from_slice(line.as_slice())
 }

@@ -8,7 +8,6 @@ ghost use Rattle.conode_show_text.specs.Document.{
   chapter_text,
   document,
   head_of,
-  with_head,
 };
 
 use crate::entries::{entries_head, push_section};
@@ -84,17 +83,7 @@ fn push_lines<'p>(
     Ok(())
 }
 
-// a text with its head, nothing if the text is empty
-fn push_with_head(text: &mut Vec<u8>, front: &str, body: &[u8]) -> Result<(), AllocError>
-    ensures { OnOk result (text.new.items ≡ text.old.items ++ with_head front.now body.now) }
-{
-    if body.is_empty() {
-        return Ok(());
-    }
-    text.extend_from_slice(front.as_bytes())?;
-    text.extend_from_slice(body)
-}
-
+// a chapter with its head, nothing if it has no line
 fn push_chapter<'p>(
     alloc: Global,
     text: &mut Vec<u8>,
@@ -110,7 +99,11 @@ fn push_chapter<'p>(
 {
     let mut body = Vec::new(alloc);
     push_lines(&mut body, line, part, chapter, format, node, sections)?;
-    push_with_head(text, head_of(chapter, format), body.as_slice())
+    if body.is_empty() {
+        return Ok(());
+    }
+    text.extend_from_slice(head_of(chapter, format).as_bytes())?;
+    text.extend_from_slice(body.as_slice())
 }
 
 // all chapters

@@ -3,13 +3,11 @@
 
 ghost use Rattle.std.specs.Prelude.{◌≡◌, ◌++◌, OnOk, string_bytes};
 ghost use Rattle.conode_show_text.specs.CobIds.{
-  cob_id_text,
   frame_name,
   identifier_text,
   is_not_used,
   pdo_cob_id_text,
   sync_name,
-  sync_text,
   use_name,
 };
 
@@ -42,12 +40,15 @@ fn frame_name(number: u64) -> &'static str
     }
 }
 
+/// Appends an identifier, and words after it.
 #[tactic(auto, unfolding(crate::specs::CobIds::identifier_text))]
-fn push_identifier(text: &mut String, number: u64) -> Result<(), AllocError>
-    ensures { OnOk result (string_bytes text.new ≡ string_bytes text.old ++ identifier_text number) }
+pub(crate) fn push_identifier(text: &mut String, number: u64, end: &str) -> Result<(), AllocError>
+    ensures { OnOk result (string_bytes text.new
+        ≡ string_bytes text.old ++ identifier_text number ++ end.now) }
 {
     push_hex(text, number % EXTENDED)?;
-    push_words(text, frame_name(number))
+    push_words(text, frame_name(number))?;
+    push_words(text, end)
 }
 
 // whether it is identifier 0 of 11 bits, which is that of NMT
@@ -57,7 +58,8 @@ fn is_not_used(word: Word) -> bool
     !word.relative && word.number % BIT_30 == 0
 }
 
-fn use_name(word: Word) -> &'static str
+/// Whether a COB-ID is enabled, in words.
+pub(crate) fn use_name(word: Word) -> &'static str
     ensures { result.now ≡ use_name word }
 {
     if word.number / DISABLED % 2 == 1 {
@@ -69,21 +71,12 @@ fn use_name(word: Word) -> &'static str
     }
 }
 
-/// Appends the COB-ID of EMCY or of an SDO channel in words.
-#[tactic(auto, unfolding(crate::specs::CobIds::cob_id_text))]
-pub(crate) fn push_cob_id(text: &mut String, word: Word) -> Result<(), AllocError>
-    ensures { OnOk result (string_bytes text.new ≡ string_bytes text.old ++ cob_id_text word) }
-{
-    push_identifier(text, word.number)?;
-    push_words(text, use_name(word))
-}
-
 /// Appends the COB-ID of a PDO in words.
-#[tactic(auto, unfolding(crate::specs::CobIds::pdo_cob_id_text))]
+#[tactic(auto, unfolding(crate::specs::CobIds::pdo_cob_id_text, crate::specs::CobIds::cob_id_text))]
 pub(crate) fn push_pdo_cob_id(text: &mut String, word: Word) -> Result<(), AllocError>
     ensures { OnOk result (string_bytes text.new ≡ string_bytes text.old ++ pdo_cob_id_text word) }
 {
-    push_cob_id(text, word)?;
+    push_identifier(text, word.number, use_name(word))?;
     if word.number / BIT_30 % 2 == 1 {
         push_words(text, ", no RTR")
     } else {
@@ -91,7 +84,8 @@ pub(crate) fn push_pdo_cob_id(text: &mut String, word: Word) -> Result<(), Alloc
     }
 }
 
-fn sync_name(word: Word) -> &'static str
+/// Whether the device produces SYNC, in words.
+pub(crate) fn sync_name(word: Word) -> &'static str
     ensures { result.now ≡ sync_name word }
 {
     if is_not_used(word) {
@@ -101,13 +95,4 @@ fn sync_name(word: Word) -> &'static str
     } else {
         ", not produced"
     }
-}
-
-/// Appends the COB-ID of SYNC in words.
-#[tactic(auto, unfolding(crate::specs::CobIds::sync_text))]
-pub(crate) fn push_sync(text: &mut String, word: Word) -> Result<(), AllocError>
-    ensures { OnOk result (string_bytes text.new ≡ string_bytes text.old ++ sync_text word) }
-{
-    push_identifier(text, word.number)?;
-    push_words(text, sync_name(word))
 }

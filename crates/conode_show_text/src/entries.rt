@@ -7,18 +7,15 @@ ghost use Rattle.conode_show_text.specs.Entries.{
   entry_line,
   entry_type,
   has_sub_indices,
-  is_array,
   is_mappable,
-  is_record,
   mappable_text,
   object_head,
   object_heading,
-  object_line,
   section_text,
   type_text,
 };
 
-use crate::cells::{Cell, Content, set_line};
+use crate::cells::{Cell, Content, push_line};
 use crate::format::Format;
 use crate::layout::push_cell;
 use crate::numbers::push_words;
@@ -30,23 +27,11 @@ use co_text::push_u16;
 use co_value::Key;
 use std::alloc::AllocError;
 
-fn is_array(section: &TextSection<'_, '_>) -> bool
-    ensures { result ≡ is_array (section_view section.now) }
-{
-    matches!(object_code(section), Some(8))
-}
-
-fn is_record(section: &TextSection<'_, '_>) -> bool
-    ensures { result ≡ is_record (section_view section.now) }
-{
-    matches!(object_code(section), Some(9))
-}
-
 /// Whether an object's entries have sections of their own.
 pub fn has_sub_indices(section: &TextSection<'_, '_>) -> bool
     ensures { result ≡ has_sub_indices (section_view section.now) }
 {
-    is_array(section) || is_record(section)
+    matches!(object_code(section), Some(8 | 9))
 }
 
 // the type of an entry
@@ -70,16 +55,14 @@ fn push_entry_type(text: &mut String, section: &TextSection<'_, '_>) -> Result<(
 /// Appends the type of an object with sub-indices, or of an entry. `Err`: out of memory; a part of
 /// the text may be there.
 #[tactic(auto, unfolding(crate::specs::Entries::type_text))]
-pub fn push_type(text: &mut String, section: &TextSection<'_, '_>) -> Result<(), AllocError>
+pub(crate) fn push_type(text: &mut String, section: &TextSection<'_, '_>) -> Result<(), AllocError>
     ensures { OnOk result (string_bytes text.new
         ≡ string_bytes text.old ++ type_text (section_view section.now)) }
 {
-    if is_array(section) {
-        push_words(text, "ARRAY")
-    } else if is_record(section) {
-        push_words(text, "RECORD")
-    } else {
-        push_entry_type(text, section)
+    match object_code(section) {
+        Some(8) => push_words(text, "ARRAY"),
+        Some(9) => push_words(text, "RECORD"),
+        _ => push_entry_type(text, section),
     }
 }
 
@@ -98,7 +81,8 @@ fn mappable_word(section: &TextSection<'_, '_>) -> &'static str
 }
 
 #[tactic(auto, unfolding(crate::specs::Entries::entry_line))]
-fn set_entry_line<'p>(
+fn push_entry_line<'p>(
+    text: &mut Vec<u8>,
     line: &mut Vec<u8>,
     part: &mut String,
     format: Format,
@@ -106,10 +90,11 @@ fn set_entry_line<'p>(
     key: Key,
     section: &'p TextSection<'p, 'p>,
 ) -> Result<(), AllocError>
-    ensures { OnOk result
-        (line.new.items ≡ entry_line format node key (section_view section.entry.now)) }
+    ensures { OnOk result (text.new.items
+        ≡ text.old.items ++ entry_line format node key (section_view section.entry.now)) }
 {
-    set_line(
+    push_line(
+        text,
         line,
         part,
         format,
@@ -122,28 +107,6 @@ fn set_entry_line<'p>(
             Cell(60, Content::Words(mappable_word(section))),
             Cell(64, Content::Default(section)),
             Cell(87, Content::Limits(section)),
-        ],
-    )
-}
-
-#[tactic(auto, unfolding(crate::specs::Entries::object_line))]
-fn set_object_line<'p>(
-    line: &mut Vec<u8>,
-    part: &mut String,
-    index: u16,
-    section: &'p TextSection<'p, 'p>,
-) -> Result<(), AllocError>
-    ensures { OnOk result (line.new.items ≡ object_line index (section_view section.entry.now)) }
-{
-    set_line(
-        line,
-        part,
-        Format::Text,
-        None,
-        &[
-            Cell(0, Content::Index(index)),
-            Cell(8, Content::Property(b"ParameterName", section)),
-            Cell(42, Content::TypeOf(section)),
         ],
     )
 }
@@ -184,7 +147,7 @@ fn push_heading(
 }
 
 // what comes before the entries of an object
-#[tactic(auto, unfolding(crate::specs::Entries::object_head))]
+#[tactic(auto, unfolding(crate::specs::Entries::object_head, crate::specs::Entries::object_line))]
 fn push_object_head<'p>(
     text: &mut Vec<u8>,
     line: &mut Vec<u8>,
@@ -197,10 +160,18 @@ fn push_object_head<'p>(
         ≡ text.old.items ++ object_head format index (section_view section.entry.now)) }
 {
     match format {
-        Format::Text if has_sub_indices(section) => {
-            set_object_line(line, part, index, section)?;
-            text.extend_from_slice(line.as_slice())
-        }
+        Format::Text if has_sub_indices(section) => push_line(
+            text,
+            line,
+            part,
+            Format::Text,
+            None,
+            &[
+                Cell(0, Content::Index(index)),
+                Cell(8, Content::Property(b"ParameterName", section)),
+                Cell(42, Content::TypeOf(section)),
+            ],
+        ),
         Format::Text => Ok(()),
         Format::Markdown => push_heading(text, part, index, section),
     }
@@ -230,6 +201,5 @@ pub(crate) fn push_section<'p>(
         SectionKind::SubIndex(key) => key,
         _ => return Ok(()),
     };
-    set_entry_line(line, part, format, node, key, section)?;
-    text.extend_from_slice(line.as_slice())
+    push_entry_line(text, line, part, format, node, key, section)
 }

@@ -49,20 +49,6 @@ fn push_blanks(line: &mut Vec<u8>, count: usize) -> Result<(), AllocError>
     Ok(())
 }
 
-// a part in its column
-#[tactic(auto, unfolding(crate::specs::Layout::placed))]
-fn place_in_column(line: &mut Vec<u8>, column: usize, part: &[u8]) -> Result<(), AllocError>
-    ensures { OnOk result
-        (line.new.items ≡ placed Format.Text column line.old.items part.now) }
-{
-    if part.is_empty() {
-        return Ok(());
-    }
-    let blanks = gap(column, line.as_slice());
-    push_blanks(line, blanks)?;
-    line.extend_from_slice(part)
-}
-
 fn is_markup(byte: u8) -> bool
     ensures { result ≡ is_markup byte }
 {
@@ -89,18 +75,8 @@ pub(crate) fn push_cell(line: &mut Vec<u8>, part: &[u8]) -> Result<(), AllocErro
     Ok(())
 }
 
-// a part in a row of a table
+/// Appends a part to a line: in its column, or in a row of a table.
 #[tactic(auto, unfolding(crate::specs::Layout::placed))]
-fn place_in_row(line: &mut Vec<u8>, column: usize, part: &[u8]) -> Result<(), AllocError>
-    ensures { OnOk result
-        (line.new.items ≡ placed Format.Markdown column line.old.items part.now) }
-{
-    line.push(b' ')?;
-    push_cell(line, part)?;
-    line.extend_from_slice(b" |")
-}
-
-/// Appends a part to a line.
 pub(crate) fn place(
     line: &mut Vec<u8>,
     format: Format,
@@ -110,8 +86,17 @@ pub(crate) fn place(
     ensures { OnOk result (line.new.items ≡ placed format column line.old.items part.now) }
 {
     match format {
-        Format::Text => place_in_column(line, column, part),
-        Format::Markdown => place_in_row(line, column, part),
+        Format::Text if part.is_empty() => Ok(()),
+        Format::Text => {
+            let blanks = gap(column, line.as_slice());
+            push_blanks(line, blanks)?;
+            line.extend_from_slice(part)
+        }
+        Format::Markdown => {
+            line.push(b' ')?;
+            push_cell(line, part)?;
+            line.extend_from_slice(b" |")
+        }
     }
 }
 

@@ -18,15 +18,13 @@ mod texts;
 mod type_names;
 mod values;
 
+pub use cells::{Content, push_content};
 pub use chapters::{Chapter, document};
-pub use entries::{has_sub_indices, is_mappable, push_type};
+pub use entries::{has_sub_indices, is_mappable};
 pub use format::Format;
-pub use meaning::{Meaning, mapped_key, push_said};
-pub use numbers::push_decimal_of;
+pub use meaning::{Meaning, mapped_key};
 pub use ordering::order;
-pub use pdos::{
-    entry_section, is_counted, is_pdo_cob_id, mapping_count, push_pdo_name, section_word,
-};
+pub use pdos::{entry_section, is_counted, is_pdo_cob_id, mapping_count, section_word};
 pub use sections::node_for;
-pub use service::{Service, key_of, push_service_name};
+pub use service::{Service, key_of};
 pub use values::{Word, limit_number, type_of, value_number};

@@ -7,7 +7,6 @@ ghost use Rattle.co_sheet_text.specs.Views.{section_view};
 ghost use Rattle.conode_show_text.specs.Meanings.{
   consumer_reserved,
   consumer_text,
-  counted_syncs,
   is_consumer_used,
   mapped_key,
   mapped_text,
@@ -17,10 +16,9 @@ ghost use Rattle.conode_show_text.specs.Meanings.{
   time_text,
   transmission_name,
   transmission_text,
-  word_text,
 };
 
-use crate::cob_ids::{push_cob_id, push_pdo_cob_id, push_sync};
+use crate::cob_ids::{push_identifier, push_pdo_cob_id, sync_name, use_name};
 use crate::numbers::push_words;
 use crate::texts::push_plain;
 use crate::values::{Word, value_of, word_of};
@@ -69,11 +67,15 @@ fn transmission_name(number: u64) -> Option<&'static str>
     }
 }
 
-// any other transmission type: a number of SYNCs, or reserved
-#[tactic(auto, unfolding(crate::specs::Meanings::counted_syncs))]
-fn push_counted_syncs(text: &mut String, number: u64) -> Result<(), AllocError>
-    ensures { OnOk result (string_bytes text.new ≡ string_bytes text.old ++ counted_syncs number) }
+// a transmission type: by name, by a number of SYNCs, or reserved
+#[tactic(auto, unfolding(crate::specs::Meanings::transmission_text, crate::specs::Meanings::counted_syncs))]
+fn push_transmission(text: &mut String, number: u64) -> Result<(), AllocError>
+    ensures { OnOk result
+        (string_bytes text.new ≡ string_bytes text.old ++ transmission_text number) }
 {
+    if let Some(name) = transmission_name(number) {
+        return push_words(text, name);
+    }
     push_decimal(text, number)?;
     if 240 < number {
         return push_words(text, ": reserved");
@@ -81,17 +83,6 @@ fn push_counted_syncs(text: &mut String, number: u64) -> Result<(), AllocError>
     push_words(text, ": every ")?;
     push_decimal(text, number)?;
     push_words(text, " SYNCs")
-}
-
-#[tactic(auto, unfolding(crate::specs::Meanings::transmission_text))]
-fn push_transmission(text: &mut String, number: u64) -> Result<(), AllocError>
-    ensures { OnOk result
-        (string_bytes text.new ≡ string_bytes text.old ++ transmission_text number) }
-{
-    match transmission_name(number) {
-        Some(name) => push_words(text, name),
-        None => push_counted_syncs(text, number),
-    }
 }
 
 // a time in ms; with tenths, if the number is in 100 µs
@@ -182,14 +173,15 @@ fn push_mapped(text: &mut String, number: u64) -> Result<(), AllocError>
     push_words(text, " bits")
 }
 
+#[tactic(auto, unfolding(crate::specs::CobIds::cob_id_text, crate::specs::CobIds::sync_text))]
 fn push_meaning(text: &mut String, meaning: Meaning, word: Word) -> Result<(), AllocError>
     ensures { OnOk result
         (string_bytes text.new ≡ string_bytes text.old ++ meaning_text meaning word) }
 {
     match meaning {
         Meaning::PdoCobId => push_pdo_cob_id(text, word),
-        Meaning::CobId => push_cob_id(text, word),
-        Meaning::SyncCobId => push_sync(text, word),
+        Meaning::CobId => push_identifier(text, word.number, use_name(word)),
+        Meaning::SyncCobId => push_identifier(text, word.number, sync_name(word)),
         Meaning::Transmission => push_transmission(text, word.number),
         Meaning::PdoInhibit => push_time(text, "", "inhibit ", true, word.number),
         Meaning::EventTimer => push_time(text, "", "event ", false, word.number),
@@ -200,20 +192,9 @@ fn push_meaning(text: &mut String, meaning: Meaning, word: Word) -> Result<(), A
     }
 }
 
-#[tactic(auto, unfolding(crate::specs::Meanings::word_text))]
-fn push_word(text: &mut String, meaning: Meaning, word: Word) -> Result<(), AllocError>
-    ensures { OnOk result
-        (string_bytes text.new ≡ string_bytes text.old ++ word_text meaning word) }
-{
-    if word.relative {
-        push_words(text, "$NODEID+")?;
-    }
-    push_meaning(text, meaning, word)
-}
-
 /// Appends the value of an entry in words; a text that is no number as it is.
-#[tactic(auto, unfolding(crate::specs::Meanings::said))]
-pub fn push_said(
+#[tactic(auto, unfolding(crate::specs::Meanings::said, crate::specs::Meanings::word_text))]
+pub(crate) fn push_said(
     text: &mut String,
     meaning: Meaning,
     node: Option<u8>,
@@ -225,8 +206,11 @@ pub fn push_said(
     let Some(property) = value_of(section) else {
         return Ok(());
     };
-    match word_of(node, property.value) {
-        Some(word) => push_word(text, meaning, word),
-        None => push_plain(text, property.value),
+    let Some(word) = word_of(node, property.value) else {
+        return push_plain(text, property.value);
+    };
+    if word.relative {
+        push_words(text, "$NODEID+")?;
     }
+    push_meaning(text, meaning, word)
 }

@@ -4,7 +4,7 @@
 ghost use Rattle.std.specs.Prelude.{◌≡◌, ◌≤◌, ◌++◌, ◌*◌, ◌^◌, pos, OnOk, string_bytes};
 ghost use Rattle.std.specs.Fmt.{signed_decimal};
 ghost use Rattle.co_value.specs.Numbers.{bits_of};
-ghost use Rattle.conode_show_text.specs.Numbers.{hex_text, if_small, in_parentheses, is_one_digit, number_text};
+ghost use Rattle.conode_show_text.specs.Numbers.{hex_text, if_small, is_one_digit, number_text};
 
 use std::alloc::AllocError;
 
@@ -54,20 +54,8 @@ fn is_one_digit(number: i128) -> bool
     0 <= number && number < 10
 }
 
-#[tactic(auto, unfolding(crate::specs::Numbers::in_parentheses))]
-fn push_in_parentheses(text: &mut String, number: Option<u64>) -> Result<(), AllocError>
-    ensures { OnOk result (string_bytes text.new ≡ string_bytes text.old ++ in_parentheses number) }
-{
-    let Some(number) = number else {
-        return Ok(());
-    };
-    push_words(text, " (")?;
-    push_hex(text, number)?;
-    push_words(text, ")")
-}
-
-/// Appends a number in decimal. `Err`: out of memory; a part of the text may be there.
-pub fn push_decimal_of(text: &mut String, number: i128) -> Result<(), AllocError>
+/// Appends a number in decimal.
+pub(crate) fn push_decimal_of(text: &mut String, number: i128) -> Result<(), AllocError>
     ensures { OnOk result
         (string_bytes text.new ≡ string_bytes text.old ++ signed_decimal number) }
 {
@@ -76,7 +64,7 @@ pub fn push_decimal_of(text: &mut String, number: i128) -> Result<(), AllocError
 
 /// Appends a number of a type of `width` bytes: in decimal, and in hexadecimal digits if these
 /// differ.
-#[tactic(auto, unfolding(crate::specs::Numbers::number_text))]
+#[tactic(auto, unfolding(crate::specs::Numbers::number_text, crate::specs::Numbers::in_parentheses))]
 pub(crate) fn push_number(text: &mut String, width: usize, number: i128) -> Result<(), AllocError>
     requires { width ≤ 8 }
     ensures { OnOk result
@@ -86,5 +74,10 @@ pub(crate) fn push_number(text: &mut String, width: usize, number: i128) -> Resu
     if is_one_digit(number) {
         return Ok(());
     }
-    push_in_parentheses(text, small_bits(width, number))
+    let Some(bits) = small_bits(width, number) else {
+        return Ok(());
+    };
+    push_words(text, " (")?;
+    push_hex(text, bits)?;
+    push_words(text, ")")
 }

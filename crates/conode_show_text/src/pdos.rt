@@ -9,12 +9,10 @@ ghost use Rattle.conode_show_text.specs.Pdos.{
   entry_section,
   is_counted,
   is_pdo_cob_id,
-  mapped_line,
   mapped_lines,
   mapped_name,
   mapping_count,
   mapping_index,
-  pdo_line,
   pdo_lines,
   pdo_name,
   pdo_text,
@@ -22,7 +20,7 @@ ghost use Rattle.conode_show_text.specs.Pdos.{
   section_word,
 };
 
-use crate::cells::{Cell, Content, set_line};
+use crate::cells::{Cell, Content, push_line};
 use crate::format::Format;
 use crate::meaning::{Meaning, mapped_key};
 use crate::numbers::push_words;
@@ -46,7 +44,7 @@ pub fn is_pdo_cob_id(key: Key) -> bool
 /// Appends a PDO's name with its number, from 1, by the index of its communication parameter.
 /// `Err`: out of memory; a part of the text may be there.
 #[tactic(auto, unfolding(crate::specs::Pdos::pdo_name))]
-pub fn push_pdo_name(text: &mut String, index: u16) -> Result<(), AllocError>
+pub(crate) fn push_pdo_name(text: &mut String, index: u16) -> Result<(), AllocError>
     ensures { OnOk result (string_bytes text.new ≡ string_bytes text.old ++ pdo_name index) }
 {
     let (service, before) = if IndexRange::RPDO_COMMUNICATION.contains(index) {
@@ -68,37 +66,6 @@ fn said_at<'p>(meaning: Meaning, sections: &'p [TextSection<'p, 'p>], key: Key) 
         Some(section) => Content::Said(meaning, section),
         None => Content::Words(""),
     }
-}
-
-#[tactic(auto, unfolding(crate::specs::Pdos::pdo_line))]
-fn set_pdo_line<'p>(
-    line: &mut Vec<u8>,
-    part: &mut String,
-    format: Format,
-    node: Option<u8>,
-    sections: &'p [TextSection<'p, 'p>],
-    index: u16,
-    section: &'p TextSection<'p, 'p>,
-) -> Result<(), AllocError>
-    ensures { OnOk result (line.new.items ≡ pdo_line format node
-        (map section_view sections.entry.now) index (section_view section.entry.now)) }
-{
-    let transmission = Key { index, sub: 2 };
-    let inhibit = Key { index, sub: 3 };
-    let timer = Key { index, sub: 5 };
-    set_line(
-        line,
-        part,
-        format,
-        node,
-        &[
-            Cell(0, Content::Pdo(index)),
-            Cell(8, Content::Said(Meaning::PdoCobId, section)),
-            Cell(38, said_at(Meaning::Transmission, sections, transmission)),
-            Cell(72, said_at(Meaning::PdoInhibit, sections, inhibit)),
-            Cell(88, said_at(Meaning::EventTimer, sections, timer)),
-        ],
-    )
 }
 
 /// The section of an entry: that of its sub-index, or else for sub-index 0 that of its object.
@@ -142,33 +109,6 @@ fn mapped_name<'p>(
     }
 }
 
-#[tactic(auto, unfolding(crate::specs::Pdos::mapped_line))]
-fn set_mapped_line<'p>(
-    line: &mut Vec<u8>,
-    part: &mut String,
-    format: Format,
-    node: Option<u8>,
-    sections: &'p [TextSection<'p, 'p>],
-    section: &'p TextSection<'p, 'p>,
-) -> Result<(), AllocError>
-    ensures { OnOk result (line.new.items ≡ mapped_line format node
-        (map section_view sections.entry.now) (section_view section.entry.now)) }
-{
-    set_line(
-        line,
-        part,
-        format,
-        node,
-        &[
-            Cell(0, Content::Words("")),
-            Cell(8, Content::Said(Meaning::Mapped, section)),
-            Cell(38, mapped_name(node, sections, section)),
-            Cell(72, Content::Words("")),
-            Cell(88, Content::Words("")),
-        ],
-    )
-}
-
 /// How many words of a mapping count: the value of its sub-index 0, or 0 if that is above 64 or no
 /// number.
 pub fn mapping_count(node: Option<u8>, sections: &[TextSection], index: u16) -> u64
@@ -196,6 +136,7 @@ pub fn is_counted(index: u16, count: u64, kind: SectionKind) -> bool
 }
 
 // the line of a section, if it is a word that counts in the mapping
+#[tactic(auto, unfolding(crate::specs::Pdos::mapped_line))]
 fn push_if_counted<'p>(
     text: &mut Vec<u8>,
     line: &mut Vec<u8>,
@@ -213,8 +154,20 @@ fn push_if_counted<'p>(
     if !is_counted(index, count, section.kind) {
         return Ok(());
     }
-    set_mapped_line(line, part, format, node, sections, section)?;
-    text.extend_from_slice(line.as_slice())
+    push_line(
+        text,
+        line,
+        part,
+        format,
+        node,
+        &[
+            Cell(0, Content::Words("")),
+            Cell(8, Content::Said(Meaning::Mapped, section)),
+            Cell(38, mapped_name(node, sections, section)),
+            Cell(72, Content::Words("")),
+            Cell(88, Content::Words("")),
+        ],
+    )
 }
 
 // the lines of what a mapping maps
@@ -241,7 +194,7 @@ fn push_mapped_lines<'p>(
 }
 
 // a PDO, by the section of its COB-ID
-#[tactic(auto, unfolding(crate::specs::Pdos::pdo_lines))]
+#[tactic(auto, unfolding(crate::specs::Pdos::pdo_lines, crate::specs::Pdos::pdo_line))]
 fn push_pdo_lines<'p>(
     text: &mut Vec<u8>,
     line: &mut Vec<u8>,
@@ -256,8 +209,23 @@ fn push_pdo_lines<'p>(
     ensures { OnOk result (text.new.items ≡ text.old.items ++ pdo_lines format node
         (map section_view sections.entry.now) index (section_view section.entry.now)) }
 {
-    set_pdo_line(line, part, format, node, sections, index, section)?;
-    text.extend_from_slice(line.as_slice())?;
+    let transmission = Key { index, sub: 2 };
+    let inhibit = Key { index, sub: 3 };
+    let timer = Key { index, sub: 5 };
+    push_line(
+        text,
+        line,
+        part,
+        format,
+        node,
+        &[
+            Cell(0, Content::Pdo(index)),
+            Cell(8, Content::Said(Meaning::PdoCobId, section)),
+            Cell(38, said_at(Meaning::Transmission, sections, transmission)),
+            Cell(72, said_at(Meaning::PdoInhibit, sections, inhibit)),
+            Cell(88, said_at(Meaning::EventTimer, sections, timer)),
+        ],
+    )?;
     let mapping = index + 0x200;
     let count = mapping_count(node, sections, mapping);
     push_mapped_lines(text, line, part, format, node, sections, mapping, count)

@@ -1,29 +1,23 @@
 //! The node-ID of a sheet's sections, and the object type of one.
 
 ghost use Rattle.std.specs.Prelude.{◌≡◌, map};
-ghost use Rattle.co_sheet_text.specs.Views.{property_view, section_view};
-ghost use Rattle.co_sheet.specs.Commissioning.{node_id_in, node_id_of};
+ghost use Rattle.co_sheet_text.specs.Views.{section_view};
+ghost use Rattle.co_sheet.specs.Commissioning.{node_id_in};
 ghost use Rattle.co_sheet.specs.Entries.{object_code};
 ghost use Rattle.conode_show_text.specs.Document.{node_for};
 
 use co_sheet::section_at;
-use co_sheet_text::{Property, SectionKind, TextSection};
+use co_sheet_text::{SectionKind, TextSection};
 
-// the node-ID of a property NodeID: its number, if that is 1 to 127 (CiA 306, device commissioning)
-fn node_id_of(given: &Property) -> Option<u8>
-    ensures { result ≡ node_id_of (property_view given.now) }
-{
-    match given.number()? {
-        number @ 1..=127 => Some(number as u8),
-        _ => None,
-    }
-}
-
+// the number of NodeID, where that is 1 to 127 (CiA 306, device commissioning)
 fn own_node(sections: &[TextSection]) -> Option<u8>
     ensures { result ≡ node_id_in (map section_view sections.now) }
 {
     let section = section_at(sections, SectionKind::DeviceCommissioning)?;
-    node_id_of(&section.property(b"NodeID")?)
+    match section.property(b"NodeID")?.number()? {
+        number @ 1..=127 => Some(number as u8),
+        _ => None,
+    }
 }
 
 /// The given node-ID, or else that of a device configuration file.

@@ -2,9 +2,9 @@
 
 ghost use Rattle.std.specs.Prelude.{◌≡◌, ◌++◌, OnOk, string_bytes};
 ghost use Rattle.co_sheet_text.specs.Views.{section_view};
-ghost use Rattle.conode_show_text.specs.Services.{channel_name, key_of, service_line, service_meaning, service_name, service_of, service_text};
+ghost use Rattle.conode_show_text.specs.Services.{channel_name, key_of, service_meaning, service_name, service_of, service_text};
 
-use crate::cells::{Cell, Content, set_line};
+use crate::cells::{Cell, Content, push_line};
 use crate::format::Format;
 use crate::meaning::Meaning;
 use crate::numbers::push_words;
@@ -86,7 +86,7 @@ fn push_channel(text: &mut String, end: &str, channel: u16, way: &str) -> Result
 
 /// Appends the name of a service. `Err`: out of memory; a part of the text may be there.
 #[tactic(auto, unfolding(crate::specs::Services::service_name))]
-pub fn push_service_name(text: &mut String, service: Service) -> Result<(), AllocError>
+pub(crate) fn push_service_name(text: &mut String, service: Service) -> Result<(), AllocError>
     ensures { OnOk result (string_bytes text.new ≡ string_bytes text.old ++ service_name service) }
 {
     match service {
@@ -102,32 +102,6 @@ pub fn push_service_name(text: &mut String, service: Service) -> Result<(), Allo
     }
 }
 
-#[tactic(auto, unfolding(crate::specs::Services::service_line))]
-fn set_service_line<'p>(
-    line: &mut Vec<u8>,
-    part: &mut String,
-    format: Format,
-    node: Option<u8>,
-    key: Key,
-    service: Service,
-    section: &'p TextSection<'p, 'p>,
-) -> Result<(), AllocError>
-    ensures { OnOk result (line.new.items
-        ≡ service_line format node key service (section_view section.entry.now)) }
-{
-    set_line(
-        line,
-        part,
-        format,
-        node,
-        &[
-            Cell(0, Content::Key(key)),
-            Cell(8, Content::Service(service)),
-            Cell(38, Content::Said(service.meaning(), section)),
-        ],
-    )
-}
-
 /// The key of the entry that a section describes.
 pub fn key_of(kind: SectionKind) -> Option<Key>
     ensures { result ≡ key_of kind }
@@ -140,6 +114,7 @@ pub fn key_of(kind: SectionKind) -> Option<Key>
 }
 
 /// Appends the line of an entry of a service; nothing for any other section.
+#[tactic(auto, unfolding(crate::specs::Services::service_line))]
 pub(crate) fn push_service<'p>(
     text: &mut Vec<u8>,
     line: &mut Vec<u8>,
@@ -157,6 +132,16 @@ pub(crate) fn push_service<'p>(
     let Some(service) = Service::of(key) else {
         return Ok(());
     };
-    set_service_line(line, part, format, node, key, service, section)?;
-    text.extend_from_slice(line.as_slice())
+    push_line(
+        text,
+        line,
+        part,
+        format,
+        node,
+        &[
+            Cell(0, Content::Key(key)),
+            Cell(8, Content::Service(service)),
+            Cell(38, Content::Said(service.meaning(), section)),
+        ],
+    )
 }

@@ -7,7 +7,6 @@ ghost use Rattle.co_sheet.specs.Views.{default_view};
 ghost use Rattle.conode_show_text.specs.Numbers.{if_small};
 ghost use Rattle.conode_show_text.specs.Values.{
   default_text,
-  if_word,
   known_text,
   limit_number,
   limit_text,
@@ -15,14 +14,12 @@ ghost use Rattle.conode_show_text.specs.Values.{
   number_for,
   numeric_value,
   property_value,
-  quoted,
   small_number,
   sum_text,
   type_of,
   unnumbered_text,
   value_number,
   value_of,
-  value_text,
   word_from,
   word_of,
 };
@@ -96,48 +93,21 @@ fn push_known(
     }
 }
 
-#[tactic(auto, unfolding(crate::specs::Values::quoted))]
-fn push_quoted(text: &mut String, value: &[u8]) -> Result<(), AllocError>
-    ensures { OnOk result (string_bytes text.new ≡ string_bytes text.old ++ quoted value.now) }
-{
-    push_words(text, "\"")?;
-    push_plain(text, value)?;
-    push_words(text, "\"")
-}
-
 /// The code of VISIBLE_STRING (CiA 301, 7.4.7.1).
 const VISIBLE_STRING: u16 = 0x09;
 
 // a value of a type that isn't numeric
-#[tactic(auto, unfolding(crate::specs::Values::unnumbered_text))]
+#[tactic(auto, unfolding(crate::specs::Values::unnumbered_text, crate::specs::Values::quoted))]
 fn push_unnumbered(text: &mut String, data_type: DataType, value: &[u8]) -> Result<(), AllocError>
     ensures { OnOk result (string_bytes text.new
         ≡ string_bytes text.old ++ unnumbered_text data_type value.now) }
 {
     if data_type.code() == VISIBLE_STRING {
-        push_quoted(text, value)
+        push_words(text, "\"")?;
+        push_plain(text, value)?;
+        push_words(text, "\"")
     } else {
         push_plain(text, value)
-    }
-}
-
-// the value of a text of this type
-#[tactic(auto, unfolding(crate::specs::Values::value_text))]
-fn push_value(
-    text: &mut String,
-    node: Option<u8>,
-    data_type: Option<DataType>,
-    value: &[u8],
-) -> Result<(), AllocError>
-    ensures { OnOk result (string_bytes text.new
-        ≡ string_bytes text.old ++ value_text node data_type value.now) }
-{
-    let Some(data_type) = data_type else {
-        return push_plain(text, value);
-    };
-    match data_type.width() {
-        Some(width) => push_known(text, node, width, value, numeric_value(data_type, value)),
-        None => push_unnumbered(text, data_type, value),
     }
 }
 
@@ -168,7 +138,7 @@ pub fn type_of(section: &TextSection<'_, '_>) -> Option<DataType>
 }
 
 // the value of a property, nothing if there is none
-#[tactic(auto, unfolding(crate::specs::Values::property_value))]
+#[tactic(auto, unfolding(crate::specs::Values::property_value, crate::specs::Values::value_text))]
 fn push_value_of(
     text: &mut String,
     node: Option<u8>,
@@ -178,9 +148,16 @@ fn push_value_of(
     ensures { OnOk result (string_bytes text.new ≡ string_bytes text.old
         ++ property_value node data_type (option_map property_view property.entry)) }
 {
-    match property {
-        Some(property) => push_value(text, node, data_type, property.value),
-        None => Ok(()),
+    let Some(property) = property else {
+        return Ok(());
+    };
+    let value = property.value;
+    let Some(data_type) = data_type else {
+        return push_plain(text, value);
+    };
+    match data_type.width() {
+        Some(width) => push_known(text, node, width, value, numeric_value(data_type, value)),
+        None => push_unnumbered(text, data_type, value),
     }
 }
 
@@ -253,40 +230,18 @@ pub(crate) fn push_limits(
 }
 
 /// The greatest number of the communication profile, of 32 bits.
-const GREATEST_WORD: u64 = 0xFFFF_FFFF;
+const GREATEST_WORD: i128 = 0xFFFF_FFFF;
 
-fn if_word(number: u64) -> Option<u64>
-    ensures { result ≡ if_word number }
+// a number of at most 32 bits as a word
+fn word_from(relative: bool, number: i128) -> Option<Word>
+    ensures { result ≡ word_from relative (small_number number) }
 {
-    if number <= GREATEST_WORD {
-        Some(number)
-    } else {
-        None
-    }
-}
-
-fn small_number(number: i128) -> Option<u64>
-    ensures { result ≡ small_number number }
-{
-    if number < 0 || i128::from(GREATEST_WORD) < number {
+    if number < 0 || GREATEST_WORD < number {
         return None;
     }
-    Some(number as u64)
-}
-
-// the sum with a node-ID, of at most 32 bits
-fn small_sum(node_id: u8, addend: u64) -> Option<u64>
-    ensures { result ≡ if_word (addend + node_id) }
-{
-    if_word(if_word(addend)? + u64::from(node_id))
-}
-
-fn word_from(relative: bool, number: Option<u64>) -> Option<Word>
-    ensures { result ≡ word_from relative number }
-{
     Some(Word {
         relative,
-        number: number?,
+        number: number as u64,
     })
 }
 
@@ -296,9 +251,11 @@ pub(crate) fn word_of(node: Option<u8>, value: &[u8]) -> Option<Word>
     ensures { result ≡ word_of node value.now }
 {
     match (numeric_value(DataType::Unsigned32, value), node) {
-        (Preset::Number(number), _) => word_from(false, small_number(number)),
-        (Preset::NodeId(addend), None) => word_from(true, if_word(addend)),
-        (Preset::NodeId(addend), Some(node_id)) => word_from(false, small_sum(node_id, addend)),
+        (Preset::Number(number), _) => word_from(false, number),
+        (Preset::NodeId(addend), None) => word_from(true, i128::from(addend)),
+        (Preset::NodeId(addend), Some(node_id)) => {
+            word_from(false, i128::from(addend) + i128::from(node_id))
+        }
         (Preset::Absent | Preset::Text(_) | Preset::Pairs(_), _) => None,
     }
 }

@@ -1,22 +1,17 @@
 use Rattle.std.proofs.Common.{ℕ, List, Option, ap, ◌∙◌, map}
 use Rattle.std.proofs.lemmas.Result.{IfOk-weaker}
-use Rattle.co_sheet_changes.specs.Views.{text_at}
 use Rattle.co_sheet_text.specs.Sections.{TextSection}
 use Rattle.co_sheet_text.specs.Views.{section_view}
 use Rattle.conode_show_text.specs.Document.{node_for, ordered}
 use Rattle.conode_show.specs.Retyped.{retyped_view}
-use Rattle.conode_show.specs.Shown.{document_in, retyped, sections_of}
-use Rattle.conode_show.proofs.RetypedLemmas.{retyped_same}
+use Rattle.conode_show.specs.Shown.{document_in, sections_of}
 use Rattle.conode_show.proofs.shown_file.document_of.Goals as goal
 
 pub returns : goal.returns
 returns c =
     let text = c.args.text.now in
-    let table = text_at c.in_ok-originals.originals in
-    let given = ap (map section_view) c.as_slice.ensures.value ∙ c.in_ok-given.ensures in
-    let made = c.in_ok-sections.ensures ∙ ap (map retyped_view) c.as_slice-2.ensures.value ∙ c.in_ok-retyped.ensures ∙ ap (map (retyped table)) given in
-    let same = retyped_same text table c.args.parsed.now _ c.in_ok-originals.ensures c.requires.parsed made in
-    let node = c.node_for-node.ensures ∙ ap (node_for c.args.node) (ap (map section_view) c.as_slice-3.ensures.value ∙ same) in
+    let same = c.in_ok-sections.ensures ∙ ap (map retyped_view) c.as_slice.ensures.value ∙ c.in_ok-retyped.ensures in
+    let node = c.node_for-node.ensures ∙ ap (node_for c.args.node) (ap (map section_view) c.as_slice-2.ensures.value ∙ same) in
     let sections = ap (map section_view) c.as_mut_slice.ensures.value ∙ same in
     IfOk-weaker c.ordered_document.result _ _ (λ made h. h
     ∙ ap (λ (n : Option ℕ). document_in c.args.form n (ordered (map section_view c.as_mut_slice.result.now))) node
