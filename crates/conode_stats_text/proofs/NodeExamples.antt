@@ -12,7 +12,7 @@ use Rattle.conode_stats_counts.specs.declared.state.NmtState.TheVariants.{Stoppe
 use Rattle.conode_stats_counts.specs.declared.state.StateTimes.{StateTimes}
 use Rattle.conode_stats_text.specs.Cells.{seconds, thousandths}
 use Rattle.conode_stats_text.specs.NodeLines.{answer_of, millis_of, node_in, node_line, restart_line, restarts_in}
-use Rattle.conode_stats_text.specs.NodeTokens.{answer_tokens, count_tokens, heartbeat_members, node_tokens, state_members, times_tokens, tokens_in}
+use Rattle.conode_stats_text.specs.NodeTokens.{answer_tokens, count_tokens, heartbeat_members, node_tokens, state_members, times_tokens, tokens_in, verdict_members, wait_members}
 use Rattle.conode_stats_text.specs.Paces.{median}
 use Rattle.conode_stats_text.specs.StatsLines.{node_front}
 
@@ -113,7 +113,7 @@ all_heartbeats : heartbeat_members 41000000 None heartbeats
     ∷ key (codes "longestLateGap") ∷ number (codes "151000") ∷ key (codes "longestGap") ∷ number (codes "800000")
     ∷ key (codes "medianGap") ∷ number (codes "210000") ∷ key (codes "lostGap") ∷ number (codes "800000")
     ∷ key (codes "silentSince") ∷ number (codes "40000000") ∷ []
-unfolding heartbeat_members number_member median digits
+unfolding heartbeat_members wait_members verdict_members number_member median digits
 all_heartbeats = refl
 
 -- by a sheet's 600 ms no wait is too long; 150 ms after the last heartbeat, by the download, it isn't silent
@@ -121,12 +121,12 @@ none_wrong : heartbeat_members 40150000 (Some 600) heartbeats
     ≡ key (codes "heartbeatTime") ∷ number (codes "100") ∷ key (codes "lateHeartbeats") ∷ number (codes "2")
     ∷ key (codes "longestLateGap") ∷ number (codes "151000") ∷ key (codes "longestGap") ∷ number (codes "800000")
     ∷ key (codes "medianGap") ∷ number (codes "210000") ∷ []
-unfolding heartbeat_members number_member median digits
+unfolding heartbeat_members wait_members verdict_members number_member median digits
 none_wrong = refl
 
 -- what isn't there isn't written
 of_no_heartbeats : heartbeat_members 41000000 None no_heartbeats ≡ key (codes "lateHeartbeats") ∷ number (codes "0") ∷ []
-unfolding heartbeat_members number_member median digits
+unfolding heartbeat_members wait_members verdict_members number_member median digits
 of_no_heartbeats = refl
 
 object : tokens_in 41000000 None 6 (node 2)

@@ -41,15 +41,21 @@ abbrev pub late_gap_in : Heartbeats → Option ℕ
 late_gap_in heartbeats = if heartbeats.late == 0 then None else Some heartbeats.longest_late
 
 -- heartbeats: the time that a download set, in ms, how many were later than 1.5 times that, and the
--- longest wait for one of these; the longest wait while no download showed it, and the median; and
--- what the page says, if the bus's last frame has this stamp, and a sheet this time
-unfoldable pub heartbeat_members : ℕ → Option ℕ → Heartbeats → List Token
-heartbeat_members end sheet heartbeats =
+-- longest wait for one of these; the longest wait while no download showed it, and the median
+unfoldable pub wait_members : Heartbeats → List Token
+wait_members heartbeats =
     joined (number_in (codes "heartbeatTime") heartbeats.written ∷ number_of (codes "lateHeartbeats") heartbeats.late
     ∷ number_in (codes "longestLateGap") (late_gap_in heartbeats) ∷ number_in (codes "longestGap") (gap_in heartbeats)
-    ∷ number_in (codes "medianGap") (median heartbeats.first)
-    ∷ number_in (codes "lostGap") (lost_gap (usual_pace sheet heartbeats) heartbeats.longest)
+    ∷ number_in (codes "medianGap") (median heartbeats.first) ∷ [])
+
+-- what the page says of them, if the bus's last frame has this stamp, and a sheet this time
+unfoldable pub verdict_members : ℕ → Option ℕ → Heartbeats → List Token
+verdict_members end sheet heartbeats =
+    joined (number_in (codes "lostGap") (lost_gap (usual_pace sheet heartbeats) heartbeats.longest)
     ∷ number_in (codes "silentSince") (silent_since end (pace_of sheet heartbeats) heartbeats.since) ∷ [])
+
+unfoldable pub heartbeat_members : ℕ → Option ℕ → Heartbeats → List Token
+heartbeat_members end sheet heartbeats = wait_members heartbeats ++ verdict_members end sheet heartbeats
 
 -- its longest answer, and the end
 unfoldable pub answer_tokens : Node → List Token

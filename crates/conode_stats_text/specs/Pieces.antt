@@ -5,9 +5,9 @@ use Rattle.co_value.specs.KeyTexts.{key_text}
 use Rattle.conode_stats_text.specs.declared.cells.Cell.{Cell}
 use Rattle.conode_stats_text.specs.declared.cells.Cell.TheVariants.{Column, Id, Count, Tenths as TenthsCell, Millis as MillisCell, Gap}
 use Rattle.conode_stats_text.specs.declared.pieces.Piece.{Piece}
-use Rattle.conode_stats_text.specs.declared.pieces.Piece.TheVariants.{Words, Name, Node, Number, Seconds, Millis, Tenths, Long, Short, Entry}
+use Rattle.conode_stats_text.specs.declared.pieces.Piece.TheVariants.{Words, Name, Node, Number, Seconds, Millis, Load, Long, Short, Entry}
 use Rattle.conode_stats_text.specs.Cells.{left, name_text, or_none, right, seconds, tenths, thousandths}
-use Rattle.conode_stats_text.specs.StatsLines.{id_text, node_front}
+use Rattle.conode_stats_text.specs.StatsLines.{id_text, load_tenths, node_front}
 
 abbrev pub piece_text : Piece → List ℕ
 piece_text (Words words) = words.now
@@ -16,7 +16,7 @@ piece_text (Node interface node) = node_front interface.now node
 piece_text (Number number) = decimal number
 piece_text (Seconds micros) = seconds micros
 piece_text (Millis micros) = thousandths micros
-piece_text (Tenths number) = or_none tenths number
+piece_text (Load bits room) = load_tenths bits room
 piece_text (Long number) = digits_text 16 8 number
 piece_text (Short number) = digits_text 16 4 number
 piece_text (Entry key) = key_text key

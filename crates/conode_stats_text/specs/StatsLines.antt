@@ -27,12 +27,20 @@ load_tenths bits room = or_none tenths (load bits room)
 abbrev pub load_word : Load → List ℕ
 load_word load = if load.unknown == 0 then codes "    load " else codes "    load at least "
 
--- how busy a bus is, and the busiest second; beside each the greatest possible load
+-- how busy a bus is, after a word, on which so many bits fit; beside it the greatest possible load
+unfoldable pub load_front : List ℕ → ℕ → Load → List ℕ
+load_front word room load =
+    concat (word ∷ load_tenths load.bits room ∷ codes " % (worst case " ∷ load_tenths load.most room
+    ∷ codes " %), busiest second " ∷ [])
+
+-- the busiest second, in which so many bits fit; beside it the greatest possible load
+unfoldable pub busiest_part : ℕ → Load → List ℕ
+busiest_part room load =
+    concat (decimal load.busiest.second ∷ codes ": " ∷ load_tenths load.busiest.bits room ∷ codes " % (worst case "
+    ∷ load_tenths load.busiest.most room ∷ codes " %)\n" ∷ [])
+
 unfoldable pub load_line : ℕ → Tally → Load → List ℕ
-load_line bit_rate all load =
-    concat (load_word load ∷ load_tenths load.bits (room_in bit_rate all.total) ∷ codes " % (worst case "
-    ∷ load_tenths load.most (room_in bit_rate all.total) ∷ codes " %), busiest second " ∷ decimal load.busiest.second ∷ codes ": "
-    ∷ load_tenths load.busiest.bits bit_rate ∷ codes " % (worst case " ∷ load_tenths load.busiest.most bit_rate ∷ codes " %)\n" ∷ [])
+load_line bit_rate all load = load_front (load_word load) (room_in bit_rate all.total) load ++ busiest_part bit_rate load
 
 -- the frames of a bus, and the time over which they came
 unfoldable pub bus_line : List ℕ → Tally → List ℕ

@@ -2,7 +2,7 @@
 //! memory; a part of the text may be there.
 
 ghost use Rattle.std.specs.Prelude.{◌≡◌, ◌++◌, ◌≤◌, OnOk, string_bytes};
-ghost use Rattle.conode_stats_text.specs.StatsLines.{bus_line, if_any, load_line, load_word, row_line};
+ghost use Rattle.conode_stats_text.specs.StatsLines.{bus_line, busiest_part, if_any, load_front, load_line, load_word, row_line};
 
 use crate::cells::{Cell, push_cells};
 use crate::figures::{gap_of, mean, ratio, room_in};
@@ -49,6 +49,41 @@ fn load_word(load: &Load) -> &'static str
     }
 }
 
+#[tactic(auto, unfolding(crate::specs::StatsLines::load_front))]
+fn push_load_front(text: &mut String, word: &str, room: u64, load: &Load) -> Result<(), AllocError>
+    ensures { OnOk result (string_bytes text.new
+        ≡ string_bytes text.old ++ load_front word.now room load.entry.now) }
+{
+    push_pieces(
+        text,
+        &[
+            Piece::Words(word),
+            Piece::Load(load.bits, room),
+            Piece::Words(" % (worst case "),
+            Piece::Load(load.most, room),
+            Piece::Words(" %), busiest second "),
+        ],
+    )
+}
+
+#[tactic(auto, unfolding(crate::specs::StatsLines::busiest_part))]
+fn push_busiest(text: &mut String, room: u64, load: &Load) -> Result<(), AllocError>
+    ensures { OnOk result (string_bytes text.new
+        ≡ string_bytes text.old ++ busiest_part room load.entry.now) }
+{
+    push_pieces(
+        text,
+        &[
+            Piece::Number(load.busiest.second),
+            Piece::Words(": "),
+            Piece::Load(load.busiest.bits, room),
+            Piece::Words(" % (worst case "),
+            Piece::Load(load.busiest.most, room),
+            Piece::Words(" %)\n"),
+        ],
+    )
+}
+
 /// Appends the load of a bus with this bit rate, in bit/s, at most 1,000,000.
 #[tactic(auto, unfolding(crate::specs::StatsLines::load_line))]
 pub(crate) fn push_load(
@@ -62,24 +97,8 @@ pub(crate) fn push_load(
         ≡ string_bytes text.old ++ load_line bit_rate all.now load.entry.now) }
 {
     let room = room_in(bit_rate, all.total);
-    let second = u64::from(bit_rate);
-    let busiest = load.busiest;
-    push_pieces(
-        text,
-        &[
-            Piece::Words(load_word(load)),
-            Piece::Tenths(ratio(load.bits, 1000, room)),
-            Piece::Words(" % (worst case "),
-            Piece::Tenths(ratio(load.most, 1000, room)),
-            Piece::Words(" %), busiest second "),
-            Piece::Number(busiest.second),
-            Piece::Words(": "),
-            Piece::Tenths(ratio(busiest.bits, 1000, second)),
-            Piece::Words(" % (worst case "),
-            Piece::Tenths(ratio(busiest.most, 1000, second)),
-            Piece::Words(" %)\n"),
-        ],
-    )
+    push_load_front(text, load_word(load), room, load)?;
+    push_busiest(text, u64::from(bit_rate), load)
 }
 
 /// Appends the line of the frames of a bus.

@@ -12,6 +12,8 @@ ghost use Rattle.conode_stats_text.specs.NodeTokens.{
   shown_members,
   times_tokens,
   tokens_in,
+  verdict_members,
+  wait_members,
 };
 
 use crate::nodes::{is_shown, state_word};
@@ -97,6 +99,49 @@ fn late_gap_in(heartbeats: &Heartbeats) -> Option<u64>
     }
 }
 
+#[tactic(auto, unfolding(crate::specs::NodeTokens::wait_members))]
+fn put_waits(
+    alloc: Global,
+    writer: &mut JsonWriter,
+    heartbeats: &Heartbeats,
+) -> Result<(), AllocError>
+    ensures { OnOk result (writer.new ≡ writer.old ++ wait_members heartbeats.now) }
+{
+    put_parts(
+        alloc,
+        writer,
+        &[
+            Part::NumberIf("heartbeatTime", time_in(heartbeats.written)),
+            Part::Number("lateHeartbeats", heartbeats.late),
+            Part::NumberIf("longestLateGap", late_gap_in(heartbeats)),
+            Part::NumberIf("longestGap", gap_in(heartbeats)),
+            Part::NumberIf("medianGap", median(heartbeats.first.as_slice())),
+        ],
+    )
+}
+
+#[tactic(auto, unfolding(crate::specs::NodeTokens::verdict_members))]
+fn put_verdicts(
+    alloc: Global,
+    writer: &mut JsonWriter,
+    end: u64,
+    sheet: Option<u16>,
+    heartbeats: &Heartbeats,
+) -> Result<(), AllocError>
+    ensures { OnOk result (writer.new ≡ writer.old ++ verdict_members end sheet heartbeats.now) }
+{
+    let lost = lost_gap(Pace::usual(sheet, heartbeats), heartbeats.longest);
+    let silent = silent_since(end, Pace::of(sheet, heartbeats), heartbeats.since);
+    put_parts(
+        alloc,
+        writer,
+        &[
+            Part::NumberIf("lostGap", lost),
+            Part::NumberIf("silentSince", silent),
+        ],
+    )
+}
+
 #[tactic(auto, unfolding(crate::specs::NodeTokens::heartbeat_members))]
 fn put_heartbeats(
     alloc: Global,
@@ -108,21 +153,8 @@ fn put_heartbeats(
     ensures { OnOk result (writer.new
         ≡ writer.old ++ heartbeat_members end sheet heartbeats.now) }
 {
-    let usual = Pace::usual(sheet, heartbeats);
-    let pace = Pace::of(sheet, heartbeats);
-    put_parts(
-        alloc,
-        writer,
-        &[
-            Part::NumberIf("heartbeatTime", time_in(heartbeats.written)),
-            Part::Number("lateHeartbeats", heartbeats.late),
-            Part::NumberIf("longestLateGap", late_gap_in(heartbeats)),
-            Part::NumberIf("longestGap", gap_in(heartbeats)),
-            Part::NumberIf("medianGap", median(heartbeats.first.as_slice())),
-            Part::NumberIf("lostGap", lost_gap(usual, heartbeats.longest)),
-            Part::NumberIf("silentSince", silent_since(end, pace, heartbeats.since)),
-        ],
-    )
+    put_waits(alloc, writer, heartbeats)?;
+    put_verdicts(alloc, writer, end, sheet, heartbeats)
 }
 
 #[tactic(auto, unfolding(crate::specs::NodeTokens::count_tokens))]

@@ -7,6 +7,7 @@ ghost use Rattle.conode_stats_text.specs.Pieces.{piece_text};
 ghost use Rattle.conode_stats_text.specs.StatsLines.{node_front};
 
 use crate::cells::{push_name, push_seconds, push_tenths_in, push_thousandths};
+use crate::figures::ratio;
 use co_text::{push_decimal, push_u16, push_u32};
 use co_value::Key;
 use std::alloc::AllocError;
@@ -25,8 +26,8 @@ pub(crate) enum Piece<'a> {
     Seconds(u64),
     /// Microseconds, in milliseconds.
     Millis(u64),
-    /// A number of tenths, or a hyphen.
-    Tenths(Option<u64>),
+    /// The share of the bits that fit, in percent with tenths, or a hyphen.
+    Load(u64, u64),
     /// A number in eight hexadecimal digits.
     Long(u32),
     /// A number in four hexadecimal digits.
@@ -57,7 +58,7 @@ fn push_piece(text: &mut String, piece: &Piece<'_>) -> Result<(), AllocError>
         Piece::Number(number) => push_decimal(text, number),
         Piece::Seconds(micros) => push_seconds(text, micros),
         Piece::Millis(micros) => push_thousandths(text, micros),
-        Piece::Tenths(number) => push_tenths_in(text, number),
+        Piece::Load(bits, room) => push_tenths_in(text, ratio(bits, 1000, room)),
         Piece::Long(number) => push_u32(text, number),
         Piece::Short(number) => push_u16(text, number),
         Piece::Entry(key) => text.push_str(key.text().as_str()),
