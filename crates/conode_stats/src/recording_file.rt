@@ -8,10 +8,10 @@ use crate::recording::{Recording, count};
 use crate::sheet_time::sheet_time;
 use co_sheet::{FaultKind, SheetFault, read};
 use conode_io::{CmdFault, cannot_read, flushed, hand_over, stopped};
+use conode_json::JsonWriter;
 use conode_logs::Form;
 use conode_sheet_words::{SheetText, SheetWord, bad_sheet, bad_sheet_word, sheet_words, texts_of};
 use conode_stats_text::{Page, SheetTime, put_page, set_page};
-use json::Writer;
 use std::alloc::{AllocError, Global};
 use std::fs;
 use std::io::{Input, Read, Write};
@@ -55,11 +55,9 @@ fn page_text(alloc: Global, page: &Page<'_>) -> Result<Vec<u8>, AllocError>
 
 // the page as JSON
 fn page_json(alloc: Global, page: &Page<'_>) -> Result<Vec<u8>, AllocError> {
-    let mut writer = Writer::new(Vec::new(alloc));
+    let mut writer = JsonWriter::new(alloc);
     put_page(alloc, &mut writer, page)?;
-    let mut text = writer.into_inner();
-    text.push(b'\n')?;
-    Ok(text)
+    writer.into_text()
 }
 
 // writes the page

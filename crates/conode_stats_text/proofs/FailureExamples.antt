@@ -3,13 +3,14 @@ use Rattle.std.proofs.Common.{ℕ, [], ◌∷◌, ◌≡◌, Option, Some, None,
 use Rattle.std.specs.Prelude.{codes}
 use Rattle.std.specs.Fmt.{digits}
 use Rattle.json.specs.Token.{begin_object, end_object, key, number, string}
+use Rattle.conode_json.specs.Members.{number_member, text_member}
 use Rattle.co_text.specs.Printed.{digits_text}
 use Rattle.conode_explain_transfers.specs.declared.ended.Ended.{Ended}
 use Rattle.conode_stats_counts.specs.declared.failure.FailureRow.{FailureRow}
 use Rattle.conode_stats_text.specs.Cells.{seconds}
-use Rattle.conode_stats_text.specs.FailureLines.{abort_words, emergency_line, error_words, failure_line, open_in, open_line}
+use Rattle.conode_stats_text.specs.FailureLines.{emergency_line, failure_line, open_in, open_line}
+use Rattle.conode_stats_text.specs.StatsLines.{node_front}
 use Rattle.conode_stats_text.specs.FailureTokens.{emergency_tokens, failure_tokens, key_members, open_tokens, open_tokens_in}
-use Rattle.conode_stats_text.specs.StatsTokens.{number_member, text_member}
 
 abbrev row : Option ℕ → FailureRow
 row code = record { cause = record { node = 5; code = code }; count = 12; last = 3001000 }
@@ -17,23 +18,23 @@ row code = record { cause = record { node = 5; code = code }; count = 12; last =
 -- ---- lines
 
 aborted : failure_line (codes "can0") (row (Some 0x06020000)) ≡ codes "  can0: node 5 SDO transfers aborted with 06020000h: 12, the last at 3.001000\n"
-unfolding failure_line abort_words seconds digits_text digits
+unfolding failure_line node_front seconds digits_text digits
 aborted = refl
 
 unanswered : failure_line (codes "can0") (row None) ≡ codes "  can0: node 5 SDO transfers without an answer: 12, the last at 3.001000\n"
-unfolding failure_line seconds digits_text digits
+unfolding failure_line node_front seconds digits_text digits
 unanswered = refl
 
 emergency : emergency_line (codes "can0") (row (Some 0x8110)) ≡ codes "  can0: node 5 EMCY 8110h: 12, the last at 3.001000\n"
-unfolding emergency_line error_words seconds digits_text digits
+unfolding emergency_line node_front seconds digits_text digits
 emergency = refl
 
 reset_error : emergency_line (codes "can0") (row (Some 0)) ≡ codes "  can0: node 5 EMCY 0000h: 12, the last at 3.001000\n"
-unfolding emergency_line error_words seconds digits_text digits
+unfolding emergency_line node_front seconds digits_text digits
 reset_error = refl
 
 short_message : emergency_line (codes "can0") (row None) ≡ codes "  can0: node 5 EMCY messages without a code: 12, the last at 3.001000\n"
-unfolding emergency_line seconds digits_text digits
+unfolding emergency_line node_front seconds digits_text digits
 short_message = refl
 
 -- ---- JSON
@@ -66,7 +67,7 @@ module _ (transfer : Ended) where
   for_a_second = refl
 
   for_longer : open_in (codes "can0") 7 3000001 (Some waiting) ≡ codes "  can0: node 7 SDO transfer of 1018:01 without a frame since 2.000000\n"
-  unfolding open_line seconds digits_text digits
+  unfolding open_line node_front seconds digits_text digits
   for_longer = refl
 
   no_object : open_tokens_in 7 3000000 (Some waiting) ≡ []

@@ -1,4 +1,3 @@
-pub mod Appending
 mod Examples
 mod FailureExamples
 mod NodeExamples

@@ -6,7 +6,8 @@ use Rattle.co_text.specs.Printed.{digits_text}
 use Rattle.conode_stats_counts.specs.declared.heartbeats.Heartbeats.{Heartbeats}
 use Rattle.conode_stats_text.specs.declared.pace.Pace.TheVariants.{Written, Sheet, Median}
 use Rattle.conode_stats_text.specs.Cells.{seconds, thousandths}
-use Rattle.conode_stats_text.specs.Paces.{is_long, late_line, lost_line, median, median_words, pace_of, silent_line, time_words, usual_pace, wrong_in}
+use Rattle.conode_stats_text.specs.StatsLines.{node_front}
+use Rattle.conode_stats_text.specs.Paces.{is_long, late_line, lost_line, median, pace_of, silent_line, usual_pace, wrong_in}
 
 -- ---- the median
 
@@ -67,21 +68,21 @@ not_long_by_download = refl
 -- ---- what looks wrong
 
 nothing : wrong_in (codes "can0") 1300000 None 5 (heartbeats None 0 300000 (200000 ∷ 200000 ∷ [])) ≡ []
-unfolding wrong_in median
+unfolding wrong_in node_front median
 nothing = refl
 
 lost_by_median : wrong_in (codes "can0") 1300000 None 5 (heartbeats None 0 300001 (200000 ∷ 200000 ∷ []))
     ≡ codes "  can0: node 5 heartbeats up to 300.001 ms apart, median 200.000 ms\n"
-unfolding wrong_in lost_line median median_words thousandths digits_text digits
+unfolding wrong_in node_front lost_line median thousandths digits_text digits
 lost_by_median = refl
 
 lost_by_sheet : wrong_in (codes "can0") 1150000 (Some 100) 5 (heartbeats None 0 300000 [])
     ≡ codes "  can0: node 5 heartbeats up to 300.000 ms apart, 1017h of the sheet 100 ms\n"
-unfolding wrong_in lost_line time_words thousandths digits_text digits
+unfolding wrong_in node_front lost_line thousandths digits_text digits
 lost_by_sheet = refl
 
 silent_and_late : wrong_in (codes "can0") 1150001 None 5 (heartbeats (Some 100) 2 0 [])
     ≡ codes "  can0: node 5 silent since 1.000000, 1017h as downloaded 100 ms\n"
     ++ codes "  can0: node 5 heartbeats later than 1.5 times 1017h as downloaded: 2, up to 151.000 ms\n"
-unfolding wrong_in silent_line late_line time_words seconds thousandths median digits_text digits
+unfolding wrong_in node_front silent_line late_line seconds thousandths median digits_text digits
 silent_and_late = refl

@@ -1,5 +1,6 @@
 -- The lines of the page about SDO transfers that failed, or are open, and about EMCY messages.
-use Rattle.std.specs.Prelude.{ℕ, ◌-◌, ◌%◌, Bool, nat_lt, if◌then◌else◌, List, [], ◌++◌, codes, decimal, Option, Some, None}
+use Rattle.std.specs.Prelude.{ℕ, ◌-◌, ◌%◌, Bool, nat_lt, if◌then◌else◌, List, [], ◌∷◌, ◌++◌, codes, decimal, Option, Some, None}
+use Rattle.std.specs.List.{concat}
 use Rattle.co_text.specs.Printed.{digits_text}
 use Rattle.co_value.specs.KeyTexts.{key_text}
 use Rattle.conode_explain_transfers.specs.declared.ended.Ended.{Ended}
@@ -7,34 +8,32 @@ use Rattle.conode_stats_counts.specs.declared.failure.FailureRow.{FailureRow}
 use Rattle.conode_stats_text.specs.Cells.{seconds}
 use Rattle.conode_stats_text.specs.StatsLines.{node_front}
 
--- why they failed
-unfoldable pub abort_words : ℕ → List ℕ
-abort_words code = codes " SDO transfers aborted with " ++ digits_text 16 8 code ++ codes "h: "
+-- how often something of a node came, in these words, and the stamp of the last
+abbrev pub counted_line : List ℕ → FailureRow → List (List ℕ) → List ℕ
+counted_line interface row words =
+    concat (node_front interface row.cause.node ∷ (words ++ decimal row.count ∷ codes ", the last at " ∷ seconds row.last ∷ codes "\n" ∷ []))
 
-abbrev pub cause_words : Option ℕ → List ℕ
-cause_words None = codes " SDO transfers without an answer: "
-cause_words (Some code) = abort_words code
+-- transfers that failed, and why
+abbrev pub cause_words : Option ℕ → List (List ℕ)
+cause_words None = codes " SDO transfers without an answer: " ∷ []
+cause_words (Some code) = codes " SDO transfers aborted with " ∷ digits_text 16 8 code ∷ codes "h: " ∷ []
 
 unfoldable pub failure_line : List ℕ → FailureRow → List ℕ
-failure_line interface row =
-    node_front interface row.cause.node ++ cause_words row.cause.code ++ decimal row.count ++ codes ", the last at " ++ seconds row.last ++ codes "\n"
+failure_line interface row = counted_line interface row (cause_words row.cause.code)
 
--- the error code of EMCY messages
-unfoldable pub error_words : ℕ → List ℕ
-error_words code = codes " EMCY " ++ digits_text 16 4 (code % 65536) ++ codes "h: "
-
-abbrev pub emergency_words : Option ℕ → List ℕ
-emergency_words None = codes " EMCY messages without a code: "
-emergency_words (Some code) = error_words code
+-- EMCY messages by error code
+abbrev pub emergency_words : Option ℕ → List (List ℕ)
+emergency_words None = codes " EMCY messages without a code: " ∷ []
+emergency_words (Some code) = codes " EMCY " ∷ digits_text 16 4 (code % 65536) ∷ codes "h: " ∷ []
 
 unfoldable pub emergency_line : List ℕ → FailureRow → List ℕ
-emergency_line interface row =
-    node_front interface row.cause.node ++ emergency_words row.cause.code ++ decimal row.count ++ codes ", the last at " ++ seconds row.last ++ codes "\n"
+emergency_line interface row = counted_line interface row (emergency_words row.cause.code)
 
 -- a transfer of an entry that is open at the end, with the stamp of its newest frame
 unfoldable pub open_line : List ℕ → ℕ → Ended → List ℕ
 open_line interface node transfer =
-    node_front interface node ++ codes " SDO transfer of " ++ key_text transfer.key ++ codes " without a frame since " ++ seconds transfer.newest ++ codes "\n"
+    concat (node_front interface node ∷ codes " SDO transfer of " ∷ key_text transfer.key ∷ codes " without a frame since " ∷ seconds transfer.newest
+    ∷ codes "\n" ∷ [])
 
 -- whether it had no frame for more than a second
 abbrev pub is_waiting : ℕ → Ended → Bool

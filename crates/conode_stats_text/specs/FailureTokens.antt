@@ -1,12 +1,13 @@
 -- SDO transfers that failed, or are open, and EMCY messages, in JSON. Stamps are in microseconds.
 use Rattle.std.specs.Prelude.{ℕ, ◌%◌, if◌then◌else◌, List, [], ◌∷◌, ◌++◌, codes, Option, Some, None}
 use Rattle.json.specs.Token.{Token, begin_object, end_object}
+use Rattle.conode_json.specs.Members.{text_member}
 use Rattle.co_text.specs.Printed.{digits_text}
 use Rattle.co_value.specs.declared.key.Key.{Key}
 use Rattle.conode_explain_transfers.specs.declared.ended.Ended.{Ended}
 use Rattle.conode_stats_counts.specs.declared.failure.FailureRow.{FailureRow}
 use Rattle.conode_stats_text.specs.FailureLines.{is_waiting}
-use Rattle.conode_stats_text.specs.StatsTokens.{number_member, text_member}
+use Rattle.conode_stats_text.specs.StatsTokens.{number_of}
 
 -- the code of an abort
 abbrev pub code_members : Option ℕ → List Token
@@ -15,8 +16,8 @@ code_members (Some code) = text_member (codes "abortCode") (digits_text 16 8 cod
 
 unfoldable pub failure_tokens : FailureRow → List Token
 failure_tokens row =
-    (begin_object ∷ []) ++ number_member (codes "node") row.cause.node ++ code_members row.cause.code
-    ++ number_member (codes "count") row.count ++ number_member (codes "last") row.last ++ end_object ∷ []
+    (begin_object ∷ []) ++ number_of (codes "node") row.cause.node ++ code_members row.cause.code
+    ++ number_of (codes "count") row.count ++ number_of (codes "last") row.last ++ end_object ∷ []
 
 -- the error code of EMCY messages
 abbrev pub error_members : Option ℕ → List Token
@@ -25,17 +26,17 @@ error_members (Some code) = text_member (codes "errorCode") (digits_text 16 4 (c
 
 unfoldable pub emergency_tokens : FailureRow → List Token
 emergency_tokens row =
-    (begin_object ∷ []) ++ number_member (codes "node") row.cause.node ++ error_members row.cause.code
-    ++ number_member (codes "count") row.count ++ number_member (codes "last") row.last ++ end_object ∷ []
+    (begin_object ∷ []) ++ number_of (codes "node") row.cause.node ++ error_members row.cause.code
+    ++ number_of (codes "count") row.count ++ number_of (codes "last") row.last ++ end_object ∷ []
 
 unfoldable pub key_members : Key → List Token
-key_members key = number_member (codes "index") key.index ++ number_member (codes "subIndex") key.sub
+key_members key = number_of (codes "index") key.index ++ number_of (codes "subIndex") key.sub
 
 -- a transfer that is open at the end
 unfoldable pub open_tokens : ℕ → Ended → List Token
 open_tokens node transfer =
-    (begin_object ∷ []) ++ number_member (codes "node") node ++ key_members transfer.key
-    ++ number_member (codes "since") transfer.newest ++ end_object ∷ []
+    (begin_object ∷ []) ++ number_of (codes "node") node ++ key_members transfer.key
+    ++ number_of (codes "since") transfer.newest ++ end_object ∷ []
 
 -- nothing of one with a frame in the last second
 abbrev pub open_tokens_in : ℕ → ℕ → Option Ended → List Token

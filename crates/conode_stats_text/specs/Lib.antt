@@ -5,6 +5,8 @@ pub mod Figures
 pub mod NodeLines
 pub mod NodeTokens
 pub mod Paces
+pub mod Parts
+pub mod Pieces
 pub mod SheetTimes
 pub mod StatsLines
 pub mod StatsTokens

@@ -1,10 +1,10 @@
 -- The lines of the page about nodes.
-use Rattle.std.specs.Prelude.{ℕ, ◌/◌, ◌==◌, Bool, ◌||◌, if◌then◌else◌, List, [], ◌++◌, codes, decimal, Option, Some, None, is_some}
+use Rattle.std.specs.Prelude.{ℕ, ◌/◌, ◌==◌, Bool, ◌||◌, if◌then◌else◌, List, [], ◌∷◌, codes, decimal, Option, Some, None, is_some}
+use Rattle.std.specs.List.{concat}
 use Rattle.conode_stats_counts.specs.declared.node.Node.{Node}
 use Rattle.conode_stats_counts.specs.declared.node.Shown.{Shown}
 use Rattle.conode_stats_counts.specs.declared.state.NmtState.{NmtState}
 use Rattle.conode_stats_counts.specs.declared.state.NmtState.TheVariants.{BootUp, PreOperational, Operational, Stopped, Unknown}
-use Rattle.conode_stats_counts.specs.declared.state.StateTimes.{StateTimes}
 use Rattle.conode_stats_text.specs.Cells.{left, name_text, or_none, right, seconds, thousandths}
 use Rattle.conode_stats_text.specs.StatsLines.{node_front}
 
@@ -20,7 +20,8 @@ state_word Unknown = codes "unknown"
 
 unfoldable pub restart_line : List ℕ → ℕ → Node → List ℕ
 restart_line interface number node =
-    node_front interface number ++ codes " restarts without a reset command: " ++ decimal node.restarts ++ codes ", the last at " ++ seconds node.last_restart ++ codes "\n"
+    concat (node_front interface number ∷ codes " restarts without a reset command: " ∷ decimal node.restarts ∷ codes ", the last at "
+    ∷ seconds node.last_restart ∷ codes "\n" ∷ [])
 
 -- nothing of a node without such restarts
 abbrev pub restarts_in : List ℕ → ℕ → Node → List ℕ
@@ -37,11 +38,6 @@ millis_of end micros = if end == 0 then None else Some (micros / 1000)
 abbrev pub time_cell : ℕ → ℕ → ℕ → List ℕ
 time_cell end width micros = right width (or_none thousandths (millis_of end micros))
 
-unfoldable pub time_cells : ℕ → StateTimes → List ℕ
-time_cells end times =
-    time_cell end 13 times.boot_up ++ time_cell end 19 times.pre_operational ++ time_cell end 15 times.operational
-    ++ time_cell end 13 times.stopped ++ time_cell end 13 times.unknown
-
 -- the longest answer in milliseconds
 abbrev pub answer_of : ℕ → Option ℕ → Option ℕ
 answer_of end answer = if end == 0 then None else answer
@@ -51,18 +47,13 @@ abbrev pub shown_word : Option Shown → List ℕ
 shown_word None = codes "-"
 shown_word (Some last) = state_word last.state
 
-unfoldable pub count_cells : List ℕ → ℕ → Node → List ℕ
-count_cells interface number node =
-    left 15 (name_text interface) ++ codes "  " ++ right 8 (decimal number) ++ right 13 (decimal node.boot_ups) ++ right 12 (decimal node.restarts)
-
-abbrev pub answer_cell : ℕ → Option ℕ → List ℕ
-answer_cell end answer = right 19 (or_none thousandths (answer_of end answer))
-
 -- the line of a node on an interface whose last frame has a stamp
 unfoldable pub node_line : List ℕ → ℕ → ℕ → Node → List ℕ
 node_line interface end number node =
-    count_cells interface number node ++ time_cells end node.times ++ answer_cell end node.longest_answer
-    ++ codes "  " ++ shown_word node.last ++ codes "\n"
+    concat (left 15 (name_text interface) ∷ codes "  " ∷ right 8 (decimal number) ∷ right 13 (decimal node.boot_ups) ∷ right 12 (decimal node.restarts)
+    ∷ time_cell end 13 node.times.boot_up ∷ time_cell end 19 node.times.pre_operational ∷ time_cell end 15 node.times.operational
+    ∷ time_cell end 13 node.times.stopped ∷ time_cell end 13 node.times.unknown
+    ∷ right 19 (or_none thousandths (answer_of end node.longest_answer)) ∷ codes "  " ∷ shown_word node.last ∷ codes "\n" ∷ [])
 
 -- whether a node sent a frame of error control, or an answer
 abbrev pub is_shown : Node → Bool

@@ -1,44 +1,37 @@
 -- The nodes of a bus in JSON. Times are in microseconds.
 use Rattle.std.specs.Prelude.{ℕ, ◌==◌, if◌then◌else◌, List, [], ◌∷◌, ◌++◌, codes, length, Option, Some, None}
-use Rattle.json.specs.Token.{Token, begin_object, end_object, key}
+use Rattle.json.specs.Token.{Token, begin_object, end_object}
+use Rattle.conode_json.specs.Members.{object_begin, text_member}
 use Rattle.conode_stats_counts.specs.declared.heartbeats.Heartbeats.{Heartbeats}
 use Rattle.conode_stats_counts.specs.declared.node.Node.{Node}
 use Rattle.conode_stats_counts.specs.declared.node.Shown.{Shown}
 use Rattle.conode_stats_counts.specs.declared.state.StateTimes.{StateTimes}
 use Rattle.conode_stats_text.specs.NodeLines.{is_shown, state_word}
-use Rattle.conode_stats_text.specs.Paces.{median}
-use Rattle.conode_stats_text.specs.StatsTokens.{number_member, text_member}
-
-unfoldable pub time_members : StateTimes → List Token
-time_members times =
-    number_member (codes "bootUp") times.boot_up ++ number_member (codes "preOperational") times.pre_operational
-    ++ number_member (codes "operational") times.operational ++ number_member (codes "stopped") times.stopped
-    ++ number_member (codes "unknown") times.unknown
+use Rattle.conode_stats_text.specs.Paces.{lost_gap, median, pace_of, silent_since, usual_pace}
+use Rattle.conode_stats_text.specs.StatsTokens.{joined, number_in, number_of}
 
 unfoldable pub times_tokens : StateTimes → List Token
-times_tokens times = (key (codes "times") ∷ begin_object ∷ []) ++ time_members times ++ end_object ∷ []
+times_tokens times =
+    joined (object_begin (codes "times") ∷ number_of (codes "bootUp") times.boot_up
+    ∷ number_of (codes "preOperational") times.pre_operational ∷ number_of (codes "operational") times.operational
+    ∷ number_of (codes "stopped") times.stopped ∷ number_of (codes "unknown") times.unknown ∷ (end_object ∷ []) ∷ [])
 
 -- the last restart, if there is one
-abbrev pub restart_members : Node → List Token
-restart_members node = if node.restarts == 0 then [] else number_member (codes "lastRestart") node.last_restart
+abbrev pub restart_in : Node → Option ℕ
+restart_in node = if node.restarts == 0 then None else Some node.last_restart
 
-unfoldable pub count_members : ℕ → Node → List Token
-count_members number node =
-    number_member (codes "node") number ++ number_member (codes "bootUps") node.boot_ups
-    ++ number_member (codes "restartsWithoutCommand") node.restarts ++ restart_members node
+unfoldable pub count_tokens : ℕ → Node → List Token
+count_tokens number node =
+    joined ((begin_object ∷ []) ∷ number_of (codes "node") number ∷ number_of (codes "bootUps") node.boot_ups
+    ∷ number_of (codes "restartsWithoutCommand") node.restarts ∷ number_in (codes "lastRestart") (restart_in node) ∷ [])
 
 -- the state at the end, and the stamp that shows it, if there is one
 unfoldable pub state_members : Shown → List Token
-state_members last = text_member (codes "state") (state_word last.state) ++ number_member (codes "last") last.micros
+state_members last = text_member (codes "state") (state_word last.state) ++ number_of (codes "last") last.micros
 
 abbrev pub shown_members : Option Shown → List Token
 shown_members None = []
 shown_members (Some last) = state_members last
-
--- a number, if there is one
-abbrev pub member_in : List ℕ → Option ℕ → List Token
-member_in name None = []
-member_in name (Some number) = number_member name number
 
 -- the longest wait for a heartbeat, if there was any
 abbrev pub gap_in : Heartbeats → Option ℕ
@@ -49,18 +42,31 @@ late_gap_in heartbeats = if heartbeats.late == 0 then None else Some heartbeats.
 
 -- heartbeats: the time that a download set, in ms, how many were later than 1.5 times that, and the
 -- longest wait for one of these; the longest wait while no download showed it, and the median
-unfoldable pub heartbeat_members : Heartbeats → List Token
-heartbeat_members heartbeats =
-    member_in (codes "heartbeatTime") heartbeats.written ++ number_member (codes "lateHeartbeats") heartbeats.late
-    ++ member_in (codes "longestLateGap") (late_gap_in heartbeats) ++ member_in (codes "longestGap") (gap_in heartbeats)
-    ++ member_in (codes "medianGap") (median heartbeats.first)
+unfoldable pub wait_members : Heartbeats → List Token
+wait_members heartbeats =
+    joined (number_in (codes "heartbeatTime") heartbeats.written ∷ number_of (codes "lateHeartbeats") heartbeats.late
+    ∷ number_in (codes "longestLateGap") (late_gap_in heartbeats) ∷ number_in (codes "longestGap") (gap_in heartbeats)
+    ∷ number_in (codes "medianGap") (median heartbeats.first) ∷ [])
+
+-- what the page says of them, if the bus's last frame has this stamp, and a sheet this time
+unfoldable pub verdict_members : ℕ → Option ℕ → Heartbeats → List Token
+verdict_members end sheet heartbeats =
+    joined (number_in (codes "lostGap") (lost_gap (usual_pace sheet heartbeats) heartbeats.longest)
+    ∷ number_in (codes "silentSince") (silent_since end (pace_of sheet heartbeats) heartbeats.since) ∷ [])
+
+unfoldable pub heartbeat_members : ℕ → Option ℕ → Heartbeats → List Token
+heartbeat_members end sheet heartbeats = wait_members heartbeats ++ verdict_members end sheet heartbeats
+
+-- its longest answer, and the end
+unfoldable pub answer_tokens : Node → List Token
+answer_tokens node = number_in (codes "longestAnswer") node.longest_answer ++ end_object ∷ []
 
 -- a node
-unfoldable pub node_tokens : ℕ → Node → List Token
-node_tokens number node =
-    (begin_object ∷ []) ++ count_members number node ++ shown_members node.last ++ times_tokens node.times
-    ++ heartbeat_members node.heartbeats ++ member_in (codes "longestAnswer") node.longest_answer ++ end_object ∷ []
+unfoldable pub node_tokens : ℕ → Option ℕ → ℕ → Node → List Token
+node_tokens end sheet number node =
+    count_tokens number node ++ shown_members node.last ++ times_tokens node.times ++ heartbeat_members end sheet node.heartbeats
+    ++ answer_tokens node
 
 -- nothing of a node without a line
-abbrev pub tokens_in : ℕ → Node → List Token
-tokens_in number node = if is_shown node then node_tokens number node else []
+abbrev pub tokens_in : ℕ → Option ℕ → ℕ → Node → List Token
+tokens_in end sheet number node = if is_shown node then node_tokens end sheet number node else []

@@ -1,7 +1,7 @@
 -- How often a node should send a heartbeat, and which waits were too long. Times are in
 -- microseconds, producer heartbeat times in milliseconds.
-use Rattle.std.specs.Prelude.{ℕ, ◌+◌, ◌-◌, ◌*◌, ◌/◌, ◌^◌, Bool, false, nat_le, nat_lt, min, fold, if◌then◌else◌, List, [], ◌++◌, codes, decimal, length, Option, Some, None}
-use Rattle.std.specs.List.{count_by}
+use Rattle.std.specs.Prelude.{ℕ, ◌+◌, ◌-◌, ◌*◌, ◌/◌, ◌^◌, Bool, false, nat_le, nat_lt, min, fold, if◌then◌else◌, List, [], ◌∷◌, ◌++◌, codes, decimal, length, Option, Some, None}
+use Rattle.std.specs.List.{concat, count_by}
 use Rattle.conode_stats_counts.specs.declared.heartbeats.Heartbeats.{Heartbeats}
 use Rattle.conode_stats_counts.specs.Heartbeats.{is_late}
 use Rattle.conode_stats_text.specs.declared.pace.Pace.{Pace}
@@ -54,29 +54,30 @@ is_long (Median median) gap = nat_lt (median + median / 2) gap
 
 -- ---- the lines
 
-unfoldable pub time_words : List ℕ → ℕ → List ℕ
-time_words of time = of ++ decimal time ++ codes " ms\n"
+-- to the end of the line
+abbrev pub pace_front : Pace → List ℕ
+pace_front (Written time) = codes ", 1017h as downloaded "
+pace_front (Sheet time) = codes ", 1017h of the sheet "
+pace_front (Median median) = codes ", median "
 
-unfoldable pub median_words : ℕ → List ℕ
-median_words median = codes ", median " ++ thousandths median ++ codes " ms\n"
-
-abbrev pub pace_words : Pace → List ℕ
-pace_words (Written time) = time_words (codes ", 1017h as downloaded ") time
-pace_words (Sheet time) = time_words (codes ", 1017h of the sheet ") time
-pace_words (Median median) = median_words median
+abbrev pub pace_figure : Pace → List ℕ
+pace_figure (Written time) = decimal time
+pace_figure (Sheet time) = decimal time
+pace_figure (Median median) = thousandths median
 
 unfoldable pub silent_line : List ℕ → ℕ → ℕ → Pace → List ℕ
 silent_line interface node since pace =
-    node_front interface node ++ codes " silent since " ++ seconds since ++ pace_words pace
+    concat (node_front interface node ∷ codes " silent since " ∷ seconds since ∷ pace_front pace ∷ pace_figure pace ∷ codes " ms\n" ∷ [])
 
 unfoldable pub lost_line : List ℕ → ℕ → ℕ → Pace → List ℕ
 lost_line interface node gap pace =
-    node_front interface node ++ codes " heartbeats up to " ++ thousandths gap ++ codes " ms apart" ++ pace_words pace
+    concat (node_front interface node ∷ codes " heartbeats up to " ∷ thousandths gap ∷ codes " ms apart" ∷ pace_front pace ∷ pace_figure pace
+    ∷ codes " ms\n" ∷ [])
 
 unfoldable pub late_line : List ℕ → ℕ → Heartbeats → List ℕ
 late_line interface node heartbeats =
-    node_front interface node ++ codes " heartbeats later than 1.5 times 1017h as downloaded: " ++ decimal heartbeats.late
-    ++ codes ", up to " ++ thousandths heartbeats.longest_late ++ codes " ms\n"
+    concat (node_front interface node ∷ codes " heartbeats later than 1.5 times 1017h as downloaded: " ∷ decimal heartbeats.late
+    ∷ codes ", up to " ∷ thousandths heartbeats.longest_late ∷ codes " ms\n" ∷ [])
 
 -- ---- what looks wrong
 
@@ -92,6 +93,15 @@ lost_in interface node None gap = []
 
 abbrev pub late_in : List ℕ → ℕ → Heartbeats → List ℕ
 late_in interface node heartbeats = if nat_lt 0 heartbeats.late then late_line interface node heartbeats else []
+
+-- the same as numbers: the stamp since which it is silent, and the longest wait, if it is too long
+abbrev pub silent_since : ℕ → Option Pace → Option ℕ → Option ℕ
+silent_since end (Some pace) (Some since) = if is_long pace (end - since) then Some since else None
+silent_since end _ _ = None
+
+abbrev pub lost_gap : Option Pace → ℕ → Option ℕ
+lost_gap (Some pace) gap = if is_long pace gap then Some gap else None
+lost_gap None gap = None
 
 -- what looks wrong with the heartbeats of a node, if the bus's last frame has this stamp, and a
 -- sheet this time

@@ -13,9 +13,27 @@ ghost use Rattle.conode_stats_text.specs.Cells.{
   tenths,
   thousandths,
 };
+ghost use Rattle.std.specs.List.{flat_map};
+ghost use Rattle.conode_stats_text.specs.Pieces.{cell_text};
+ghost use Rattle.conode_stats_text.specs.StatsLines.{id_text};
 
-use co_text::{push_byte, push_decimal, push_digit};
+use co_text::{decimal_digits, push_byte, push_decimal, push_digit, push_u32};
 use std::alloc::AllocError;
+
+/// A cell of a table, or what is between two. Figures are at the right of a column of a width.
+#[derive(Clone, Copy)]
+pub(crate) enum Cell<'a> {
+    /// Words between columns.
+    Gap(&'a str),
+    /// The name of an interface, at the left of a column.
+    Column(&'a [u8]),
+    Id(usize, u32),
+    Count(usize, u64),
+    /// A number of tenths, or a hyphen.
+    Tenths(usize, Option<u64>),
+    /// Microseconds in milliseconds, or milliseconds in seconds; or a hyphen.
+    Millis(usize, Option<u64>),
+}
 
 fn push_blanks(text: &mut String, count: usize) -> Result<(), AllocError>
     ensures { OnOk result (string_bytes text.new ≡ string_bytes text.old ++ replicate count 32) }
@@ -26,15 +44,7 @@ fn push_blanks(text: &mut String, count: usize) -> Result<(), AllocError>
     Ok(())
 }
 
-/// Appends words.
-pub(crate) fn push_words(text: &mut String, words: &str) -> Result<(), AllocError>
-    ensures { OnOk result (string_bytes text.new ≡ string_bytes text.old ++ words.now) }
-{
-    text.push_str(words)
-}
-
-/// Appends a cell, right-aligned in a column of this width.
-pub(crate) fn push_right(text: &mut String, width: usize, cell: &str) -> Result<(), AllocError>
+fn push_right(text: &mut String, width: usize, cell: &str) -> Result<(), AllocError>
     ensures { OnOk result
         (string_bytes text.new ≡ string_bytes text.old ++ right width cell.now) }
 {
@@ -42,8 +52,7 @@ pub(crate) fn push_right(text: &mut String, width: usize, cell: &str) -> Result<
     text.push_str(cell)
 }
 
-/// Appends a cell, left-aligned in a column of this width.
-pub(crate) fn push_left(text: &mut String, width: usize, cell: &str) -> Result<(), AllocError>
+fn push_left(text: &mut String, width: usize, cell: &str) -> Result<(), AllocError>
     ensures { OnOk result (string_bytes text.new ≡ string_bytes text.old ++ left width cell.now) }
 {
     text.push_str(cell)?;
@@ -64,9 +73,9 @@ pub(crate) fn push_thousandths(text: &mut String, number: u64) -> Result<(), All
     push_digit(text, (digits % 10) as u8)
 }
 
-/// Appends a number of tenths, as `1.2`.
+// a number of tenths, as `1.2`
 #[tactic(auto, unfolding(crate::specs::Cells::tenths, co_text::specs::Printed::digits_text))]
-pub(crate) fn push_tenths(text: &mut String, number: u64) -> Result<(), AllocError>
+fn push_tenths(text: &mut String, number: u64) -> Result<(), AllocError>
     ensures { OnOk result (string_bytes text.new ≡ string_bytes text.old ++ tenths number) }
 {
     push_decimal(text, number / 10)?;
@@ -98,28 +107,6 @@ pub(crate) fn push_seconds(text: &mut String, micros: u64) -> Result<(), AllocEr
     push_micros(text, (micros % 1_000_000) as u32)
 }
 
-/// Sets the text to a number of thousandths, or to a hyphen for `None`.
-pub(crate) fn set_thousandths(cell: &mut String, number: Option<u64>) -> Result<(), AllocError>
-    ensures { OnOk result (string_bytes cell.new ≡ or_none thousandths number) }
-{
-    cell.clear();
-    match number {
-        Some(number) => push_thousandths(cell, number),
-        None => cell.push('-'),
-    }
-}
-
-/// Sets the text to a number of tenths, or to a hyphen for `None`.
-pub(crate) fn set_tenths(cell: &mut String, number: Option<u64>) -> Result<(), AllocError>
-    ensures { OnOk result (string_bytes cell.new ≡ or_none tenths number) }
-{
-    cell.clear();
-    match number {
-        Some(number) => push_tenths(cell, number),
-        None => cell.push('-'),
-    }
-}
-
 /// Appends a number of tenths, or a hyphen for `None`.
 pub(crate) fn push_tenths_in(text: &mut String, number: Option<u64>) -> Result<(), AllocError>
     ensures { OnOk result
@@ -127,6 +114,16 @@ pub(crate) fn push_tenths_in(text: &mut String, number: Option<u64>) -> Result<(
 {
     match number {
         Some(number) => push_tenths(text, number),
+        None => text.push('-'),
+    }
+}
+
+fn push_thousandths_in(text: &mut String, number: Option<u64>) -> Result<(), AllocError>
+    ensures { OnOk result
+        (string_bytes text.new ≡ string_bytes text.old ++ or_none thousandths number) }
+{
+    match number {
+        Some(number) => push_thousandths(text, number),
         None => text.push('-'),
     }
 }
@@ -147,6 +144,62 @@ pub(crate) fn push_name(text: &mut String, name: &[u8]) -> Result<(), AllocError
 {
     for byte in name {
         push_escaped(text, *byte)?;
+    }
+    Ok(())
+}
+
+/// Appends an identifier.
+#[tactic(auto, unfolding(crate::specs::StatsLines::id_text, co_text::specs::Printed::digits_text))]
+pub(crate) fn push_id(text: &mut String, id: u32) -> Result<(), AllocError>
+    ensures { OnOk result (string_bytes text.new ≡ string_bytes text.old ++ id_text id) }
+{
+    if id < 0x800 {
+        push_digit(text, (id / 256) as u8)?;
+        push_byte(text, (id % 256) as u8)
+    } else {
+        push_u32(text, id % 0x8000_0000)
+    }
+}
+
+// `shown` is scratch space
+fn push_cell(text: &mut String, shown: &mut String, cell: &Cell<'_>) -> Result<(), AllocError>
+    ensures { OnOk result
+        (string_bytes text.new ≡ string_bytes text.old ++ cell_text cell.now) }
+{
+    shown.clear();
+    match *cell {
+        Cell::Gap(words) => text.push_str(words),
+        Cell::Column(name) => {
+            push_name(shown, name)?;
+            push_left(text, 15, shown.as_str())
+        }
+        Cell::Id(width, id) => {
+            push_id(shown, id)?;
+            push_right(text, width, shown.as_str())
+        }
+        Cell::Count(width, count) => push_right(text, width, decimal_digits(count).as_str()),
+        Cell::Tenths(width, number) => {
+            push_tenths_in(shown, number)?;
+            push_right(text, width, shown.as_str())
+        }
+        Cell::Millis(width, number) => {
+            push_thousandths_in(shown, number)?;
+            push_right(text, width, shown.as_str())
+        }
+    }
+}
+
+/// Appends the cells of a line. `shown` is scratch space.
+pub(crate) fn push_cells(
+    text: &mut String,
+    shown: &mut String,
+    cells: &[Cell<'_>],
+) -> Result<(), AllocError>
+    ensures { OnOk result
+        (string_bytes text.new ≡ string_bytes text.old ++ flat_map cell_text cells.now) }
+{
+    for cell in cells {
+        push_cell(text, shown, cell)?;
     }
     Ok(())
 }

@@ -10,6 +10,8 @@ mod node_tokens;
 mod nodes;
 mod pace;
 mod page;
+mod parts;
+mod pieces;
 mod sheet_times;
 mod tokens;
 mod wrong;

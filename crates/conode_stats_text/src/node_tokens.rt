@@ -1,105 +1,81 @@
 //! The nodes of a bus in JSON. Each function writes tokens. `Err`: out of memory; some tokens may
 //! be there.
 
-ghost use Rattle.std.specs.Prelude.{◌≡◌, ◌++◌, OnOk, codes};
+ghost use Rattle.std.specs.Prelude.{◌≡◌, ◌++◌, OnOk};
 ghost use Rattle.conode_stats_text.specs.NodeTokens.{
-  count_members,
+  answer_tokens,
+  count_tokens,
   gap_in,
   heartbeat_members,
   late_gap_in,
-  member_in,
-  node_tokens,
-  restart_members,
+  restart_in,
   shown_members,
-  state_members,
-  time_members,
   times_tokens,
   tokens_in,
+  verdict_members,
+  wait_members,
 };
 
 use crate::nodes::{is_shown, state_word};
-use crate::pace::median;
-use crate::tokens::{put_number, put_text};
+use crate::pace::{Pace, lost_gap, median, silent_since};
+use crate::parts::{Part, put_parts};
+use crate::sheet_times::{SheetTime, sheet_time};
+use conode_json::JsonWriter;
 use conode_stats_counts::{Bus, Heartbeats, Node, Shown, StateTimes};
-use json::Writer;
-use std::alloc::AllocError;
-
-#[tactic(auto, unfolding(crate::specs::NodeTokens::time_members))]
-fn put_times(writer: &mut Writer, times: &StateTimes) -> Result<(), AllocError>
-    ensures { OnOk result (writer.new.tokens ≡ writer.old.tokens ++ time_members times.now) }
-{
-    put_number(writer, "bootUp", times.boot_up)?;
-    put_number(writer, "preOperational", times.pre_operational)?;
-    put_number(writer, "operational", times.operational)?;
-    put_number(writer, "stopped", times.stopped)?;
-    put_number(writer, "unknown", times.unknown)
-}
+use std::alloc::{AllocError, Global};
 
 #[tactic(auto, unfolding(crate::specs::NodeTokens::times_tokens))]
-fn put_times_in(writer: &mut Writer, times: &StateTimes) -> Result<(), AllocError>
-    ensures { OnOk result (writer.new.tokens ≡ writer.old.tokens ++ times_tokens times.now) }
+fn put_times(alloc: Global, writer: &mut JsonWriter, times: &StateTimes) -> Result<(), AllocError>
+    ensures { OnOk result (writer.new ≡ writer.old ++ times_tokens times.now) }
 {
-    writer.key("times")?;
-    writer.begin_object()?;
-    put_times(writer, times)?;
-    writer.end_object()
+    put_parts(
+        alloc,
+        writer,
+        &[
+            Part::Object("times"),
+            Part::Number("bootUp", times.boot_up),
+            Part::Number("preOperational", times.pre_operational),
+            Part::Number("operational", times.operational),
+            Part::Number("stopped", times.stopped),
+            Part::Number("unknown", times.unknown),
+            Part::EndObject,
+        ],
+    )
 }
 
-fn put_restart(writer: &mut Writer, node: &Node) -> Result<(), AllocError>
-    ensures { OnOk result (writer.new.tokens ≡ writer.old.tokens ++ restart_members node.now) }
+fn restart_in(node: &Node) -> Option<u64>
+    ensures { result ≡ restart_in node.now }
 {
     if node.restarts == 0 {
-        Ok(())
+        None
     } else {
-        put_number(writer, "lastRestart", node.last_restart)
+        Some(node.last_restart)
     }
-}
-
-#[tactic(auto, unfolding(crate::specs::NodeTokens::count_members))]
-fn put_counts(writer: &mut Writer, number: u32, node: &Node) -> Result<(), AllocError>
-    ensures { OnOk result
-        (writer.new.tokens ≡ writer.old.tokens ++ count_members number node.now) }
-{
-    put_number(writer, "node", u64::from(number))?;
-    put_number(writer, "bootUps", node.boot_ups)?;
-    put_number(writer, "restartsWithoutCommand", node.restarts)?;
-    put_restart(writer, node)
 }
 
 #[tactic(auto, unfolding(crate::specs::NodeTokens::state_members))]
-fn put_state(writer: &mut Writer, last: Shown) -> Result<(), AllocError>
-    ensures { OnOk result (writer.new.tokens ≡ writer.old.tokens ++ state_members last) }
-{
-    put_text(writer, "state", state_word(last.state))?;
-    put_number(writer, "last", last.micros)
-}
-
-fn put_shown(writer: &mut Writer, last: Option<Shown>) -> Result<(), AllocError>
-    ensures { OnOk result (writer.new.tokens ≡ writer.old.tokens ++ shown_members last) }
+fn put_shown(alloc: Global, writer: &mut JsonWriter, last: Option<Shown>) -> Result<(), AllocError>
+    ensures { OnOk result (writer.new ≡ writer.old ++ shown_members last) }
 {
     match last {
-        Some(last) => put_state(writer, last),
+        Some(last) => put_parts(
+            alloc,
+            writer,
+            &[
+                Part::Text("state", state_word(last.state)),
+                Part::Number("last", last.micros),
+            ],
+        ),
         None => Ok(()),
     }
 }
 
-fn put_number_in(writer: &mut Writer, name: &str, number: Option<u64>) -> Result<(), AllocError>
-    ensures { OnOk result
-        (writer.new.tokens ≡ writer.old.tokens ++ member_in name.now number) }
-{
-    match number {
-        Some(number) => put_number(writer, name, number),
-        None => Ok(()),
-    }
-}
-
-fn put_time_in(writer: &mut Writer, time: Option<u16>) -> Result<(), AllocError>
-    ensures { OnOk result
-        (writer.new.tokens ≡ writer.old.tokens ++ member_in (codes "heartbeatTime") time) }
+fn time_in(time: Option<u16>) -> Option<u64>
+    ensures { result ≡ time }
 {
     match time {
-        Some(time) => put_number(writer, "heartbeatTime", u64::from(time)),
-        None => Ok(()),
+        Some(time) => Some(u64::from(time)),
+        None => None,
     }
 }
 
@@ -123,49 +99,135 @@ fn late_gap_in(heartbeats: &Heartbeats) -> Option<u64>
     }
 }
 
-#[tactic(auto, unfolding(crate::specs::NodeTokens::heartbeat_members))]
-fn put_heartbeats(writer: &mut Writer, heartbeats: &Heartbeats) -> Result<(), AllocError>
-    ensures { OnOk result
-        (writer.new.tokens ≡ writer.old.tokens ++ heartbeat_members heartbeats.now) }
+#[tactic(auto, unfolding(crate::specs::NodeTokens::wait_members))]
+fn put_waits(
+    alloc: Global,
+    writer: &mut JsonWriter,
+    heartbeats: &Heartbeats,
+) -> Result<(), AllocError>
+    ensures { OnOk result (writer.new ≡ writer.old ++ wait_members heartbeats.now) }
 {
-    put_time_in(writer, heartbeats.written)?;
-    put_number(writer, "lateHeartbeats", heartbeats.late)?;
-    put_number_in(writer, "longestLateGap", late_gap_in(heartbeats))?;
-    put_number_in(writer, "longestGap", gap_in(heartbeats))?;
-    put_number_in(writer, "medianGap", median(heartbeats.first.as_slice()))
+    put_parts(
+        alloc,
+        writer,
+        &[
+            Part::NumberIf("heartbeatTime", time_in(heartbeats.written)),
+            Part::Number("lateHeartbeats", heartbeats.late),
+            Part::NumberIf("longestLateGap", late_gap_in(heartbeats)),
+            Part::NumberIf("longestGap", gap_in(heartbeats)),
+            Part::NumberIf("medianGap", median(heartbeats.first.as_slice())),
+        ],
+    )
+}
+
+#[tactic(auto, unfolding(crate::specs::NodeTokens::verdict_members))]
+fn put_verdicts(
+    alloc: Global,
+    writer: &mut JsonWriter,
+    end: u64,
+    sheet: Option<u16>,
+    heartbeats: &Heartbeats,
+) -> Result<(), AllocError>
+    ensures { OnOk result (writer.new ≡ writer.old ++ verdict_members end sheet heartbeats.now) }
+{
+    let lost = lost_gap(Pace::usual(sheet, heartbeats), heartbeats.longest);
+    let silent = silent_since(end, Pace::of(sheet, heartbeats), heartbeats.since);
+    put_parts(
+        alloc,
+        writer,
+        &[
+            Part::NumberIf("lostGap", lost),
+            Part::NumberIf("silentSince", silent),
+        ],
+    )
+}
+
+#[tactic(auto, unfolding(crate::specs::NodeTokens::heartbeat_members))]
+fn put_heartbeats(
+    alloc: Global,
+    writer: &mut JsonWriter,
+    end: u64,
+    sheet: Option<u16>,
+    heartbeats: &Heartbeats,
+) -> Result<(), AllocError>
+    ensures { OnOk result (writer.new
+        ≡ writer.old ++ heartbeat_members end sheet heartbeats.now) }
+{
+    put_waits(alloc, writer, heartbeats)?;
+    put_verdicts(alloc, writer, end, sheet, heartbeats)
+}
+
+#[tactic(auto, unfolding(crate::specs::NodeTokens::count_tokens))]
+fn put_counts(
+    alloc: Global,
+    writer: &mut JsonWriter,
+    number: u32,
+    node: &Node,
+) -> Result<(), AllocError>
+    ensures { OnOk result (writer.new ≡ writer.old ++ count_tokens number node.now) }
+{
+    put_parts(
+        alloc,
+        writer,
+        &[
+            Part::BeginObject,
+            Part::Number("node", u64::from(number)),
+            Part::Number("bootUps", node.boot_ups),
+            Part::Number("restartsWithoutCommand", node.restarts),
+            Part::NumberIf("lastRestart", restart_in(node)),
+        ],
+    )
+}
+
+#[tactic(auto, unfolding(crate::specs::NodeTokens::answer_tokens))]
+fn put_answer(alloc: Global, writer: &mut JsonWriter, node: &Node) -> Result<(), AllocError>
+    ensures { OnOk result (writer.new ≡ writer.old ++ answer_tokens node.now) }
+{
+    put_parts(
+        alloc,
+        writer,
+        &[
+            Part::NumberIf("longestAnswer", node.longest_answer),
+            Part::EndObject,
+        ],
+    )
 }
 
 #[tactic(auto, unfolding(crate::specs::NodeTokens::node_tokens))]
-fn put_node(writer: &mut Writer, number: u32, node: &Node) -> Result<(), AllocError>
-    ensures { OnOk result
-        (writer.new.tokens ≡ writer.old.tokens ++ node_tokens number node.now) }
+fn put_node_in(
+    alloc: Global,
+    writer: &mut JsonWriter,
+    end: u64,
+    sheet: Option<u16>,
+    number: u32,
+    node: &Node,
+) -> Result<(), AllocError>
+    ensures { OnOk result (writer.new
+        ≡ writer.old ++ tokens_in end sheet number node.now) }
 {
-    writer.begin_object()?;
-    put_counts(writer, number, node)?;
-    put_shown(writer, node.last)?;
-    put_times_in(writer, &node.times)?;
-    put_heartbeats(writer, &node.heartbeats)?;
-    put_number_in(writer, "longestAnswer", node.longest_answer)?;
-    writer.end_object()
-}
-
-fn put_node_in(writer: &mut Writer, number: u32, node: &Node) -> Result<(), AllocError>
-    ensures { OnOk result
-        (writer.new.tokens ≡ writer.old.tokens ++ tokens_in number node.now) }
-{
-    if is_shown(node) {
-        return put_node(writer, number, node);
+    if !is_shown(node) {
+        return Ok(());
     }
-    Ok(())
+    put_counts(alloc, writer, number, node)?;
+    put_shown(alloc, writer, node.last)?;
+    put_times(alloc, writer, &node.times)?;
+    put_heartbeats(alloc, writer, end, sheet, &node.heartbeats)?;
+    put_answer(alloc, writer, node)
 }
 
 /// Writes the nodes of a bus that have a line on the page, by node-ID.
-pub(crate) fn put_nodes(writer: &mut Writer, bus: &Bus) -> Result<(), AllocError> {
-    writer.key("nodes")?;
-    writer.begin_array()?;
-    for number in 1..128u32 {
-        if let Some(node) = bus.nodes().get(number as usize) {
-            put_node_in(writer, number, node)?;
+pub(crate) fn put_nodes(
+    alloc: Global,
+    writer: &mut JsonWriter,
+    sheets: &[SheetTime<'_>],
+    bus: &Bus,
+) -> Result<(), AllocError> {
+    writer.begin_array_of("nodes")?;
+    let end = bus.all().last;
+    for number in 1..128u8 {
+        if let Some(node) = bus.nodes().get(usize::from(number)) {
+            let sheet = sheet_time(sheets, bus.interface(), number);
+            put_node_in(alloc, writer, end, sheet, u32::from(number), node)?;
         }
     }
     writer.end_array()

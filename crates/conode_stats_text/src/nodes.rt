@@ -3,26 +3,18 @@
 
 ghost use Rattle.std.specs.Prelude.{◌≡◌, ◌++◌, ◌/◌, OnOk, string_bytes};
 ghost use Rattle.conode_stats_text.specs.NodeLines.{
-  answer_cell,
   answer_of,
-  count_cells,
   is_shown,
   millis_of,
   node_in,
-  node_line,
-  restart_line,
   restarts_in,
   shown_word,
   state_word,
-  time_cell,
-  time_cells,
 };
 
-use crate::cells::{push_left, push_right, push_seconds, push_words, set_thousandths};
-use crate::lines::set_name;
-use crate::wrong::push_node;
-use co_text::{decimal_digits, push_decimal};
-use conode_stats_counts::{NmtState, Node, Shown, StateTimes};
+use crate::cells::{Cell, push_cells};
+use crate::pieces::{Piece, push_pieces};
+use conode_stats_counts::{NmtState, Node, Shown};
 use std::alloc::AllocError;
 
 /// The words of a state.
@@ -38,25 +30,8 @@ pub(crate) fn state_word(state: NmtState) -> &'static str
     }
 }
 
-#[tactic(auto, unfolding(crate::specs::NodeLines::restart_line))]
-fn push_restart_line(
-    text: &mut String,
-    interface: &[u8],
-    number: u32,
-    node: &Node,
-) -> Result<(), AllocError>
-    ensures { OnOk result (string_bytes text.new
-        ≡ string_bytes text.old ++ restart_line interface.now number node.now) }
-{
-    push_node(text, interface, number)?;
-    push_words(text, " restarts without a reset command: ")?;
-    push_decimal(text, node.restarts)?;
-    push_words(text, ", the last at ")?;
-    push_seconds(text, node.last_restart)?;
-    push_words(text, "\n")
-}
-
 /// Appends how often a node restarted without a command, if it did.
+#[tactic(auto, unfolding(crate::specs::NodeLines::restart_line))]
 pub(crate) fn push_restarts(
     text: &mut String,
     interface: &[u8],
@@ -67,47 +42,25 @@ pub(crate) fn push_restarts(
         ≡ string_bytes text.old ++ restarts_in interface.now number node.now) }
 {
     if node.restarts == 0 {
-        Ok(())
-    } else {
-        push_restart_line(text, interface, number, node)
+        return Ok(());
     }
+    push_pieces(
+        text,
+        &[
+            Piece::Node(interface, number),
+            Piece::Words(" restarts without a reset command: "),
+            Piece::Number(node.restarts),
+            Piece::Words(", the last at "),
+            Piece::Seconds(node.last_restart),
+            Piece::Words("\n"),
+        ],
+    )
 }
 
 fn millis_of(end: u64, micros: u64) -> Option<u64>
     ensures { result ≡ millis_of end micros }
 {
     if end == 0 { None } else { Some(micros / 1000) }
-}
-
-fn push_time(
-    text: &mut String,
-    cell: &mut String,
-    end: u64,
-    width: usize,
-    micros: u64,
-) -> Result<(), AllocError>
-    ensures { OnOk result (string_bytes text.new
-        ≡ string_bytes text.old ++ time_cell end width micros) }
-{
-    set_thousandths(cell, millis_of(end, micros))?;
-    push_right(text, width, cell.as_str())
-}
-
-#[tactic(auto, unfolding(crate::specs::NodeLines::time_cells))]
-fn push_times(
-    text: &mut String,
-    cell: &mut String,
-    end: u64,
-    times: &StateTimes,
-) -> Result<(), AllocError>
-    ensures { OnOk result (string_bytes text.new
-        ≡ string_bytes text.old ++ time_cells end times.now) }
-{
-    push_time(text, cell, end, 13, times.boot_up)?;
-    push_time(text, cell, end, 19, times.pre_operational)?;
-    push_time(text, cell, end, 15, times.operational)?;
-    push_time(text, cell, end, 13, times.stopped)?;
-    push_time(text, cell, end, 13, times.unknown)
 }
 
 fn answer_of(end: u64, answer: Option<u64>) -> Option<u64>
@@ -125,58 +78,6 @@ fn shown_word(last: Option<Shown>) -> &'static str
     }
 }
 
-#[tactic(auto, unfolding(crate::specs::NodeLines::count_cells))]
-fn push_counts(
-    text: &mut String,
-    cell: &mut String,
-    interface: &[u8],
-    number: u32,
-    node: &Node,
-) -> Result<(), AllocError>
-    ensures { OnOk result (string_bytes text.new
-        ≡ string_bytes text.old ++ count_cells interface.now number node.now) }
-{
-    set_name(cell, interface)?;
-    push_left(text, 15, cell.as_str())?;
-    push_words(text, "  ")?;
-    push_right(text, 8, decimal_digits(u64::from(number)).as_str())?;
-    push_right(text, 13, decimal_digits(node.boot_ups).as_str())?;
-    push_right(text, 12, decimal_digits(node.restarts).as_str())
-}
-
-fn push_answer(
-    text: &mut String,
-    cell: &mut String,
-    end: u64,
-    answer: Option<u64>,
-) -> Result<(), AllocError>
-    ensures { OnOk result (string_bytes text.new
-        ≡ string_bytes text.old ++ answer_cell end answer) }
-{
-    set_thousandths(cell, answer_of(end, answer))?;
-    push_right(text, 19, cell.as_str())
-}
-
-#[tactic(auto, unfolding(crate::specs::NodeLines::node_line))]
-fn push_node_line(
-    text: &mut String,
-    cell: &mut String,
-    interface: &[u8],
-    end: u64,
-    number: u32,
-    node: &Node,
-) -> Result<(), AllocError>
-    ensures { OnOk result (string_bytes text.new
-        ≡ string_bytes text.old ++ node_line interface.now end number node.now) }
-{
-    push_counts(text, cell, interface, number, node)?;
-    push_times(text, cell, end, &node.times)?;
-    push_answer(text, cell, end, node.longest_answer)?;
-    push_words(text, "  ")?;
-    push_words(text, shown_word(node.last))?;
-    push_words(text, "\n")
-}
-
 /// Whether a node has a line: it sent a frame of error control, or an answer.
 pub(crate) fn is_shown(node: &Node) -> bool
     ensures { result ≡ is_shown node.now }
@@ -185,10 +86,11 @@ pub(crate) fn is_shown(node: &Node) -> bool
 }
 
 /// Appends the line of a node on an interface, if it has one. `end` is the stamp of the bus's last
-/// frame, in microseconds; `cell` is scratch space.
+/// frame, in microseconds; `shown` is scratch space.
+#[tactic(auto, unfolding(crate::specs::NodeLines::node_line))]
 pub(crate) fn push_node_in(
     text: &mut String,
-    cell: &mut String,
+    shown: &mut String,
     interface: &[u8],
     end: u64,
     number: u32,
@@ -197,8 +99,28 @@ pub(crate) fn push_node_in(
     ensures { OnOk result (string_bytes text.new
         ≡ string_bytes text.old ++ node_in interface.now end number node.now) }
 {
-    if is_shown(node) {
-        return push_node_line(text, cell, interface, end, number, node);
+    if !is_shown(node) {
+        return Ok(());
     }
-    Ok(())
+    let times = &node.times;
+    push_cells(
+        text,
+        shown,
+        &[
+            Cell::Column(interface),
+            Cell::Gap("  "),
+            Cell::Count(8, u64::from(number)),
+            Cell::Count(13, node.boot_ups),
+            Cell::Count(12, node.restarts),
+            Cell::Millis(13, millis_of(end, times.boot_up)),
+            Cell::Millis(19, millis_of(end, times.pre_operational)),
+            Cell::Millis(15, millis_of(end, times.operational)),
+            Cell::Millis(13, millis_of(end, times.stopped)),
+            Cell::Millis(13, millis_of(end, times.unknown)),
+            Cell::Millis(19, answer_of(end, node.longest_answer)),
+            Cell::Gap("  "),
+            Cell::Gap(shown_word(node.last)),
+            Cell::Gap("\n"),
+        ],
+    )
 }

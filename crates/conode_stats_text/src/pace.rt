@@ -1,23 +1,22 @@
 //! How often a node should send a heartbeat.
 
-ghost use Rattle.std.specs.Prelude.{◌≡◌, ◌++◌, ◌/◌, ◌+◌, OnOk, string_bytes};
+ghost use Rattle.std.specs.Prelude.{◌≡◌, ◌/◌, ◌+◌, ◌-◌};
 ghost use Rattle.conode_stats_text.specs.Paces.{
   is_half,
   is_long,
+  lost_gap,
   median,
   median_pace,
-  median_words,
-  pace_by,
+  pace_figure,
+  pace_front,
   pace_of,
-  pace_words,
-  time_words,
+  silent_since,
   usual_pace,
 };
+ghost use Rattle.conode_stats_text.specs.Pieces.{piece_text};
 
-use crate::cells::{push_thousandths, push_words};
-use co_text::push_decimal;
+use crate::pieces::Piece;
 use conode_stats_counts::{Heartbeats, is_late};
-use std::alloc::AllocError;
 
 /// How often a node should send a heartbeat.
 #[derive(Clone, Copy)]
@@ -99,35 +98,45 @@ impl Pace {
             },
         }
     }
+
+    /// What is before its figure, at the end of a line.
+    pub(crate) fn front(self) -> &'static str
+        ensures { result.now ≡ pace_front self }
+    {
+        match self {
+            Pace::Written(_) => ", 1017h as downloaded ",
+            Pace::Sheet(_) => ", 1017h of the sheet ",
+            Pace::Median(_) => ", median ",
+        }
+    }
+
+    /// Its figure, in milliseconds.
+    pub(crate) fn figure(self) -> Piece<'static>
+        ensures { piece_text result ≡ pace_figure self }
+    {
+        match self {
+            Pace::Written(time) | Pace::Sheet(time) => Piece::Number(u64::from(time)),
+            Pace::Median(median) => Piece::Millis(median),
+        }
+    }
 }
 
-#[tactic(auto, unfolding(crate::specs::Paces::time_words))]
-fn push_time(text: &mut String, of: &str, time: u16) -> Result<(), AllocError>
-    ensures { OnOk result
-        (string_bytes text.new ≡ string_bytes text.old ++ time_words of.now time) }
+/// Since which stamp a node is silent at the end, a stamp too, if it is.
+pub(crate) fn silent_since(end: u64, pace: Option<Pace>, since: Option<u64>) -> Option<u64>
+    ensures { result ≡ silent_since end pace since }
 {
-    push_words(text, of)?;
-    push_decimal(text, u64::from(time))?;
-    push_words(text, " ms\n")
+    match (pace, since) {
+        (Some(pace), Some(since)) if pace.is_long(end.saturating_sub(since)) => Some(since),
+        _ => None,
+    }
 }
 
-#[tactic(auto, unfolding(crate::specs::Paces::median_words))]
-fn push_median(text: &mut String, median: u64) -> Result<(), AllocError>
-    ensures { OnOk result (string_bytes text.new ≡ string_bytes text.old ++ median_words median) }
-{
-    push_words(text, ", median ")?;
-    push_thousandths(text, median)?;
-    push_words(text, " ms\n")
-}
-
-/// Appends the words of it, to the end of a line. `Err`: out of memory; a part of the text may be
-/// there.
-pub(crate) fn push_pace(text: &mut String, pace: Pace) -> Result<(), AllocError>
-    ensures { OnOk result (string_bytes text.new ≡ string_bytes text.old ++ pace_words pace) }
+/// The longest wait for a heartbeat, if it is too long.
+pub(crate) fn lost_gap(pace: Option<Pace>, gap: u64) -> Option<u64>
+    ensures { result ≡ lost_gap pace gap }
 {
     match pace {
-        Pace::Written(time) => push_time(text, ", 1017h as downloaded ", time),
-        Pace::Sheet(time) => push_time(text, ", 1017h of the sheet ", time),
-        Pace::Median(median) => push_median(text, median),
+        Some(pace) if pace.is_long(gap) => Some(gap),
+        _ => None,
     }
 }

@@ -4,11 +4,11 @@ ghost use Rattle.std.specs.Prelude.{◌≤◌, IfSome};
 
 use crate::cells::push_name;
 use crate::failures::{push_emergency, push_failure, push_open};
-use crate::lines::{push_bus, push_load, push_row};
+use crate::lines::{push_bus, push_count, push_load, push_row};
 use crate::nodes::{is_shown, push_node_in, push_restarts};
+use crate::pieces::{Piece, push_pieces};
 use crate::sheet_times::{SheetTime, sheet_time};
-use crate::wrong::{push_count, push_wrong_in};
-use co_text::push_decimal;
+use crate::wrong::push_wrong_in;
 use conode_stats_counts::{Bus, Counts, FailureRow, Row};
 use std::alloc::{AllocError, Global};
 
@@ -210,9 +210,14 @@ fn push_front(text: &mut String, bus: &Bus, bit_rate: Option<u32>) -> Result<(),
     if load.unknown == 0 {
         return Ok(());
     }
-    text.push_str("    CAN FD and error frames, whose bits aren't known: ")?;
-    push_decimal(text, load.unknown)?;
-    text.push_str("\n")
+    push_pieces(
+        text,
+        &[
+            Piece::Words("    CAN FD and error frames, whose bits aren't known: "),
+            Piece::Number(load.unknown),
+            Piece::Words("\n"),
+        ],
+    )
 }
 
 // whether a node has a line

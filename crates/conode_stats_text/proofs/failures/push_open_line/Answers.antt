@@ -1,8 +1,0 @@
--- One part after another.
-use Rattle.conode_stats_text.specs.FailureLines.{open_line}
-use Rattle.conode_stats_text.proofs.Appending.{six}
-use Rattle.conode_stats_text.proofs.failures.push_open_line.Goals as goal
-
-pub returns : goal.returns
-unfolding open_line
-returns c = six c.push_words-3.result _ _ _ _ _ _ _ _ _ _ _ _ _ c.in_ok-push_node.ensures c.in_ok-push_words.ensures c.in_ok-push_key.ensures c.in_ok-push_words-2.ensures c.in_ok-push_seconds.ensures c.push_words-3.ensures
