@@ -36,7 +36,7 @@ use Rattle.conode_explain_transfers.specs.declared.transfer.Transfer.{Transfer}
 use Rattle.conode_explain_transfers.specs.BlockTurns.{acknowledged}
 use Rattle.conode_explain_transfers.specs.Initiates.{data_of, initiate_of}
 use Rattle.conode_explain_transfers.specs.Transfers.{begun, is_download}
-use Rattle.conode_explain_laws.specs.Downloads.{Write, is_plain_download, entry_bytes}
+use Rattle.conode_explain_laws.specs.Downloads.{Complete, is_plain_download, entry_bytes}
 use Rattle.conode_explain_laws.proofs.Readings.{Reading, Response, begun_with, response_reading, reading_of}
 use Rattle.conode_explain_laws.proofs.Views.{View, read_as, hears_answers, KnowsAside, aside_turn, aside_answers, aborted_closes}
 use Rattle.conode_explain_laws.proofs.Follows.{asked, segmented, Ends, ends_closed, ends_aside, BegunBy}
@@ -53,11 +53,13 @@ module _ {A : Type 0} (P : A → Type 0) where
   some_both true x y px py = px
   some_both false x y px py = py
 
--- the key of an initiate request of a download is that of its bytes
+-- the key of an initiate request is that of its bytes
 abbrev pub HasKey : List ℕ → SdoRequest → Type 0
 HasKey frame (DownloadExpedited key value) = key ≡ key_in frame
 HasKey frame (DownloadInitiate key size) = key ≡ key_in frame
 HasKey frame (BlockDownloadInitiate key size) = key ≡ key_in frame
+HasKey frame (UploadInitiate key) = key ≡ key_in frame
+HasKey frame (BlockUploadInitiate key block_size threshold) = key ≡ key_in frame
 HasKey frame _ = Unit {0}
 
 pub has_key : (frame : List ℕ) → IfSome (request_in frame) (HasKey frame)
@@ -67,11 +69,11 @@ has_key frame =
     some_both P (eqb (length frame) 8) _ _
     (some_both P (eqb (specifier frame) 0) _ _ tt
     (some_both P (eqb (specifier frame) 1) _ _ (both P (has_bit 1 frame) _ _ refl refl)
-    (some_both P (eqb (specifier frame) 2) _ _ tt
+    (some_both P (eqb (specifier frame) 2) _ _ refl
     (some_both P (eqb (specifier frame) 3) _ _ tt
     (some_both P (eqb (specifier frame) 4) _ _ tt
     (some_both P (eqb (specifier frame) 5) _ _
-    (both P (eqb (subcommand frame) 0) _ _ tt (both P (eqb (subcommand frame) 1) _ _ tt (both P (eqb (subcommand frame) 2) _ _ tt tt)))
+    (both P (eqb (subcommand frame) 0) _ _ refl (both P (eqb (subcommand frame) 1) _ _ tt (both P (eqb (subcommand frame) 2) _ _ tt tt)))
     (some_both P (eqb (specifier frame) 6) _ _ (both P (has_bit 0 frame) _ _ tt refl)
     tt)))))))
     tt
@@ -109,7 +111,7 @@ pub answered : (rows : Rows) (stamp : ℕ → ℕ) (response : SdoResponse) (v :
 answered rows stamp response v reading P e h = subst (λ r. P (read_as rows (stamp v.count) Server (response_bytes response) v r)) (sym e) h
 
 -- a refusal is an abort
-pub refused : (rows : Rows) (stamp : ℕ → ℕ) (refusal : Option ℕ) (key : Key) (answers : List Answer) (next : Option OpenTransfer) (set : Option Whole) (done : List Write) (v : View)
+pub refused : (rows : Rows) (stamp : ℕ → ℕ) (refusal : Option ℕ) (key : Key) (answers : List Answer) (next : Option OpenTransfer) (set : Option Whole) (done : List Complete) (v : View)
     → v.done ≡ done → (refusal ≡ None → Ends next set done (hears_answers rows stamp answers v))
     → Ends next set done (hears_answers rows stamp (unless_refused refusal key answers) v)
 refused rows stamp None key answers next set done v e h = h refl
@@ -119,7 +121,7 @@ refused rows stamp (Some code) key answers next set done v e h =
 
 -- ---- after an initiate request: explain has this transfer
 
-abbrev pub asks : Transfer → List Write → ℕ → View
+abbrev pub asks : Transfer → List Complete → ℕ → View
 asks t done count = record { following = record { heard = true; transfer = Some t }; got = []; done = done; count = count }
 
 pub response_is : (response : SdoResponse) (t : Transfer) (micros : ℕ) → t.stage ≡ Initiated → response_in (response_bytes response) ≡ Some response
@@ -127,11 +129,11 @@ pub response_is : (response : SdoResponse) (t : Transfer) (micros : ℕ) → t.s
 response_is response t micros e h = rw e (ap response_reading h)
 
 -- the channel takes the frame inside a sub-block
-acknowledged_spoils : (by : Bool) (t : Transfer) (sequence block_size : ℕ) → t.stage ≡ Initiated → (acknowledged by t sequence block_size).transfer.irregular ≡ true
+pub acknowledged_spoils : (by : Bool) (t : Transfer) (sequence block_size : ℕ) → t.stage ≡ Initiated → (acknowledged by t sequence block_size).transfer.irregular ≡ true
 acknowledged_spoils true t sequence block_size e = rw e refl
 acknowledged_spoils false t sequence block_size e = refl
 
-inside : (rows : Rows) (stamp : ℕ → ℕ) (o : OpenTransfer) (stage : Stage) (t : Transfer) (frame : List ℕ) (done : List Write) (count : ℕ) (next : Option OpenTransfer) (set : Option Whole) → t.stage ≡ Initiated
+inside : (rows : Rows) (stamp : ℕ → ℕ) (o : OpenTransfer) (stage : Stage) (t : Transfer) (frame : List ℕ) (done : List Complete) (count : ℕ) (next : Option OpenTransfer) (set : Option Whole) → t.stage ≡ Initiated
     → Ends next set done (hears_answers rows stamp (frame_answers rows o stage frame) (asks t done count))
 inside rows stamp o (InSubBlock indicated taken) t frame done count next set s = by_end (ends_sub_block frame)
   where
@@ -161,7 +163,7 @@ pub expedited_bytes : (rows : Rows) (key : Key) (value : ExpeditedData) (r : Opt
 expedited_bytes rows key (Indicated counted) r e = rw e (take_all (length counted.items) counted.items (omega arith))
 expedited_bytes rows key (NotIndicated four) r e = rw e (ap (λ xs. take (capacity_at rows key) xs) (take_all (length four) four (omega arith)))
 
-expedited_done : (rows : Rows) (stamp : ℕ → ℕ) (key : Key) (value : ExpeditedData) (micros : ℕ) (frame : List ℕ) (done : List Write) (count : ℕ) (next : Option OpenTransfer)
+expedited_done : (rows : Rows) (stamp : ℕ → ℕ) (key : Key) (value : ExpeditedData) (micros : ℕ) (frame : List ℕ) (done : List Complete) (count : ℕ) (next : Option OpenTransfer)
     → request_in frame ≡ Some (DownloadExpedited key value) → key.index < 65536
     → Ends next (whole key None (expedited_part rows key value)) done (hears_answers rows stamp (Replied (DownloadDone key) ∷ []) (asks (expedites key value micros frame) done count))
 expedited_done rows stamp key value micros frame done count next q k =
@@ -177,7 +179,7 @@ expedited_done rows stamp key value micros frame done count next q k =
 abbrev pub segments : Key → Option ℕ → ℕ → List ℕ → Transfer
 segments key size micros frame = begun (record (initiate_of key Download Segmented) { size = size }) micros frame
 
-segmented_begins : (rows : Rows) (stamp : ℕ → ℕ) (key : Key) (size : Option ℕ) (micros : ℕ) (frame : List ℕ) (done : List Write) (count : ℕ)
+segmented_begins : (rows : Rows) (stamp : ℕ → ℕ) (key : Key) (size : Option ℕ) (micros : ℕ) (frame : List ℕ) (done : List Complete) (count : ℕ)
     → request_in frame ≡ Some (DownloadInitiate key size) → key.index < 65536
     → Ends (opened_at key (Receiving size false) []) None done (hears_answers rows stamp (Replied (DownloadDone key) ∷ []) (asks (segments key size micros frame) done count))
 segmented_begins rows stamp key size micros frame done count q k =
@@ -202,7 +204,7 @@ other : (x : Option Transfer) (t : Transfer) → x ≡ Some t → is_other x ≡
 other x t e h = not_true (is_plain_download t.direction t.protocol) (sym (ap is_other e) ∙ h)
 
 -- by the request, outside a sub-block
-outside : (d : Description) (contents : Contents) (stamp : ℕ → ℕ) (current : Option OpenTransfer) (request : SdoRequest) (t : Transfer) (micros : ℕ) (frame : List ℕ) (done : List Write) (count : ℕ)
+outside : (d : Description) (contents : Contents) (stamp : ℕ → ℕ) (current : Option OpenTransfer) (request : SdoRequest) (t : Transfer) (micros : ℕ) (frame : List ℕ) (done : List Complete) (count : ℕ)
     → request_in frame ≡ Some request → begun_with request micros frame ≡ Some t → HasKey frame request → AreBytes frame
     → Ends (after_request d contents current (Some request)) (set_by_request d contents current (Some request)) done
     (hears_answers d.rows stamp (request_answers d contents current (Some request)) (asks t done count))
@@ -244,7 +246,7 @@ awaits _ micros frame = tt
 
 -- ---- every initiate request
 
-pub begins : (d : Description) (contents : Contents) (stamp : ℕ → ℕ) (current : Option OpenTransfer) (t : Transfer) (micros : ℕ) (frame : List ℕ) (done : List Write) (count : ℕ)
+pub begins : (d : Description) (contents : Contents) (stamp : ℕ → ℕ) (current : Option OpenTransfer) (t : Transfer) (micros : ℕ) (frame : List ℕ) (done : List Complete) (count : ℕ)
     → BegunBy frame micros t → AreBytes frame
     → Ends (opened_next d contents current frame) (set_next d contents current frame) done
     (hears_answers d.rows stamp (answers_to d contents current frame) (asks t done count))

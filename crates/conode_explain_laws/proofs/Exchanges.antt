@@ -37,7 +37,7 @@ use Rattle.conode_explain_transfers.specs.Endings.{verdict}
 use Rattle.conode_explain_transfers.specs.Followed.{with_frame}
 use Rattle.conode_explain_transfers.specs.SegmentedTurns.{segment_pending}
 use Rattle.conode_explain_transfers.specs.Transfers.{after, goes_on as part, takes_pending}
-use Rattle.conode_explain_laws.specs.Downloads.{Write, is_plain_download, entry_bytes, if_done}
+use Rattle.conode_explain_laws.specs.Downloads.{Complete, is_plain_download, entry_bytes, if_done}
 use Rattle.conode_explain_laws.proofs.Readings.{Reading, Begin, Request, Response, request_reading, response_reading, reading_of}
 use Rattle.conode_explain_laws.proofs.Views.{View, read_as, hears, hears_answers, Knows, KnowsAside, aside_reads, aside_answers, aborted_closes, begin_writes, is_begin}
 use Rattle.conode_explain_laws.proofs.Follows.{Follows, aside, asked, gone, segmented, InSegments, in_segments, Ends, ends_closed, ends_aside, begun_by, client_no_response, is_response, Stays, answered_reads, asked_reads, is_first, again, response_read}
@@ -45,15 +45,15 @@ use Rattle.conode_explain_laws.proofs.Begins.{answered, refused, begins}
 
 -- ---- what explain knows of a transfer that stays
 
-abbrev KnowsStays : List Write → View → Type 0
+abbrev KnowsStays : List Complete → View → Type 0
 KnowsStays done v = Knows (λ t got. Stays t) done v
 
 -- an answer to initiate makes it irregular
-first_answer : (rows : Rows) (stamp : ℕ → ℕ) (response : SdoResponse) (done : List Write) (v : View) → KnowsStays done v → is_first (response_in (response_bytes response)) ≡ true
+first_answer : (rows : Rows) (stamp : ℕ → ℕ) (response : SdoResponse) (done : List Complete) (v : View) → KnowsStays done v → is_first (response_in (response_bytes response)) ≡ true
     → KnowsAside done (hears_answers rows stamp (Replied response ∷ []) v)
 first_answer rows stamp response done v h f = by v.following.heard v.following.transfer v.got v.done v.count h
   where
-    by : (heard : Bool) (current : Option Transfer) (got : List ℕ) (before : List Write) (count : ℕ)
+    by : (heard : Bool) (current : Option Transfer) (got : List ℕ) (before : List Complete) (count : ℕ)
         → KnowsStays done (record { following = record { heard = heard; transfer = current }; got = got; done = before; count = count })
         → KnowsAside done (hears_answers rows stamp (Replied response ∷ []) (record { following = record { heard = heard; transfer = current }; got = got; done = before; count = count }))
     by heard None got before count h =
@@ -67,7 +67,7 @@ first_answer rows stamp response done v h f = by v.following.heard v.following.t
 
 -- ---- the channel has nothing open
 
-stays_gone : (done : List Write) (v : View) → KnowsStays done v → IfSome v.following.transfer (λ t. Follows t v.got None)
+stays_gone : (done : List Complete) (v : View) → KnowsStays done v → IfSome v.following.transfer (λ t. Follows t v.got None)
 stays_gone done v h = by v.following.transfer h.holds
   where
     by : (current : Option Transfer) → IfSome current Stays → IfSome current (λ t. Follows t v.got None)
@@ -75,14 +75,14 @@ stays_gone done v h = by v.following.transfer h.holds
     by (Some t) (inl a) = aside a
     by (Some t) (inr a) = gone a refl
 
-closed : (rows : Rows) (stamp : ℕ → ℕ) (key : Key) (code : ℕ) (next : Option OpenTransfer) (set : Option Whole) (done : List Write) (v : View) → v.done ≡ done
+closed : (rows : Rows) (stamp : ℕ → ℕ) (key : Key) (code : ℕ) (next : Option OpenTransfer) (set : Option Whole) (done : List Complete) (v : View) → v.done ≡ done
     → Ends next set done (hears_answers rows stamp (aborted key code) v)
 closed rows stamp key code next set done v e =
     let c = aborted_closes rows stamp key code v in
     ends_closed next set done (hears_answers rows stamp (aborted key code) v) (record { none = c.none; same = c.same ∙ e })
 
 -- an answer to initiate, or a refusal
-first : (rows : Rows) (stamp : ℕ → ℕ) (refusal : Option ℕ) (key : Key) (response : SdoResponse) (next : Option OpenTransfer) (set : Option Whole) (done : List Write) (v : View)
+first : (rows : Rows) (stamp : ℕ → ℕ) (refusal : Option ℕ) (key : Key) (response : SdoResponse) (next : Option OpenTransfer) (set : Option Whole) (done : List Complete) (v : View)
     → KnowsStays done v → is_first (response_in (response_bytes response)) ≡ true
     → Ends next set done (hears_answers rows stamp (unless_refused refusal key (Replied response ∷ [])) v)
 first rows stamp refusal key response next set done v h f =
@@ -122,7 +122,7 @@ expedited_first key value few =
 few : (value : List ℕ) → (nat_le 1 (length value) && nat_le (length value) 4) ≡ true → length value ≤ 4
 few value e = grind (arith, nat_tests)
 
-upload_first : (rows : Rows) (stamp : ℕ → ℕ) (refusal : Option ℕ) (key : Key) (value : List ℕ) (next : Option OpenTransfer) (set : Option Whole) (done : List Write) (v : View) → KnowsStays done v
+upload_first : (rows : Rows) (stamp : ℕ → ℕ) (refusal : Option ℕ) (key : Key) (value : List ℕ) (next : Option OpenTransfer) (set : Option Whole) (done : List Complete) (v : View) → KnowsStays done v
     → Ends next set done (hears_answers rows stamp (unless_refused refusal key (upload_initiated key value)) v)
 upload_first rows stamp refusal key value next set done v h = by (nat_le 1 (length value) && nat_le (length value) 4) refl
   where
@@ -133,7 +133,7 @@ upload_first rows stamp refusal key value next set done v h = by (nat_le 1 (leng
     by false e = first rows stamp refusal key _ next set done v h (initiated_first key (length value))
 
 -- a request that the channel has nothing open for
-nothing_open : (d : Description) (contents : Contents) (stamp : ℕ → ℕ) (r : Option SdoRequest) (done : List Write) (v : View) → KnowsStays done v
+nothing_open : (d : Description) (contents : Contents) (stamp : ℕ → ℕ) (r : Option SdoRequest) (done : List Complete) (v : View) → KnowsStays done v
     → Ends (after_request d contents None r) (set_by_request d contents None r) done (hears_answers d.rows stamp (request_answers d contents None r) v)
 nothing_open d contents stamp (Some (DownloadExpedited key value)) done v h =
     first d.rows stamp (completion_refusal d contents key None (expedited_part d.rows key value)) key (DownloadDone key) _ _ done v h (download_first key)
@@ -160,16 +160,16 @@ pub same_toggle : (toggle : Bool) → same_bool toggle toggle ≡ true
 same_toggle true = refl
 same_toggle false = refl
 
-pub sends : (rows : Rows) (micros : ℕ) (frame : List ℕ) (heard : Bool) (t : Transfer) (got : List ℕ) (done : List Write) (count : ℕ) (toggle last : Bool) (segment : ArrayVec ℕ) → t.stage ≡ DownloadConfirmed toggle
+pub sends : (rows : Rows) (micros : ℕ) (frame : List ℕ) (heard : Bool) (t : Transfer) (got : List ℕ) (done : List Complete) (count : ℕ) (toggle last : Bool) (segment : ArrayVec ℕ) → t.stage ≡ DownloadConfirmed toggle
     → read_as rows micros Client frame (record { following = record { heard = heard; transfer = Some t }; got = got; done = done; count = count }) (Request (DownloadSegment toggle segment last))
     ≡ record { following = record { heard = heard; transfer = Some (sent t toggle last segment micros) }; got = got; done = done; count = suc count }
 sends rows micros frame heard t got done count toggle last segment e = rw (e, same_toggle toggle) refl
 
-ending_write : (ending : Ending) (write : List Write) → (if_done ending write ≡ []) ⊎ (if_done ending write ≡ write)
+pub ending_write : (ending : Ending) (write : List Complete) → (if_done ending write ≡ []) ⊎ (if_done ending write ≡ write)
 ending_write (Done crc) write = inr refl
 ending_write _ write = inl refl
 
-maybe_write : (b : Bool) (ending : Ending) (write : List Write) → ((if b then if_done ending write else []) ≡ []) ⊎ ((if b then if_done ending write else []) ≡ write)
+pub maybe_write : (b : Bool) (ending : Ending) (write : List Complete) → ((if b then if_done ending write else []) ≡ []) ⊎ ((if b then if_done ending write else []) ≡ write)
 maybe_write false ending write = inl refl
 maybe_write true ending write = ending_write ending write
 
@@ -181,11 +181,11 @@ abbrev pub confirmed : Transfer → Bool → ArrayVec ℕ → ℕ → Transfer
 confirmed t toggle segment micros =
     after (sent t toggle true segment micros) (takes_pending (record (sent t toggle true segment micros) { stage = Confirmed None }) (length segment.items))
 
-abbrev pub write_of : ℕ → Key → List ℕ → List Write
+abbrev pub write_of : ℕ → Key → List ℕ → List Complete
 write_of frame key bytes = record { frame = frame; key = key; bytes = bytes } ∷ []
 
 -- the channel takes the segment
-segment_taken : (rows : Rows) (stamp : ℕ → ℕ) (micros : ℕ) (heard : Bool) (t : Transfer) (got : List ℕ) (done : List Write) (count : ℕ) (toggle last : Bool) (segment : ArrayVec ℕ) → InSegments t toggle
+segment_taken : (rows : Rows) (stamp : ℕ → ℕ) (micros : ℕ) (heard : Bool) (t : Transfer) (got : List ℕ) (done : List Complete) (count : ℕ) (toggle last : Bool) (segment : ArrayVec ℕ) → InSegments t toggle
     → Ends (if last then None else Some (receiving t (got ++ segment.items) (not toggle)))
     (if last then Some (record { key = t.key; indicated = t.size; bytes = got ++ segment.items }) else None) done
     (hears_answers rows stamp (Replied (DownloadSegmentDone toggle) ∷ [])
@@ -219,7 +219,7 @@ segment_taken rows stamp micros heard t got done count toggle false segment h =
     }))
 
 -- a segment, by its toggle
-segment_step : (d : Description) (contents : Contents) (stamp : ℕ → ℕ) (micros : ℕ) (frame : List ℕ) (heard : Bool) (t : Transfer) (got : List ℕ) (done : List Write) (count : ℕ) (expected toggle last : Bool) (segment : ArrayVec ℕ)
+segment_step : (d : Description) (contents : Contents) (stamp : ℕ → ℕ) (micros : ℕ) (frame : List ℕ) (heard : Bool) (t : Transfer) (got : List ℕ) (done : List Complete) (count : ℕ) (expected toggle last : Bool) (segment : ArrayVec ℕ)
     → InSegments t expected
     → Ends (after_segment d contents (receiving t got expected) (Receiving t.size expected) toggle segment.items last)
     (set_by_segment d contents (receiving t got expected) (Receiving t.size expected) toggle segment.items last) done
@@ -253,7 +253,7 @@ segment_step d contents stamp micros frame heard t got done count expected toggl
     by false false h same = rw (sends d.rows micros frame heard t got done count false last segment h.stage) (taken false h _ refl)
 
 -- a request while the channel receives segments: `v` is what explain knows after it
-in_download : (d : Description) (contents : Contents) (stamp : ℕ → ℕ) (r : Option SdoRequest) (t : Transfer) (got : List ℕ) (toggle : Bool) (done : List Write) (v : View) → KnowsStays done v
+in_download : (d : Description) (contents : Contents) (stamp : ℕ → ℕ) (r : Option SdoRequest) (t : Transfer) (got : List ℕ) (toggle : Bool) (done : List Complete) (v : View) → KnowsStays done v
     → ((toggled last : Bool) (segment : ArrayVec ℕ) → r ≡ Some (DownloadSegment toggled segment last)
     → Ends (after_request d contents (Some (receiving t got toggle)) r) (set_by_request d contents (Some (receiving t got toggle)) r) done
     (hears_answers d.rows stamp (request_answers d contents (Some (receiving t got toggle)) r) v))
@@ -280,7 +280,7 @@ Following v current = IfSome v.following.transfer (λ t. Follows t v.got current
 pub client_plain : (t : Transfer) (toggle : Bool) (micros : ℕ) (frame : List ℕ) → t.stage ≡ DownloadConfirmed toggle → reading_of (Some t) Client micros frame ≡ request_reading (request_in frame) micros frame
 client_plain t toggle micros frame e = rw e refl
 
-goes_on : (d : Description) (contents : Contents) (stamp : ℕ → ℕ) (frame : List ℕ) (current : Option OpenTransfer) (heard : Bool) (held : Option Transfer) (got : List ℕ) (done : List Write) (count : ℕ) (reading : Reading)
+goes_on : (d : Description) (contents : Contents) (stamp : ℕ → ℕ) (frame : List ℕ) (current : Option OpenTransfer) (heard : Bool) (held : Option Transfer) (got : List ℕ) (done : List Complete) (count : ℕ) (reading : Reading)
     → reading_of held Client (stamp count) frame ≡ reading → is_begin reading ≡ false → IfSome held (λ t. Follows t got current)
     → Ends (opened_next d contents current frame) (set_next d contents current frame) done
     (hears_answers d.rows stamp (answers_to d contents current frame)
@@ -300,7 +300,7 @@ goes_on d contents stamp frame current heard (Some t) got done count reading e n
           rw (q, is) (segment_step d contents stamp (stamp count) frame heard t got done count toggle toggled last segment a)))
     ]
 
-by_reading : (d : Description) (contents : Contents) (stamp : ℕ → ℕ) (frame : List ℕ) (current : Option OpenTransfer) (heard : Bool) (held : Option Transfer) (got : List ℕ) (done : List Write) (count : ℕ) (reading : Reading)
+by_reading : (d : Description) (contents : Contents) (stamp : ℕ → ℕ) (frame : List ℕ) (current : Option OpenTransfer) (heard : Bool) (held : Option Transfer) (got : List ℕ) (done : List Complete) (count : ℕ) (reading : Reading)
     → reading_of held Client (stamp count) frame ≡ reading → AreBytes frame → IfSome held (λ t. Follows t got current)
     → Ends (opened_next d contents current frame) (set_next d contents current frame) done
     (hears_answers d.rows stamp (answers_to d contents current frame)

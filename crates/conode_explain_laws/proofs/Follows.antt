@@ -35,7 +35,7 @@ use Rattle.conode_explain_transfers.specs.SegmentedTurns.{download_segment_at, u
 use Rattle.conode_explain_transfers.specs.Stages.{is_initiated, confirmed_with}
 use Rattle.conode_explain_transfers.specs.Transfers.{Turn, after, is_download, awaited_number, unexpected, repeated}
 use Rattle.conode_explain_transfers.specs.Turns.{request_turn}
-use Rattle.conode_explain_laws.specs.Downloads.{Write, is_plain_download, initiated_by, write_said, write_set}
+use Rattle.conode_explain_laws.specs.Downloads.{Complete, is_plain_download, initiated_by, write_said, write_set}
 use Rattle.conode_explain_laws.proofs.Readings.{Reading, Segment, Begin, Abort, Request, Response, Nothing, begun_with, begins_or, request_reading, response_reading, plain_reading, beginning, segment_reading, sub_block_reading, reading_of, turn_of}
 use Rattle.conode_explain_laws.proofs.Kept.{keeps}
 use Rattle.conode_explain_laws.proofs.Views.{View, read_as, Knows, Closes, IsAside, KnowsAside, aside_turn, is_begin, no_write, aside_write}
@@ -66,18 +66,18 @@ pub in_segments : (t : Transfer) (toggle : Bool) → InSegments t toggle → IsA
 in_segments t toggle h = record { answered = ap is_initiated h.stage; direction = h.direction; unconfirmed = ap confirmed_with h.stage }
 
 -- after a request with its answers: what is open then, and what was set
-pub record Ends (next : Option OpenTransfer) (set : Option Whole) (done : List Write) (v : View) : Type 0 where
+pub record Ends (next : Option OpenTransfer) (set : Option Whole) (done : List Complete) (v : View) : Type 0 where
   pub follows : IfSome v.following.transfer (λ t. Follows t v.got next)
   pub writes : (v.done ≡ done) ⊎ (v.done ≡ write_set set v.count ++ done)
 
-pub ends_closed : (next : Option OpenTransfer) (set : Option Whole) (done : List Write) (v : View) → Closes done v → Ends next set done v
+pub ends_closed : (next : Option OpenTransfer) (set : Option Whole) (done : List Complete) (v : View) → Closes done v → Ends next set done v
 ends_closed next set done v h = record { follows = rw h.none tt; writes = inl h.same }
 
 aside_follows : (current : Option Transfer) (got : List ℕ) (next : Option OpenTransfer) → IfSome current IsAside → IfSome current (λ t. Follows t got next)
 aside_follows None got next h = tt
 aside_follows (Some t) got next h = aside h
 
-pub ends_aside : (next : Option OpenTransfer) (set : Option Whole) (done : List Write) (v : View) → KnowsAside done v → Ends next set done v
+pub ends_aside : (next : Option OpenTransfer) (set : Option Whole) (done : List Complete) (v : View) → KnowsAside done v → Ends next set done v
 ends_aside next set done v h = record { follows = aside_follows v.following.transfer v.got next h.holds; writes = inl h.same }
 
 -- ---- how a frame is read
@@ -234,7 +234,7 @@ answered_frame : (what : What) (u : Transfer) (micros : ℕ) (side : Side) → I
 answered_frame Overtaken u micros side h = h
 answered_frame _ u micros side h = record { answered = h.answered; direction = h.direction; unconfirmed = h.unconfirmed }
 
-answered_turns : (rows : Rows) (x : Option (Option ℕ)) (heard : Bool) (what : What) (u : Transfer) (initiate : Option SdoRequest) (got : List ℕ) (done : List Write) (count micros : ℕ) (side : Side)
+answered_turns : (rows : Rows) (x : Option (Option ℕ)) (heard : Bool) (what : What) (u : Transfer) (initiate : Option SdoRequest) (got : List ℕ) (done : List Complete) (count micros : ℕ) (side : Side)
     → is_initiated u.stage ≡ false → u.direction ≡ Download → confirmed_with u.stage ≡ x → (u.irregular ≡ true) ⊎ (confirmed_with u.stage ≡ None)
     → Knows (λ t got. Stays t) done (record {
       following = (turns_at x heard what u micros side).next;
@@ -252,7 +252,7 @@ answered_turns rows (Some crc) heard what u initiate got done count micros side 
 }
 answered_turns rows (Some crc) heard what u initiate got done count micros side a d e (inr n) = absurd (let f : None ≡ Some crc = sym n ∙ e in cc)
 
-answered_turn : (rows : Rows) (micros : ℕ) (side : Side) (frame : List ℕ) (heard : Bool) (t : Transfer) (got : List ℕ) (done : List Write) (count : ℕ) (reading : Reading) → IsAnswered t
+answered_turn : (rows : Rows) (micros : ℕ) (side : Side) (frame : List ℕ) (heard : Bool) (t : Transfer) (got : List ℕ) (done : List Complete) (count : ℕ) (reading : Reading) → IsAnswered t
     → IsLate (turn_of t reading frame)
     → Knows (λ t got. Stays t) done (record {
       following = (turns heard t (turn_of t reading frame) micros side).next;
@@ -269,7 +269,7 @@ answered_turn rows micros side frame heard t got done count reading h late =
     (k.answered h.answered) (k.direction ∙ h.direction) refl late
 
 -- a frame of the client that begins no transfer
-pub answered_reads : (rows : Rows) (micros : ℕ) (frame : List ℕ) (heard : Bool) (t : Transfer) (got : List ℕ) (done : List Write) (count : ℕ) (reading : Reading)
+pub answered_reads : (rows : Rows) (micros : ℕ) (frame : List ℕ) (heard : Bool) (t : Transfer) (got : List ℕ) (done : List Complete) (count : ℕ) (reading : Reading)
     → IsAnswered t → is_begin reading ≡ false → is_response reading ≡ false
     → Knows (λ t got. Stays t) done (read_as rows micros Client frame (record { following = record { heard = heard; transfer = Some t }; got = got; done = done; count = count }) reading)
 answered_reads rows micros frame heard t got done count (Begin new) h n m = absurd (false≢true (sym n))
@@ -300,7 +300,7 @@ confirmed_by true true t e b = rw b (ap (λ s. (end_confirmed_at s t).transfer.i
 confirmed_by true false t e b = rw b refl
 confirmed_by false block t e b = refl
 
-request_spoils : (t : Transfer) (request : SdoRequest) (frame : List ℕ) → t.stage ≡ Initiated → (request_turn t request frame).transfer.irregular ≡ true
+pub request_spoils : (t : Transfer) (request : SdoRequest) (frame : List ℕ) → t.stage ≡ Initiated → (request_turn t request frame).transfer.irregular ≡ true
 request_spoils t (DownloadSegment toggle segment last) frame e = ap (λ s. (download_segment_at s t toggle segment last).transfer.irregular) e
 request_spoils t (NextSegment toggle) frame e = ap (λ s. (upload_request_at s t toggle).transfer.irregular) e
 request_spoils t BlockUploadStart frame e = ap (λ s. (upload_started_at s t).transfer.irregular) e
@@ -310,7 +310,7 @@ request_spoils t (BlockDownloadEnd unused) frame e = ended_by (is_download t.dir
 request_spoils t _ frame e = refl
 
 -- any frame of the client but an initiate request ends it, or makes it irregular
-pub asked_reads : (rows : Rows) (micros : ℕ) (frame : List ℕ) (heard : Bool) (t : Transfer) (got : List ℕ) (done : List Write) (count : ℕ) (reading : Reading)
+pub asked_reads : (rows : Rows) (micros : ℕ) (frame : List ℕ) (heard : Bool) (t : Transfer) (got : List ℕ) (done : List Complete) (count : ℕ) (reading : Reading)
     → t.stage ≡ Initiated → is_begin reading ≡ false → is_response reading ≡ false
     → KnowsAside done (read_as rows micros Client frame (record { following = record { heard = heard; transfer = Some t }; got = got; done = done; count = count }) reading)
 asked_reads rows micros frame heard t got done count (Begin new) h n m = absurd (false≢true (sym n))
@@ -341,7 +341,7 @@ unawaited : (initiated : Bool) (t : Transfer) (turn : Turn) → initiated ≡ fa
 unawaited true t turn e = absurd (false≢true (sym e))
 unawaited false t turn e = refl
 
-again_reads : (rows : Rows) (micros : ℕ) (frame : List ℕ) (heard : Bool) (t : Transfer) (got : List ℕ) (done : List Write) (count : ℕ) (r : Option SdoResponse)
+again_reads : (rows : Rows) (micros : ℕ) (frame : List ℕ) (heard : Bool) (t : Transfer) (got : List ℕ) (done : List Complete) (count : ℕ) (r : Option SdoResponse)
     → IsAnswered t → is_first r ≡ true
     → KnowsAside done (read_as rows micros Server frame (record { following = record { heard = heard; transfer = Some t }; got = got; done = done; count = count }) (response_reading r))
 again_reads rows micros frame heard t got done count (Some (DownloadDone key)) h f =
@@ -356,7 +356,7 @@ again_reads rows micros frame heard t got done count (Some (BlockUploadInitiated
     aside_turn rows micros Server frame heard t got done count (Response (BlockUploadInitiated key size)) (inl (unawaited (is_initiated t.stage) t _ h.answered))
 again_reads rows micros frame heard t got done count _ h f = absurd (false≢true f)
 
-pub again : (rows : Rows) (micros : ℕ) (frame : List ℕ) (heard : Bool) (t : Transfer) (got : List ℕ) (done : List Write) (count : ℕ) → IsAnswered t → is_first (response_in frame) ≡ true
+pub again : (rows : Rows) (micros : ℕ) (frame : List ℕ) (heard : Bool) (t : Transfer) (got : List ℕ) (done : List Complete) (count : ℕ) → IsAnswered t → is_first (response_in frame) ≡ true
     → KnowsAside done (read_as rows micros Server frame (record { following = record { heard = heard; transfer = Some t }; got = got; done = done; count = count }) (reading_of (Some t) Server micros frame))
 again rows micros frame heard t got done count h f =
     subst (λ reading. KnowsAside done (read_as rows micros Server frame (record { following = record { heard = heard; transfer = Some t }; got = got; done = done; count = count }) reading))

@@ -5,7 +5,11 @@ pub mod Follows
 pub mod Begins
 pub mod Exchanges
 pub mod AllInputs
-pub mod Uploads
+pub mod NoDownloads
 pub mod Exact
 pub mod AllExact
-mod Examples
+pub mod UploadViews
+pub mod UploadExchanges
+pub mod AllUploads
+pub mod Examples
+mod UploadExamples

@@ -29,7 +29,7 @@ use Rattle.conode_explain_transfers.specs.Readings.{awaits_segment}
 use Rattle.conode_explain_transfers.specs.Stages.{confirmed_with}
 use Rattle.conode_explain_transfers.specs.Transfers.{after, is_same_request}
 use Rattle.conode_explain_laws.specs.Recordings.{and_frame, and_answers}
-use Rattle.conode_explain_laws.specs.Downloads.{Write, is_plain, is_plain_download, initiated_by, if_done, write_said, downloads_done}
+use Rattle.conode_explain_laws.specs.Downloads.{Complete, is_plain, is_plain_download, initiated_by, if_done, write_said, downloads_done}
 use Rattle.conode_explain_laws.proofs.Readings.{Reading, Segment, Begin, Abort, Request, Response, Nothing, response_reading, plain_reading, beginning, segment_reading, sub_block_reading, reading_of, turn_of, follows_by, bytes_by, same as same_reading}
 use Rattle.conode_explain_laws.proofs.Kept.{Keeps, keeps}
 
@@ -39,7 +39,7 @@ use Rattle.conode_explain_laws.proofs.Kept.{Keeps, keeps}
 pub record View : Type 0 where
   pub following : Following
   pub got : List ℕ
-  pub done : List Write
+  pub done : List Complete
   pub count : ℕ
 
 abbrev pub view_of : Rows → List Event → View
@@ -90,17 +90,17 @@ hears_all rows stamp (answer ∷ later) recording =
     ∙ ap (hears_answers rows stamp later) (hears_frame rows stamp Server (answer_bytes answer) recording)
 
 -- with what is known of the open transfer and its data, and nothing more done
-pub record Knows (P : Transfer → List ℕ → Type 0) (done : List Write) (v : View) : Type 0 where
+pub record Knows (P : Transfer → List ℕ → Type 0) (done : List Complete) (v : View) : Type 0 where
   pub holds : IfSome v.following.transfer (λ t. P t v.got)
   pub same : v.done ≡ done
 
 -- ---- what isn't done
 
-pub no_write : (b : Bool) (write : List Write) → write ≡ [] → (if b then write else []) ≡ []
+pub no_write : (b : Bool) (write : List Complete) → write ≡ [] → (if b then write else []) ≡ []
 no_write true write h = h
 no_write false write h = refl
 
-left_no_write : (same : Bool) (by : Side) (write : List Write) → if_done (if same then Repeated else left_by by) write ≡ []
+pub left_no_write : (same : Bool) (by : Side) (write : List Complete) → if_done (if same then Repeated else left_by by) write ≡ []
 left_no_write true by write = refl
 left_no_write false Client write = refl
 left_no_write false Server write = refl
@@ -108,7 +108,7 @@ left_no_write false Server write = refl
 -- ---- an initiate request
 
 -- it ends no transfer that is done
-pub begin_writes : (rows : Rows) (micros : ℕ) (frame : List ℕ) (heard : Bool) (current : Option Transfer) (got : List ℕ) (done : List Write) (count : ℕ) (new : Transfer)
+pub begin_writes : (rows : Rows) (micros : ℕ) (frame : List ℕ) (heard : Bool) (current : Option Transfer) (got : List ℕ) (done : List Complete) (count : ℕ) (new : Transfer)
     → (read_as rows micros Client frame (record { following = record { heard = heard; transfer = current }; got = got; done = done; count = count }) (Begin new)).done ≡ done
 begin_writes rows micros frame heard None got done count new = refl
 begin_writes rows micros frame heard (Some t) got done count new =
@@ -121,11 +121,11 @@ is_abort_reading (Abort code) = true
 is_abort_reading _ = false
 
 -- nothing is open then, and nothing more done
-pub record Closes (done : List Write) (v : View) : Type 0 where
+pub record Closes (done : List Complete) (v : View) : Type 0 where
   pub none : v.following.transfer ≡ None
   pub same : v.done ≡ done
 
-pub abort_closes : (rows : Rows) (micros : ℕ) (side : Side) (frame : List ℕ) (heard : Bool) (current : Option Transfer) (got : List ℕ) (done : List Write) (count : ℕ) (reading : Reading)
+pub abort_closes : (rows : Rows) (micros : ℕ) (side : Side) (frame : List ℕ) (heard : Bool) (current : Option Transfer) (got : List ℕ) (done : List Complete) (count : ℕ) (reading : Reading)
     → is_abort_reading reading ≡ true
     → Closes done (read_as rows micros side frame (record { following = record { heard = heard; transfer = current }; got = got; done = done; count = count }) reading)
 abort_closes rows micros side frame heard None got done count (Abort code) h = record { none = refl; same = refl }
@@ -153,13 +153,13 @@ aside_frame : (what : What) (u : Transfer) (micros : ℕ) (side : Side) → IsAs
 aside_frame Overtaken u micros side h = h
 aside_frame _ u micros side h = h
 
-pub aside_write : (u : Transfer) (crc : Option ℕ) (write : List Write) → IsAside u
+pub aside_write : (u : Transfer) (crc : Option ℕ) (write : List Complete) → IsAside u
     → (if is_plain_download u.direction u.protocol then if_done (verdict u crc) write else []) ≡ []
 aside_write u crc write (inl i) = no_write (is_plain_download u.direction u.protocol) _ (rw i refl)
 aside_write u crc write (inr p) = rw p refl
 
 -- a turn's transfer, kept or confirmed
-aside_turns : (rows : Rows) (x : Option (Option ℕ)) (heard : Bool) (what : What) (u : Transfer) (initiate : Option SdoRequest) (got : List ℕ) (done : List Write) (count micros : ℕ) (side : Side) → IsAside u
+aside_turns : (rows : Rows) (x : Option (Option ℕ)) (heard : Bool) (what : What) (u : Transfer) (initiate : Option SdoRequest) (got : List ℕ) (done : List Complete) (count micros : ℕ) (side : Side) → IsAside u
     → Knows (λ t got. IsAside t) done (record {
       following = (turns_at x heard what u micros side).next;
       got = got;
@@ -169,7 +169,7 @@ aside_turns : (rows : Rows) (x : Option (Option ℕ)) (heard : Bool) (what : Wha
 aside_turns rows None heard what u initiate got done count micros side h = record { holds = aside_frame what u micros side h; same = refl }
 aside_turns rows (Some crc) heard what u initiate got done count micros side h = record { holds = tt; same = ap (λ w. w ++ done) (aside_write u crc _ h) }
 
-pub aside_turn : (rows : Rows) (micros : ℕ) (side : Side) (frame : List ℕ) (heard : Bool) (t : Transfer) (got : List ℕ) (done : List Write) (count : ℕ) (reading : Reading)
+pub aside_turn : (rows : Rows) (micros : ℕ) (side : Side) (frame : List ℕ) (heard : Bool) (t : Transfer) (got : List ℕ) (done : List Complete) (count : ℕ) (reading : Reading)
     → IsAside (turn_of t reading frame).transfer
     → Knows (λ t got. IsAside t) done (record {
       following = (turns heard t (turn_of t reading frame) micros side).next;
@@ -188,10 +188,10 @@ is_begin (Begin new) = true
 is_begin _ = false
 
 -- what is known of one that isn't followed
-abbrev pub KnowsAside : List Write → View → Type 0
+abbrev pub KnowsAside : List Complete → View → Type 0
 KnowsAside done v = Knows (λ t got. IsAside t) done v
 
-pub aside_reads : (rows : Rows) (micros : ℕ) (side : Side) (frame : List ℕ) (heard : Bool) (current : Option Transfer) (got : List ℕ) (done : List Write) (count : ℕ) (reading : Reading)
+pub aside_reads : (rows : Rows) (micros : ℕ) (side : Side) (frame : List ℕ) (heard : Bool) (current : Option Transfer) (got : List ℕ) (done : List Complete) (count : ℕ) (reading : Reading)
     → IfSome current IsAside → is_begin reading ≡ false
     → KnowsAside done (read_as rows micros side frame (record { following = record { heard = heard; transfer = current }; got = got; done = done; count = count }) reading)
 aside_reads rows micros side frame heard current got done count (Begin new) h n = absurd (false≢true (sym n))
@@ -239,7 +239,7 @@ server_no_begin (Some t) micros frame = by (awaits_segment t Server) (is_abort_i
     by false abort = response_no_begin (response_in frame)
 
 -- whatever the server answers
-pub aside_answers : (rows : Rows) (stamp : ℕ → ℕ) (answers : List Answer) (done : List Write) (v : View) → KnowsAside done v → KnowsAside done (hears_answers rows stamp answers v)
+pub aside_answers : (rows : Rows) (stamp : ℕ → ℕ) (answers : List Answer) (done : List Complete) (v : View) → KnowsAside done v → KnowsAside done (hears_answers rows stamp answers v)
 aside_answers rows stamp [] done v h = h
 aside_answers rows stamp (answer ∷ later) done v h =
     let frame = answer_bytes answer in
@@ -247,7 +247,7 @@ aside_answers rows stamp (answer ∷ later) done v h =
     aside_answers rows stamp later done (hears rows stamp Server frame v) (record { holds = step.holds; same = step.same ∙ h.same })
 
 -- an abort of the server
-abort_is : (current : Option Transfer) (micros : ℕ) (key : Key) (code : ℕ) → is_abort_reading (reading_of current Server micros (answer_bytes (Replied (Refuse key (record { 0 = code }))))) ≡ true
+pub abort_is : (current : Option Transfer) (micros : ℕ) (key : Key) (code : ℕ) → is_abort_reading (reading_of current Server micros (answer_bytes (Replied (Refuse key (record { 0 = code }))))) ≡ true
 unfolding response_row_in
 abort_is None micros key code = refl
 abort_is (Some t) micros key code = by (awaits_segment t Server)
