@@ -21,7 +21,7 @@ use Rattle.conode_explain_laws.specs.Recordings.{Input, Received, Elapsed, Expir
 use Rattle.conode_explain_laws.specs.Downloads.{Complete, downloads_done, write_set, downloads_set, AreSome}
 use Rattle.conode_explain_laws.proofs.Readings.{Nothing, reading_of}
 use Rattle.conode_explain_laws.proofs.Views.{view_of, read_as, hears_answers, hears_frame, hears_all, Closes, IsAside, KnowsAside, aside_turn, aborted_closes}
-use Rattle.conode_explain_laws.proofs.Follows.{Follows, aside, asked, gone, segmented, in_segments, Ends}
+use Rattle.conode_explain_laws.proofs.Follows.{Follows, aside, asked, gone, segmented, blocks, all_sent, in_segments, in_blocks, are_sent, Ends}
 use Rattle.conode_explain_laws.proofs.Exchanges.{Following, exchange}
 
 -- ---- lists
@@ -150,6 +150,8 @@ drops (Some t) got current (aside a) = aside a
 drops (Some t) got current (asked a) = asked a
 drops (Some t) got current (gone a c) = gone a refl
 drops (Some t) got current (segmented toggle a c) = gone (in_segments t toggle a) refl
+drops (Some t) got current (blocks taken size a c) = gone (in_blocks t taken a) refl
+drops (Some t) got current (all_sent size a c) = gone (are_sent t a) refl
 
 pub related : (stamp : ℕ → ℕ) (d : Description) (inputs : List Input) → AreInputs d inputs → Related stamp d (log_of d inputs) (recorded stamp d inputs) (downloads_set stamp d inputs)
 related stamp d [] h = record { current = None; serves = serves_first d.rows [] refl; follows = tt; some = tt }

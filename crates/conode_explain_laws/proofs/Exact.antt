@@ -37,14 +37,15 @@ use Rattle.conode_explain_transfers.specs.declared.kinds.Side.TheVariants.{Clien
 use Rattle.conode_explain_transfers.specs.declared.transfer.Transfer.{Transfer}
 use Rattle.conode_explain_transfers.specs.Digests.{counted, digest_of}
 use Rattle.conode_explain_transfers.specs.Endings.{size_fault, verdict}
+use Rattle.conode_explain_transfers.specs.Transfers.{is_download}
 use Rattle.conode_explain_transfers.specs.Readings.{is_in_sub_block as is_inside, is_sender}
 use Rattle.conode_explain_transfers.proofs.DataLemmas.{taking}
-use Rattle.conode_explain_laws.specs.Downloads.{Complete, is_plain, is_plain_download, is_block_begin, entry_bytes, if_done, write_set}
+use Rattle.conode_explain_laws.specs.Downloads.{Complete, is_block_begin, entry_bytes, if_done, write_set}
 use Rattle.conode_explain_laws.proofs.Readings.{Begin, Request, Response, begun_with, request_reading, response_reading, plain_reading, sub_block_reading, reading_of}
 use Rattle.conode_explain_laws.proofs.Views.{View, read_as, hears, hears_answers, begin_writes, no_write, aborted_closes}
 use Rattle.conode_explain_laws.proofs.Follows.{InSegments, in_segments, response_read, answered_reads}
-use Rattle.conode_explain_laws.proofs.Begins.{HasKey, has_key, small_index, answered, asks, response_is, expedites, expedited_bytes, segments, outside_answers, outside_opens, outside_sets}
-use Rattle.conode_explain_laws.proofs.Exchanges.{receiving, sent, same_toggle, sends, all_taken, confirmed, write_of, client_plain}
+use Rattle.conode_explain_laws.proofs.Begins.{HasKey, has_key, small_index, answered, asks, response_is, expedites, expedited_bytes, segments, outside_answers, outside_opens, outside_sets, write_of}
+use Rattle.conode_explain_laws.proofs.Exchanges.{receiving, sent, same_toggle, sends, all_taken, confirmed, client_plain}
 use Rattle.conode_explain_laws.proofs.NoDownloads.{IsUpload, KnowsUpload, upload_reads, upload_answers}
 
 -- ---- both
@@ -64,7 +65,6 @@ no_download (Some o) = is_upload_stage o.stage
 pub record IsClean (t : Transfer) (toggle : Bool) : Type 0 where
   pub in_turn : InSegments t toggle
   pub regular : t.irregular ≡ false
-  pub plain : is_plain t.protocol ≡ true
 
 -- explain has an upload, and the channel has no download; or both have the same download in segments; or the channel has dropped it
 pub data Exact (t : Transfer) (got : List ℕ) (current : Option OpenTransfer) : Type 0 where
@@ -173,7 +173,7 @@ segments_exactly rows stamp None key size micros frame done count q k =
     (Exactly (opened_at key (Receiving size false) []) None done)
     (response_is (DownloadDone key) (segments key size micros frame) (stamp count) refl (done_read key k))
     (rw (same_key-refl key) (record {
-      holds = exact_segments false (record { in_turn = record { direction = refl; stage = refl; request = q }; regular = refl; plain = refl }) refl;
+      holds = exact_segments false (record { in_turn = record { direction = refl; stage = refl; request = q }; regular = refl }) refl;
       same = refl;
     }))
 
@@ -225,8 +225,8 @@ size_right (Some size) n h few =
     let c : counted n ≡ n = not_above n (2 ^ 64 - 1) m in
     rw (c, h) refl
 
-regular_done : (u : Transfer) (write : List Complete) → u.irregular ≡ false → size_fault u.size u.taken.count ≡ None → is_plain_download u.direction u.protocol ≡ true
-    → (if is_plain_download u.direction u.protocol then if_done (verdict u None) write else []) ≡ write
+regular_done : (u : Transfer) (write : List Complete) → u.irregular ≡ false → size_fault u.size u.taken.count ≡ None → is_download u.direction ≡ true
+    → (if is_download u.direction then if_done (verdict u None) write else []) ≡ write
 regular_done u write r s p = rw (p, r, s) refl
 
 -- what the dictionary permits when the last segment comes
@@ -247,7 +247,7 @@ segment_exactly rows stamp micros heard t got done count toggle false segment h 
     (Exactly (Some (receiving t (got ++ segment.items) (not toggle))) None done)
     (response_read u (stamp count) (response_bytes (DownloadSegmentDone toggle)) h.in_turn.direction ∙ ap response_reading (segment_done_read toggle))
     (rw (same_toggle toggle, all_taken segment.items) (record {
-      holds = exact_segments (not toggle) (record { in_turn = record { direction = h.in_turn.direction; stage = refl; request = h.in_turn.request }; regular = h.regular; plain = h.plain }) refl;
+      holds = exact_segments (not toggle) (record { in_turn = record { direction = h.in_turn.direction; stage = refl; request = h.in_turn.request }; regular = h.regular }) refl;
       same = refl;
     }))
 segment_exactly rows stamp micros heard t got done count toggle true segment h kept fits =
@@ -261,7 +261,7 @@ segment_exactly rows stamp micros heard t got done count toggle true segment h k
       same =
           ap (λ w. w ++ done)
           (regular_done (confirmed t toggle segment micros) (write_of (suc count) t.key (entry_bytes rows t.key (request_in t.request.items) (got ++ take (length segment.items) segment.items)))
-          h.regular size (ap (λ x. is_plain_download x t.protocol) h.in_turn.direction ∙ h.plain))
+          h.regular size (ap is_download h.in_turn.direction))
           ∙ ap (λ bytes. write_of (suc count) t.key bytes ++ done) bytes_are;
     }))
   where
@@ -373,7 +373,7 @@ to_segments d contents stamp frame heard t got done count toggle h kept lawful s
     segment_comes d contents stamp (stamp count) frame heard t got done count toggle toggled last segment h kept lawful
 to_segments d contents stamp frame heard t got done count toggle h kept lawful small (Some (Abandon key code)) q n = record {
   holds = refl;
-  same = ap (λ w. w ++ done) (no_write (is_plain_download t.direction t.protocol) _ refl);
+  same = ap (λ w. w ++ done) (no_write (is_download t.direction) _ refl);
 }
 to_segments d contents stamp frame heard t got done count toggle h kept lawful small r q n =
     closed_exactly d.rows stamp t.key 0x05040001 done
@@ -397,7 +397,7 @@ to_dropped d contents stamp frame heard t got done count toggle h small (Some (B
 to_dropped d contents stamp frame heard t got done count toggle h small (Some (BlockDownloadInitiate key size)) q n = absurd (false≢true (sym n))
 to_dropped d contents stamp frame heard t got done count toggle h small (Some (Abandon key code)) q n = record {
   holds = refl;
-  same = ap (λ w. w ++ done) (no_write (is_plain_download t.direction t.protocol) _ refl);
+  same = ap (λ w. w ++ done) (no_write (is_download t.direction) _ refl);
 }
 to_dropped d contents stamp frame heard t got done count toggle h small r q n =
     closed_exactly d.rows stamp (record { index = 0; sub = 0 }) 0x05040001 done

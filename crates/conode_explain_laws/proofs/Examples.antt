@@ -103,3 +103,36 @@ dropped_done = refl
 dropped_set : set dropped ≡ write 8 (at 0x1017 0) (codes "E803") ∷ []
 unfolding request_row_in response_row_in reading_refusal initiate_refusal completion_refusal has_object
 dropped_set = refl
+
+-- in blocks: ten bytes in two segments, done with the seventh frame
+abbrev in_blocks : Scene
+in_blocks = all_come (codes "C20021000A000000" ∷ codes "0130313233343536" ∷ codes "8237383900000000" ∷ codes "D100000000000000" ∷ []) start
+
+blocks_done : done in_blocks ≡ write 7 (at 0x2100 0) (codes "30313233343536373839") ∷ []
+unfolding request_row_in response_row_in reading_refusal initiate_refusal completion_refusal has_object
+blocks_done = refl
+
+blocks_set : set in_blocks ≡ write 7 (at 0x2100 0) (codes "30313233343536373839") ∷ []
+unfolding request_row_in response_row_in reading_refusal initiate_refusal completion_refusal has_object
+blocks_set = refl
+
+-- the first segment is lost on its way to both, and the sub-block sent again
+abbrev again : Scene
+again = all_come (codes "C20021000A000000" ∷ codes "8237383900000000" ∷ codes "0130313233343536" ∷ codes "8237383900000000" ∷ codes "D100000000000000" ∷ []) start
+
+again_done : done again ≡ write 9 (at 0x2100 0) (codes "30313233343536373839") ∷ []
+unfolding request_row_in response_row_in reading_refusal initiate_refusal completion_refusal has_object
+again_done = refl
+
+again_set : set again ≡ write 9 (at 0x2100 0) (codes "30313233343536373839") ∷ []
+unfolding request_row_in response_row_in reading_refusal initiate_refusal completion_refusal has_object
+again_set = refl
+
+-- dropped inside its sub-block: its second segment is an unknown request to the channel, which aborts it
+abbrev blocks_dropped : Scene
+blocks_dropped = all_come (codes "8237383900000000" ∷ codes "D100000000000000" ∷ [])
+    (happens Abandoned (all_come (codes "C20021000A000000" ∷ codes "0130313233343536" ∷ []) start))
+
+blocks_dropped_done : done blocks_dropped ≡ []
+unfolding request_row_in response_row_in reading_refusal initiate_refusal completion_refusal has_object
+blocks_dropped_done = refl

@@ -23,12 +23,10 @@ use Rattle.co_sdo.specs.Log.{Response as Replied}
 use Rattle.co_sdo.specs.Downloads.{Download as Whole, expedited_part}
 use Rattle.co_sdo.specs.Uploads.{value_at, upload_initiated}
 use Rattle.co_sdo.specs.Opened.{OpenTransfer}
-use Rattle.co_sdo.specs.Replies.{aborted, unless_refused, block_size_refusal, segment_refusal, segment_answers, request_answers, answers_to}
+use Rattle.co_sdo.specs.Replies.{unless_refused, block_size_refusal, segment_refusal, segment_answers, request_answers, answers_to}
 use Rattle.co_sdo.specs.Completed.{unless}
 use Rattle.co_sdo.specs.Steps.{after_segment, after_request, opened_next, set_by_segment, set_by_request, set_next}
 use Rattle.co_sdo_laws.proofs.Frames.{padded_length, segment_done_read}
-use Rattle.conode_explain_transfers.specs.declared.ended.Ending.{Ending}
-use Rattle.conode_explain_transfers.specs.declared.ended.Ending.TheVariants.{Done}
 use Rattle.conode_explain_transfers.specs.declared.kinds.Side.TheVariants.{Client}
 use Rattle.conode_explain_transfers.specs.declared.kinds.What.TheVariants.{Part}
 use Rattle.conode_explain_transfers.specs.declared.stage.Stage.TheVariants.{DownloadConfirmed, Confirmed}
@@ -36,12 +34,13 @@ use Rattle.conode_explain_transfers.specs.declared.transfer.Transfer.{Transfer}
 use Rattle.conode_explain_transfers.specs.Endings.{verdict}
 use Rattle.conode_explain_transfers.specs.Followed.{with_frame}
 use Rattle.conode_explain_transfers.specs.SegmentedTurns.{segment_pending}
-use Rattle.conode_explain_transfers.specs.Transfers.{after, goes_on as part, takes_pending}
-use Rattle.conode_explain_laws.specs.Downloads.{Complete, is_plain_download, entry_bytes, if_done}
+use Rattle.conode_explain_transfers.specs.Transfers.{after, is_download, goes_on as part, takes_pending}
+use Rattle.conode_explain_laws.specs.Downloads.{Complete, entry_bytes, if_done}
 use Rattle.conode_explain_laws.proofs.Readings.{Reading, Begin, Request, Response, request_reading, response_reading, reading_of}
-use Rattle.conode_explain_laws.proofs.Views.{View, read_as, hears, hears_answers, Knows, KnowsAside, aside_reads, aside_answers, aborted_closes, begin_writes, is_begin}
-use Rattle.conode_explain_laws.proofs.Follows.{Follows, aside, asked, gone, segmented, InSegments, in_segments, Ends, ends_closed, ends_aside, begun_by, client_no_response, is_response, Stays, answered_reads, asked_reads, is_first, again, response_read}
-use Rattle.conode_explain_laws.proofs.Begins.{answered, refused, begins}
+use Rattle.conode_explain_laws.proofs.Views.{View, read_as, hears, hears_answers, Knows, KnowsAside, aside_reads, aside_answers, begin_writes, is_begin}
+use Rattle.conode_explain_laws.proofs.Follows.{Follows, aside, asked, gone, segmented, blocks, all_sent, InSegments, in_segments, Ends, ends_aside, begun_by, client_no_response, is_response, Stays, answered_reads, asked_reads, is_first, again, response_read}
+use Rattle.conode_explain_laws.proofs.Begins.{answered, refused, closed, maybe_write, write_of, begins}
+use Rattle.conode_explain_laws.proofs.Blocks.{sub_block_step, to_end}
 
 -- ---- what explain knows of a transfer that stays
 
@@ -74,12 +73,6 @@ stays_gone done v h = by v.following.transfer h.holds
     by None h = tt
     by (Some t) (inl a) = aside a
     by (Some t) (inr a) = gone a refl
-
-closed : (rows : Rows) (stamp : ℕ → ℕ) (key : Key) (code : ℕ) (next : Option OpenTransfer) (set : Option Whole) (done : List Complete) (v : View) → v.done ≡ done
-    → Ends next set done (hears_answers rows stamp (aborted key code) v)
-closed rows stamp key code next set done v e =
-    let c = aborted_closes rows stamp key code v in
-    ends_closed next set done (hears_answers rows stamp (aborted key code) v) (record { none = c.none; same = c.same ∙ e })
 
 -- an answer to initiate, or a refusal
 first : (rows : Rows) (stamp : ℕ → ℕ) (refusal : Option ℕ) (key : Key) (response : SdoResponse) (next : Option OpenTransfer) (set : Option Whole) (done : List Complete) (v : View)
@@ -165,14 +158,6 @@ pub sends : (rows : Rows) (micros : ℕ) (frame : List ℕ) (heard : Bool) (t : 
     ≡ record { following = record { heard = heard; transfer = Some (sent t toggle last segment micros) }; got = got; done = done; count = suc count }
 sends rows micros frame heard t got done count toggle last segment e = rw (e, same_toggle toggle) refl
 
-pub ending_write : (ending : Ending) (write : List Complete) → (if_done ending write ≡ []) ⊎ (if_done ending write ≡ write)
-ending_write (Done crc) write = inr refl
-ending_write _ write = inl refl
-
-pub maybe_write : (b : Bool) (ending : Ending) (write : List Complete) → ((if b then if_done ending write else []) ≡ []) ⊎ ((if b then if_done ending write else []) ≡ write)
-maybe_write false ending write = inl refl
-maybe_write true ending write = ending_write ending write
-
 pub all_taken : (items : List ℕ) → take (length items) items ≡ items
 all_taken items = take_all (length items) items (omega arith)
 
@@ -180,9 +165,6 @@ all_taken items = take_all (length items) items (omega arith)
 abbrev pub confirmed : Transfer → Bool → ArrayVec ℕ → ℕ → Transfer
 confirmed t toggle segment micros =
     after (sent t toggle true segment micros) (takes_pending (record (sent t toggle true segment micros) { stage = Confirmed None }) (length segment.items))
-
-abbrev pub write_of : ℕ → Key → List ℕ → List Complete
-write_of frame key bytes = record { frame = frame; key = key; bytes = bytes } ∷ []
 
 -- the channel takes the segment
 segment_taken : (rows : Rows) (stamp : ℕ → ℕ) (micros : ℕ) (heard : Bool) (t : Transfer) (got : List ℕ) (done : List Complete) (count : ℕ) (toggle last : Bool) (segment : ArrayVec ℕ) → InSegments t toggle
@@ -201,9 +183,9 @@ segment_taken rows stamp micros heard t got done count toggle true segment h =
     bytes_are : entry_bytes rows t.key (request_in t.request.items) (got ++ take (length segment.items) segment.items) ≡ got ++ segment.items
     bytes_are = rw (h.request, all_taken segment.items) refl
 
-    written : (((if is_plain_download t.direction t.protocol then if_done (verdict (confirmed t toggle segment micros) None) (write_of (suc count) t.key (entry_bytes rows t.key (request_in t.request.items) (got ++ take (length segment.items) segment.items))) else []) ++ done) ≡ done)
-        ⊎ (((if is_plain_download t.direction t.protocol then if_done (verdict (confirmed t toggle segment micros) None) (write_of (suc count) t.key (entry_bytes rows t.key (request_in t.request.items) (got ++ take (length segment.items) segment.items))) else []) ++ done) ≡ write_of (suc count) t.key (got ++ segment.items) ++ done)
-    written = elim (maybe_write (is_plain_download t.direction t.protocol) (verdict (confirmed t toggle segment micros) None) (write_of (suc count) t.key (entry_bytes rows t.key (request_in t.request.items) (got ++ take (length segment.items) segment.items)))) [
+    written : (((if is_download t.direction then if_done (verdict (confirmed t toggle segment micros) None) (write_of (suc count) t.key (entry_bytes rows t.key (request_in t.request.items) (got ++ take (length segment.items) segment.items))) else []) ++ done) ≡ done)
+        ⊎ (((if is_download t.direction then if_done (verdict (confirmed t toggle segment micros) None) (write_of (suc count) t.key (entry_bytes rows t.key (request_in t.request.items) (got ++ take (length segment.items) segment.items))) else []) ++ done) ≡ write_of (suc count) t.key (got ++ segment.items) ++ done)
+    written = elim (maybe_write (is_download t.direction) (verdict (confirmed t toggle segment micros) None) (write_of (suc count) t.key (entry_bytes rows t.key (request_in t.request.items) (got ++ take (length segment.items) segment.items)))) [
       | inl e ↦ inl (ap (λ w. w ++ done) e)
       | inr e ↦ inr (ap (λ w. w ++ done) e ∙ ap (λ bytes. write_of (suc count) t.key bytes ++ done) bytes_are)
     ]
@@ -298,6 +280,8 @@ goes_on d contents stamp frame current heard (Some t) got done count reading e n
           (λ toggled last segment q.
           let is : reading ≡ Request (DownloadSegment toggled segment last) = sym e ∙ client_plain t toggle (stamp count) frame a.stage ∙ ap (λ r. request_reading r (stamp count) frame) q in
           rw (q, is) (segment_step d contents stamp (stamp count) frame heard t got done count toggle toggled last segment a)))
+      | blocks taken size a c ↦ rw c (sub_block_step d contents stamp frame heard t got done count taken size a reading e n)
+      | all_sent size a c ↦ rw c (to_end d contents stamp frame heard t got done count size a reading e n)
     ]
 
 by_reading : (d : Description) (contents : Contents) (stamp : ℕ → ℕ) (frame : List ℕ) (current : Option OpenTransfer) (heard : Bool) (held : Option Transfer) (got : List ℕ) (done : List Complete) (count : ℕ) (reading : Reading)

@@ -1,6 +1,6 @@
 -- What explain's open download and the channel's open transfer have to do with one another, and what a frame of the client makes
 -- of the former.
-use Rattle.std.proofs.Common.{◌≡◌, ℕ, suc, ◌+◌, Bool, true, false, not, List, ◌++◌, Option, Some, None, refl, sym, ap, ◌∙◌, ◌⊎◌, inl, inr, subst}
+use Rattle.std.proofs.Common.{◌≡◌, ℕ, suc, ◌+◌, ◌*◌, ◌≤◌, Bool, true, false, not, List, ◌++◌, length, Option, Some, None, refl, sym, ap, ◌∙◌, ◌⊎◌, inl, inr, subst}
 use Rattle.std.specs.Prelude.{if◌then◌else◌, IfSome, nat_le, nat_lt, ◌==◌, ◌&&◌}
 use Rattle.std.proofs.lemmas.Bool.{false≢true}
 use Rattle.arrayvec.specs.ArrayVec.{ArrayVec}
@@ -11,15 +11,16 @@ use Rattle.co_frame.specs.SdoRequests.{request_in}
 use Rattle.co_frame.specs.SdoResponses.{response_in}
 use Rattle.co_frame.specs.declared.block_segment.BlockSegment.{BlockSegment}
 use Rattle.co_frame.specs.declared.sdo_request.SdoRequest.{SdoRequest}
-use Rattle.co_frame.specs.declared.sdo_request.SdoRequest.TheVariants.{DownloadInitiate, DownloadSegment, UploadSegment as NextSegment, BlockUploadEnd as UploadEnd, BlockUploadAcknowledge, BlockUploadStart, BlockDownloadEnd, Abort as Abandon}
+use Rattle.co_frame.specs.declared.sdo_request.SdoRequest.TheVariants.{DownloadInitiate, BlockDownloadInitiate, DownloadSegment, UploadSegment as NextSegment, BlockUploadEnd as UploadEnd, BlockUploadAcknowledge, BlockUploadStart, BlockDownloadEnd, Abort as Abandon}
 use Rattle.co_frame.specs.declared.sdo_response.SdoResponse.{SdoResponse}
 use Rattle.co_frame.specs.declared.sdo_response.SdoResponse.TheVariants.{DownloadDone, UploadExpedited, UploadInitiated, BlockDownloadInitiated, BlockUploadInitiated}
 use Rattle.co_dict.specs.Rows.{Rows}
-use Rattle.co_sdo.specs.declared.stage.Stage.TheVariants.{Download as Receiving}
+use Rattle.co_sdo.specs.declared.stage.Stage.TheVariants.{Download as Receiving, SubBlock as InSubBlock, LastTaken}
 use Rattle.co_sdo.specs.Opened.{OpenTransfer}
 use Rattle.co_sdo.specs.Downloads.{Download as Whole}
 use Rattle.conode_explain_transfers.specs.declared.kinds.Direction.{Direction}
 use Rattle.conode_explain_transfers.specs.declared.kinds.Direction.TheVariants.{Download}
+use Rattle.conode_explain_transfers.specs.declared.kinds.Protocol.TheVariants.{Block}
 use Rattle.conode_explain_transfers.specs.declared.kinds.Side.TheVariants.{Client, Server}
 use Rattle.conode_explain_transfers.specs.declared.kinds.Side.{Side}
 use Rattle.conode_explain_transfers.specs.declared.kinds.What.{What}
@@ -35,7 +36,7 @@ use Rattle.conode_explain_transfers.specs.SegmentedTurns.{download_segment_at, u
 use Rattle.conode_explain_transfers.specs.Stages.{is_initiated, confirmed_with}
 use Rattle.conode_explain_transfers.specs.Transfers.{Turn, after, is_download, awaited_number, unexpected, repeated}
 use Rattle.conode_explain_transfers.specs.Turns.{request_turn}
-use Rattle.conode_explain_laws.specs.Downloads.{Complete, is_plain_download, initiated_by, write_said, write_set}
+use Rattle.conode_explain_laws.specs.Downloads.{Complete, initiated_by, write_said, write_set}
 use Rattle.conode_explain_laws.proofs.Readings.{Reading, Segment, Begin, Abort, Request, Response, Nothing, begun_with, begins_or, request_reading, response_reading, plain_reading, beginning, segment_reading, sub_block_reading, reading_of, turn_of}
 use Rattle.conode_explain_laws.proofs.Kept.{keeps}
 use Rattle.conode_explain_laws.proofs.Views.{View, read_as, Knows, Closes, IsAside, KnowsAside, aside_turn, is_begin, no_write, aside_write}
@@ -48,6 +49,24 @@ pub record InSegments (t : Transfer) (toggle : Bool) : Type 0 where
   pub stage : t.stage ≡ DownloadConfirmed toggle
   pub request : request_in t.request.items ≡ Some (DownloadInitiate t.key t.size)
 
+-- a download in blocks
+pub record IsBlocks (t : Transfer) : Type 0 where
+  pub direction : t.direction ≡ Download
+  pub protocol : t.protocol ≡ Block
+  pub request : request_in t.request.items ≡ Some (BlockDownloadInitiate t.key t.size)
+
+-- inside a sub-block, of which this many segments were taken
+pub record InBlocks (t : Transfer) (taken : ℕ) : Type 0 where
+  pub is : IsBlocks t
+  pub stage : t.stage ≡ SubBlock false
+  pub pending : length t.pending.items ≡ 7 * taken
+
+-- all of whose segments are acknowledged
+pub record AllSent (t : Transfer) : Type 0 where
+  pub is : IsBlocks t
+  pub stage : t.stage ≡ AllAcknowledged
+  pub pending : 7 ≤ length t.pending.items
+
 -- a download that was answered, and isn't confirmed
 pub record IsAnswered (t : Transfer) : Type 0 where
   pub answered : is_initiated t.stage ≡ false
@@ -55,12 +74,20 @@ pub record IsAnswered (t : Transfer) : Type 0 where
   pub unconfirmed : confirmed_with t.stage ≡ None
 
 -- explain's transfer isn't followed; or its initiate request isn't answered; or the channel has dropped it; or both have the same
--- bytes of a download in segments
+-- bytes of a download in segments, or in blocks
 pub data Follows (t : Transfer) (got : List ℕ) (current : Option OpenTransfer) : Type 0 where
   aside : IsAside t → Follows t got current
   asked : t.stage ≡ Initiated → Follows t got current
   gone : IsAnswered t → current ≡ None → Follows t got current
   segmented : (toggle : Bool) → InSegments t toggle → current ≡ Some (record { key = t.key; stage = Receiving t.size toggle; bytes = got }) → Follows t got current
+  blocks : (taken : ℕ) (size : Option ℕ) → InBlocks t taken → current ≡ Some (record { key = t.key; stage = InSubBlock size taken; bytes = got ++ t.pending.items }) → Follows t got current
+  all_sent : (size : Option ℕ) → AllSent t → current ≡ Some (record { key = t.key; stage = LastTaken size; bytes = got ++ t.pending.items }) → Follows t got current
+
+pub in_blocks : (t : Transfer) (taken : ℕ) → InBlocks t taken → IsAnswered t
+in_blocks t taken h = record { answered = ap is_initiated h.stage; direction = h.is.direction; unconfirmed = ap confirmed_with h.stage }
+
+pub are_sent : (t : Transfer) → AllSent t → IsAnswered t
+are_sent t h = record { answered = ap is_initiated h.stage; direction = h.is.direction; unconfirmed = ap confirmed_with h.stage }
 
 pub in_segments : (t : Transfer) (toggle : Bool) → InSegments t toggle → IsAnswered t
 in_segments t toggle h = record { answered = ap is_initiated h.stage; direction = h.direction; unconfirmed = ap confirmed_with h.stage }
@@ -276,7 +303,7 @@ answered_reads rows micros frame heard t got done count (Begin new) h n m = absu
 answered_reads rows micros frame heard t got done count (Response response) h n m = absurd (false≢true (sym m))
 answered_reads rows micros frame heard t got done count (Abort code) h n m = record {
   holds = tt;
-  same = ap (λ w. w ++ done) (no_write (is_plain_download t.direction t.protocol) _ refl);
+  same = ap (λ w. w ++ done) (no_write (is_download t.direction) _ refl);
 }
 answered_reads rows micros frame heard t got done count (Segment segment) h n m =
     answered_turn rows micros Client frame heard t got done count (Segment segment) h (late_segment_at t.stage t segment h.unconfirmed)
@@ -317,7 +344,7 @@ asked_reads rows micros frame heard t got done count (Begin new) h n m = absurd 
 asked_reads rows micros frame heard t got done count (Response response) h n m = absurd (false≢true (sym m))
 asked_reads rows micros frame heard t got done count (Abort code) h n m = record {
   holds = tt;
-  same = ap (λ w. w ++ done) (no_write (is_plain_download t.direction t.protocol) _ refl);
+  same = ap (λ w. w ++ done) (no_write (is_download t.direction) _ refl);
 }
 asked_reads rows micros frame heard t got done count (Segment segment) h n m =
     aside_turn rows micros Client frame heard t got done count (Segment segment) (inl (ap (λ s. (block_segment_at s t segment).transfer.irregular) h))

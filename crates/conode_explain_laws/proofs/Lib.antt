@@ -3,6 +3,7 @@ pub mod Kept
 pub mod Views
 pub mod Follows
 pub mod Begins
+pub mod Blocks
 pub mod Exchanges
 pub mod AllInputs
 pub mod NoDownloads

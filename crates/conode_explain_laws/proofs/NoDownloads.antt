@@ -14,8 +14,8 @@ use Rattle.conode_explain_transfers.specs.declared.transfer.Transfer.{Transfer}
 use Rattle.conode_explain_transfers.specs.Data.{data_with}
 use Rattle.conode_explain_transfers.specs.Followed.{with_frame, turns, turns_at}
 use Rattle.conode_explain_transfers.specs.Stages.{confirmed_with}
-use Rattle.conode_explain_transfers.specs.Transfers.{after}
-use Rattle.conode_explain_laws.specs.Downloads.{Complete, is_plain_download, initiated_by, write_said}
+use Rattle.conode_explain_transfers.specs.Transfers.{after, is_download}
+use Rattle.conode_explain_laws.specs.Downloads.{Complete, initiated_by, write_said}
 use Rattle.conode_explain_laws.proofs.Readings.{Reading, Segment, Begin, Abort, Request, Response, Nothing, reading_of, turn_of}
 use Rattle.conode_explain_laws.proofs.Kept.{keeps}
 use Rattle.conode_explain_laws.proofs.Views.{View, read_as, hears, hears_answers, Knows, no_write, aside_write, is_begin, server_no_begin}
@@ -41,7 +41,7 @@ upload_turns : (rows : Rows) (x : Option (Option ℕ)) (heard : Bool) (what : Wh
 upload_turns rows None heard what u initiate got done count micros side h = record { holds = upload_frame what u micros side h; same = refl }
 upload_turns rows (Some crc) heard what u initiate got done count micros side h = record {
   holds = tt;
-  same = ap (λ w. w ++ done) (aside_write u crc _ (inr (ap (λ x. is_plain_download x u.protocol) h)));
+  same = ap (λ w. w ++ done) (aside_write u crc _ (inr (ap is_download h)));
 }
 
 upload_turn : (rows : Rows) (micros : ℕ) (side : Side) (frame : List ℕ) (heard : Bool) (t : Transfer) (got : List ℕ) (done : List Complete) (count : ℕ) (reading : Reading) → IsUpload t
@@ -65,7 +65,7 @@ upload_reads rows micros side frame heard current got done count (Begin new) h n
 upload_reads rows micros side frame heard None got done count _ h n = record { holds = tt; same = refl }
 upload_reads rows micros side frame heard (Some t) got done count (Abort code) h n = record {
   holds = tt;
-  same = ap (λ w. w ++ done) (no_write (is_plain_download t.direction t.protocol) _ refl);
+  same = ap (λ w. w ++ done) (no_write (is_download t.direction) _ refl);
 }
 upload_reads rows micros side frame heard (Some t) got done count (Segment segment) h n = upload_turn rows micros side frame heard t got done count (Segment segment) h
 upload_reads rows micros side frame heard (Some t) got done count (Request request) h n = upload_turn rows micros side frame heard t got done count (Request request) h

@@ -46,8 +46,8 @@ use Rattle.conode_explain_laws.specs.Uploads.{is_plain_upload}
 use Rattle.conode_explain_laws.proofs.Readings.{Reading, Segment, Begin, Abort, Request, Response, Nothing, begun_with, request_reading, response_reading, reading_of, turn_of}
 use Rattle.conode_explain_laws.proofs.Views.{View, Closes, no_write, is_begin}
 use Rattle.conode_explain_laws.proofs.Follows.{BegunBy, begun_by, client_no_response, is_response, request_spoils}
-use Rattle.conode_explain_laws.proofs.Begins.{HasKey, has_key, small_index, inside_answers, outside_answers, outside_opens, response_is, acknowledged_spoils, awaits}
-use Rattle.conode_explain_laws.proofs.Exchanges.{same_toggle, maybe_write, write_of}
+use Rattle.conode_explain_laws.proofs.Begins.{HasKey, has_key, small_index, inside_answers, outside_answers, outside_opens, response_is, acknowledged_spoils, awaits, maybe_write, write_of}
+use Rattle.conode_explain_laws.proofs.Exchanges.{same_toggle}
 use Rattle.conode_explain_laws.proofs.UploadViews.{holds, read_as, hears, hears_answers, begin_writes, abort_closes, aborted_closes, IsAside, KnowsAside, aside_turn, aside_reads, aside_answers}
 
 -- ---- both

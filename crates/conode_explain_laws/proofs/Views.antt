@@ -14,9 +14,6 @@ use Rattle.co_dict.specs.Rows.{Rows}
 use Rattle.co_sdo.specs.Log.{Answer, Response as Replied, answer_bytes}
 use Rattle.co_sdo.specs.Replies.{aborted}
 use Rattle.conode_explain_transfers.specs.declared.ended.Ending.TheVariants.{Repeated}
-use Rattle.conode_explain_transfers.specs.declared.kinds.Direction.{Direction}
-use Rattle.conode_explain_transfers.specs.declared.kinds.Direction.TheVariants.{Download, Upload}
-use Rattle.conode_explain_transfers.specs.declared.kinds.Protocol.{Protocol}
 use Rattle.conode_explain_transfers.specs.declared.kinds.Side.{Side}
 use Rattle.conode_explain_transfers.specs.declared.kinds.Side.TheVariants.{Client, Server}
 use Rattle.conode_explain_transfers.specs.declared.kinds.What.{What}
@@ -27,9 +24,9 @@ use Rattle.conode_explain_transfers.specs.Endings.{verdict}
 use Rattle.conode_explain_transfers.specs.Followed.{Event, Following, Followed, following_after, left_by, with_frame, turns, turns_at}
 use Rattle.conode_explain_transfers.specs.Readings.{awaits_segment}
 use Rattle.conode_explain_transfers.specs.Stages.{confirmed_with}
-use Rattle.conode_explain_transfers.specs.Transfers.{after, is_same_request}
+use Rattle.conode_explain_transfers.specs.Transfers.{after, is_download, is_same_request}
 use Rattle.conode_explain_laws.specs.Recordings.{and_frame, and_answers}
-use Rattle.conode_explain_laws.specs.Downloads.{Complete, is_plain, is_plain_download, initiated_by, if_done, write_said, downloads_done}
+use Rattle.conode_explain_laws.specs.Downloads.{Complete, initiated_by, if_done, write_said, downloads_done}
 use Rattle.conode_explain_laws.proofs.Readings.{Reading, Segment, Begin, Abort, Request, Response, Nothing, response_reading, plain_reading, beginning, segment_reading, sub_block_reading, reading_of, turn_of, follows_by, bytes_by, same as same_reading}
 use Rattle.conode_explain_laws.proofs.Kept.{Keeps, keeps}
 
@@ -112,7 +109,7 @@ pub begin_writes : (rows : Rows) (micros : ℕ) (frame : List ℕ) (heard : Bool
     → (read_as rows micros Client frame (record { following = record { heard = heard; transfer = current }; got = got; done = done; count = count }) (Begin new)).done ≡ done
 begin_writes rows micros frame heard None got done count new = refl
 begin_writes rows micros frame heard (Some t) got done count new =
-    ap (λ w. w ++ done) (no_write (is_plain_download t.direction t.protocol) _ (left_no_write (is_same_request t frame) t.by _))
+    ap (λ w. w ++ done) (no_write (is_download t.direction) _ (left_no_write (is_same_request t frame) t.by _))
 
 -- ---- aborts
 
@@ -131,31 +128,27 @@ pub abort_closes : (rows : Rows) (micros : ℕ) (side : Side) (frame : List ℕ)
 abort_closes rows micros side frame heard None got done count (Abort code) h = record { none = refl; same = refl }
 abort_closes rows micros side frame heard (Some t) got done count (Abort code) h = record {
   none = refl;
-  same = ap (λ w. w ++ done) (no_write (is_plain_download t.direction t.protocol) _ refl);
+  same = ap (λ w. w ++ done) (no_write (is_download t.direction) _ refl);
 }
 abort_closes rows micros side frame heard current got done count _ h = absurd (false≢true h)
 
 -- ---- transfers that aren't followed any more
 
--- frames are missing, or it's no plain download
+-- frames are missing, or it's no download
 abbrev pub IsAside : Transfer → Type 0
-IsAside t = (t.irregular ≡ true) ⊎ (is_plain_download t.direction t.protocol ≡ false)
+IsAside t = (t.irregular ≡ true) ⊎ (is_download t.direction ≡ false)
 
 pub stays_aside : (t u : Transfer) → Keeps t u → IsAside t → IsAside u
 stays_aside t u k (inl i) = inl (k.irregular i)
-stays_aside t u k (inr p) = inr (by t.direction t.protocol refl refl p)
-  where
-    by : (x : Direction) (y : Protocol) → t.direction ≡ x → t.protocol ≡ y → is_plain_download x y ≡ false → is_plain_download u.direction u.protocol ≡ false
-    by Upload y e f p = ap (λ x. is_plain_download x u.protocol) (k.direction ∙ e)
-    by Download y e f p = ap (λ x. is_plain_download x u.protocol) (k.direction ∙ e) ∙ ap is_plain (k.protocol e ∙ f) ∙ p
+stays_aside t u k (inr p) = inr (ap is_download k.direction ∙ p)
 
 aside_frame : (what : What) (u : Transfer) (micros : ℕ) (side : Side) → IsAside u → IsAside (with_frame what u micros side)
 aside_frame Overtaken u micros side h = h
 aside_frame _ u micros side h = h
 
 pub aside_write : (u : Transfer) (crc : Option ℕ) (write : List Complete) → IsAside u
-    → (if is_plain_download u.direction u.protocol then if_done (verdict u crc) write else []) ≡ []
-aside_write u crc write (inl i) = no_write (is_plain_download u.direction u.protocol) _ (rw i refl)
+    → (if is_download u.direction then if_done (verdict u crc) write else []) ≡ []
+aside_write u crc write (inl i) = no_write (is_download u.direction) _ (rw i refl)
 aside_write u crc write (inr p) = rw p refl
 
 -- a turn's transfer, kept or confirmed
@@ -198,7 +191,7 @@ aside_reads rows micros side frame heard current got done count (Begin new) h n 
 aside_reads rows micros side frame heard None got done count _ h n = record { holds = tt; same = refl }
 aside_reads rows micros side frame heard (Some t) got done count (Abort code) h n = record {
   holds = tt;
-  same = ap (λ w. w ++ done) (no_write (is_plain_download t.direction t.protocol) _ refl);
+  same = ap (λ w. w ++ done) (no_write (is_download t.direction) _ refl);
 }
 aside_reads rows micros side frame heard (Some t) got done count (Segment segment) h n =
     aside_turn rows micros side frame heard t got done count (Segment segment) (stays_aside t (turn_of t (Segment segment) frame).transfer (keeps t (Segment segment) frame) h)

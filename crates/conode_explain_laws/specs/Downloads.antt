@@ -15,12 +15,11 @@ use Rattle.co_sdo.specs.Downloads.{Download as Whole}
 use Rattle.conode_explain_transfers.specs.declared.ended.Ended.{Ended}
 use Rattle.conode_explain_transfers.specs.declared.ended.Ending.{Ending}
 use Rattle.conode_explain_transfers.specs.declared.ended.Ending.TheVariants.{Done}
-use Rattle.conode_explain_transfers.specs.declared.kinds.Direction.{Direction}
-use Rattle.conode_explain_transfers.specs.declared.kinds.Direction.TheVariants.{Download, Upload}
 use Rattle.conode_explain_transfers.specs.declared.kinds.Protocol.{Protocol}
 use Rattle.conode_explain_transfers.specs.declared.kinds.Protocol.TheVariants.{Block}
 use Rattle.conode_explain_transfers.specs.declared.transfer.Transfer.{Transfer}
 use Rattle.conode_explain_transfers.specs.Data.{data_after}
+use Rattle.conode_explain_transfers.specs.Transfers.{is_download}
 use Rattle.conode_explain_transfers.specs.Followed.{Event, Framed, BootedUp, following_after, said}
 use Rattle.conode_explain_laws.specs.Recordings.{Input, Received, Elapsed, Expired, Abandoned, Started, log_of, recorded}
 
@@ -32,14 +31,10 @@ pub record Complete : Type 0 where
 
 -- ---- by explain
 
--- a download that isn't in blocks: expedited or segmented
+-- a transfer that isn't in blocks: expedited or segmented
 abbrev pub is_plain : Protocol → Bool
 is_plain Block = false
 is_plain _ = true
-
-abbrev pub is_plain_download : Direction → Protocol → Bool
-is_plain_download Download protocol = is_plain protocol
-is_plain_download Upload protocol = false
 
 -- the initiate request of the open transfer
 abbrev pub initiated_by : Option Transfer → Option SdoRequest
@@ -61,11 +56,11 @@ if_done _ write = []
 abbrev pub write_said : Rows → Option SdoRequest → Option Ended → List ℕ → ℕ → List Complete
 write_said rows initiate None got frame = []
 write_said rows initiate (Some ended) got frame =
-    if is_plain_download ended.direction ended.protocol
+    if is_download ended.direction
     then if_done ended.ending (record { frame = frame; key = ended.key; bytes = entry_bytes rows ended.key initiate got } ∷ [])
     else []
 
--- the plain downloads that explain says are done, over a whole recording, newest first
+-- the downloads that explain says are done, over a whole recording, newest first
 abbrev pub downloads_done : Rows → List Event → List Complete
 downloads_done rows [] = []
 downloads_done rows (Framed micros side frame ∷ older) =

@@ -5,5 +5,5 @@
 mod downloads;
 mod uploads;
 
-pub use downloads::plain_downloads;
+pub use downloads::all_downloads;
 pub use uploads::plain_uploads;
