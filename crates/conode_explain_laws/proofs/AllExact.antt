@@ -22,13 +22,13 @@ use Rattle.conode_explain_transfers.specs.Digests.{digest_of}
 use Rattle.conode_explain_transfers.specs.Followed.{Event, following_after}
 use Rattle.conode_explain_transfers.proofs.DataLemmas.{StaysOpen, open_after}
 use Rattle.conode_explain_laws.specs.Recordings.{Input, Received, Elapsed, Expired, Abandoned, Started, AreInputs, log_of, and_frame, and_answers, recorded}
-use Rattle.conode_explain_laws.specs.Downloads.{Write, downloads_done, write_set, is_block_begin, ArePlain, downloads_set}
+use Rattle.conode_explain_laws.specs.Downloads.{Complete, downloads_done, write_set, is_block_begin, ArePlain, downloads_set}
 use Rattle.conode_explain_laws.proofs.Views.{view_of, hears_answers, hears_frame, hears_all, Closes, aborted_closes}
 use Rattle.conode_explain_laws.proofs.Exact.{ExactIn, exact_upload, exact_segments, exact_dropped, Exactly, exact_exchange}
 use Rattle.conode_explain_laws.proofs.AllInputs.{dropped_since}
 
 -- what holds after all inputs
-pub record Same (stamp : ℕ → ℕ) (d : Description) (log : Log) (recording : List Event) (sets : List Write) : Type 0 where
+pub record Same (stamp : ℕ → ℕ) (d : Description) (log : Log) (recording : List Event) (sets : List Complete) : Type 0 where
   pub current : Option OpenTransfer
   pub serves : Serves d.rows log current
   pub holds : ExactIn (following_after recording).transfer (data_after recording) current
@@ -38,7 +38,7 @@ kept_of : (held : Option Transfer) (got : List ℕ) → StaysOpen held got → I
 kept_of None got h = tt
 kept_of (Some t) got h = h.taken
 
-with_request : (stamp : ℕ → ℕ) (d : Description) (contents : Contents) (frame : List ℕ) (log : Log) (recording : List Event) (sets : List Write) → Same stamp d log recording sets
+with_request : (stamp : ℕ → ℕ) (d : Description) (contents : Contents) (frame : List ℕ) (log : Log) (recording : List Event) (sets : List Complete) → Same stamp d log recording sets
     → IsDictionary d contents → AreBytes frame → length frame ≡ 8 → is_block_begin (request_in frame) ≡ false
     → Same stamp d (Exchanged (record { request = frame; contents = contents; answers = reply_to d contents log frame }) ∷ log)
     (and_answers stamp (reply_to d contents log frame) (and_frame stamp Client frame recording))
@@ -84,7 +84,7 @@ with_frame stamp d contents frame older h lawful small n plain = by (length fram
     by true e = with_request stamp d contents frame (log_of d older) (recorded stamp d older) (downloads_set stamp d older) h lawful small n plain
     by false e = absurd (false≢true (sym e ∙ is_eight (length frame) n))
 
-with_abort : (stamp : ℕ → ℕ) (d : Description) (log : Log) (recording : List Event) (sets : List Write) → Same stamp d log recording sets
+with_abort : (stamp : ℕ → ℕ) (d : Description) (log : Log) (recording : List Event) (sets : List Complete) → Same stamp d log recording sets
     → Same stamp d (TimedOut (time_out_reply log) ∷ log) (and_answers stamp (time_out_reply log) recording) sets
 with_abort stamp d log recording sets h =
     let v = view_of d.rows recording in

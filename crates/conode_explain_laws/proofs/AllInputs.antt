@@ -18,26 +18,26 @@ use Rattle.conode_explain_transfers.specs.declared.transfer.Transfer.{Transfer}
 use Rattle.conode_explain_transfers.specs.Followed.{Event}
 use Rattle.conode_explain_transfers.specs.Readings.{awaits_segment}
 use Rattle.conode_explain_laws.specs.Recordings.{Input, Received, Elapsed, Expired, Abandoned, Started, AreInputs, log_of, and_frame, and_answers, recorded}
-use Rattle.conode_explain_laws.specs.Downloads.{Write, downloads_done, write_set, downloads_set, AreSome}
+use Rattle.conode_explain_laws.specs.Downloads.{Complete, downloads_done, write_set, downloads_set, AreSome}
 use Rattle.conode_explain_laws.proofs.Readings.{Nothing, reading_of}
 use Rattle.conode_explain_laws.proofs.Views.{view_of, read_as, hears_answers, hears_frame, hears_all, Closes, IsAside, KnowsAside, aside_turn, aborted_closes}
-use Rattle.conode_explain_laws.proofs.Follows.{Follows, aside, asked, gone, segmented, in_segments, Ends}
+use Rattle.conode_explain_laws.proofs.Follows.{Follows, aside, asked, gone, segmented, blocks, all_sent, in_segments, in_blocks, are_sent, Ends}
 use Rattle.conode_explain_laws.proofs.Exchanges.{Following, exchange}
 
 -- ---- lists
 
-some_more : (x : Option Whole) (n : ℕ) (writes all : List Write) → AreSome writes all → AreSome writes (write_set x n ++ all)
+some_more : (x : Option Whole) (n : ℕ) (writes all : List Complete) → AreSome writes all → AreSome writes (write_set x n ++ all)
 some_more None n writes all h = h
 some_more (Some x) n [] all h = tt
 some_more (Some x) n (write ∷ others) all h = inr h
 
-both_more : (x : Option Whole) (n : ℕ) (writes all : List Write) → AreSome writes all → AreSome (write_set x n ++ writes) (write_set x n ++ all)
+both_more : (x : Option Whole) (n : ℕ) (writes all : List Complete) → AreSome writes all → AreSome (write_set x n ++ writes) (write_set x n ++ all)
 both_more None n writes all h = h
 both_more (Some x) n writes all h = inl (refl, h)
 
 -- ---- a frame that hasn't eight bytes
 
-short_reading : (held : Option Transfer) (micros : ℕ) (frame : List ℕ) → (length frame == 8) ≡ false → reading_of held Client micros frame ≡ Nothing
+pub short_reading : (held : Option Transfer) (micros : ℕ) (frame : List ℕ) → (length frame == 8) ≡ false → reading_of held Client micros frame ≡ Nothing
 short_reading None micros frame h = rw h refl
 short_reading (Some t) micros frame h = rw h (by (awaits_segment t Client))
   where
@@ -45,21 +45,21 @@ short_reading (Some t) micros frame h = rw h (by (awaits_segment t Client))
     by true = refl
     by false = refl
 
-short_reads : (rows : Rows) (micros : ℕ) (frame : List ℕ) (heard : Bool) (held : Option Transfer) (got : List ℕ) (done : List Write) (count : ℕ)
+short_reads : (rows : Rows) (micros : ℕ) (frame : List ℕ) (heard : Bool) (held : Option Transfer) (got : List ℕ) (done : List Complete) (count : ℕ)
     → KnowsAside done (read_as rows micros Client frame (record { following = record { heard = heard; transfer = held }; got = got; done = done; count = count }) Nothing)
 short_reads rows micros frame heard None got done count = record { holds = tt; same = refl }
 short_reads rows micros frame heard (Some t) got done count = aside_turn rows micros Client frame heard t got done count Nothing (inl refl)
 
 -- ---- what holds after all inputs
 
-pub record Related (stamp : ℕ → ℕ) (d : Description) (log : Log) (recording : List Event) (sets : List Write) : Type 0 where
+pub record Related (stamp : ℕ → ℕ) (d : Description) (log : Log) (recording : List Event) (sets : List Complete) : Type 0 where
   pub current : Option OpenTransfer
   pub serves : Serves d.rows log current
   pub follows : Following (view_of d.rows recording) current
   pub some : AreSome (downloads_done d.rows recording) sets
 
 -- a request of eight bytes
-with_request : (stamp : ℕ → ℕ) (d : Description) (contents : Contents) (frame : List ℕ) (log : Log) (recording : List Event) (sets : List Write) → Related stamp d log recording sets
+with_request : (stamp : ℕ → ℕ) (d : Description) (contents : Contents) (frame : List ℕ) (log : Log) (recording : List Event) (sets : List Complete) → Related stamp d log recording sets
     → IsDictionary d contents → AreBytes frame → length frame ≡ 8
     → Related stamp d (Exchanged (record { request = frame; contents = contents; answers = reply_to d contents log frame }) ∷ log)
     (and_answers stamp (reply_to d contents log frame) (and_frame stamp Client frame recording))
@@ -94,7 +94,7 @@ aside_all None got current h = tt
 aside_all (Some t) got current h = aside h
 
 -- a frame of another length
-with_short : (stamp : ℕ → ℕ) (d : Description) (frame : List ℕ) (log : Log) (recording : List Event) (sets : List Write) → Related stamp d log recording sets → (length frame == 8) ≡ false
+with_short : (stamp : ℕ → ℕ) (d : Description) (frame : List ℕ) (log : Log) (recording : List Event) (sets : List Complete) → Related stamp d log recording sets → (length frame == 8) ≡ false
     → Related stamp d log (and_frame stamp Client frame recording) sets
 with_short stamp d frame log recording sets h n =
     let v = view_of d.rows recording in
@@ -125,7 +125,7 @@ with_frame stamp d contents frame older h lawful small = by (length frame == 8) 
     by false e = with_short stamp d frame (log_of d older) (recorded stamp d older) (downloads_set stamp d older) h e
 
 -- a transfer that times out
-with_abort : (stamp : ℕ → ℕ) (d : Description) (log : Log) (recording : List Event) (sets : List Write) → Related stamp d log recording sets
+with_abort : (stamp : ℕ → ℕ) (d : Description) (log : Log) (recording : List Event) (sets : List Complete) → Related stamp d log recording sets
     → Related stamp d (TimedOut (time_out_reply log) ∷ log) (and_answers stamp (time_out_reply log) recording) sets
 with_abort stamp d log recording sets h =
     let v = view_of d.rows recording in
@@ -150,6 +150,8 @@ drops (Some t) got current (aside a) = aside a
 drops (Some t) got current (asked a) = asked a
 drops (Some t) got current (gone a c) = gone a refl
 drops (Some t) got current (segmented toggle a c) = gone (in_segments t toggle a) refl
+drops (Some t) got current (blocks taken size a c) = gone (in_blocks t taken a) refl
+drops (Some t) got current (all_sent size a c) = gone (are_sent t a) refl
 
 pub related : (stamp : ℕ → ℕ) (d : Description) (inputs : List Input) → AreInputs d inputs → Related stamp d (log_of d inputs) (recorded stamp d inputs) (downloads_set stamp d inputs)
 related stamp d [] h = record { current = None; serves = serves_first d.rows [] refl; follows = tt; some = tt }

@@ -1,5 +1,5 @@
 -- An initiate request with its answers.
-use Rattle.std.proofs.Common.{◌≡◌, ℕ, suc, ◌<◌, Bool, true, false, not, List, [], ◌∷◌, length, take, Option, Some, None, refl, sym, ap, ◌∙◌, inl, inr, subst, arith, eqb}
+use Rattle.std.proofs.Common.{◌≡◌, ℕ, suc, ◌<◌, Bool, true, false, not, List, [], ◌∷◌, length, take, Option, Some, None, refl, sym, ap, ◌∙◌, ◌⊎◌, inl, inr, subst, arith, eqb}
 use Rattle.std.specs.Prelude.{if◌then◌else◌, IfSome}
 use Rattle.std.proofs.lemmas.Bool.{false≢true}
 use Rattle.std.proofs.lemmas.List.{take_all}
@@ -14,7 +14,7 @@ use Rattle.co_frame.specs.declared.sdo_request.ExpeditedData.TheVariants.{Indica
 use Rattle.co_frame.specs.declared.sdo_request.SdoRequest.{SdoRequest}
 use Rattle.co_frame.specs.declared.sdo_request.SdoRequest.TheVariants.{DownloadExpedited, DownloadInitiate, Upload as UploadInitiate, BlockUploadInitiate, BlockDownloadInitiate}
 use Rattle.co_frame.specs.declared.sdo_response.SdoResponse.{SdoResponse}
-use Rattle.co_frame.specs.declared.sdo_response.SdoResponse.TheVariants.{DownloadDone, BlockDownloadAcknowledge}
+use Rattle.co_frame.specs.declared.sdo_response.SdoResponse.TheVariants.{DownloadDone, BlockDownloadInitiated, BlockDownloadAcknowledge}
 use Rattle.co_dict.specs.Rows.{Rows, Contents}
 use Rattle.co_dict.specs.Stores.{Description}
 use Rattle.co_sdo.specs.declared.stage.Stage.{Stage}
@@ -27,37 +27,41 @@ use Rattle.co_sdo.specs.Opened.{OpenTransfer}
 use Rattle.co_sdo.specs.Replies.{aborted, unless_refused, sub_block_refusal, frame_answers, request_answers, is_in_sub_block, answers_to, taken_with}
 use Rattle.co_sdo.specs.Completed.{unless}
 use Rattle.co_sdo.specs.Steps.{opened_at, after_request, opened_next, whole, set_by_request, set_next}
-use Rattle.co_sdo_laws.proofs.Frames.{done_read, acknowledged_read}
+use Rattle.co_sdo_laws.proofs.Frames.{done_read, block_initiated_read, acknowledged_read}
+use Rattle.conode_explain_transfers.specs.declared.ended.Ending.{Ending}
+use Rattle.conode_explain_transfers.specs.declared.ended.Ending.TheVariants.{Done}
 use Rattle.conode_explain_transfers.specs.declared.kinds.Direction.TheVariants.{Download}
-use Rattle.conode_explain_transfers.specs.declared.kinds.Protocol.TheVariants.{Expedited, Segmented}
+use Rattle.conode_explain_transfers.specs.declared.kinds.Protocol.TheVariants.{Expedited, Segmented, Block}
 use Rattle.conode_explain_transfers.specs.declared.kinds.Side.TheVariants.{Server}
 use Rattle.conode_explain_transfers.specs.declared.stage.Stage.TheVariants.{Initiated}
 use Rattle.conode_explain_transfers.specs.declared.transfer.Transfer.{Transfer}
 use Rattle.conode_explain_transfers.specs.BlockTurns.{acknowledged}
-use Rattle.conode_explain_transfers.specs.Initiates.{data_of, initiate_of}
+use Rattle.conode_explain_transfers.specs.Initiates.{has_crc, data_of, initiate_of}
 use Rattle.conode_explain_transfers.specs.Transfers.{begun, is_download}
-use Rattle.conode_explain_laws.specs.Downloads.{Write, is_plain_download, entry_bytes}
+use Rattle.conode_explain_laws.specs.Downloads.{Complete, entry_bytes, if_done}
 use Rattle.conode_explain_laws.proofs.Readings.{Reading, Response, begun_with, response_reading, reading_of}
 use Rattle.conode_explain_laws.proofs.Views.{View, read_as, hears_answers, KnowsAside, aside_turn, aside_answers, aborted_closes}
-use Rattle.conode_explain_laws.proofs.Follows.{asked, segmented, Ends, ends_closed, ends_aside, BegunBy}
+use Rattle.conode_explain_laws.proofs.Follows.{asked, segmented, blocks, Ends, ends_closed, ends_aside, BegunBy}
 
 -- ---- the key of a request
 
 -- what holds of both branches of a test holds of it
 module _ {A : Type 0} (P : A → Type 0) where
-  both : (b : Bool) (x y : A) → P x → P y → P (if b then x else y)
+  pub both : (b : Bool) (x y : A) → P x → P y → P (if b then x else y)
   both true x y px py = px
   both false x y px py = py
 
-  some_both : (b : Bool) (x y : Option A) → IfSome x P → IfSome y P → IfSome (if b then x else y) P
+  pub some_both : (b : Bool) (x y : Option A) → IfSome x P → IfSome y P → IfSome (if b then x else y) P
   some_both true x y px py = px
   some_both false x y px py = py
 
--- the key of an initiate request of a download is that of its bytes
+-- the key of an initiate request is that of its bytes
 abbrev pub HasKey : List ℕ → SdoRequest → Type 0
 HasKey frame (DownloadExpedited key value) = key ≡ key_in frame
 HasKey frame (DownloadInitiate key size) = key ≡ key_in frame
 HasKey frame (BlockDownloadInitiate key size) = key ≡ key_in frame
+HasKey frame (UploadInitiate key) = key ≡ key_in frame
+HasKey frame (BlockUploadInitiate key block_size threshold) = key ≡ key_in frame
 HasKey frame _ = Unit {0}
 
 pub has_key : (frame : List ℕ) → IfSome (request_in frame) (HasKey frame)
@@ -67,11 +71,11 @@ has_key frame =
     some_both P (eqb (length frame) 8) _ _
     (some_both P (eqb (specifier frame) 0) _ _ tt
     (some_both P (eqb (specifier frame) 1) _ _ (both P (has_bit 1 frame) _ _ refl refl)
-    (some_both P (eqb (specifier frame) 2) _ _ tt
+    (some_both P (eqb (specifier frame) 2) _ _ refl
     (some_both P (eqb (specifier frame) 3) _ _ tt
     (some_both P (eqb (specifier frame) 4) _ _ tt
     (some_both P (eqb (specifier frame) 5) _ _
-    (both P (eqb (subcommand frame) 0) _ _ tt (both P (eqb (subcommand frame) 1) _ _ tt (both P (eqb (subcommand frame) 2) _ _ tt tt)))
+    (both P (eqb (subcommand frame) 0) _ _ refl (both P (eqb (subcommand frame) 1) _ _ tt (both P (eqb (subcommand frame) 2) _ _ tt tt)))
     (some_both P (eqb (specifier frame) 6) _ _ (both P (has_bit 0 frame) _ _ tt refl)
     tt)))))))
     tt
@@ -109,7 +113,7 @@ pub answered : (rows : Rows) (stamp : ℕ → ℕ) (response : SdoResponse) (v :
 answered rows stamp response v reading P e h = subst (λ r. P (read_as rows (stamp v.count) Server (response_bytes response) v r)) (sym e) h
 
 -- a refusal is an abort
-pub refused : (rows : Rows) (stamp : ℕ → ℕ) (refusal : Option ℕ) (key : Key) (answers : List Answer) (next : Option OpenTransfer) (set : Option Whole) (done : List Write) (v : View)
+pub refused : (rows : Rows) (stamp : ℕ → ℕ) (refusal : Option ℕ) (key : Key) (answers : List Answer) (next : Option OpenTransfer) (set : Option Whole) (done : List Complete) (v : View)
     → v.done ≡ done → (refusal ≡ None → Ends next set done (hears_answers rows stamp answers v))
     → Ends next set done (hears_answers rows stamp (unless_refused refusal key answers) v)
 refused rows stamp None key answers next set done v e h = h refl
@@ -117,9 +121,28 @@ refused rows stamp (Some code) key answers next set done v e h =
     let c = aborted_closes rows stamp key code v in
     ends_closed next set done (hears_answers rows stamp (aborted key code) v) (record { none = c.none; same = c.same ∙ e })
 
+-- ---- an abort, and what is written
+
+pub closed : (rows : Rows) (stamp : ℕ → ℕ) (key : Key) (code : ℕ) (next : Option OpenTransfer) (set : Option Whole) (done : List Complete) (v : View) → v.done ≡ done
+    → Ends next set done (hears_answers rows stamp (aborted key code) v)
+closed rows stamp key code next set done v e =
+    let c = aborted_closes rows stamp key code v in
+    ends_closed next set done (hears_answers rows stamp (aborted key code) v) (record { none = c.none; same = c.same ∙ e })
+
+pub ending_write : (ending : Ending) (write : List Complete) → (if_done ending write ≡ []) ⊎ (if_done ending write ≡ write)
+ending_write (Done crc) write = inr refl
+ending_write _ write = inl refl
+
+pub maybe_write : (b : Bool) (ending : Ending) (write : List Complete) → ((if b then if_done ending write else []) ≡ []) ⊎ ((if b then if_done ending write else []) ≡ write)
+maybe_write false ending write = inl refl
+maybe_write true ending write = ending_write ending write
+
+abbrev pub write_of : ℕ → Key → List ℕ → List Complete
+write_of frame key bytes = record { frame = frame; key = key; bytes = bytes } ∷ []
+
 -- ---- after an initiate request: explain has this transfer
 
-abbrev pub asks : Transfer → List Write → ℕ → View
+abbrev pub asks : Transfer → List Complete → ℕ → View
 asks t done count = record { following = record { heard = true; transfer = Some t }; got = []; done = done; count = count }
 
 pub response_is : (response : SdoResponse) (t : Transfer) (micros : ℕ) → t.stage ≡ Initiated → response_in (response_bytes response) ≡ Some response
@@ -127,11 +150,11 @@ pub response_is : (response : SdoResponse) (t : Transfer) (micros : ℕ) → t.s
 response_is response t micros e h = rw e (ap response_reading h)
 
 -- the channel takes the frame inside a sub-block
-acknowledged_spoils : (by : Bool) (t : Transfer) (sequence block_size : ℕ) → t.stage ≡ Initiated → (acknowledged by t sequence block_size).transfer.irregular ≡ true
+pub acknowledged_spoils : (by : Bool) (t : Transfer) (sequence block_size : ℕ) → t.stage ≡ Initiated → (acknowledged by t sequence block_size).transfer.irregular ≡ true
 acknowledged_spoils true t sequence block_size e = rw e refl
 acknowledged_spoils false t sequence block_size e = refl
 
-inside : (rows : Rows) (stamp : ℕ → ℕ) (o : OpenTransfer) (stage : Stage) (t : Transfer) (frame : List ℕ) (done : List Write) (count : ℕ) (next : Option OpenTransfer) (set : Option Whole) → t.stage ≡ Initiated
+inside : (rows : Rows) (stamp : ℕ → ℕ) (o : OpenTransfer) (stage : Stage) (t : Transfer) (frame : List ℕ) (done : List Complete) (count : ℕ) (next : Option OpenTransfer) (set : Option Whole) → t.stage ≡ Initiated
     → Ends next set done (hears_answers rows stamp (frame_answers rows o stage frame) (asks t done count))
 inside rows stamp o (InSubBlock indicated taken) t frame done count next set s = by_end (ends_sub_block frame)
   where
@@ -161,7 +184,7 @@ pub expedited_bytes : (rows : Rows) (key : Key) (value : ExpeditedData) (r : Opt
 expedited_bytes rows key (Indicated counted) r e = rw e (take_all (length counted.items) counted.items (omega arith))
 expedited_bytes rows key (NotIndicated four) r e = rw e (ap (λ xs. take (capacity_at rows key) xs) (take_all (length four) four (omega arith)))
 
-expedited_done : (rows : Rows) (stamp : ℕ → ℕ) (key : Key) (value : ExpeditedData) (micros : ℕ) (frame : List ℕ) (done : List Write) (count : ℕ) (next : Option OpenTransfer)
+expedited_done : (rows : Rows) (stamp : ℕ → ℕ) (key : Key) (value : ExpeditedData) (micros : ℕ) (frame : List ℕ) (done : List Complete) (count : ℕ) (next : Option OpenTransfer)
     → request_in frame ≡ Some (DownloadExpedited key value) → key.index < 65536
     → Ends next (whole key None (expedited_part rows key value)) done (hears_answers rows stamp (Replied (DownloadDone key) ∷ []) (asks (expedites key value micros frame) done count))
 expedited_done rows stamp key value micros frame done count next q k =
@@ -177,7 +200,7 @@ expedited_done rows stamp key value micros frame done count next q k =
 abbrev pub segments : Key → Option ℕ → ℕ → List ℕ → Transfer
 segments key size micros frame = begun (record (initiate_of key Download Segmented) { size = size }) micros frame
 
-segmented_begins : (rows : Rows) (stamp : ℕ → ℕ) (key : Key) (size : Option ℕ) (micros : ℕ) (frame : List ℕ) (done : List Write) (count : ℕ)
+segmented_begins : (rows : Rows) (stamp : ℕ → ℕ) (key : Key) (size : Option ℕ) (micros : ℕ) (frame : List ℕ) (done : List Complete) (count : ℕ)
     → request_in frame ≡ Some (DownloadInitiate key size) → key.index < 65536
     → Ends (opened_at key (Receiving size false) []) None done (hears_answers rows stamp (Replied (DownloadDone key) ∷ []) (asks (segments key size micros frame) done count))
 segmented_begins rows stamp key size micros frame done count q k =
@@ -189,20 +212,36 @@ segmented_begins rows stamp key size micros frame done count q k =
       writes = inl refl;
     }))
 
+-- a download in blocks
+abbrev pub in_blocks : Key → Option ℕ → ℕ → List ℕ → Transfer
+in_blocks key size micros frame = begun (record (initiate_of key Download Block) { size = size; crc = has_crc frame }) micros frame
+
+blocks_begin : (rows : Rows) (stamp : ℕ → ℕ) (key : Key) (size : Option ℕ) (micros : ℕ) (frame : List ℕ) (done : List Complete) (count : ℕ)
+    → request_in frame ≡ Some (BlockDownloadInitiate key size) → key.index < 65536
+    → Ends (opened_at key (InSubBlock size 0) []) None done (hears_answers rows stamp (Replied (BlockDownloadInitiated key 127) ∷ []) (asks (in_blocks key size micros frame) done count))
+blocks_begin rows stamp key size micros frame done count q k =
+    answered rows stamp (BlockDownloadInitiated key 127) (asks (in_blocks key size micros frame) done count) (Response (BlockDownloadInitiated key 127))
+    (Ends (opened_at key (InSubBlock size 0) []) None done)
+    (response_is (BlockDownloadInitiated key 127) (in_blocks key size micros frame) (stamp count) refl (block_initiated_read key 127 k))
+    (rw (same_key-refl key) (record {
+      follows = blocks 0 size (record { is = record { direction = refl; protocol = refl; request = q }; stage = refl; pending = refl }) refl;
+      writes = inl refl;
+    }))
+
 -- another transfer
 abbrev is_other : Option Transfer → Bool
 is_other None = false
-is_other (Some t) = not (is_plain_download t.direction t.protocol)
+is_other (Some t) = not (is_download t.direction)
 
 not_true : (b : Bool) → not b ≡ true → b ≡ false
 not_true true h = absurd (false≢true h)
 not_true false h = refl
 
-other : (x : Option Transfer) (t : Transfer) → x ≡ Some t → is_other x ≡ true → is_plain_download t.direction t.protocol ≡ false
-other x t e h = not_true (is_plain_download t.direction t.protocol) (sym (ap is_other e) ∙ h)
+other : (x : Option Transfer) (t : Transfer) → x ≡ Some t → is_other x ≡ true → is_download t.direction ≡ false
+other x t e h = not_true (is_download t.direction) (sym (ap is_other e) ∙ h)
 
 -- by the request, outside a sub-block
-outside : (d : Description) (contents : Contents) (stamp : ℕ → ℕ) (current : Option OpenTransfer) (request : SdoRequest) (t : Transfer) (micros : ℕ) (frame : List ℕ) (done : List Write) (count : ℕ)
+outside : (d : Description) (contents : Contents) (stamp : ℕ → ℕ) (current : Option OpenTransfer) (request : SdoRequest) (t : Transfer) (micros : ℕ) (frame : List ℕ) (done : List Complete) (count : ℕ)
     → request_in frame ≡ Some request → begun_with request micros frame ≡ Some t → HasKey frame request → AreBytes frame
     → Ends (after_request d contents current (Some request)) (set_by_request d contents current (Some request)) done
     (hears_answers d.rows stamp (request_answers d contents current (Some request)) (asks t done count))
@@ -223,14 +262,19 @@ outside d contents stamp current (DownloadInitiate key size) t micros frame done
     (refused d.rows stamp refusal key (Replied (DownloadDone key) ∷ []) _ None done (asks (segments key size micros frame) done count) refl
     (λ n. rw n (segmented_begins d.rows stamp key size micros frame done count q index)))
 outside d contents stamp current (UploadInitiate key) t micros frame done count q e k small =
-    let p : is_plain_download t.direction t.protocol ≡ false = other (begun_with (UploadInitiate key) micros frame) t e refl in
+    let p : is_download t.direction ≡ false = other (begun_with (UploadInitiate key) micros frame) t e refl in
     ends_aside _ _ done _ (aside_answers d.rows stamp (request_answers d contents current (Some (UploadInitiate key))) done (asks t done count) (record { holds = inr p; same = refl }))
 outside d contents stamp current (BlockUploadInitiate key block_size threshold) t micros frame done count q e k small =
-    let p : is_plain_download t.direction t.protocol ≡ false = other (begun_with (BlockUploadInitiate key block_size threshold) micros frame) t e refl in
+    let p : is_download t.direction ≡ false = other (begun_with (BlockUploadInitiate key block_size threshold) micros frame) t e refl in
     ends_aside _ _ done _ (aside_answers d.rows stamp (request_answers d contents current (Some (BlockUploadInitiate key block_size threshold))) done (asks t done count) (record { holds = inr p; same = refl }))
 outside d contents stamp current (BlockDownloadInitiate key size) t micros frame done count q e k small =
-    let p : is_plain_download t.direction t.protocol ≡ false = other (begun_with (BlockDownloadInitiate key size) micros frame) t e refl in
-    ends_aside _ _ done _ (aside_answers d.rows stamp (request_answers d contents current (Some (BlockDownloadInitiate key size))) done (asks t done count) (record { holds = inr p; same = refl }))
+    let same : in_blocks key size micros frame ≡ t = cc in
+    let index : key.index < 65536 = subst (λ x. x.index < 65536) (sym k) (small_index frame small) in
+    let refusal = initiate_refusal d key size in
+    subst (λ u. Ends (unless refusal (opened_at key (InSubBlock size 0) [])) None done
+    (hears_answers d.rows stamp (unless_refused refusal key (Replied (BlockDownloadInitiated key 127) ∷ [])) (asks u done count))) same
+    (refused d.rows stamp refusal key (Replied (BlockDownloadInitiated key 127) ∷ []) _ None done (asks (in_blocks key size micros frame) done count) refl
+    (λ n. rw n (blocks_begin d.rows stamp key size micros frame done count q index)))
 outside d contents stamp current _ t micros frame done count q e k small = absurd (let f : None ≡ Some t = e in cc)
 
 -- a transfer that a request begins awaits its answer
@@ -244,7 +288,7 @@ awaits _ micros frame = tt
 
 -- ---- every initiate request
 
-pub begins : (d : Description) (contents : Contents) (stamp : ℕ → ℕ) (current : Option OpenTransfer) (t : Transfer) (micros : ℕ) (frame : List ℕ) (done : List Write) (count : ℕ)
+pub begins : (d : Description) (contents : Contents) (stamp : ℕ → ℕ) (current : Option OpenTransfer) (t : Transfer) (micros : ℕ) (frame : List ℕ) (done : List Complete) (count : ℕ)
     → BegunBy frame micros t → AreBytes frame
     → Ends (opened_next d contents current frame) (set_next d contents current frame) done
     (hears_answers d.rows stamp (answers_to d contents current frame) (asks t done count))

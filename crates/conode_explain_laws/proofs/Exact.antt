@@ -37,15 +37,16 @@ use Rattle.conode_explain_transfers.specs.declared.kinds.Side.TheVariants.{Clien
 use Rattle.conode_explain_transfers.specs.declared.transfer.Transfer.{Transfer}
 use Rattle.conode_explain_transfers.specs.Digests.{counted, digest_of}
 use Rattle.conode_explain_transfers.specs.Endings.{size_fault, verdict}
+use Rattle.conode_explain_transfers.specs.Transfers.{is_download}
 use Rattle.conode_explain_transfers.specs.Readings.{is_in_sub_block as is_inside, is_sender}
 use Rattle.conode_explain_transfers.proofs.DataLemmas.{taking}
-use Rattle.conode_explain_laws.specs.Downloads.{Write, is_plain, is_plain_download, is_block_begin, entry_bytes, if_done, write_set}
+use Rattle.conode_explain_laws.specs.Downloads.{Complete, is_block_begin, entry_bytes, if_done, write_set}
 use Rattle.conode_explain_laws.proofs.Readings.{Begin, Request, Response, begun_with, request_reading, response_reading, plain_reading, sub_block_reading, reading_of}
 use Rattle.conode_explain_laws.proofs.Views.{View, read_as, hears, hears_answers, begin_writes, no_write, aborted_closes}
 use Rattle.conode_explain_laws.proofs.Follows.{InSegments, in_segments, response_read, answered_reads}
-use Rattle.conode_explain_laws.proofs.Begins.{HasKey, has_key, small_index, answered, asks, response_is, expedites, expedited_bytes, segments, outside_answers, outside_opens, outside_sets}
-use Rattle.conode_explain_laws.proofs.Exchanges.{receiving, sent, same_toggle, sends, all_taken, confirmed, write_of, client_plain}
-use Rattle.conode_explain_laws.proofs.Uploads.{IsUpload, KnowsUpload, upload_reads, upload_answers}
+use Rattle.conode_explain_laws.proofs.Begins.{HasKey, has_key, small_index, answered, asks, response_is, expedites, expedited_bytes, segments, outside_answers, outside_opens, outside_sets, write_of}
+use Rattle.conode_explain_laws.proofs.Exchanges.{receiving, sent, same_toggle, sends, all_taken, confirmed, client_plain}
+use Rattle.conode_explain_laws.proofs.NoDownloads.{IsUpload, KnowsUpload, upload_reads, upload_answers}
 
 -- ---- both
 
@@ -64,7 +65,6 @@ no_download (Some o) = is_upload_stage o.stage
 pub record IsClean (t : Transfer) (toggle : Bool) : Type 0 where
   pub in_turn : InSegments t toggle
   pub regular : t.irregular ≡ false
-  pub plain : is_plain t.protocol ≡ true
 
 -- explain has an upload, and the channel has no download; or both have the same download in segments; or the channel has dropped it
 pub data Exact (t : Transfer) (got : List ℕ) (current : Option OpenTransfer) : Type 0 where
@@ -77,11 +77,11 @@ ExactIn None got current = no_download current ≡ true
 ExactIn (Some t) got current = Exact t got current
 
 -- after a request with its answers
-pub record Exactly (next : Option OpenTransfer) (set : Option Whole) (done : List Write) (v : View) : Type 0 where
+pub record Exactly (next : Option OpenTransfer) (set : Option Whole) (done : List Complete) (v : View) : Type 0 where
   pub holds : ExactIn v.following.transfer v.got next
   pub same : v.done ≡ write_set set v.count ++ done
 
-closed_exactly : (rows : Rows) (stamp : ℕ → ℕ) (key : Key) (code : ℕ) (done : List Write) (v : View) → v.done ≡ done → Exactly None None done (hears_answers rows stamp (aborted key code) v)
+closed_exactly : (rows : Rows) (stamp : ℕ → ℕ) (key : Key) (code : ℕ) (done : List Complete) (v : View) → v.done ≡ done → Exactly None None done (hears_answers rows stamp (aborted key code) v)
 closed_exactly rows stamp key code done v e =
     let c = aborted_closes rows stamp key code v in
     record { holds = rw c.none refl; same = c.same ∙ e }
@@ -90,7 +90,7 @@ upload_in : (current : Option Transfer) (got : List ℕ) (next : Option OpenTran
 upload_in None got next n h = n
 upload_in (Some t) got next n h = exact_upload h n
 
-uploads_exactly : (next : Option OpenTransfer) (done : List Write) (v : View) → no_download next ≡ true → KnowsUpload done v → Exactly next None done v
+uploads_exactly : (next : Option OpenTransfer) (done : List Complete) (v : View) → no_download next ≡ true → KnowsUpload done v → Exactly next None done v
 uploads_exactly next done v n h = record { holds = upload_in v.following.transfer v.got next n h.holds; same = h.same }
 
 -- ---- the channel with an upload, or nothing
@@ -149,7 +149,7 @@ later_opens d contents current (Some _) h n = absurd (false≢true (sym n))
 
 -- ---- initiate requests
 
-expedited_exactly : (rows : Rows) (stamp : ℕ → ℕ) (refusal : Option ℕ) (key : Key) (value : ExpeditedData) (micros : ℕ) (frame : List ℕ) (done : List Write) (count : ℕ)
+expedited_exactly : (rows : Rows) (stamp : ℕ → ℕ) (refusal : Option ℕ) (key : Key) (value : ExpeditedData) (micros : ℕ) (frame : List ℕ) (done : List Complete) (count : ℕ)
     → request_in frame ≡ Some (DownloadExpedited key value) → key.index < 65536
     → Exactly None (unless refusal (whole key None (expedited_part rows key value))) done
     (hears_answers rows stamp (unless_refused refusal key (Replied (DownloadDone key) ∷ [])) (asks (expedites key value micros frame) done count))
@@ -163,7 +163,7 @@ expedited_exactly rows stamp None key value micros frame done count q k =
       same = ap (λ bytes. write_of (suc count) key bytes ++ done) (expedited_bytes rows key value (request_in frame) q);
     }))
 
-segments_exactly : (rows : Rows) (stamp : ℕ → ℕ) (refusal : Option ℕ) (key : Key) (size : Option ℕ) (micros : ℕ) (frame : List ℕ) (done : List Write) (count : ℕ)
+segments_exactly : (rows : Rows) (stamp : ℕ → ℕ) (refusal : Option ℕ) (key : Key) (size : Option ℕ) (micros : ℕ) (frame : List ℕ) (done : List Complete) (count : ℕ)
     → request_in frame ≡ Some (DownloadInitiate key size) → key.index < 65536
     → Exactly (unless refusal (opened_at key (Receiving size false) [])) None done
     (hears_answers rows stamp (unless_refused refusal key (Replied (DownloadDone key) ∷ [])) (asks (segments key size micros frame) done count))
@@ -173,11 +173,11 @@ segments_exactly rows stamp None key size micros frame done count q k =
     (Exactly (opened_at key (Receiving size false) []) None done)
     (response_is (DownloadDone key) (segments key size micros frame) (stamp count) refl (done_read key k))
     (rw (same_key-refl key) (record {
-      holds = exact_segments false (record { in_turn = record { direction = refl; stage = refl; request = q }; regular = refl; plain = refl }) refl;
+      holds = exact_segments false (record { in_turn = record { direction = refl; stage = refl; request = q }; regular = refl }) refl;
       same = refl;
     }))
 
-begins_exactly : (d : Description) (contents : Contents) (stamp : ℕ → ℕ) (current : Option OpenTransfer) (request : SdoRequest) (t : Transfer) (micros : ℕ) (frame : List ℕ) (done : List Write) (count : ℕ)
+begins_exactly : (d : Description) (contents : Contents) (stamp : ℕ → ℕ) (current : Option OpenTransfer) (request : SdoRequest) (t : Transfer) (micros : ℕ) (frame : List ℕ) (done : List Complete) (count : ℕ)
     → request_in frame ≡ Some request → begun_with request micros frame ≡ Some t → HasKey frame request → AreBytes frame → is_block_begin (Some request) ≡ false
     → Exactly (after_request d contents current (Some request)) (set_by_request d contents current (Some request)) done
     (hears_answers d.rows stamp (request_answers d contents current (Some request)) (asks t done count))
@@ -225,8 +225,8 @@ size_right (Some size) n h few =
     let c : counted n ≡ n = not_above n (2 ^ 64 - 1) m in
     rw (c, h) refl
 
-regular_done : (u : Transfer) (write : List Write) → u.irregular ≡ false → size_fault u.size u.taken.count ≡ None → is_plain_download u.direction u.protocol ≡ true
-    → (if is_plain_download u.direction u.protocol then if_done (verdict u None) write else []) ≡ write
+regular_done : (u : Transfer) (write : List Complete) → u.irregular ≡ false → size_fault u.size u.taken.count ≡ None → is_download u.direction ≡ true
+    → (if is_download u.direction then if_done (verdict u None) write else []) ≡ write
 regular_done u write r s p = rw (p, r, s) refl
 
 -- what the dictionary permits when the last segment comes
@@ -234,7 +234,7 @@ abbrev IsPermitted : Rows → Transfer → List ℕ → Bool → Type 0
 IsPermitted rows t bytes true = (is_as_indicated t.size (length bytes) ≡ true) × (length bytes ≤ 65535)
 IsPermitted rows t bytes false = Unit {0}
 
-segment_exactly : (rows : Rows) (stamp : ℕ → ℕ) (micros : ℕ) (heard : Bool) (t : Transfer) (got : List ℕ) (done : List Write) (count : ℕ) (toggle last : Bool) (segment : ArrayVec ℕ) → IsClean t toggle
+segment_exactly : (rows : Rows) (stamp : ℕ → ℕ) (micros : ℕ) (heard : Bool) (t : Transfer) (got : List ℕ) (done : List Complete) (count : ℕ) (toggle last : Bool) (segment : ArrayVec ℕ) → IsClean t toggle
     → t.taken ≡ digest_of got → IsPermitted rows t (got ++ segment.items) last
     → Exactly (if last then None else Some (receiving t (got ++ segment.items) (not toggle)))
     (if last then Some (record { key = t.key; indicated = t.size; bytes = got ++ segment.items }) else None) done
@@ -247,7 +247,7 @@ segment_exactly rows stamp micros heard t got done count toggle false segment h 
     (Exactly (Some (receiving t (got ++ segment.items) (not toggle))) None done)
     (response_read u (stamp count) (response_bytes (DownloadSegmentDone toggle)) h.in_turn.direction ∙ ap response_reading (segment_done_read toggle))
     (rw (same_toggle toggle, all_taken segment.items) (record {
-      holds = exact_segments (not toggle) (record { in_turn = record { direction = h.in_turn.direction; stage = refl; request = h.in_turn.request }; regular = h.regular; plain = h.plain }) refl;
+      holds = exact_segments (not toggle) (record { in_turn = record { direction = h.in_turn.direction; stage = refl; request = h.in_turn.request }; regular = h.regular }) refl;
       same = refl;
     }))
 segment_exactly rows stamp micros heard t got done count toggle true segment h kept fits =
@@ -261,7 +261,7 @@ segment_exactly rows stamp micros heard t got done count toggle true segment h k
       same =
           ap (λ w. w ++ done)
           (regular_done (confirmed t toggle segment micros) (write_of (suc count) t.key (entry_bytes rows t.key (request_in t.request.items) (got ++ take (length segment.items) segment.items)))
-          h.regular size (ap (λ x. is_plain_download x t.protocol) h.in_turn.direction ∙ h.plain))
+          h.regular size (ap is_download h.in_turn.direction))
           ∙ ap (λ bytes. write_of (suc count) t.key bytes ++ done) bytes_are;
     }))
   where
@@ -276,7 +276,7 @@ segment_exactly rows stamp micros heard t got done count toggle true segment h k
         rw c (size_right t.size (length (got ++ segment.items)) fits.0 fits.1)
 
 -- by its toggle
-segment_comes : (d : Description) (contents : Contents) (stamp : ℕ → ℕ) (micros : ℕ) (frame : List ℕ) (heard : Bool) (t : Transfer) (got : List ℕ) (done : List Write) (count : ℕ) (expected toggle last : Bool) (segment : ArrayVec ℕ)
+segment_comes : (d : Description) (contents : Contents) (stamp : ℕ → ℕ) (micros : ℕ) (frame : List ℕ) (heard : Bool) (t : Transfer) (got : List ℕ) (done : List Complete) (count : ℕ) (expected toggle last : Bool) (segment : ArrayVec ℕ)
     → IsClean t expected → t.taken ≡ digest_of got → IsDescription d
     → Exactly (after_segment d contents (receiving t got expected) (Receiving t.size expected) toggle segment.items last)
     (set_by_segment d contents (receiving t got expected) (Receiving t.size expected) toggle segment.items last) done
@@ -318,7 +318,7 @@ segment_comes d contents stamp micros frame heard t got done count expected togg
 
 -- ---- every request
 
-begin_comes : (d : Description) (contents : Contents) (stamp : ℕ → ℕ) (current : Option OpenTransfer) (request : SdoRequest) (t : Transfer) (frame : List ℕ) (heard : Bool) (held : Option Transfer) (got : List ℕ) (done : List Write) (count : ℕ)
+begin_comes : (d : Description) (contents : Contents) (stamp : ℕ → ℕ) (current : Option OpenTransfer) (request : SdoRequest) (t : Transfer) (frame : List ℕ) (heard : Bool) (held : Option Transfer) (got : List ℕ) (done : List Complete) (count : ℕ)
     → request_in frame ≡ Some request → begun_with request (stamp count) frame ≡ Some t → AreBytes frame → is_block_begin (Some request) ≡ false
     → Exactly (after_request d contents current (Some request)) (set_by_request d contents current (Some request)) done
     (hears_answers d.rows stamp (request_answers d contents current (Some request))
@@ -332,7 +332,7 @@ begin_comes d contents stamp current request t frame heard held got done count q
     (begins_exactly d contents stamp current request t (stamp count) frame _ (suc count) q e (subst (λ r. IfSome r (HasKey frame)) q k) small n)
 
 -- explain has an upload, or nothing
-to_upload : (d : Description) (contents : Contents) (stamp : ℕ → ℕ) (current : Option OpenTransfer) (frame : List ℕ) (heard : Bool) (held : Option Transfer) (got : List ℕ) (done : List Write) (count : ℕ) → IfSome held IsUpload
+to_upload : (d : Description) (contents : Contents) (stamp : ℕ → ℕ) (current : Option OpenTransfer) (frame : List ℕ) (heard : Bool) (held : Option Transfer) (got : List ℕ) (done : List Complete) (count : ℕ) → IfSome held IsUpload
     → no_download current ≡ true → AreBytes frame → (r : Option SdoRequest) → request_in frame ≡ r → is_block_begin r ≡ false
     → Exactly (after_request d contents current r) (set_by_request d contents current r) done
     (hears_answers d.rows stamp (request_answers d contents current r)
@@ -355,7 +355,7 @@ to_upload d contents stamp current frame heard held got done count up h small r 
     (upload_answers d.rows stamp (request_answers d contents current r) done v k))
 
 -- both have a download in segments
-to_segments : (d : Description) (contents : Contents) (stamp : ℕ → ℕ) (frame : List ℕ) (heard : Bool) (t : Transfer) (got : List ℕ) (done : List Write) (count : ℕ) (toggle : Bool) → IsClean t toggle
+to_segments : (d : Description) (contents : Contents) (stamp : ℕ → ℕ) (frame : List ℕ) (heard : Bool) (t : Transfer) (got : List ℕ) (done : List Complete) (count : ℕ) (toggle : Bool) → IsClean t toggle
     → t.taken ≡ digest_of got → IsDescription d → AreBytes frame → (r : Option SdoRequest) → request_in frame ≡ r → is_block_begin r ≡ false
     → Exactly (after_request d contents (Some (receiving t got toggle)) r) (set_by_request d contents (Some (receiving t got toggle)) r) done
     (hears_answers d.rows stamp (request_answers d contents (Some (receiving t got toggle)) r)
@@ -373,7 +373,7 @@ to_segments d contents stamp frame heard t got done count toggle h kept lawful s
     segment_comes d contents stamp (stamp count) frame heard t got done count toggle toggled last segment h kept lawful
 to_segments d contents stamp frame heard t got done count toggle h kept lawful small (Some (Abandon key code)) q n = record {
   holds = refl;
-  same = ap (λ w. w ++ done) (no_write (is_plain_download t.direction t.protocol) _ refl);
+  same = ap (λ w. w ++ done) (no_write (is_download t.direction) _ refl);
 }
 to_segments d contents stamp frame heard t got done count toggle h kept lawful small r q n =
     closed_exactly d.rows stamp t.key 0x05040001 done
@@ -381,7 +381,7 @@ to_segments d contents stamp frame heard t got done count toggle h kept lawful s
     (answered_reads d.rows (stamp count) frame heard t got done count (request_reading r (stamp count) frame) (in_segments t toggle h.in_turn) refl refl).same
 
 -- the channel has dropped it
-to_dropped : (d : Description) (contents : Contents) (stamp : ℕ → ℕ) (frame : List ℕ) (heard : Bool) (t : Transfer) (got : List ℕ) (done : List Write) (count : ℕ) (toggle : Bool) → InSegments t toggle
+to_dropped : (d : Description) (contents : Contents) (stamp : ℕ → ℕ) (frame : List ℕ) (heard : Bool) (t : Transfer) (got : List ℕ) (done : List Complete) (count : ℕ) (toggle : Bool) → InSegments t toggle
     → AreBytes frame → (r : Option SdoRequest) → request_in frame ≡ r → is_block_begin r ≡ false
     → Exactly (after_request d contents None r) (set_by_request d contents None r) done
     (hears_answers d.rows stamp (request_answers d contents None r)
@@ -397,7 +397,7 @@ to_dropped d contents stamp frame heard t got done count toggle h small (Some (B
 to_dropped d contents stamp frame heard t got done count toggle h small (Some (BlockDownloadInitiate key size)) q n = absurd (false≢true (sym n))
 to_dropped d contents stamp frame heard t got done count toggle h small (Some (Abandon key code)) q n = record {
   holds = refl;
-  same = ap (λ w. w ++ done) (no_write (is_plain_download t.direction t.protocol) _ refl);
+  same = ap (λ w. w ++ done) (no_write (is_download t.direction) _ refl);
 }
 to_dropped d contents stamp frame heard t got done count toggle h small r q n =
     closed_exactly d.rows stamp (record { index = 0; sub = 0 }) 0x05040001 done
@@ -420,7 +420,7 @@ upload_outside (Some o) h = by o.stage h
     by (InSubBlock size taken) h = absurd (false≢true h)
     by _ h = refl
 
-exact_by : (d : Description) (contents : Contents) (stamp : ℕ → ℕ) (frame : List ℕ) (current : Option OpenTransfer) (heard : Bool) (held : Option Transfer) (got : List ℕ) (done : List Write) (count : ℕ)
+exact_by : (d : Description) (contents : Contents) (stamp : ℕ → ℕ) (frame : List ℕ) (current : Option OpenTransfer) (heard : Bool) (held : Option Transfer) (got : List ℕ) (done : List Complete) (count : ℕ)
     → ExactIn held got current → IfSome held (λ t. t.taken ≡ digest_of got) → IsDescription d → AreBytes frame → is_block_begin (request_in frame) ≡ false
     → Exactly (opened_next d contents current frame) (set_next d contents current frame) done
     (hears_answers d.rows stamp (answers_to d contents current frame)

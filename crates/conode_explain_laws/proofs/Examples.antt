@@ -9,14 +9,14 @@ use Rattle.co_sdo.specs.Completed.{contents_with}
 use Rattle.co_sdo.specs.Refused.{reading_refusal, initiate_refusal, completion_refusal}
 use Rattle.co_sdo.proofs.ExampleChannel.{at, entries, bytes_in, dictionary, hex}
 use Rattle.conode_explain_laws.specs.Recordings.{Input, Received, Abandoned, log_of, recorded}
-use Rattle.conode_explain_laws.specs.Downloads.{Write, downloads_done, set_with, downloads_set}
+use Rattle.conode_explain_laws.specs.Downloads.{Complete, downloads_done, set_with, downloads_set}
 
 -- the inputs, newest first, and the contents after them
-record Scene : Type 0 where
-  contents : Contents
-  inputs : List Input
+pub record Scene : Type 0 where
+  pub contents : Contents
+  pub inputs : List Input
 
-abbrev start : Scene
+abbrev pub start : Scene
 start = record { contents = bytes_in entries; inputs = [] }
 
 abbrev comes : List ℕ → Scene → Scene
@@ -25,21 +25,21 @@ comes frame s = record {
   inputs = Received s.contents frame ∷ s.inputs;
 }
 
-abbrev happens : Input → Scene → Scene
+abbrev pub happens : Input → Scene → Scene
 happens input s = record { contents = s.contents; inputs = input ∷ s.inputs }
 
 -- frames, the first one first
-abbrev all_come : List (List ℕ) → Scene → Scene
+abbrev pub all_come : List (List ℕ) → Scene → Scene
 all_come [] s = s
 all_come (digits ∷ later) s = all_come later (comes (hex digits) s)
 
-abbrev done : Scene → List Write
+abbrev done : Scene → List Complete
 done s = downloads_done dictionary.rows (recorded (λ n. n) dictionary s.inputs)
 
-abbrev set : Scene → List Write
+abbrev set : Scene → List Complete
 set s = downloads_set (λ n. n) dictionary s.inputs
 
-abbrev write : ℕ → Key → List ℕ → Write
+abbrev write : ℕ → Key → List ℕ → Complete
 write frame key digits = record { frame = frame; key = key; bytes = hex digits }
 
 -- an expedited download is done with the second frame
@@ -103,3 +103,36 @@ dropped_done = refl
 dropped_set : set dropped ≡ write 8 (at 0x1017 0) (codes "E803") ∷ []
 unfolding request_row_in response_row_in reading_refusal initiate_refusal completion_refusal has_object
 dropped_set = refl
+
+-- in blocks: ten bytes in two segments, done with the seventh frame
+abbrev in_blocks : Scene
+in_blocks = all_come (codes "C20021000A000000" ∷ codes "0130313233343536" ∷ codes "8237383900000000" ∷ codes "D100000000000000" ∷ []) start
+
+blocks_done : done in_blocks ≡ write 7 (at 0x2100 0) (codes "30313233343536373839") ∷ []
+unfolding request_row_in response_row_in reading_refusal initiate_refusal completion_refusal has_object
+blocks_done = refl
+
+blocks_set : set in_blocks ≡ write 7 (at 0x2100 0) (codes "30313233343536373839") ∷ []
+unfolding request_row_in response_row_in reading_refusal initiate_refusal completion_refusal has_object
+blocks_set = refl
+
+-- the first segment is lost on its way to both, and the sub-block sent again
+abbrev again : Scene
+again = all_come (codes "C20021000A000000" ∷ codes "8237383900000000" ∷ codes "0130313233343536" ∷ codes "8237383900000000" ∷ codes "D100000000000000" ∷ []) start
+
+again_done : done again ≡ write 9 (at 0x2100 0) (codes "30313233343536373839") ∷ []
+unfolding request_row_in response_row_in reading_refusal initiate_refusal completion_refusal has_object
+again_done = refl
+
+again_set : set again ≡ write 9 (at 0x2100 0) (codes "30313233343536373839") ∷ []
+unfolding request_row_in response_row_in reading_refusal initiate_refusal completion_refusal has_object
+again_set = refl
+
+-- dropped inside its sub-block: its second segment is an unknown request to the channel, which aborts it
+abbrev blocks_dropped : Scene
+blocks_dropped = all_come (codes "8237383900000000" ∷ codes "D100000000000000" ∷ [])
+    (happens Abandoned (all_come (codes "C20021000A000000" ∷ codes "0130313233343536" ∷ []) start))
+
+blocks_dropped_done : done blocks_dropped ≡ []
+unfolding request_row_in response_row_in reading_refusal initiate_refusal completion_refusal has_object
+blocks_dropped_done = refl

@@ -23,12 +23,10 @@ use Rattle.co_sdo.specs.Log.{Response as Replied}
 use Rattle.co_sdo.specs.Downloads.{Download as Whole, expedited_part}
 use Rattle.co_sdo.specs.Uploads.{value_at, upload_initiated}
 use Rattle.co_sdo.specs.Opened.{OpenTransfer}
-use Rattle.co_sdo.specs.Replies.{aborted, unless_refused, block_size_refusal, segment_refusal, segment_answers, request_answers, answers_to}
+use Rattle.co_sdo.specs.Replies.{unless_refused, block_size_refusal, segment_refusal, segment_answers, request_answers, answers_to}
 use Rattle.co_sdo.specs.Completed.{unless}
 use Rattle.co_sdo.specs.Steps.{after_segment, after_request, opened_next, set_by_segment, set_by_request, set_next}
 use Rattle.co_sdo_laws.proofs.Frames.{padded_length, segment_done_read}
-use Rattle.conode_explain_transfers.specs.declared.ended.Ending.{Ending}
-use Rattle.conode_explain_transfers.specs.declared.ended.Ending.TheVariants.{Done}
 use Rattle.conode_explain_transfers.specs.declared.kinds.Side.TheVariants.{Client}
 use Rattle.conode_explain_transfers.specs.declared.kinds.What.TheVariants.{Part}
 use Rattle.conode_explain_transfers.specs.declared.stage.Stage.TheVariants.{DownloadConfirmed, Confirmed}
@@ -36,24 +34,25 @@ use Rattle.conode_explain_transfers.specs.declared.transfer.Transfer.{Transfer}
 use Rattle.conode_explain_transfers.specs.Endings.{verdict}
 use Rattle.conode_explain_transfers.specs.Followed.{with_frame}
 use Rattle.conode_explain_transfers.specs.SegmentedTurns.{segment_pending}
-use Rattle.conode_explain_transfers.specs.Transfers.{after, goes_on as part, takes_pending}
-use Rattle.conode_explain_laws.specs.Downloads.{Write, is_plain_download, entry_bytes, if_done}
+use Rattle.conode_explain_transfers.specs.Transfers.{after, is_download, goes_on as part, takes_pending}
+use Rattle.conode_explain_laws.specs.Downloads.{Complete, entry_bytes, if_done}
 use Rattle.conode_explain_laws.proofs.Readings.{Reading, Begin, Request, Response, request_reading, response_reading, reading_of}
-use Rattle.conode_explain_laws.proofs.Views.{View, read_as, hears, hears_answers, Knows, KnowsAside, aside_reads, aside_answers, aborted_closes, begin_writes, is_begin}
-use Rattle.conode_explain_laws.proofs.Follows.{Follows, aside, asked, gone, segmented, InSegments, in_segments, Ends, ends_closed, ends_aside, begun_by, client_no_response, is_response, Stays, answered_reads, asked_reads, is_first, again, response_read}
-use Rattle.conode_explain_laws.proofs.Begins.{answered, refused, begins}
+use Rattle.conode_explain_laws.proofs.Views.{View, read_as, hears, hears_answers, Knows, KnowsAside, aside_reads, aside_answers, begin_writes, is_begin}
+use Rattle.conode_explain_laws.proofs.Follows.{Follows, aside, asked, gone, segmented, blocks, all_sent, InSegments, in_segments, Ends, ends_aside, begun_by, client_no_response, is_response, Stays, answered_reads, asked_reads, is_first, again, response_read}
+use Rattle.conode_explain_laws.proofs.Begins.{answered, refused, closed, maybe_write, write_of, begins}
+use Rattle.conode_explain_laws.proofs.Blocks.{sub_block_step, to_end}
 
 -- ---- what explain knows of a transfer that stays
 
-abbrev KnowsStays : List Write → View → Type 0
+abbrev KnowsStays : List Complete → View → Type 0
 KnowsStays done v = Knows (λ t got. Stays t) done v
 
 -- an answer to initiate makes it irregular
-first_answer : (rows : Rows) (stamp : ℕ → ℕ) (response : SdoResponse) (done : List Write) (v : View) → KnowsStays done v → is_first (response_in (response_bytes response)) ≡ true
+first_answer : (rows : Rows) (stamp : ℕ → ℕ) (response : SdoResponse) (done : List Complete) (v : View) → KnowsStays done v → is_first (response_in (response_bytes response)) ≡ true
     → KnowsAside done (hears_answers rows stamp (Replied response ∷ []) v)
 first_answer rows stamp response done v h f = by v.following.heard v.following.transfer v.got v.done v.count h
   where
-    by : (heard : Bool) (current : Option Transfer) (got : List ℕ) (before : List Write) (count : ℕ)
+    by : (heard : Bool) (current : Option Transfer) (got : List ℕ) (before : List Complete) (count : ℕ)
         → KnowsStays done (record { following = record { heard = heard; transfer = current }; got = got; done = before; count = count })
         → KnowsAside done (hears_answers rows stamp (Replied response ∷ []) (record { following = record { heard = heard; transfer = current }; got = got; done = before; count = count }))
     by heard None got before count h =
@@ -67,7 +66,7 @@ first_answer rows stamp response done v h f = by v.following.heard v.following.t
 
 -- ---- the channel has nothing open
 
-stays_gone : (done : List Write) (v : View) → KnowsStays done v → IfSome v.following.transfer (λ t. Follows t v.got None)
+stays_gone : (done : List Complete) (v : View) → KnowsStays done v → IfSome v.following.transfer (λ t. Follows t v.got None)
 stays_gone done v h = by v.following.transfer h.holds
   where
     by : (current : Option Transfer) → IfSome current Stays → IfSome current (λ t. Follows t v.got None)
@@ -75,14 +74,8 @@ stays_gone done v h = by v.following.transfer h.holds
     by (Some t) (inl a) = aside a
     by (Some t) (inr a) = gone a refl
 
-closed : (rows : Rows) (stamp : ℕ → ℕ) (key : Key) (code : ℕ) (next : Option OpenTransfer) (set : Option Whole) (done : List Write) (v : View) → v.done ≡ done
-    → Ends next set done (hears_answers rows stamp (aborted key code) v)
-closed rows stamp key code next set done v e =
-    let c = aborted_closes rows stamp key code v in
-    ends_closed next set done (hears_answers rows stamp (aborted key code) v) (record { none = c.none; same = c.same ∙ e })
-
 -- an answer to initiate, or a refusal
-first : (rows : Rows) (stamp : ℕ → ℕ) (refusal : Option ℕ) (key : Key) (response : SdoResponse) (next : Option OpenTransfer) (set : Option Whole) (done : List Write) (v : View)
+first : (rows : Rows) (stamp : ℕ → ℕ) (refusal : Option ℕ) (key : Key) (response : SdoResponse) (next : Option OpenTransfer) (set : Option Whole) (done : List Complete) (v : View)
     → KnowsStays done v → is_first (response_in (response_bytes response)) ≡ true
     → Ends next set done (hears_answers rows stamp (unless_refused refusal key (Replied response ∷ [])) v)
 first rows stamp refusal key response next set done v h f =
@@ -122,7 +115,7 @@ expedited_first key value few =
 few : (value : List ℕ) → (nat_le 1 (length value) && nat_le (length value) 4) ≡ true → length value ≤ 4
 few value e = grind (arith, nat_tests)
 
-upload_first : (rows : Rows) (stamp : ℕ → ℕ) (refusal : Option ℕ) (key : Key) (value : List ℕ) (next : Option OpenTransfer) (set : Option Whole) (done : List Write) (v : View) → KnowsStays done v
+upload_first : (rows : Rows) (stamp : ℕ → ℕ) (refusal : Option ℕ) (key : Key) (value : List ℕ) (next : Option OpenTransfer) (set : Option Whole) (done : List Complete) (v : View) → KnowsStays done v
     → Ends next set done (hears_answers rows stamp (unless_refused refusal key (upload_initiated key value)) v)
 upload_first rows stamp refusal key value next set done v h = by (nat_le 1 (length value) && nat_le (length value) 4) refl
   where
@@ -133,7 +126,7 @@ upload_first rows stamp refusal key value next set done v h = by (nat_le 1 (leng
     by false e = first rows stamp refusal key _ next set done v h (initiated_first key (length value))
 
 -- a request that the channel has nothing open for
-nothing_open : (d : Description) (contents : Contents) (stamp : ℕ → ℕ) (r : Option SdoRequest) (done : List Write) (v : View) → KnowsStays done v
+nothing_open : (d : Description) (contents : Contents) (stamp : ℕ → ℕ) (r : Option SdoRequest) (done : List Complete) (v : View) → KnowsStays done v
     → Ends (after_request d contents None r) (set_by_request d contents None r) done (hears_answers d.rows stamp (request_answers d contents None r) v)
 nothing_open d contents stamp (Some (DownloadExpedited key value)) done v h =
     first d.rows stamp (completion_refusal d contents key None (expedited_part d.rows key value)) key (DownloadDone key) _ _ done v h (download_first key)
@@ -160,18 +153,10 @@ pub same_toggle : (toggle : Bool) → same_bool toggle toggle ≡ true
 same_toggle true = refl
 same_toggle false = refl
 
-pub sends : (rows : Rows) (micros : ℕ) (frame : List ℕ) (heard : Bool) (t : Transfer) (got : List ℕ) (done : List Write) (count : ℕ) (toggle last : Bool) (segment : ArrayVec ℕ) → t.stage ≡ DownloadConfirmed toggle
+pub sends : (rows : Rows) (micros : ℕ) (frame : List ℕ) (heard : Bool) (t : Transfer) (got : List ℕ) (done : List Complete) (count : ℕ) (toggle last : Bool) (segment : ArrayVec ℕ) → t.stage ≡ DownloadConfirmed toggle
     → read_as rows micros Client frame (record { following = record { heard = heard; transfer = Some t }; got = got; done = done; count = count }) (Request (DownloadSegment toggle segment last))
     ≡ record { following = record { heard = heard; transfer = Some (sent t toggle last segment micros) }; got = got; done = done; count = suc count }
 sends rows micros frame heard t got done count toggle last segment e = rw (e, same_toggle toggle) refl
-
-ending_write : (ending : Ending) (write : List Write) → (if_done ending write ≡ []) ⊎ (if_done ending write ≡ write)
-ending_write (Done crc) write = inr refl
-ending_write _ write = inl refl
-
-maybe_write : (b : Bool) (ending : Ending) (write : List Write) → ((if b then if_done ending write else []) ≡ []) ⊎ ((if b then if_done ending write else []) ≡ write)
-maybe_write false ending write = inl refl
-maybe_write true ending write = ending_write ending write
 
 pub all_taken : (items : List ℕ) → take (length items) items ≡ items
 all_taken items = take_all (length items) items (omega arith)
@@ -181,11 +166,8 @@ abbrev pub confirmed : Transfer → Bool → ArrayVec ℕ → ℕ → Transfer
 confirmed t toggle segment micros =
     after (sent t toggle true segment micros) (takes_pending (record (sent t toggle true segment micros) { stage = Confirmed None }) (length segment.items))
 
-abbrev pub write_of : ℕ → Key → List ℕ → List Write
-write_of frame key bytes = record { frame = frame; key = key; bytes = bytes } ∷ []
-
 -- the channel takes the segment
-segment_taken : (rows : Rows) (stamp : ℕ → ℕ) (micros : ℕ) (heard : Bool) (t : Transfer) (got : List ℕ) (done : List Write) (count : ℕ) (toggle last : Bool) (segment : ArrayVec ℕ) → InSegments t toggle
+segment_taken : (rows : Rows) (stamp : ℕ → ℕ) (micros : ℕ) (heard : Bool) (t : Transfer) (got : List ℕ) (done : List Complete) (count : ℕ) (toggle last : Bool) (segment : ArrayVec ℕ) → InSegments t toggle
     → Ends (if last then None else Some (receiving t (got ++ segment.items) (not toggle)))
     (if last then Some (record { key = t.key; indicated = t.size; bytes = got ++ segment.items }) else None) done
     (hears_answers rows stamp (Replied (DownloadSegmentDone toggle) ∷ [])
@@ -201,9 +183,9 @@ segment_taken rows stamp micros heard t got done count toggle true segment h =
     bytes_are : entry_bytes rows t.key (request_in t.request.items) (got ++ take (length segment.items) segment.items) ≡ got ++ segment.items
     bytes_are = rw (h.request, all_taken segment.items) refl
 
-    written : (((if is_plain_download t.direction t.protocol then if_done (verdict (confirmed t toggle segment micros) None) (write_of (suc count) t.key (entry_bytes rows t.key (request_in t.request.items) (got ++ take (length segment.items) segment.items))) else []) ++ done) ≡ done)
-        ⊎ (((if is_plain_download t.direction t.protocol then if_done (verdict (confirmed t toggle segment micros) None) (write_of (suc count) t.key (entry_bytes rows t.key (request_in t.request.items) (got ++ take (length segment.items) segment.items))) else []) ++ done) ≡ write_of (suc count) t.key (got ++ segment.items) ++ done)
-    written = elim (maybe_write (is_plain_download t.direction t.protocol) (verdict (confirmed t toggle segment micros) None) (write_of (suc count) t.key (entry_bytes rows t.key (request_in t.request.items) (got ++ take (length segment.items) segment.items)))) [
+    written : (((if is_download t.direction then if_done (verdict (confirmed t toggle segment micros) None) (write_of (suc count) t.key (entry_bytes rows t.key (request_in t.request.items) (got ++ take (length segment.items) segment.items))) else []) ++ done) ≡ done)
+        ⊎ (((if is_download t.direction then if_done (verdict (confirmed t toggle segment micros) None) (write_of (suc count) t.key (entry_bytes rows t.key (request_in t.request.items) (got ++ take (length segment.items) segment.items))) else []) ++ done) ≡ write_of (suc count) t.key (got ++ segment.items) ++ done)
+    written = elim (maybe_write (is_download t.direction) (verdict (confirmed t toggle segment micros) None) (write_of (suc count) t.key (entry_bytes rows t.key (request_in t.request.items) (got ++ take (length segment.items) segment.items)))) [
       | inl e ↦ inl (ap (λ w. w ++ done) e)
       | inr e ↦ inr (ap (λ w. w ++ done) e ∙ ap (λ bytes. write_of (suc count) t.key bytes ++ done) bytes_are)
     ]
@@ -219,7 +201,7 @@ segment_taken rows stamp micros heard t got done count toggle false segment h =
     }))
 
 -- a segment, by its toggle
-segment_step : (d : Description) (contents : Contents) (stamp : ℕ → ℕ) (micros : ℕ) (frame : List ℕ) (heard : Bool) (t : Transfer) (got : List ℕ) (done : List Write) (count : ℕ) (expected toggle last : Bool) (segment : ArrayVec ℕ)
+segment_step : (d : Description) (contents : Contents) (stamp : ℕ → ℕ) (micros : ℕ) (frame : List ℕ) (heard : Bool) (t : Transfer) (got : List ℕ) (done : List Complete) (count : ℕ) (expected toggle last : Bool) (segment : ArrayVec ℕ)
     → InSegments t expected
     → Ends (after_segment d contents (receiving t got expected) (Receiving t.size expected) toggle segment.items last)
     (set_by_segment d contents (receiving t got expected) (Receiving t.size expected) toggle segment.items last) done
@@ -253,7 +235,7 @@ segment_step d contents stamp micros frame heard t got done count expected toggl
     by false false h same = rw (sends d.rows micros frame heard t got done count false last segment h.stage) (taken false h _ refl)
 
 -- a request while the channel receives segments: `v` is what explain knows after it
-in_download : (d : Description) (contents : Contents) (stamp : ℕ → ℕ) (r : Option SdoRequest) (t : Transfer) (got : List ℕ) (toggle : Bool) (done : List Write) (v : View) → KnowsStays done v
+in_download : (d : Description) (contents : Contents) (stamp : ℕ → ℕ) (r : Option SdoRequest) (t : Transfer) (got : List ℕ) (toggle : Bool) (done : List Complete) (v : View) → KnowsStays done v
     → ((toggled last : Bool) (segment : ArrayVec ℕ) → r ≡ Some (DownloadSegment toggled segment last)
     → Ends (after_request d contents (Some (receiving t got toggle)) r) (set_by_request d contents (Some (receiving t got toggle)) r) done
     (hears_answers d.rows stamp (request_answers d contents (Some (receiving t got toggle)) r) v))
@@ -280,7 +262,7 @@ Following v current = IfSome v.following.transfer (λ t. Follows t v.got current
 pub client_plain : (t : Transfer) (toggle : Bool) (micros : ℕ) (frame : List ℕ) → t.stage ≡ DownloadConfirmed toggle → reading_of (Some t) Client micros frame ≡ request_reading (request_in frame) micros frame
 client_plain t toggle micros frame e = rw e refl
 
-goes_on : (d : Description) (contents : Contents) (stamp : ℕ → ℕ) (frame : List ℕ) (current : Option OpenTransfer) (heard : Bool) (held : Option Transfer) (got : List ℕ) (done : List Write) (count : ℕ) (reading : Reading)
+goes_on : (d : Description) (contents : Contents) (stamp : ℕ → ℕ) (frame : List ℕ) (current : Option OpenTransfer) (heard : Bool) (held : Option Transfer) (got : List ℕ) (done : List Complete) (count : ℕ) (reading : Reading)
     → reading_of held Client (stamp count) frame ≡ reading → is_begin reading ≡ false → IfSome held (λ t. Follows t got current)
     → Ends (opened_next d contents current frame) (set_next d contents current frame) done
     (hears_answers d.rows stamp (answers_to d contents current frame)
@@ -298,9 +280,11 @@ goes_on d contents stamp frame current heard (Some t) got done count reading e n
           (λ toggled last segment q.
           let is : reading ≡ Request (DownloadSegment toggled segment last) = sym e ∙ client_plain t toggle (stamp count) frame a.stage ∙ ap (λ r. request_reading r (stamp count) frame) q in
           rw (q, is) (segment_step d contents stamp (stamp count) frame heard t got done count toggle toggled last segment a)))
+      | blocks taken size a c ↦ rw c (sub_block_step d contents stamp frame heard t got done count taken size a reading e n)
+      | all_sent size a c ↦ rw c (to_end d contents stamp frame heard t got done count size a reading e n)
     ]
 
-by_reading : (d : Description) (contents : Contents) (stamp : ℕ → ℕ) (frame : List ℕ) (current : Option OpenTransfer) (heard : Bool) (held : Option Transfer) (got : List ℕ) (done : List Write) (count : ℕ) (reading : Reading)
+by_reading : (d : Description) (contents : Contents) (stamp : ℕ → ℕ) (frame : List ℕ) (current : Option OpenTransfer) (heard : Bool) (held : Option Transfer) (got : List ℕ) (done : List Complete) (count : ℕ) (reading : Reading)
     → reading_of held Client (stamp count) frame ≡ reading → AreBytes frame → IfSome held (λ t. Follows t got current)
     → Ends (opened_next d contents current frame) (set_next d contents current frame) done
     (hears_answers d.rows stamp (answers_to d contents current frame)

@@ -1,6 +1,6 @@
 -- What explain's open download and the channel's open transfer have to do with one another, and what a frame of the client makes
 -- of the former.
-use Rattle.std.proofs.Common.{◌≡◌, ℕ, suc, ◌+◌, Bool, true, false, not, List, ◌++◌, Option, Some, None, refl, sym, ap, ◌∙◌, ◌⊎◌, inl, inr, subst}
+use Rattle.std.proofs.Common.{◌≡◌, ℕ, suc, ◌+◌, ◌*◌, ◌≤◌, Bool, true, false, not, List, ◌++◌, length, Option, Some, None, refl, sym, ap, ◌∙◌, ◌⊎◌, inl, inr, subst}
 use Rattle.std.specs.Prelude.{if◌then◌else◌, IfSome, nat_le, nat_lt, ◌==◌, ◌&&◌}
 use Rattle.std.proofs.lemmas.Bool.{false≢true}
 use Rattle.arrayvec.specs.ArrayVec.{ArrayVec}
@@ -11,15 +11,16 @@ use Rattle.co_frame.specs.SdoRequests.{request_in}
 use Rattle.co_frame.specs.SdoResponses.{response_in}
 use Rattle.co_frame.specs.declared.block_segment.BlockSegment.{BlockSegment}
 use Rattle.co_frame.specs.declared.sdo_request.SdoRequest.{SdoRequest}
-use Rattle.co_frame.specs.declared.sdo_request.SdoRequest.TheVariants.{DownloadInitiate, DownloadSegment, UploadSegment as NextSegment, BlockUploadEnd as UploadEnd, BlockUploadAcknowledge, BlockUploadStart, BlockDownloadEnd, Abort as Abandon}
+use Rattle.co_frame.specs.declared.sdo_request.SdoRequest.TheVariants.{DownloadInitiate, BlockDownloadInitiate, DownloadSegment, UploadSegment as NextSegment, BlockUploadEnd as UploadEnd, BlockUploadAcknowledge, BlockUploadStart, BlockDownloadEnd, Abort as Abandon}
 use Rattle.co_frame.specs.declared.sdo_response.SdoResponse.{SdoResponse}
 use Rattle.co_frame.specs.declared.sdo_response.SdoResponse.TheVariants.{DownloadDone, UploadExpedited, UploadInitiated, BlockDownloadInitiated, BlockUploadInitiated}
 use Rattle.co_dict.specs.Rows.{Rows}
-use Rattle.co_sdo.specs.declared.stage.Stage.TheVariants.{Download as Receiving}
+use Rattle.co_sdo.specs.declared.stage.Stage.TheVariants.{Download as Receiving, SubBlock as InSubBlock, LastTaken}
 use Rattle.co_sdo.specs.Opened.{OpenTransfer}
 use Rattle.co_sdo.specs.Downloads.{Download as Whole}
 use Rattle.conode_explain_transfers.specs.declared.kinds.Direction.{Direction}
 use Rattle.conode_explain_transfers.specs.declared.kinds.Direction.TheVariants.{Download}
+use Rattle.conode_explain_transfers.specs.declared.kinds.Protocol.TheVariants.{Block}
 use Rattle.conode_explain_transfers.specs.declared.kinds.Side.TheVariants.{Client, Server}
 use Rattle.conode_explain_transfers.specs.declared.kinds.Side.{Side}
 use Rattle.conode_explain_transfers.specs.declared.kinds.What.{What}
@@ -35,7 +36,7 @@ use Rattle.conode_explain_transfers.specs.SegmentedTurns.{download_segment_at, u
 use Rattle.conode_explain_transfers.specs.Stages.{is_initiated, confirmed_with}
 use Rattle.conode_explain_transfers.specs.Transfers.{Turn, after, is_download, awaited_number, unexpected, repeated}
 use Rattle.conode_explain_transfers.specs.Turns.{request_turn}
-use Rattle.conode_explain_laws.specs.Downloads.{Write, is_plain_download, initiated_by, write_said, write_set}
+use Rattle.conode_explain_laws.specs.Downloads.{Complete, initiated_by, write_said, write_set}
 use Rattle.conode_explain_laws.proofs.Readings.{Reading, Segment, Begin, Abort, Request, Response, Nothing, begun_with, begins_or, request_reading, response_reading, plain_reading, beginning, segment_reading, sub_block_reading, reading_of, turn_of}
 use Rattle.conode_explain_laws.proofs.Kept.{keeps}
 use Rattle.conode_explain_laws.proofs.Views.{View, read_as, Knows, Closes, IsAside, KnowsAside, aside_turn, is_begin, no_write, aside_write}
@@ -48,6 +49,24 @@ pub record InSegments (t : Transfer) (toggle : Bool) : Type 0 where
   pub stage : t.stage ≡ DownloadConfirmed toggle
   pub request : request_in t.request.items ≡ Some (DownloadInitiate t.key t.size)
 
+-- a download in blocks
+pub record IsBlocks (t : Transfer) : Type 0 where
+  pub direction : t.direction ≡ Download
+  pub protocol : t.protocol ≡ Block
+  pub request : request_in t.request.items ≡ Some (BlockDownloadInitiate t.key t.size)
+
+-- inside a sub-block, of which this many segments were taken
+pub record InBlocks (t : Transfer) (taken : ℕ) : Type 0 where
+  pub is : IsBlocks t
+  pub stage : t.stage ≡ SubBlock false
+  pub pending : length t.pending.items ≡ 7 * taken
+
+-- all of whose segments are acknowledged
+pub record AllSent (t : Transfer) : Type 0 where
+  pub is : IsBlocks t
+  pub stage : t.stage ≡ AllAcknowledged
+  pub pending : 7 ≤ length t.pending.items
+
 -- a download that was answered, and isn't confirmed
 pub record IsAnswered (t : Transfer) : Type 0 where
   pub answered : is_initiated t.stage ≡ false
@@ -55,29 +74,37 @@ pub record IsAnswered (t : Transfer) : Type 0 where
   pub unconfirmed : confirmed_with t.stage ≡ None
 
 -- explain's transfer isn't followed; or its initiate request isn't answered; or the channel has dropped it; or both have the same
--- bytes of a download in segments
+-- bytes of a download in segments, or in blocks
 pub data Follows (t : Transfer) (got : List ℕ) (current : Option OpenTransfer) : Type 0 where
   aside : IsAside t → Follows t got current
   asked : t.stage ≡ Initiated → Follows t got current
   gone : IsAnswered t → current ≡ None → Follows t got current
   segmented : (toggle : Bool) → InSegments t toggle → current ≡ Some (record { key = t.key; stage = Receiving t.size toggle; bytes = got }) → Follows t got current
+  blocks : (taken : ℕ) (size : Option ℕ) → InBlocks t taken → current ≡ Some (record { key = t.key; stage = InSubBlock size taken; bytes = got ++ t.pending.items }) → Follows t got current
+  all_sent : (size : Option ℕ) → AllSent t → current ≡ Some (record { key = t.key; stage = LastTaken size; bytes = got ++ t.pending.items }) → Follows t got current
+
+pub in_blocks : (t : Transfer) (taken : ℕ) → InBlocks t taken → IsAnswered t
+in_blocks t taken h = record { answered = ap is_initiated h.stage; direction = h.is.direction; unconfirmed = ap confirmed_with h.stage }
+
+pub are_sent : (t : Transfer) → AllSent t → IsAnswered t
+are_sent t h = record { answered = ap is_initiated h.stage; direction = h.is.direction; unconfirmed = ap confirmed_with h.stage }
 
 pub in_segments : (t : Transfer) (toggle : Bool) → InSegments t toggle → IsAnswered t
 in_segments t toggle h = record { answered = ap is_initiated h.stage; direction = h.direction; unconfirmed = ap confirmed_with h.stage }
 
 -- after a request with its answers: what is open then, and what was set
-pub record Ends (next : Option OpenTransfer) (set : Option Whole) (done : List Write) (v : View) : Type 0 where
+pub record Ends (next : Option OpenTransfer) (set : Option Whole) (done : List Complete) (v : View) : Type 0 where
   pub follows : IfSome v.following.transfer (λ t. Follows t v.got next)
   pub writes : (v.done ≡ done) ⊎ (v.done ≡ write_set set v.count ++ done)
 
-pub ends_closed : (next : Option OpenTransfer) (set : Option Whole) (done : List Write) (v : View) → Closes done v → Ends next set done v
+pub ends_closed : (next : Option OpenTransfer) (set : Option Whole) (done : List Complete) (v : View) → Closes done v → Ends next set done v
 ends_closed next set done v h = record { follows = rw h.none tt; writes = inl h.same }
 
 aside_follows : (current : Option Transfer) (got : List ℕ) (next : Option OpenTransfer) → IfSome current IsAside → IfSome current (λ t. Follows t got next)
 aside_follows None got next h = tt
 aside_follows (Some t) got next h = aside h
 
-pub ends_aside : (next : Option OpenTransfer) (set : Option Whole) (done : List Write) (v : View) → KnowsAside done v → Ends next set done v
+pub ends_aside : (next : Option OpenTransfer) (set : Option Whole) (done : List Complete) (v : View) → KnowsAside done v → Ends next set done v
 ends_aside next set done v h = record { follows = aside_follows v.following.transfer v.got next h.holds; writes = inl h.same }
 
 -- ---- how a frame is read
@@ -234,7 +261,7 @@ answered_frame : (what : What) (u : Transfer) (micros : ℕ) (side : Side) → I
 answered_frame Overtaken u micros side h = h
 answered_frame _ u micros side h = record { answered = h.answered; direction = h.direction; unconfirmed = h.unconfirmed }
 
-answered_turns : (rows : Rows) (x : Option (Option ℕ)) (heard : Bool) (what : What) (u : Transfer) (initiate : Option SdoRequest) (got : List ℕ) (done : List Write) (count micros : ℕ) (side : Side)
+answered_turns : (rows : Rows) (x : Option (Option ℕ)) (heard : Bool) (what : What) (u : Transfer) (initiate : Option SdoRequest) (got : List ℕ) (done : List Complete) (count micros : ℕ) (side : Side)
     → is_initiated u.stage ≡ false → u.direction ≡ Download → confirmed_with u.stage ≡ x → (u.irregular ≡ true) ⊎ (confirmed_with u.stage ≡ None)
     → Knows (λ t got. Stays t) done (record {
       following = (turns_at x heard what u micros side).next;
@@ -252,7 +279,7 @@ answered_turns rows (Some crc) heard what u initiate got done count micros side 
 }
 answered_turns rows (Some crc) heard what u initiate got done count micros side a d e (inr n) = absurd (let f : None ≡ Some crc = sym n ∙ e in cc)
 
-answered_turn : (rows : Rows) (micros : ℕ) (side : Side) (frame : List ℕ) (heard : Bool) (t : Transfer) (got : List ℕ) (done : List Write) (count : ℕ) (reading : Reading) → IsAnswered t
+answered_turn : (rows : Rows) (micros : ℕ) (side : Side) (frame : List ℕ) (heard : Bool) (t : Transfer) (got : List ℕ) (done : List Complete) (count : ℕ) (reading : Reading) → IsAnswered t
     → IsLate (turn_of t reading frame)
     → Knows (λ t got. Stays t) done (record {
       following = (turns heard t (turn_of t reading frame) micros side).next;
@@ -269,14 +296,14 @@ answered_turn rows micros side frame heard t got done count reading h late =
     (k.answered h.answered) (k.direction ∙ h.direction) refl late
 
 -- a frame of the client that begins no transfer
-pub answered_reads : (rows : Rows) (micros : ℕ) (frame : List ℕ) (heard : Bool) (t : Transfer) (got : List ℕ) (done : List Write) (count : ℕ) (reading : Reading)
+pub answered_reads : (rows : Rows) (micros : ℕ) (frame : List ℕ) (heard : Bool) (t : Transfer) (got : List ℕ) (done : List Complete) (count : ℕ) (reading : Reading)
     → IsAnswered t → is_begin reading ≡ false → is_response reading ≡ false
     → Knows (λ t got. Stays t) done (read_as rows micros Client frame (record { following = record { heard = heard; transfer = Some t }; got = got; done = done; count = count }) reading)
 answered_reads rows micros frame heard t got done count (Begin new) h n m = absurd (false≢true (sym n))
 answered_reads rows micros frame heard t got done count (Response response) h n m = absurd (false≢true (sym m))
 answered_reads rows micros frame heard t got done count (Abort code) h n m = record {
   holds = tt;
-  same = ap (λ w. w ++ done) (no_write (is_plain_download t.direction t.protocol) _ refl);
+  same = ap (λ w. w ++ done) (no_write (is_download t.direction) _ refl);
 }
 answered_reads rows micros frame heard t got done count (Segment segment) h n m =
     answered_turn rows micros Client frame heard t got done count (Segment segment) h (late_segment_at t.stage t segment h.unconfirmed)
@@ -300,7 +327,7 @@ confirmed_by true true t e b = rw b (ap (λ s. (end_confirmed_at s t).transfer.i
 confirmed_by true false t e b = rw b refl
 confirmed_by false block t e b = refl
 
-request_spoils : (t : Transfer) (request : SdoRequest) (frame : List ℕ) → t.stage ≡ Initiated → (request_turn t request frame).transfer.irregular ≡ true
+pub request_spoils : (t : Transfer) (request : SdoRequest) (frame : List ℕ) → t.stage ≡ Initiated → (request_turn t request frame).transfer.irregular ≡ true
 request_spoils t (DownloadSegment toggle segment last) frame e = ap (λ s. (download_segment_at s t toggle segment last).transfer.irregular) e
 request_spoils t (NextSegment toggle) frame e = ap (λ s. (upload_request_at s t toggle).transfer.irregular) e
 request_spoils t BlockUploadStart frame e = ap (λ s. (upload_started_at s t).transfer.irregular) e
@@ -310,14 +337,14 @@ request_spoils t (BlockDownloadEnd unused) frame e = ended_by (is_download t.dir
 request_spoils t _ frame e = refl
 
 -- any frame of the client but an initiate request ends it, or makes it irregular
-pub asked_reads : (rows : Rows) (micros : ℕ) (frame : List ℕ) (heard : Bool) (t : Transfer) (got : List ℕ) (done : List Write) (count : ℕ) (reading : Reading)
+pub asked_reads : (rows : Rows) (micros : ℕ) (frame : List ℕ) (heard : Bool) (t : Transfer) (got : List ℕ) (done : List Complete) (count : ℕ) (reading : Reading)
     → t.stage ≡ Initiated → is_begin reading ≡ false → is_response reading ≡ false
     → KnowsAside done (read_as rows micros Client frame (record { following = record { heard = heard; transfer = Some t }; got = got; done = done; count = count }) reading)
 asked_reads rows micros frame heard t got done count (Begin new) h n m = absurd (false≢true (sym n))
 asked_reads rows micros frame heard t got done count (Response response) h n m = absurd (false≢true (sym m))
 asked_reads rows micros frame heard t got done count (Abort code) h n m = record {
   holds = tt;
-  same = ap (λ w. w ++ done) (no_write (is_plain_download t.direction t.protocol) _ refl);
+  same = ap (λ w. w ++ done) (no_write (is_download t.direction) _ refl);
 }
 asked_reads rows micros frame heard t got done count (Segment segment) h n m =
     aside_turn rows micros Client frame heard t got done count (Segment segment) (inl (ap (λ s. (block_segment_at s t segment).transfer.irregular) h))
@@ -341,7 +368,7 @@ unawaited : (initiated : Bool) (t : Transfer) (turn : Turn) → initiated ≡ fa
 unawaited true t turn e = absurd (false≢true (sym e))
 unawaited false t turn e = refl
 
-again_reads : (rows : Rows) (micros : ℕ) (frame : List ℕ) (heard : Bool) (t : Transfer) (got : List ℕ) (done : List Write) (count : ℕ) (r : Option SdoResponse)
+again_reads : (rows : Rows) (micros : ℕ) (frame : List ℕ) (heard : Bool) (t : Transfer) (got : List ℕ) (done : List Complete) (count : ℕ) (r : Option SdoResponse)
     → IsAnswered t → is_first r ≡ true
     → KnowsAside done (read_as rows micros Server frame (record { following = record { heard = heard; transfer = Some t }; got = got; done = done; count = count }) (response_reading r))
 again_reads rows micros frame heard t got done count (Some (DownloadDone key)) h f =
@@ -356,7 +383,7 @@ again_reads rows micros frame heard t got done count (Some (BlockUploadInitiated
     aside_turn rows micros Server frame heard t got done count (Response (BlockUploadInitiated key size)) (inl (unawaited (is_initiated t.stage) t _ h.answered))
 again_reads rows micros frame heard t got done count _ h f = absurd (false≢true f)
 
-pub again : (rows : Rows) (micros : ℕ) (frame : List ℕ) (heard : Bool) (t : Transfer) (got : List ℕ) (done : List Write) (count : ℕ) → IsAnswered t → is_first (response_in frame) ≡ true
+pub again : (rows : Rows) (micros : ℕ) (frame : List ℕ) (heard : Bool) (t : Transfer) (got : List ℕ) (done : List Complete) (count : ℕ) → IsAnswered t → is_first (response_in frame) ≡ true
     → KnowsAside done (read_as rows micros Server frame (record { following = record { heard = heard; transfer = Some t }; got = got; done = done; count = count }) (reading_of (Some t) Server micros frame))
 again rows micros frame heard t got done count h f =
     subst (λ reading. KnowsAside done (read_as rows micros Server frame (record { following = record { heard = heard; transfer = Some t }; got = got; done = done; count = count }) reading))

@@ -1,6 +1,7 @@
 -- What no frame changes of an open transfer.
 use Rattle.std.proofs.Common.{◌≡◌, ℕ, ◌+◌, Bool, true, false, not, List, [], refl, sym, ap, ◌∙◌}
 use Rattle.std.specs.Prelude.{◌&&◌, ◌==◌, nat_lt, if◌then◌else◌}
+use Rattle.std.proofs.lemmas.Bool.{false≢true}
 use Rattle.arrayvec.specs.ArrayVec.{ArrayVec}
 use Rattle.co_value.specs.declared.key.Key.{Key}
 use Rattle.co_value.specs.Keys.{same_key}
@@ -24,13 +25,14 @@ use Rattle.conode_explain_transfers.specs.Transfers.{Turn, is_download, awaited_
 use Rattle.conode_explain_transfers.specs.Turns.{request_turn, response_turn}
 use Rattle.conode_explain_laws.proofs.Readings.{Reading, Segment, Request, Response, turn_of}
 
--- a transfer that is irregular or answered stays so; its direction, and the protocol of a download,
--- stay
+-- a transfer that is irregular or answered stays so; its direction stays, and so does the protocol
+-- of a download, and of any transfer that is answered
 pub record Keeps (before after : Transfer) : Type 0 where
   pub irregular : before.irregular ≡ true → after.irregular ≡ true
   pub answered : is_initiated before.stage ≡ false → is_initiated after.stage ≡ false
   pub direction : after.direction ≡ before.direction
   pub protocol : before.direction ≡ Download → after.protocol ≡ before.protocol
+  pub settled : is_initiated before.stage ≡ false → after.protocol ≡ before.protocol
 
 abbrev pub KeepsIn : Transfer → Turn → Type 0
 KeepsIn before turn = Keeps before turn.transfer
@@ -40,15 +42,15 @@ KeepsIn before turn = Keeps before turn.transfer
 -- nothing that is kept, but the stage
 moves : (t u : Transfer) → u.irregular ≡ t.irregular → is_initiated u.stage ≡ false → u.direction ≡ t.direction → u.protocol ≡ t.protocol
     → Keeps t u
-moves t u i s d p = record { irregular = λ h. i ∙ h; answered = λ h. s; direction = d; protocol = λ h. p }
+moves t u i s d p = record { irregular = λ h. i ∙ h; answered = λ h. s; direction = d; protocol = λ h. p; settled = λ h. p }
 
 -- it is irregular then
 spoils : (t u : Transfer) → u.irregular ≡ true → (is_initiated t.stage ≡ false → is_initiated u.stage ≡ false) → u.direction ≡ t.direction
     → u.protocol ≡ t.protocol → Keeps t u
-spoils t u i s d p = record { irregular = λ h. i; answered = s; direction = d; protocol = λ h. p }
+spoils t u i s d p = record { irregular = λ h. i; answered = s; direction = d; protocol = λ h. p; settled = λ h. p }
 
 same : (t : Transfer) → Keeps t t
-same t = record { irregular = λ h. h; answered = λ h. h; direction = refl; protocol = λ h. refl }
+same t = record { irregular = λ h. h; answered = λ h. h; direction = refl; protocol = λ h. refl; settled = λ h. refl }
 
 spoiled : (t : Transfer) → Keeps t (irregular t)
 spoiled t = spoils t (irregular t) refl (λ h. h) refl refl
@@ -57,21 +59,24 @@ either : (b : Bool) (t : Transfer) (x y : Turn) → KeepsIn t x → KeepsIn t y 
 either true t x y kx ky = kx
 either false t x y kx ky = ky
 
--- an upload becomes of any protocol
-uploads : (t u : Transfer) → t.direction ≡ Upload → u.irregular ≡ t.irregular → is_initiated u.stage ≡ false → u.direction ≡ t.direction → Keeps t u
-uploads t u up i s d = record {
+-- an upload becomes of any protocol when it is answered
+uploads : (t u : Transfer) → is_initiated t.stage ≡ true → t.direction ≡ Upload → u.irregular ≡ t.irregular → is_initiated u.stage ≡ false → u.direction ≡ t.direction → Keeps t u
+uploads t u first up i s d = record {
   irregular = λ h. i ∙ h;
   answered = λ h. s;
   direction = d;
   protocol = λ h. absurd (let e : Download ≡ Upload = sym h ∙ up in cc);
+  settled = λ h. absurd (false≢true (sym h ∙ first));
 }
 
 -- ---- responses to initiate
 
-answers : (t : Transfer) (key : Key) (turn : Turn) → KeepsIn t turn → KeepsIn t (answering t key turn)
-answers t key turn k =
-    either (is_initiated t.stage) t (if same_key key t.key then turn else overtaken t) (unexpected t)
-    (either (same_key key t.key) t turn (overtaken t) k (same t)) (spoiled t)
+answers : (t : Transfer) (key : Key) (turn : Turn) → (is_initiated t.stage ≡ true → KeepsIn t turn) → KeepsIn t (answering t key turn)
+answers t key turn k = by (is_initiated t.stage) refl
+  where
+    by : (first : Bool) → is_initiated t.stage ≡ first → KeepsIn t (if first then (if same_key key t.key then turn else overtaken t) else unexpected t)
+    by true e = either (same_key key t.key) t turn (overtaken t) (k e) (same t)
+    by false e = spoiled t
 
 download_keeps : (t : Transfer) (protocol : Protocol) → t.protocol ≡ protocol → KeepsIn t (download_answered t protocol)
 download_keeps t Expedited e = moves t (takes_data (confirmed t) []).transfer refl refl refl refl
@@ -173,19 +178,19 @@ request_keeps t _ frame = spoiled t
 
 response_keeps : (t : Transfer) (response : SdoResponse) (frame : List ℕ) → KeepsIn t (response_turn t response frame)
 response_keeps t (DownloadDone key) frame =
-    answers t key _ (either (is_download t.direction) t (download_answered t t.protocol) (unexpected t) (download_keeps t t.protocol refl) (spoiled t))
+    answers t key _ (λ first. either (is_download t.direction) t (download_answered t t.protocol) (unexpected t) (download_keeps t t.protocol refl) (spoiled t))
 response_keeps t (DownloadSegmentDone toggle) frame = segment_done_keeps t.stage t toggle
 response_keeps t (UploadExpedited key value) frame =
-    answers t key _ (upload_keeps t t.direction _ refl (λ up. uploads t _ up refl refl refl))
+    answers t key _ (λ first. upload_keeps t t.direction _ refl (λ up. uploads t _ first up refl refl refl))
 response_keeps t (UploadInitiated key size) frame =
-    answers t key _ (upload_keeps t t.direction _ refl (λ up. uploads t _ up refl refl refl))
+    answers t key _ (λ first. upload_keeps t t.direction _ refl (λ up. uploads t _ first up refl refl refl))
 response_keeps t (UploadSegment toggle segment last) frame = upload_segment_keeps t.stage t toggle segment last
 response_keeps t (BlockDownloadInitiated key block_size) frame =
-    answers t key _ (either (is_download t.direction && is_block t.protocol) t _ (unexpected t) (moves t _ refl refl refl refl) (spoiled t))
+    answers t key _ (λ first. either (is_download t.direction && is_block t.protocol) t _ (unexpected t) (moves t _ refl refl refl refl) (spoiled t))
 response_keeps t BlockDownloadDone frame = end_keeps (is_download t.direction) t
 response_keeps t (BlockDownloadAcknowledge sequence block_size) frame = by_receiver_keeps (is_download t.direction) t sequence block_size
 response_keeps t (BlockUploadInitiated key size) frame =
-    answers t key _ (upload_keeps t t.direction _ refl
+    answers t key _ (λ first. upload_keeps t t.direction _ refl
     (λ up. either (is_block t.protocol) t _ (unexpected t) (moves t _ refl refl refl refl) (spoiled t)))
 response_keeps t (BlockUploadEnd unused) frame = by_sender_keeps (not (is_download t.direction)) t unused (crc_in frame)
 response_keeps t _ frame = spoiled t

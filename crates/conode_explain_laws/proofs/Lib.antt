@@ -3,9 +3,14 @@ pub mod Kept
 pub mod Views
 pub mod Follows
 pub mod Begins
+pub mod Blocks
 pub mod Exchanges
 pub mod AllInputs
-pub mod Uploads
+pub mod NoDownloads
 pub mod Exact
 pub mod AllExact
-mod Examples
+pub mod UploadViews
+pub mod UploadExchanges
+pub mod AllUploads
+pub mod Examples
+mod UploadExamples

@@ -14,9 +14,6 @@ use Rattle.co_dict.specs.Rows.{Rows}
 use Rattle.co_sdo.specs.Log.{Answer, Response as Replied, answer_bytes}
 use Rattle.co_sdo.specs.Replies.{aborted}
 use Rattle.conode_explain_transfers.specs.declared.ended.Ending.TheVariants.{Repeated}
-use Rattle.conode_explain_transfers.specs.declared.kinds.Direction.{Direction}
-use Rattle.conode_explain_transfers.specs.declared.kinds.Direction.TheVariants.{Download, Upload}
-use Rattle.conode_explain_transfers.specs.declared.kinds.Protocol.{Protocol}
 use Rattle.conode_explain_transfers.specs.declared.kinds.Side.{Side}
 use Rattle.conode_explain_transfers.specs.declared.kinds.Side.TheVariants.{Client, Server}
 use Rattle.conode_explain_transfers.specs.declared.kinds.What.{What}
@@ -27,9 +24,9 @@ use Rattle.conode_explain_transfers.specs.Endings.{verdict}
 use Rattle.conode_explain_transfers.specs.Followed.{Event, Following, Followed, following_after, left_by, with_frame, turns, turns_at}
 use Rattle.conode_explain_transfers.specs.Readings.{awaits_segment}
 use Rattle.conode_explain_transfers.specs.Stages.{confirmed_with}
-use Rattle.conode_explain_transfers.specs.Transfers.{after, is_same_request}
+use Rattle.conode_explain_transfers.specs.Transfers.{after, is_download, is_same_request}
 use Rattle.conode_explain_laws.specs.Recordings.{and_frame, and_answers}
-use Rattle.conode_explain_laws.specs.Downloads.{Write, is_plain, is_plain_download, initiated_by, if_done, write_said, downloads_done}
+use Rattle.conode_explain_laws.specs.Downloads.{Complete, initiated_by, if_done, write_said, downloads_done}
 use Rattle.conode_explain_laws.proofs.Readings.{Reading, Segment, Begin, Abort, Request, Response, Nothing, response_reading, plain_reading, beginning, segment_reading, sub_block_reading, reading_of, turn_of, follows_by, bytes_by, same as same_reading}
 use Rattle.conode_explain_laws.proofs.Kept.{Keeps, keeps}
 
@@ -39,7 +36,7 @@ use Rattle.conode_explain_laws.proofs.Kept.{Keeps, keeps}
 pub record View : Type 0 where
   pub following : Following
   pub got : List ℕ
-  pub done : List Write
+  pub done : List Complete
   pub count : ℕ
 
 abbrev pub view_of : Rows → List Event → View
@@ -90,17 +87,17 @@ hears_all rows stamp (answer ∷ later) recording =
     ∙ ap (hears_answers rows stamp later) (hears_frame rows stamp Server (answer_bytes answer) recording)
 
 -- with what is known of the open transfer and its data, and nothing more done
-pub record Knows (P : Transfer → List ℕ → Type 0) (done : List Write) (v : View) : Type 0 where
+pub record Knows (P : Transfer → List ℕ → Type 0) (done : List Complete) (v : View) : Type 0 where
   pub holds : IfSome v.following.transfer (λ t. P t v.got)
   pub same : v.done ≡ done
 
 -- ---- what isn't done
 
-pub no_write : (b : Bool) (write : List Write) → write ≡ [] → (if b then write else []) ≡ []
+pub no_write : (b : Bool) (write : List Complete) → write ≡ [] → (if b then write else []) ≡ []
 no_write true write h = h
 no_write false write h = refl
 
-left_no_write : (same : Bool) (by : Side) (write : List Write) → if_done (if same then Repeated else left_by by) write ≡ []
+pub left_no_write : (same : Bool) (by : Side) (write : List Complete) → if_done (if same then Repeated else left_by by) write ≡ []
 left_no_write true by write = refl
 left_no_write false Client write = refl
 left_no_write false Server write = refl
@@ -108,11 +105,11 @@ left_no_write false Server write = refl
 -- ---- an initiate request
 
 -- it ends no transfer that is done
-pub begin_writes : (rows : Rows) (micros : ℕ) (frame : List ℕ) (heard : Bool) (current : Option Transfer) (got : List ℕ) (done : List Write) (count : ℕ) (new : Transfer)
+pub begin_writes : (rows : Rows) (micros : ℕ) (frame : List ℕ) (heard : Bool) (current : Option Transfer) (got : List ℕ) (done : List Complete) (count : ℕ) (new : Transfer)
     → (read_as rows micros Client frame (record { following = record { heard = heard; transfer = current }; got = got; done = done; count = count }) (Begin new)).done ≡ done
 begin_writes rows micros frame heard None got done count new = refl
 begin_writes rows micros frame heard (Some t) got done count new =
-    ap (λ w. w ++ done) (no_write (is_plain_download t.direction t.protocol) _ (left_no_write (is_same_request t frame) t.by _))
+    ap (λ w. w ++ done) (no_write (is_download t.direction) _ (left_no_write (is_same_request t frame) t.by _))
 
 -- ---- aborts
 
@@ -121,45 +118,41 @@ is_abort_reading (Abort code) = true
 is_abort_reading _ = false
 
 -- nothing is open then, and nothing more done
-pub record Closes (done : List Write) (v : View) : Type 0 where
+pub record Closes (done : List Complete) (v : View) : Type 0 where
   pub none : v.following.transfer ≡ None
   pub same : v.done ≡ done
 
-pub abort_closes : (rows : Rows) (micros : ℕ) (side : Side) (frame : List ℕ) (heard : Bool) (current : Option Transfer) (got : List ℕ) (done : List Write) (count : ℕ) (reading : Reading)
+pub abort_closes : (rows : Rows) (micros : ℕ) (side : Side) (frame : List ℕ) (heard : Bool) (current : Option Transfer) (got : List ℕ) (done : List Complete) (count : ℕ) (reading : Reading)
     → is_abort_reading reading ≡ true
     → Closes done (read_as rows micros side frame (record { following = record { heard = heard; transfer = current }; got = got; done = done; count = count }) reading)
 abort_closes rows micros side frame heard None got done count (Abort code) h = record { none = refl; same = refl }
 abort_closes rows micros side frame heard (Some t) got done count (Abort code) h = record {
   none = refl;
-  same = ap (λ w. w ++ done) (no_write (is_plain_download t.direction t.protocol) _ refl);
+  same = ap (λ w. w ++ done) (no_write (is_download t.direction) _ refl);
 }
 abort_closes rows micros side frame heard current got done count _ h = absurd (false≢true h)
 
 -- ---- transfers that aren't followed any more
 
--- frames are missing, or it's no plain download
+-- frames are missing, or it's no download
 abbrev pub IsAside : Transfer → Type 0
-IsAside t = (t.irregular ≡ true) ⊎ (is_plain_download t.direction t.protocol ≡ false)
+IsAside t = (t.irregular ≡ true) ⊎ (is_download t.direction ≡ false)
 
 pub stays_aside : (t u : Transfer) → Keeps t u → IsAside t → IsAside u
 stays_aside t u k (inl i) = inl (k.irregular i)
-stays_aside t u k (inr p) = inr (by t.direction t.protocol refl refl p)
-  where
-    by : (x : Direction) (y : Protocol) → t.direction ≡ x → t.protocol ≡ y → is_plain_download x y ≡ false → is_plain_download u.direction u.protocol ≡ false
-    by Upload y e f p = ap (λ x. is_plain_download x u.protocol) (k.direction ∙ e)
-    by Download y e f p = ap (λ x. is_plain_download x u.protocol) (k.direction ∙ e) ∙ ap is_plain (k.protocol e ∙ f) ∙ p
+stays_aside t u k (inr p) = inr (ap is_download k.direction ∙ p)
 
 aside_frame : (what : What) (u : Transfer) (micros : ℕ) (side : Side) → IsAside u → IsAside (with_frame what u micros side)
 aside_frame Overtaken u micros side h = h
 aside_frame _ u micros side h = h
 
-pub aside_write : (u : Transfer) (crc : Option ℕ) (write : List Write) → IsAside u
-    → (if is_plain_download u.direction u.protocol then if_done (verdict u crc) write else []) ≡ []
-aside_write u crc write (inl i) = no_write (is_plain_download u.direction u.protocol) _ (rw i refl)
+pub aside_write : (u : Transfer) (crc : Option ℕ) (write : List Complete) → IsAside u
+    → (if is_download u.direction then if_done (verdict u crc) write else []) ≡ []
+aside_write u crc write (inl i) = no_write (is_download u.direction) _ (rw i refl)
 aside_write u crc write (inr p) = rw p refl
 
 -- a turn's transfer, kept or confirmed
-aside_turns : (rows : Rows) (x : Option (Option ℕ)) (heard : Bool) (what : What) (u : Transfer) (initiate : Option SdoRequest) (got : List ℕ) (done : List Write) (count micros : ℕ) (side : Side) → IsAside u
+aside_turns : (rows : Rows) (x : Option (Option ℕ)) (heard : Bool) (what : What) (u : Transfer) (initiate : Option SdoRequest) (got : List ℕ) (done : List Complete) (count micros : ℕ) (side : Side) → IsAside u
     → Knows (λ t got. IsAside t) done (record {
       following = (turns_at x heard what u micros side).next;
       got = got;
@@ -169,7 +162,7 @@ aside_turns : (rows : Rows) (x : Option (Option ℕ)) (heard : Bool) (what : Wha
 aside_turns rows None heard what u initiate got done count micros side h = record { holds = aside_frame what u micros side h; same = refl }
 aside_turns rows (Some crc) heard what u initiate got done count micros side h = record { holds = tt; same = ap (λ w. w ++ done) (aside_write u crc _ h) }
 
-pub aside_turn : (rows : Rows) (micros : ℕ) (side : Side) (frame : List ℕ) (heard : Bool) (t : Transfer) (got : List ℕ) (done : List Write) (count : ℕ) (reading : Reading)
+pub aside_turn : (rows : Rows) (micros : ℕ) (side : Side) (frame : List ℕ) (heard : Bool) (t : Transfer) (got : List ℕ) (done : List Complete) (count : ℕ) (reading : Reading)
     → IsAside (turn_of t reading frame).transfer
     → Knows (λ t got. IsAside t) done (record {
       following = (turns heard t (turn_of t reading frame) micros side).next;
@@ -188,17 +181,17 @@ is_begin (Begin new) = true
 is_begin _ = false
 
 -- what is known of one that isn't followed
-abbrev pub KnowsAside : List Write → View → Type 0
+abbrev pub KnowsAside : List Complete → View → Type 0
 KnowsAside done v = Knows (λ t got. IsAside t) done v
 
-pub aside_reads : (rows : Rows) (micros : ℕ) (side : Side) (frame : List ℕ) (heard : Bool) (current : Option Transfer) (got : List ℕ) (done : List Write) (count : ℕ) (reading : Reading)
+pub aside_reads : (rows : Rows) (micros : ℕ) (side : Side) (frame : List ℕ) (heard : Bool) (current : Option Transfer) (got : List ℕ) (done : List Complete) (count : ℕ) (reading : Reading)
     → IfSome current IsAside → is_begin reading ≡ false
     → KnowsAside done (read_as rows micros side frame (record { following = record { heard = heard; transfer = current }; got = got; done = done; count = count }) reading)
 aside_reads rows micros side frame heard current got done count (Begin new) h n = absurd (false≢true (sym n))
 aside_reads rows micros side frame heard None got done count _ h n = record { holds = tt; same = refl }
 aside_reads rows micros side frame heard (Some t) got done count (Abort code) h n = record {
   holds = tt;
-  same = ap (λ w. w ++ done) (no_write (is_plain_download t.direction t.protocol) _ refl);
+  same = ap (λ w. w ++ done) (no_write (is_download t.direction) _ refl);
 }
 aside_reads rows micros side frame heard (Some t) got done count (Segment segment) h n =
     aside_turn rows micros side frame heard t got done count (Segment segment) (stays_aside t (turn_of t (Segment segment) frame).transfer (keeps t (Segment segment) frame) h)
@@ -239,7 +232,7 @@ server_no_begin (Some t) micros frame = by (awaits_segment t Server) (is_abort_i
     by false abort = response_no_begin (response_in frame)
 
 -- whatever the server answers
-pub aside_answers : (rows : Rows) (stamp : ℕ → ℕ) (answers : List Answer) (done : List Write) (v : View) → KnowsAside done v → KnowsAside done (hears_answers rows stamp answers v)
+pub aside_answers : (rows : Rows) (stamp : ℕ → ℕ) (answers : List Answer) (done : List Complete) (v : View) → KnowsAside done v → KnowsAside done (hears_answers rows stamp answers v)
 aside_answers rows stamp [] done v h = h
 aside_answers rows stamp (answer ∷ later) done v h =
     let frame = answer_bytes answer in
@@ -247,7 +240,7 @@ aside_answers rows stamp (answer ∷ later) done v h =
     aside_answers rows stamp later done (hears rows stamp Server frame v) (record { holds = step.holds; same = step.same ∙ h.same })
 
 -- an abort of the server
-abort_is : (current : Option Transfer) (micros : ℕ) (key : Key) (code : ℕ) → is_abort_reading (reading_of current Server micros (answer_bytes (Replied (Refuse key (record { 0 = code }))))) ≡ true
+pub abort_is : (current : Option Transfer) (micros : ℕ) (key : Key) (code : ℕ) → is_abort_reading (reading_of current Server micros (answer_bytes (Replied (Refuse key (record { 0 = code }))))) ≡ true
 unfolding response_row_in
 abort_is None micros key code = refl
 abort_is (Some t) micros key code = by (awaits_segment t Server)

@@ -15,31 +15,26 @@ use Rattle.co_sdo.specs.Downloads.{Download as Whole}
 use Rattle.conode_explain_transfers.specs.declared.ended.Ended.{Ended}
 use Rattle.conode_explain_transfers.specs.declared.ended.Ending.{Ending}
 use Rattle.conode_explain_transfers.specs.declared.ended.Ending.TheVariants.{Done}
-use Rattle.conode_explain_transfers.specs.declared.kinds.Direction.{Direction}
-use Rattle.conode_explain_transfers.specs.declared.kinds.Direction.TheVariants.{Download, Upload}
 use Rattle.conode_explain_transfers.specs.declared.kinds.Protocol.{Protocol}
 use Rattle.conode_explain_transfers.specs.declared.kinds.Protocol.TheVariants.{Block}
 use Rattle.conode_explain_transfers.specs.declared.transfer.Transfer.{Transfer}
 use Rattle.conode_explain_transfers.specs.Data.{data_after}
+use Rattle.conode_explain_transfers.specs.Transfers.{is_download}
 use Rattle.conode_explain_transfers.specs.Followed.{Event, Framed, BootedUp, following_after, said}
 use Rattle.conode_explain_laws.specs.Recordings.{Input, Received, Elapsed, Expired, Abandoned, Started, log_of, recorded}
 
--- a download that is complete: with which frame of the recording, its entry, and the entry's bytes
-pub record Write : Type 0 where
+-- a transfer that is complete: with which frame of the recording, its entry, and the entry's bytes
+pub record Complete : Type 0 where
   pub frame : ℕ
   pub key : Key
   pub bytes : List ℕ
 
 -- ---- by explain
 
--- a download that isn't in blocks: expedited or segmented
+-- a transfer that isn't in blocks: expedited or segmented
 abbrev pub is_plain : Protocol → Bool
 is_plain Block = false
 is_plain _ = true
-
-abbrev pub is_plain_download : Direction → Protocol → Bool
-is_plain_download Download protocol = is_plain protocol
-is_plain_download Upload protocol = false
 
 -- the initiate request of the open transfer
 abbrev pub initiated_by : Option Transfer → Option SdoRequest
@@ -52,21 +47,21 @@ abbrev pub entry_bytes : Rows → Key → Option SdoRequest → List ℕ → Lis
 entry_bytes rows key (Some (DownloadExpedited k (NotIndicated four))) got = take (capacity_at rows key) got
 entry_bytes rows key _ got = got
 
-abbrev pub if_done : Ending → List Write → List Write
+abbrev pub if_done : Ending → List Complete → List Complete
 if_done (Done crc) write = write
 if_done _ write = []
 
 -- what explain says is written, where a transfer with this initiate request and these data ended
 -- with a frame
-abbrev pub write_said : Rows → Option SdoRequest → Option Ended → List ℕ → ℕ → List Write
+abbrev pub write_said : Rows → Option SdoRequest → Option Ended → List ℕ → ℕ → List Complete
 write_said rows initiate None got frame = []
 write_said rows initiate (Some ended) got frame =
-    if is_plain_download ended.direction ended.protocol
+    if is_download ended.direction
     then if_done ended.ending (record { frame = frame; key = ended.key; bytes = entry_bytes rows ended.key initiate got } ∷ [])
     else []
 
--- the plain downloads that explain says are done, over a whole recording, newest first
-abbrev pub downloads_done : Rows → List Event → List Write
+-- the downloads that explain says are done, over a whole recording, newest first
+abbrev pub downloads_done : Rows → List Event → List Complete
 downloads_done rows [] = []
 downloads_done rows (Framed micros side frame ∷ older) =
     write_said rows (initiated_by (following_after older).transfer) (said older micros side frame).ended
@@ -77,7 +72,7 @@ downloads_done rows (BootedUp micros ∷ older) = downloads_done rows older
 -- ---- by the channel
 
 -- a download that is set with a frame
-abbrev pub write_set : Option Whole → ℕ → List Write
+abbrev pub write_set : Option Whole → ℕ → List Complete
 write_set None frame = []
 write_set (Some download) frame = record { frame = frame; key = download.key; bytes = download.bytes } ∷ []
 
@@ -87,7 +82,7 @@ set_with d contents frame log = if length frame == 8 then set_by d contents log 
 
 -- the downloads that the channel sets, newest first, each with its answer: that is the newest frame
 -- of the recording then
-abbrev pub downloads_set : (ℕ → ℕ) → Description → List Input → List Write
+abbrev pub downloads_set : (ℕ → ℕ) → Description → List Input → List Complete
 downloads_set stamp d [] = []
 downloads_set stamp d (Received contents frame ∷ older) =
     write_set (set_with d contents frame (log_of d older)) (length (recorded stamp d (Received contents frame ∷ older)))
@@ -115,7 +110,7 @@ ArePlain inputs = AllByRecursion IsPlainInput inputs
 -- ---- the two
 
 -- these are some of those, in their order
-abbrev pub AreSome : List Write → List Write → Type 0
+abbrev pub AreSome : List Complete → List Complete → Type 0
 AreSome [] all = Unit {0}
 AreSome (write ∷ others) [] = ⊥
 AreSome (write ∷ others) (set ∷ later) = ((write ≡ set) × AreSome others later) ⊎ AreSome (write ∷ others) later

@@ -3,5 +3,7 @@
 #![tactic(auto)]
 
 mod downloads;
+mod uploads;
 
-pub use downloads::plain_downloads;
+pub use downloads::all_downloads;
+pub use uploads::plain_uploads;
