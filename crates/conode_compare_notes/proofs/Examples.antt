@@ -340,19 +340,6 @@ accesses : code_of 0x2000 0 Download Segmented [] ∷ code_of 0x2000 0 Upload Un
 unfolding sheet_code
 accesses = refl
 
--- of two bytes; four may be meant as two
-lengths : map (code_of 0x2000 1 Download Expedited) ((5 ∷ []) ∷ (15 ∷ 0 ∷ []) ∷ (15 ∷ 0 ∷ 0 ∷ []) ∷ (15 ∷ 0 ∷ 0 ∷ 0 ∷ []) ∷ []) ≡ Some 0x06070013 ∷ None ∷ Some 0x06070012 ∷ None ∷ []
-unfolding sheet_code
-lengths = refl
-
-limits : map (code_of 0x2000 1 Download Expedited) ((9 ∷ 0 ∷ []) ∷ (10 ∷ 0 ∷ []) ∷ (20 ∷ 0 ∷ []) ∷ (21 ∷ 0 ∷ []) ∷ []) ≡ Some 0x06090032 ∷ None ∷ None ∷ Some 0x06090031 ∷ []
-unfolding sheet_code
-limits = refl
-
-in_segments_too_long : code_of 0x2000 1 Download Segmented (5 ∷ []) ≡ None
-unfolding sheet_code
-in_segments_too_long = refl
-
 -- the other code that fits, in an abort of 2000h or 2002h
 abbrev code_for : ℕ → ℕ → Direction → List ℕ → ℕ → Option Choice
 code_for low sub direction bytes came =
@@ -369,16 +356,6 @@ read_only = refl
 write_only : code_for 0 2 Upload [] 0x06010000 ≡ Some (Code (entry_key 0 2) 0x06010000 0x06010001)
 unfolding code_choice sheet_code
 write_only = refl
-
-too_short_or_long : code_for 0 1 Download (5 ∷ []) 0x06070010 ∷ code_for 0 1 Download (15 ∷ 0 ∷ 0 ∷ []) 0x06070010 ∷ code_for 0 1 Download (15 ∷ 0 ∷ []) 0x06070010 ∷ []
-    ≡ Some (Code (entry_key 0 1) 0x06070010 0x06070013) ∷ Some (Code (entry_key 0 1) 0x06070010 0x06070012) ∷ None ∷ []
-unfolding code_choice sheet_code
-too_short_or_long = refl
-
-beyond_a_limit : code_for 0 1 Download (9 ∷ 0 ∷ []) 0x06090030 ∷ code_for 0 1 Download (21 ∷ 0 ∷ []) 0x06090030 ∷ code_for 0 1 Download (20 ∷ 0 ∷ []) 0x06090030 ∷ []
-    ≡ Some (Code (entry_key 0 1) 0x06090030 0x06090032) ∷ Some (Code (entry_key 0 1) 0x06090030 0x06090031) ∷ None ∷ []
-unfolding code_choice sheet_code
-beyond_a_limit = refl
 
 not_there : code_for 0 3 Upload [] 0x06020000 ∷ code_for 2 3 Upload [] 0x06090011 ∷ code_for 0 3 Upload [] 0x06090011 ∷ []
     ≡ Some (Code (entry_key 0 3) 0x06020000 0x06090011) ∷ Some (Code (entry_key 2 3) 0x06090011 0x06020000) ∷ None ∷ []
