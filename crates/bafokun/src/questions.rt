@@ -116,12 +116,15 @@ pub extern "C" fn bafokun_node_id(alloc: Global, node: &mut Handle) -> u8
 
 /// During this many ms the device sends nothing, and its entries and its NMT state stay the same,
 /// if it gets no other input: a lower bound. These ticks, or fewer, may be passed at once by
-/// `bafokun_ticks`. 4294967295 without a device. C must pass what `bafokun_tick` requires.
+/// `bafokun_ticks`. 4294967295: they stay so however many ms elapse; also without a device. C must
+/// pass what `bafokun_tick` requires.
 #[unsafe(no_mangle)]
 pub extern "C" fn bafokun_idle(alloc: Global, node: &mut Handle) -> u32
     ensures same { node.new.seal.value ≡ node.old.seal.value }
     ensures idle { (k : Constants) (before : Inputs) → IsDevice k node.old before →
         IsQuietFor k before result }
+    ensures forever { (k : Constants) (before : Inputs) → IsDevice k node.old before →
+        result ≡ 4294967295 → (n : ℕ) → IsQuietFor k before n }
     ensures empty { IsEmpty node.old → result ≡ 4294967295 }
 {
     match node.take(alloc) {

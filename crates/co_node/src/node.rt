@@ -306,10 +306,13 @@ impl Node {
     }
 
     /// During this many ms the device sends nothing, and its entries, its NMT state and the bytes
-    /// held by SDO channels stay the same, if it gets no other input: a lower bound.
+    /// held by SDO channels stay the same, if it gets no other input: a lower bound. 4294967295: they
+    /// stay so however long it gets none.
     pub fn idle(&self) -> u32
-        ensures { (k : Constants) (before : Inputs) → Stands k self.now before →
+        ensures quiet { (k : Constants) (before : Inputs) → Stands k self.now before →
             IsQuietFor k before result }
+        ensures forever { (k : Constants) (before : Inputs) → Stands k self.now before →
+            result ≡ 4294967295 → (n : ℕ) → IsQuietFor k before n }
     {
         self.device.idle()
     }

@@ -95,10 +95,10 @@ impl Emergencies {
     }
 
     /// During this many ticks (1 ms each) no emergency is due, if nothing else happens and `may`
-    /// stays the same: a lower bound.
+    /// stays the same: a lower bound. 4294967295: however many there are.
     pub fn idle(&self, may: bool) -> u32
-        ensures { (log : EmergencyLog) (n : ℕ) → EmergenciesStand self.now log → n ≤ result →
-            NoneSentFor may n log }
+        ensures { (log : EmergencyLog) (n : ℕ) → EmergenciesStand self.now log →
+            (result < 4294967295 → n ≤ result) → NoneSentFor may n log }
     {
         if !may || self.queue.is_empty() {
             return u32::MAX;

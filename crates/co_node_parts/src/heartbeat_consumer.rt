@@ -98,9 +98,10 @@ impl HeartbeatConsumer {
     }
 
     /// During this many ticks its heartbeat isn't lost, if nothing else happens: a lower bound.
+    /// 4294967295: however many there are.
     pub(crate) fn idle(&self) -> u32
-        ensures { (log : ConsumerLog) (n : ℕ) → ConsumerStands self.now log → n ≤ result →
-            NotLostFor n log }
+        ensures { (log : ConsumerLog) (n : ℕ) → ConsumerStands self.now log →
+            (result < 4294967295 → n ≤ result) → NotLostFor n log }
     {
         if self.left == 0 {
             return u32::MAX;

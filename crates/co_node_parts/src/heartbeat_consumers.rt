@@ -117,10 +117,10 @@ fn begin_each(entries: &mut [HeartbeatConsumer], words: &[u32])
 }
 
 /// During this many ticks none of these entries loses its heartbeat, if nothing else happens: a
-/// lower bound.
+/// lower bound. 4294967295: however many there are.
 fn idle_among(entries: &[HeartbeatConsumer]) -> u32
-    ensures { (logs : ℕ → ConsumerLog) (n : ℕ) → AllStand entries.now logs → n ≤ result →
-        AreKeptFor n (length entries.now) logs }
+    ensures { (logs : ℕ → ConsumerLog) (n : ℕ) → AllStand entries.now logs →
+        (result < 4294967295 → n ≤ result) → AreKeptFor n (length entries.now) logs }
 {
     let mut least = u32::MAX;
     for i in 0..entries.len() {
@@ -195,10 +195,10 @@ impl HeartbeatConsumers {
     }
 
     /// During this many ticks (1 ms each) no heartbeat is lost, if nothing else happens: a lower
-    /// bound.
+    /// bound. 4294967295: however many there are.
     pub fn idle(&self) -> u32
-        ensures { (log : ConsumersLog) (n : ℕ) → ConsumersStand self.now log → n ≤ result →
-            NoneLostFor n log }
+        ensures { (log : ConsumersLog) (n : ℕ) → ConsumersStand self.now log →
+            (result < 4294967295 → n ≤ result) → NoneLostFor n log }
     {
         idle_among(&self.entries)
     }

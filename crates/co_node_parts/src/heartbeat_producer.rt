@@ -71,10 +71,10 @@ impl HeartbeatProducer {
     }
 
     /// During this many ticks (1 ms each) no heartbeat is due, if nothing else happens: a lower
-    /// bound.
+    /// bound. 4294967295: however many there are.
     pub fn idle(&self) -> u32
-        ensures { (log : ProducerLog) (n : ℕ) → ProducerStands self.now log → n ≤ result →
-            NoneDueFor n log }
+        ensures { (log : ProducerLog) (n : ℕ) → ProducerStands self.now log →
+            (result < 4294967295 → n ≤ result) → NoneDueFor n log }
     {
         if self.period == 0 {
             return u32::MAX;

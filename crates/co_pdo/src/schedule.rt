@@ -1,6 +1,6 @@
 //! When TPDOs are due.
 
-ghost use Rattle.std.specs.Prelude.{◌≡◌, ℕ, ◌≤◌, ◌==◌, false, [], length, IfOk};
+ghost use Rattle.std.specs.Prelude.{◌≡◌, ℕ, ◌<◌, ◌≤◌, ◌==◌, false, [], length, IfOk};
 ghost use Rattle.co_dict.specs.declared.side.Side.{Side};
 ghost use Rattle.co_pdo.specs.declared.settings.Settings.{Settings};
 ghost use Rattle.co_pdo.specs.Pdos.{cob_id_of};
@@ -239,11 +239,13 @@ impl Schedule {
     }
 
     /// During this many ticks (1 ms each) no TPDO is due, if nothing else happens: a lower bound.
+    /// 4294967295: however many there are.
     pub fn idle<S: ObjectStore>(&self, store: &S) -> u32
         ensures { (history : History) (n : ℕ) →
             IsScheduleAfter (S.description store.now) self.now history →
             AllCurrent (S.contents store.now) history →
-            n ≤ result → NoTpdoDueFor (S.contents store.now) n history }
+            (result < 4294967295 → n ≤ result) →
+            NoTpdoDueFor (S.contents store.now) n history }
     {
         let tpdos: &[Tpdo] = &self.tpdos;
         let places: &[Places] = &self.places;

@@ -228,10 +228,10 @@ impl Tpdo {
     }
 
     /// During this many ticks the countdowns don't make it due, if nothing else happens: a lower
-    /// bound.
+    /// bound. 4294967295: however many there are.
     fn ticks_left(&self) -> u32
         ensures { (log : Log) (n : ℕ) (s : Settings) → IsAfter self.now log → IsCurrent s log →
-            n ≤ result → NotDueFor s n log }
+            (result < 4294967295 → n ≤ result) → NotDueFor s n log }
     {
         let driven = self.transmission_type.is_event_driven();
         let waits = self.event_waits;
@@ -249,12 +249,14 @@ impl Tpdo {
         timer.max(inhibit) - 1
     }
 
-    /// During this many ticks it isn't due, if nothing else happens: a lower bound.
+    /// During this many ticks it isn't due, if nothing else happens: a lower bound. 4294967295:
+    /// however many there are.
     pub(crate) fn idle<S: ObjectStore>(&self, store: &S, places: &Places) -> u32
         requires { self.now.number < 512 }
         ensures { places.now ≡ places_of (S.description store.now) self.now.number →
             (log : Log) (n : ℕ) → let s = settings_of (S.contents store.now) self.now.number in
-            IsAfter self.now log → IsCurrent s log → n ≤ result → NotDueFor s n log }
+            IsAfter self.now log → IsCurrent s log → (result < 4294967295 → n ≤ result) →
+            NotDueFor s n log }
     {
         let active = places.is_active(store);
         if !active {

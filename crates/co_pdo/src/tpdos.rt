@@ -148,7 +148,8 @@ pub(crate) fn all_happen_among<S: ObjectStore>(
     }
 }
 
-/// During this many ticks none of them is due, if nothing else happens: a lower bound.
+/// During this many ticks none of them is due, if nothing else happens: a lower bound. 4294967295:
+/// however many there are.
 pub(crate) fn idle_among<S: ObjectStore>(tpdos: &[Tpdo], places: &[Places], store: &S) -> u32
     requires table { IsTable tpdos.now }
     requires places { length places.now ≡ length tpdos.now }
@@ -156,7 +157,8 @@ pub(crate) fn idle_among<S: ObjectStore>(tpdos: &[Tpdo], places: &[Places], stor
         ArePlaces (S.description store.now) (map (λ t. t.number) tpdos.now) places.now →
         AllAfter tpdos.now logs →
         AllCurrentAfter (S.contents store.now) logs →
-        n ≤ result → AreNotDueFor (S.contents store.now) n (length tpdos.now) tpdos.now logs }
+        (result < 4294967295 → n ≤ result) →
+        AreNotDueFor (S.contents store.now) n (length tpdos.now) tpdos.now logs }
 {
     let mut least = u32::MAX;
     for i in 0..tpdos.len() {

@@ -1,6 +1,6 @@
 //! The timeout of a transfer, and how the device drops it.
 
-ghost use Rattle.std.specs.Prelude.{◌≡◌, ℕ, ◌+◌, ◌-◌, ◌≤◌, ◌++◌, ◌∷◌, Some, None, true};
+ghost use Rattle.std.specs.Prelude.{◌≡◌, ℕ, ◌+◌, ◌-◌, ◌<◌, ◌≤◌, ◌++◌, ◌∷◌, Some, None, true};
 ghost use Rattle.arrayvec.specs.ArrayVec.{array_vec_len};
 ghost use Rattle.co_frame.specs.SegmentSizes.{segments_per_sub_block};
 ghost use Rattle.co_frame.specs.Outboxes.{HasRoomFor};
@@ -34,10 +34,10 @@ impl Channel {
     }
 
     /// During this many ticks (1 ms each) no transfer times out, if nothing else happens: a lower
-    /// bound.
+    /// bound. 4294967295: however many there are.
     pub fn idle(&self) -> u32
-        ensures { (d : Description) (log : Log) (n : ℕ) → Stands d self.now log → n ≤ result →
-            NotOverFor self.now.time n log }
+        ensures { (d : Description) (log : Log) (n : ℕ) → Stands d self.now log →
+            (result < 4294967295 → n ≤ result) → NotOverFor self.now.time n log }
     {
         if self.time == 0 || self.current.is_none() {
             return u32::MAX;

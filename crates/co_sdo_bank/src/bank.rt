@@ -195,10 +195,11 @@ impl Bank {
     }
 
     /// During this many ticks (1 ms each) no transfer times out, if nothing else happens: a lower
-    /// bound.
+    /// bound. 4294967295: however many there are.
     pub fn idle(&self) -> u32
         ensures { (d : Description) (channels : List ChannelSettings) (logs : ℕ → Log) (n : ℕ) →
-            BankStands d channels self.now logs → n ≤ result → NoTimeOutFor channels n logs }
+            BankStands d channels self.now logs → (result < 4294967295 → n ≤ result) →
+            NoTimeOutFor channels n logs }
     {
         let channels: &[NumberedChannel] = &self.channels;
         idle_among(channels)

@@ -1,6 +1,6 @@
 //! The channels in a list, each with its number.
 
-ghost use Rattle.std.specs.Prelude.{◌≡◌, ℕ, ◌+◌, ◌≤◌, ◌==◌, [], None, false, IfOk, OnOk, List, length, position};
+ghost use Rattle.std.specs.Prelude.{◌≡◌, ℕ, ◌+◌, ◌<◌, ◌≤◌, ◌==◌, [], None, false, IfOk, OnOk, List, length, position};
 ghost use Rattle.co_dict.specs.Stores.{Description};
 ghost use Rattle.co_sdo.specs.Log.{Log, Ticked, Dropped};
 ghost use Rattle.co_sdo.specs.Standing.{is_expired};
@@ -81,9 +81,10 @@ pub(crate) fn tick_each(bank: &mut [NumberedChannel]) -> bool
 }
 
 /// During this many ticks none of them times out, if nothing else happens: a lower bound.
+/// 4294967295: however many there are.
 pub(crate) fn idle_among(bank: &[NumberedChannel]) -> u32
     ensures { (d : Description) (channels : List ChannelSettings) (logs : ℕ → Log) (n : ℕ) →
-        BankStands d channels bank.now logs → n ≤ result →
+        BankStands d channels bank.now logs → (result < 4294967295 → n ≤ result) →
         AreInTimeFor n (length bank.now) bank.now logs }
 {
     let mut least = u32::MAX;

@@ -16,12 +16,12 @@ loop-i-preserved g c = λ logs n placed all current le.
     let i = c.loop-i.i in
     let t : Tpdo = c.index-tpdos-i.result in
     let lt : i < length tpdos = c.loop-i-test.true in
-    one_more contents n i tpdos logs (c.loop-i.invariant logs n placed all current (omega (arith, le, c.min-least.ensures)))
+    one_more contents n i tpdos logs (c.loop-i.invariant logs n placed all current (λ lt. omega (arith, le (omega (arith, lt, c.min-least.ensures)), c.min-least.ensures)))
     (λ e. subst (λ (u : Tpdo). NotDueFor (settings_of contents u.number) n (logs u.number)) (c.index-tpdos-i.is ∙ get_or_default tpdos i t e lt)
     (c.idle-idle.ensures (places_at d tpdos c.args.places.now i t _ lt placed ∙ ap (λ (u : Tpdo). places_of d u.number) (sym c.index-tpdos-i.is)) (logs t.number) n
     (subst (λ (u : Tpdo). IsAfter u (logs u.number)) (sym c.index-tpdos-i.is) (all i t lt))
     (current t.number (subst (λ (u : Tpdo). u.number < 512) (sym c.index-tpdos-i.is) (c.requires.table.small i t lt)))
-    (omega (arith, le, c.min-least.ensures))))
+    (λ lt. omega (arith, le (omega (arith, lt, c.min-least.ensures)), c.min-least.ensures))))
 
 pub returns : goal.returns
 returns g c = λ logs n placed all current le j e lt. c.loop-i.invariant logs n placed all current le j e (omega (arith, lt, c.loop-i-test.false))

@@ -12,9 +12,9 @@ loop-numbered-preserved c = λ d channels logs n stands le.
     let i = c.loop-numbered.numbered-index in
     let it : NumberedChannel = c.numbered-item.result in
     let lt : i < length bank = omega arith in
-    one_more n i bank logs (c.loop-numbered.invariant d channels logs n stands (omega (arith, le, c.min-least.ensures)))
+    one_more n i bank logs (c.loop-numbered.invariant d channels logs n stands (λ lt. omega (arith, le (omega (arith, lt, c.min-least.ensures)), c.min-least.ensures)))
     (λ e. subst (λ (x : NumberedChannel). NotOverFor x.channel.time n (logs x.number)) (c.numbered-item.is ∙ get_or_default bank i it e lt)
-    (c.idle-idle.ensures d _ n (subst (λ (x : NumberedChannel). Stands d x.channel (logs x.number)) (sym c.numbered-item.is) (stands.each i it lt)) (omega (arith, le, c.min-least.ensures))))
+    (c.idle-idle.ensures d _ n (subst (λ (x : NumberedChannel). Stands d x.channel (logs x.number)) (sym c.numbered-item.is) (stands.each i it lt)) (λ lt. omega (arith, le (omega (arith, lt, c.min-least.ensures)), c.min-least.ensures))))
 
 pub returns : goal.returns
 returns c = λ d channels logs n stands le j e lt. c.loop-numbered.invariant d channels logs n stands le j e (omega (arith, lt, c.loop-numbered-test.false))

@@ -15,4 +15,4 @@ returns-then-not-may c = λ log n h le.
 pub returns : goal.returns
 returns c = λ log n h le.
     let s = subst (λ (p : Pending). EmergenciesStand p log) (sym c.self.view_is) h in
-    none_sent c.args.may n log _ s.left (omega (arith, le, c.saturating_sub.ensures, c.from.ensures))
+    none_sent c.args.may n log _ s.left (omega (arith, le (omega (arith, c.saturating_sub.ensures, c.from.ensures)), c.saturating_sub.ensures, c.from.ensures))

@@ -6,4 +6,4 @@ pub returns-then-self-eq0 : goal.returns-then-self-eq0
 returns-then-self-eq0 c = λ log n s le. never_lost n log (sym s.left ∙ c.if-self-eq0.true)
 
 pub returns : goal.returns
-returns c = λ log n s le. not_lost n log _ s.left (omega (arith, le, c.from.ensures))
+returns c = λ log n s le. not_lost n log _ s.left (omega (arith, le (omega (arith, c.from.ensures)), c.from.ensures))

@@ -10,4 +10,4 @@ returns-then-self-eq0 c = λ log n h le.
 
 pub returns : goal.returns
 returns c = λ log n h le.
-    none_due n _ log (subst (λ (p : Producer). ProducerStands p log) (sym c.self.view_is) h) (omega (arith, le, c.saturating_sub.ensures, c.from.ensures))
+    none_due n _ log (subst (λ (p : Producer). ProducerStands p log) (sym c.self.view_is) h) (omega (arith, le (omega (arith, c.saturating_sub.ensures, c.from.ensures)), c.saturating_sub.ensures, c.from.ensures))

@@ -17,4 +17,4 @@ pub returns : goal.returns
 returns c = λ d log n h le.
     let s = subst (λ (v : Standing). Stands d v log) (sym c.self.view_is) h in
     subst (λ (v : Standing). NotOverFor v.time n log) c.self.view_is
-    (not_over c.self.inside.time n log (omega (arith, le, c.saturating_sub.ensures, c.from.ensures, s.left)))
+    (not_over c.self.inside.time n log (omega (arith, le (omega (arith, c.saturating_sub.ensures, c.from.ensures)), c.saturating_sub.ensures, c.from.ensures, s.left)))
