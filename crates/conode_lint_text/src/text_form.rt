@@ -7,6 +7,8 @@ ghost use Rattle.conode_lint_text.specs.TextForm.{
   severity_colour,
   position_text,
   head_line,
+  label_part,
+  place_part,
   quoted_line,
   help_line,
   finding_lines,
@@ -61,8 +63,8 @@ fn push_position(
     )
 }
 
-#[tactic(auto, unfolding(crate::specs::TextForm::head_line, crate::specs::TextForm::place_part, crate::specs::TextForm::label_part, crate::specs::TextForm::coloured, crate::specs::TextForm::place_text, crate::specs::TextForm::label_text, crate::specs::TextForm::begin_colour, crate::specs::TextForm::end_colour))]
-fn push_head<'p>(
+#[tactic(auto, unfolding(crate::specs::TextForm::place_part, crate::specs::TextForm::coloured, crate::specs::TextForm::place_text, crate::specs::TextForm::begin_colour, crate::specs::TextForm::end_colour))]
+fn push_place_part<'p>(
     text: &mut String,
     colours: bool,
     file: &'p [char],
@@ -71,7 +73,7 @@ fn push_head<'p>(
 ) -> Result<(), AllocError>
     requires { characters.now ≡ characters_of finding.now.text.now }
     ensures { OnOk result (string_bytes text.new
-        ≡ string_bytes text.old ++ head_line colours file.now finding.now) }
+        ≡ string_bytes text.old ++ place_part colours file.now finding.now) }
 {
     push_pieces(
         text,
@@ -82,20 +84,47 @@ fn push_head<'p>(
         ],
     )?;
     push_position(text, finding, characters)?;
+    push_pieces(text, &[Piece::Colour(colours, END)])
+}
+
+#[tactic(auto, unfolding(crate::specs::TextForm::label_part, crate::specs::TextForm::coloured, crate::specs::TextForm::label_text, crate::specs::TextForm::begin_colour, crate::specs::TextForm::end_colour))]
+fn push_label_part(
+    text: &mut String,
+    colours: bool,
+    finding: &Finding<'_>,
+) -> Result<(), AllocError>
+    ensures { OnOk result
+        (string_bytes text.new ≡ string_bytes text.old ++ label_part colours finding.now) }
+{
     push_pieces(
         text,
         &[
-            Piece::Colour(colours, END),
-            Piece::Text(" "),
             Piece::Colour(colours, label_colour(finding.severity)),
             Piece::Severity(finding.severity),
             Piece::Text("["),
             Piece::Text(finding.name),
             Piece::Text("]:"),
             Piece::Colour(colours, END),
-            Piece::Text(" "),
         ],
-    )?;
+    )
+}
+
+#[tactic(auto, unfolding(crate::specs::TextForm::head_line))]
+fn push_head(
+    text: &mut String,
+    colours: bool,
+    file: &[char],
+    finding: &Finding<'_>,
+    characters: &[char],
+) -> Result<(), AllocError>
+    requires { characters.now ≡ characters_of finding.now.text.now }
+    ensures { OnOk result (string_bytes text.new
+        ≡ string_bytes text.old ++ head_line colours file.now finding.now) }
+{
+    push_place_part(text, colours, file, finding, characters)?;
+    text.push_str(" ")?;
+    push_label_part(text, colours, finding)?;
+    text.push_str(" ")?;
     push_message(text, finding)?;
     text.push_str("\n")
 }
