@@ -69,6 +69,26 @@ impl Handle {
         replace(self, Handle::empty(alloc)).into_box(alloc)
     }
 
+    /// Whether there is no device.
+    #[inline(always)]
+    fn is_empty(&self) -> bool
+        ensures yes { result ≡ true → IsEmpty self.now }
+        ensures no { result ≡ false → IsEmpty self.now → ⊥ }
+    {
+        self.built == 0
+    }
+
+    // Takes the device out of a place that has one; the place is then empty.
+    #[inline(always)]
+    fn take_out(&mut self, alloc: Global) -> Box<Held>
+        requires { IsEmpty self.old → ⊥ }
+        ensures taken { Some result.value ≡ self.old.seal.value }
+        ensures left { IsEmpty self.new }
+    {
+        let Handle { built: _, seal } = replace(self, Handle::empty(alloc));
+        seal.into_parts(alloc).into_box()
+    }
+
     /// Puts the device back after an input. Its frames are put into the array, as many as it has
     /// room for; returns how many there are.
     #[inline(always)]
@@ -100,13 +120,12 @@ impl Handle {
         ensures events { (k : Constants) (before : Inputs) → IsDevice k self.old before →
             events_of self.new ≡ and_input k before (Framed frame.now) (events_of self.old) }
     {
-        match self.take(alloc) {
-            Some(mut held) => {
-                held.take_frame(frame);
-                self.give(held, frames)
-            }
-            None => 0,
+        if self.is_empty() {
+            return 0;
         }
+        let mut held = self.take_out(alloc);
+        held.take_frame(frame);
+        self.give(held, frames)
     }
 
     /// 1 ms elapsed. The frames that are sent are put and counted as by `take_frame`.
@@ -120,13 +139,12 @@ impl Handle {
         ensures events { (k : Constants) (before : Inputs) → IsDevice k self.old before →
             events_of self.new ≡ and_input k before Ticked (events_of self.old) }
     {
-        match self.take(alloc) {
-            Some(mut held) => {
-                held.tick();
-                self.give(held, frames)
-            }
-            None => 0,
+        if self.is_empty() {
+            return 0;
         }
+        let mut held = self.take_out(alloc);
+        held.tick();
+        self.give(held, frames)
     }
 
     /// Takes an application event. The frames that are sent are put and counted as by `take_frame`.

@@ -1,5 +1,5 @@
 -- Of most frames no channel says anything.
-use Rattle.std.proofs.Common.{◌≡◌, ℕ, ◌≤◌, Bool, true, false, List, ltb, refl, arith}
+use Rattle.std.proofs.Common.{◌≡◌, ℕ, false, List, ltb, refl, arith}
 use Rattle.std.specs.Prelude.{None}
 use Rattle.std.proofs.lemmas.Bool.Decides.{nat_tests}
 use Rattle.conode_record.specs.declared.content.Content.{Content}

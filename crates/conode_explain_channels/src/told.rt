@@ -4,7 +4,7 @@ use co_value::Key;
 use conode_explain_transfers::{Ended, Side, What};
 
 /// What a frame is in the transfers of its channel.
-#[derive(Clone, Copy, Debug, PartialEq, Eq)]
+#[derive(Clone, Copy)]
 pub struct Part {
     /// The end that sent it.
     pub side: Side,

@@ -26,7 +26,7 @@ use conode_explain_channels::Told;
 use conode_explain_transfers::{Direction, Ended, Ending, Side};
 
 /// Which entry of a PDO.
-#[derive(Clone, Copy, Debug, PartialEq, Eq)]
+#[derive(Clone, Copy)]
 pub enum PdoPart {
     /// Its COB-ID: sub-index 1 of its communication parameter.
     CobId,
@@ -35,7 +35,7 @@ pub enum PdoPart {
 }
 
 /// An entry of a PDO.
-#[derive(Clone, Copy, Debug, PartialEq, Eq)]
+#[derive(Clone, Copy)]
 pub struct PdoEntry {
     /// The index of the PDO's communication parameter.
     pub index: u16,
@@ -44,7 +44,7 @@ pub struct PdoEntry {
 }
 
 /// What happens to the entries of a node.
-#[derive(Clone, Copy, Debug, PartialEq, Eq)]
+#[derive(Clone, Copy)]
 pub enum Event {
     /// A download to an entry was acknowledged, with this number. `None`: it may have been taken,
     /// and its bytes or its acknowledge are missing in the recording.

@@ -19,7 +19,7 @@ ghost use Rattle.conode_explain_entries.specs.Histories.{
 use crate::event::{Event, PdoPart};
 
 /// What an entry has, and from where that is known.
-#[derive(Clone, Copy, Debug, PartialEq, Eq)]
+#[derive(Clone, Copy)]
 pub enum Value {
     /// Nothing was shown of it: the value of the data sheet is assumed.
     Assumed,
@@ -35,7 +35,7 @@ pub enum Value {
 const SUBS: usize = 65;
 
 /// What the entries of a PDO have.
-#[derive(Clone, Copy, Debug, PartialEq, Eq)]
+#[derive(Clone, Copy)]
 pub struct PdoValues {
     /// The COB-ID.
     pub cob_id: Value,
@@ -44,7 +44,7 @@ pub struct PdoValues {
 }
 
 /// What a recording shows of the entries of a PDO.
-#[derive(Clone, Copy, Debug, PartialEq, Eq)]
+#[derive(Clone, Copy)]
 pub struct PdoState {
     /// What they have.
     pub now: PdoValues,

@@ -21,7 +21,7 @@ use co_text::{decimal_in, hex_digit, split_at_first};
 use conode_explain_text::Times;
 
 /// An identifier as it is written.
-#[derive(Clone, Copy, Debug, PartialEq, Eq)]
+#[derive(Clone, Copy)]
 pub struct Written {
     /// Whether it has eight digits: one of 29 bits, or an error frame with bit 29 set; else it has
     /// three.
@@ -31,7 +31,7 @@ pub struct Written {
 }
 
 /// What one word of a filter asks for.
-#[derive(Clone, Copy, Debug, PartialEq, Eq)]
+#[derive(Clone, Copy)]
 pub enum Condition {
     /// Frames of a node.
     Node(u8),

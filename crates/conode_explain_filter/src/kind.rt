@@ -4,7 +4,7 @@ ghost use Rattle.std.specs.Prelude.{◌≡◌};
 ghost use Rattle.conode_explain_filter.specs.Kinds.{kind_at, kind_in};
 
 /// A kind of frames, by the service that they are of.
-#[derive(Clone, Copy, Debug, PartialEq, Eq)]
+#[derive(Clone, Copy, PartialEq, Eq)]
 pub enum Kind {
     /// SDO, both ways.
     Sdo,

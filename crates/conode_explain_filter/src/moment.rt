@@ -15,7 +15,7 @@ use co_text::{decimal_in, split_at_first};
 use conode_explain_text::Times;
 
 /// A time in microseconds.
-#[derive(Clone, Copy, Debug, PartialEq, Eq)]
+#[derive(Clone, Copy)]
 pub enum Moment {
     /// Since the first frame of the recording.
     SinceFirst(u64),

@@ -11,7 +11,7 @@ use crate::option::FilterOption;
 use std::alloc::{AllocError, Global};
 
 /// The text of each option of a filter that is used.
-#[derive(Clone, Copy, Debug)]
+#[derive(Clone, Copy)]
 pub struct FilterWords<'a> {
     /// Node-IDs, as `5,8`.
     pub of: Option<&'a str>,
@@ -26,7 +26,7 @@ pub struct FilterWords<'a> {
 }
 
 /// What is wrong with the words of a filter.
-#[derive(Clone, Copy, Debug)]
+#[derive(Clone, Copy)]
 pub enum FilterFault<'a> {
     /// A word isn't one that its option has.
     Word(FilterOption, &'a str),

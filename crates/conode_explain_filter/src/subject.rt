@@ -16,7 +16,7 @@ use crate::kind::Kind;
 use conode_record::{Content, Identifier, Record};
 
 /// What a filter looks at of a frame.
-#[derive(Clone, Copy, Debug, PartialEq, Eq)]
+#[derive(Clone, Copy)]
 pub struct Subject {
     /// Its identifier.
     pub id: Written,

@@ -10,7 +10,7 @@ use Rattle.conode_explain_entries.specs.declared.entries.ShownPdo.{ShownPdo}
 use Rattle.conode_explain_pdo.specs.declared.claim.Claim.{Claim}
 use Rattle.conode_explain_pdo.specs.declared.sheet.SheetPdo.{SheetPdo}
 use Rattle.conode_explain_pdo.specs.Buses.{Bus}
-use Rattle.conode_explain_pdo.specs.Claims.{both_claims, claim_of, sheet_may_have, may_be_shown, is_shown, kind_claims, may_be_claimed, may_have, sheet_claim, sheet_claims, sheets_claims, shown_claim, shows}
+use Rattle.conode_explain_pdo.specs.Claims.{both_claims, claim_of, sheet_may_have, may_be_shown, kind_claims, may_be_claimed, may_have, sheet_claim, sheet_claims, sheets_claims, shown_claim}
 use Rattle.conode_explain_pdo.specs.CobIds.{node_with}
 use Rattle.conode_explain_pdo.specs.Known.{KnownSheet, is_on}
 

@@ -26,7 +26,7 @@ use co_value::{Key, read_u16};
 use std::alloc::AllocError;
 
 /// What the value of an entry of a drive is.
-#[derive(Clone, Copy, PartialEq, Eq)]
+#[derive(Clone, Copy)]
 pub(crate) enum Meaning {
     /// 603Fh.
     ErrorCode,

@@ -1,7 +1,7 @@
 //! How a node is guarded.
 
 /// What is known of the guarding of a node (CiA 301, 7.2.8.3.2.1).
-#[derive(Clone, Copy, Debug, PartialEq, Eq)]
+#[derive(Clone, Copy)]
 pub enum Guarding {
     /// No guarding was seen, or the node's last frame of error control was a heartbeat.
     NotSeen,

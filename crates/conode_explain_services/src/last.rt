@@ -3,7 +3,7 @@
 use crate::guarding::Guarding;
 
 /// What the last frames of a node had.
-#[derive(Clone, Copy, Debug, PartialEq, Eq)]
+#[derive(Clone, Copy)]
 pub struct Last {
     /// The error register of its last emergency.
     pub register: Option<u8>,

@@ -9,7 +9,7 @@ ghost use Rattle.conode_explain_services.specs.Lss.{
 };
 
 /// What a command has after its specifier.
-#[derive(Clone, Copy, PartialEq, Eq)]
+#[derive(Clone, Copy)]
 pub(crate) enum Parameter {
     Nothing,
     /// The state that all slaves switch to.

@@ -8,7 +8,7 @@ use co_value::Key;
 use std::alloc::{AllocError, Global};
 
 /// An entry of a node, whose values are written.
-#[derive(Clone, Copy, Debug, PartialEq, Eq)]
+#[derive(Clone, Copy)]
 pub struct Signal {
     /// The node-ID, 1 to 127.
     pub node: u8,
@@ -17,7 +17,7 @@ pub struct Signal {
 }
 
 /// What is wrong with the words that name signals.
-#[derive(Clone, Copy, Debug)]
+#[derive(Clone, Copy)]
 pub enum SignalFault<'a> {
     /// A word names no signal.
     Word(&'a str),

@@ -10,7 +10,7 @@ use co_value::DataType;
 pub(crate) const BOOLEAN: u16 = 0x01;
 
 /// The data type of a value (CiA 301, 7.4.7.1).
-#[derive(Clone, Copy, Debug, PartialEq, Eq)]
+#[derive(Clone, Copy)]
 pub enum ValueType {
     /// A type that an entry of our dictionaries may have: BOOLEAN, integers, VISIBLE_STRING,
     /// OCTET_STRING, DOMAIN.

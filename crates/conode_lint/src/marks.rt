@@ -10,6 +10,7 @@ ghost use Rattle.conode_lint.specs.Marks.{
   IsByLine,
   IsFaultList,
   IsFound,
+  IsFoundIn,
   IsMarked,
   fault_mark,
   format_mark,
@@ -231,6 +232,31 @@ fn format_alone(alloc: Global, format: OtherFormat) -> Result<Vec<Mark>, AllocEr
     Ok(marks)
 }
 
+// what is found in a text with these lines and faults: only the format, if it is another one, else
+// all
+fn marks_in<'a>(
+    alloc: Global,
+    text: &'a [u8],
+    lines: &[&'a [u8]],
+    sheet: &Option<Sheet<'_>>,
+    faults: &[SheetFault],
+    checks: &Checks<'_>,
+) -> Result<Vec<Mark>, AllocError>
+    requires lines { map (λ line. line.now) lines.now ≡ text_lines text.now }
+    requires sheet { sheet.now ≡ sheet_of text.now }
+    requires small { IfSome sheet.now (λ _. length text.now ≤ 1048576) }
+    ensures { IfOk result (λ found. IsFoundIn text.now checks.now faults.now found.items
+        (format_of (text_lines text.now) faults.now)) }
+{
+    if let Some(format) = format_of(lines, faults) {
+        return format_alone(alloc, format);
+    }
+    if text.len() > GREATEST_SIZE {
+        return by_line(marked_large(alloc, text, sheet, faults, checks)?);
+    }
+    by_line(marked(alloc, text, lines, sheet, faults, checks)?)
+}
+
 /// Everything that is found in a text with these lines, by line. For a text with faults that is of
 /// another format, only that is found. `Err`: out of memory.
 pub(crate) fn marks_of<'a>(
@@ -244,11 +270,5 @@ pub(crate) fn marks_of<'a>(
 {
     let sheet = sheet_of(alloc, text)?;
     let faults = faults_of(alloc, text, &sheet)?;
-    if let Some(format) = format_of(lines, faults.as_slice()) {
-        return format_alone(alloc, format);
-    }
-    if text.len() > GREATEST_SIZE {
-        return by_line(marked_large(alloc, text, &sheet, faults.as_slice(), checks)?);
-    }
-    by_line(marked(alloc, text, lines, &sheet, faults.as_slice(), checks)?)
+    marks_in(alloc, text, lines, &sheet, faults.as_slice(), checks)
 }
