@@ -9,7 +9,7 @@ use Rattle.co_bounded_lines.specs.Founds.{is_closed}
 use Rattle.co_sheet.specs.Content.{Row}
 use Rattle.co_value.specs.declared.data_type.DataType.TheVariants.{Unsigned32}
 use Rattle.co_value.specs.declared.key.Key.{Key}
-use Rattle.conode_decode.specs.Names.{row_at}
+use Rattle.co_sheet_names.specs.Names.{row_at}
 use Rattle.conode_explain_values.specs.declared.value_type.ValueType.{ValueType}
 use Rattle.conode_explain_values.specs.declared.value_type.ValueType.TheVariants.{Plain}
 use Rattle.conode_explain_values.specs.Types.{type_of}

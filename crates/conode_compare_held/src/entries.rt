@@ -18,9 +18,9 @@ ghost use Rattle.conode_compare_held.specs.HeldWords.{
 
 use arrayvec::ArrayVec;
 use co_sheet::EntryRow;
+use co_sheet_names::row_at;
 use co_text::split_at_first;
 use co_value::{DataType, Key};
-use conode_decode::row_at;
 
 /// An entry that is held to what was written.
 #[derive(Clone, Copy)]

@@ -16,10 +16,10 @@ ghost use Rattle.conode_compare_notes.specs.RefusalCodes.{
 use crate::choice::Choice;
 use co_frame::{AbortCode, Frame};
 use co_sheet::EntryRow;
+use co_sheet_names::row_at;
 use co_value::Key;
 use conode_compare_transfers::key_in;
 use conode_compare_values::{is_read_only, is_readable};
-use conode_decode::row_at;
 use conode_explain_transfers::{Direction, Ended};
 
 /// An access to an object that isn't supported.

@@ -16,11 +16,11 @@ ghost use Rattle.conode_compare_notes.specs.LearnedValues.{
 };
 
 use co_sheet::EntryRow;
+use co_sheet_names::row_at;
 use co_value::Key;
 use conode_compare_held::is_whole;
 use conode_compare_transfers::Exchange;
 use conode_compare_values::shown_number;
-use conode_decode::row_at;
 use conode_explain_transfers::{Direction, Ended};
 use std::alloc::{AllocError, Global};
 use std::marker::Model;

@@ -35,13 +35,13 @@ use crate::writes::Writes;
 use co_frame::Frame;
 use co_profile::{RESTORE_PARAMETERS, STORE_PARAMETERS};
 use co_sheet::EntryRow;
+use co_sheet_names::row_at;
 use co_value::Key;
 use conode_compare_held::{differs, held_width, is_whole, number_written};
 use conode_compare_pdos::number_of;
 use conode_compare_rules::{FrameKind, Progress, Remark, Subject, is_reset};
 use conode_compare_transfers::{Exchange, asks_to_write, is_timed, key_in};
 use conode_compare_values::{is_read_only, shown_number};
-use conode_decode::row_at;
 use conode_explain_transfers::{Direction, Ended, Side, What};
 use std::alloc::{AllocError, Global};
 

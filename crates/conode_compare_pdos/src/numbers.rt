@@ -15,8 +15,8 @@ ghost use Rattle.conode_compare_pdos.specs.SheetNumbers.{
 };
 
 use co_sheet::{EntryRow, Preset};
+use co_sheet_names::row_at;
 use co_value::Key;
-use conode_decode::row_at;
 
 // one more than the greatest number of 32 bits
 const BOUND: u64 = 0x1_0000_0000;

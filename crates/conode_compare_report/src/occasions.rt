@@ -46,10 +46,10 @@ ghost use Rattle.conode_compare_report.specs.Occasions.{
 use crate::before::{Before, Role};
 use crate::kind::{Counted, KINDS, Kind};
 use co_sheet::EntryRow;
+use co_sheet_names::row_at;
 use conode_compare_pdos::Parameters;
 use conode_compare_rules::{FrameKind, NmtState, Verdict};
 use conode_compare_values::{has_limits, is_held, is_read_only, is_readable};
-use conode_decode::row_at;
 use conode_explain_transfers::{Direction, Ended, Ending, Heard, Protocol, Side, What};
 use std::alloc::{AllocError, Global};
 

@@ -23,9 +23,9 @@ ghost use Rattle.conode_compare_rules.specs.EntriesInForce.{
 use co_profile::keys::{EMERGENCY_COB_ID, EMERGENCY_INHIBIT_TIME, PRODUCER_HEARTBEAT};
 use co_profile::{Access, STORE_PARAMETERS};
 use co_sheet::EntryRow;
+use co_sheet_names::row_at;
 use co_value::Key;
 use conode_compare_pdos::{Pdos, first_word, number_of, pdos_of, preset_at, small};
-use conode_decode::row_at;
 use conode_explain_transfers::{Ended, Ending, Protocol};
 
 /// What is known of the entries that say what a device sends by itself.

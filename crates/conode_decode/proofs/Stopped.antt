@@ -10,7 +10,7 @@ use Rattle.conode_io.specs.Endings.{stopped_line, SomeStopped, WritesStopped}
 use Rattle.conode_io.specs.Written.{WritesFrontOrLines, WritesLines, WritesSome}
 use Rattle.conode_io.proofs.StoppedLemmas.{some_stopped, stopped_after}
 use Rattle.conode_lines.specs.TraceTexts.{FailsWithinLine, trace_in}
-use Rattle.conode_decode.specs.Names.{Names}
+use Rattle.co_sheet_names.specs.Names.{Names}
 use Rattle.conode_decode.specs.DecodedTraces.{Decoded, lines_of, trace_lines}
 
 -- ---- how decoding ended, by its result

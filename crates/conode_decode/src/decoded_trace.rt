@@ -2,7 +2,7 @@
 
 ghost use Rattle.std.specs.Prelude.{◌≡◌, ◌⊎◌, ℕ, Bool, true, false, [], OnOk, IfErr, IfSome, Err, Some, None};
 ghost use Rattle.std.specs.Option.{option_copied};
-ghost use Rattle.conode_decode.specs.Names.{names_view};
+ghost use Rattle.co_sheet_names.specs.Names.{names_view};
 ghost use Rattle.co_stream.specs.Nexts.{new_reader};
 ghost use Rattle.co_stream.specs.Readings.{Gave};
 ghost use Rattle.conode_lines.specs.TraceTexts.{trace_in, FailsWithinLine, GaveText};
@@ -10,8 +10,8 @@ ghost use Rattle.conode_decode.specs.DecodedTraces.{names_in, said_lines, trace_
 ghost use Rattle.conode_io.specs.Written.{WritesFront, WritesFrontOrLines, WritesLines, WritesSome};
 
 use crate::line::set_decoded_line;
-use crate::names::Names;
 use co_sheet::Sheet;
+use co_sheet_names::Names;
 use co_stream::LineReader;
 use conode_io::{CmdFault, hand_over};
 use conode_lines::{AnyRead, Waits, let_out, line_fault};

@@ -14,5 +14,4 @@ mod service;
 pub use decode_file::{decode_files, decode_input};
 pub use decoded_trace::decode;
 pub use line::set_decoded_line;
-pub use names::{Names, row_at, shown_name};
 pub use node_services::push_text;

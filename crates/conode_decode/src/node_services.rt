@@ -2,7 +2,7 @@
 //! of the text may be there.
 
 ghost use Rattle.std.specs.Prelude.{◌≡◌, ◌<◌, ◌++◌, OnOk, string_bytes};
-ghost use Rattle.conode_decode.specs.Names.{names_view};
+ghost use Rattle.co_sheet_names.specs.Names.{names_view};
 ghost use Rattle.conode_decode.specs.Texts.{
   emergency_text,
   heartbeat_text,
@@ -20,13 +20,14 @@ ghost use Rattle.conode_decode.specs.Texts.{
   unknown_text,
 };
 
-use crate::names::Names;
+use crate::names::push_name;
 use crate::numbers::push_words;
 use crate::sdo_texts::{answer_key, push_answer, push_request, request_key};
 use crate::service::Service;
 use co_frame::{
     Emergency, Frame, Heartbeat, NmtCommand, NmtService, SdoRequest, SdoResponse, Sync,
 };
+use co_sheet_names::Names;
 use co_text::{push_byte, push_decimal, push_u16};
 use std::alloc::AllocError;
 
@@ -131,7 +132,7 @@ fn push_named_request(
         return push_unknown(text);
     };
     push_request(text, &request)?;
-    names.push(text, node, request_key(&request))
+    push_name(text, names, node, request_key(&request))
 }
 
 #[tactic(auto, unfolding(crate::specs::Texts::sdo_request_text))]
@@ -163,7 +164,7 @@ fn push_named_answer(
         return push_unknown(text);
     };
     push_answer(text, &answer)?;
-    names.push(text, node, answer_key(&answer))
+    push_name(text, names, node, answer_key(&answer))
 }
 
 #[tactic(auto, unfolding(crate::specs::Texts::sdo_answer_text))]

@@ -1,13 +1,13 @@
 //! The data sheets by which a recording is explained.
 
 ghost use Rattle.std.specs.Prelude.{◌≡◌, ◌++◌, IfOk, map};
-ghost use Rattle.conode_decode.specs.Names.{names_view};
+ghost use Rattle.co_sheet_names.specs.Names.{names_view};
 ghost use Rattle.conode_explain_pdo.specs.Known.{known_view};
 ghost use Rattle.conode_explain.specs.Sheets.{in_order, is_kind, node_for, of_kind, read_view};
 
 use co_sheet::Sheet;
 use co_sheet_changes::Originals;
-use conode_decode::Names;
+use co_sheet_names::Names;
 use conode_explain_pdo::KnownSheet;
 use conode_sheet_words::SheetWord;
 use std::alloc::{AllocError, Global};

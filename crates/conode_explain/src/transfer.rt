@@ -2,7 +2,7 @@
 
 ghost use Rattle.std.specs.Prelude.{◌≡◌, ◌++◌, ◌≤◌, OnOk, length, string_bytes};
 ghost use Rattle.co_sheet.specs.SheetViews.{row_view};
-ghost use Rattle.conode_decode.specs.Names.{names_view};
+ghost use Rattle.co_sheet_names.specs.Names.{names_view};
 ghost use Rattle.conode_explain.specs.Transfers.{
   download_in,
   front_of,
@@ -17,9 +17,9 @@ ghost use Rattle.conode_explain.specs.Transfers.{
 
 use co_frame::{ExpeditedData, Frame, SdoRequest, SdoResponse};
 use co_sheet::EntryRow;
+use co_sheet_names::{Names, shown_name};
 use co_text::push_decimal;
 use co_value::{DataType, Key};
-use conode_decode::{Names, shown_name};
 use conode_explain_pdo::type_in;
 use conode_explain_values::push_entry;
 use std::alloc::AllocError;

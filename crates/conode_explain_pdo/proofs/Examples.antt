@@ -10,7 +10,7 @@ use Rattle.co_profile.specs.declared.access.Access.TheVariants.{Rw}
 use Rattle.co_sheet.specs.Limits.{Default, absent, number, node_id}
 use Rattle.co_sheet.specs.Content.{Row}
 use Rattle.co_text.specs.Printed.{digits_text}
-use Rattle.conode_decode.specs.Names.{Names, entry_of}
+use Rattle.co_sheet_names.specs.Names.{Names, entry_of}
 use Rattle.conode_explain_values.specs.Numbers.{number_text}
 use Rattle.conode_explain_values.specs.Unicode.{characters_text}
 use Rattle.conode_explain_values.specs.Values.{entry_text, value_text}

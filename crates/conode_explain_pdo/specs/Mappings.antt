@@ -7,7 +7,7 @@ use Rattle.co_value.specs.declared.key.Key.{Key}
 use Rattle.co_value.specs.KeyTexts.{key_text}
 use Rattle.co_value.specs.Numbers.{low_bytes, unsigned_of}
 use Rattle.co_sheet.specs.Content.{Row}
-use Rattle.conode_decode.specs.Names.{Names, entry_of, shown_name}
+use Rattle.co_sheet_names.specs.Names.{Names, entry_of, shown_name}
 use Rattle.conode_explain_values.specs.Values.{entry_text}
 use Rattle.conode_explain_pdo.specs.Content.{Mapping}
 use Rattle.conode_explain_pdo.specs.Types.{type_in}

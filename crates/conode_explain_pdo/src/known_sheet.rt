@@ -1,11 +1,11 @@
 //! A data sheet that is known.
 
 ghost use Rattle.std.specs.Prelude.{◌≡◌};
-ghost use Rattle.conode_decode.specs.Names.{names_view};
+ghost use Rattle.co_sheet_names.specs.Names.{names_view};
 ghost use Rattle.conode_explain_pdo.specs.Sheets.{sheet_pdos};
 
 use crate::sheet::SheetPdo;
-use conode_decode::Names;
+use co_sheet_names::Names;
 
 /// A data sheet with its PDOs, and the nodes and the interface that it is for.
 #[derive(Drop)]

@@ -4,7 +4,7 @@
 ghost use Rattle.std.specs.Prelude.{◌≡◌, ◌+◌, ◌*◌, ◌/◌, ◌%◌, ◌^◌, ◌++◌, ◌≤◌, [], OnOk, length, string_bytes, take};
 ghost use Rattle.co_value.specs.Numbers.{low_bytes, unsigned_of};
 ghost use Rattle.co_sheet.specs.SheetViews.{row_view};
-ghost use Rattle.conode_decode.specs.Names.{names_view};
+ghost use Rattle.co_sheet_names.specs.Names.{names_view};
 ghost use Rattle.conode_explain_values.specs.Values.{HasBits};
 ghost use Rattle.conode_explain_pdo.specs.Mappings.{
   addressing_word,
@@ -30,9 +30,9 @@ ghost use Rattle.conode_explain_pdo.specs.Mappings.{
 use crate::value_type::type_in;
 use arrayvec::ArrayVec;
 use co_sheet::EntryRow;
+use co_sheet_names::{Names, shown_name};
 use co_text::{push_bytes, push_decimal};
 use co_value::{Key, read_u16, unsigned_of};
-use conode_decode::{Names, shown_name};
 use conode_explain_values::push_entry;
 use std::alloc::AllocError;
 use std::marker::Model;

@@ -12,7 +12,7 @@ use Rattle.co_value.specs.KeyTexts.{key_in}
 use Rattle.co_profile.specs.declared.access.Access.TheVariants.{Rw}
 use Rattle.co_sheet.specs.Limits.{absent}
 use Rattle.co_sheet.specs.Content.{Row}
-use Rattle.conode_decode.specs.Names.{entry_of}
+use Rattle.co_sheet_names.specs.Names.{entry_of}
 use Rattle.conode_explain_channels.specs.declared.told.Told.{Told}
 use Rattle.conode_explain_transfers.specs.declared.ended.Ended.{Ended}
 use Rattle.conode_explain_transfers.specs.declared.ended.Ending.{Ending}

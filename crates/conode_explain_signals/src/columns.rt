@@ -24,8 +24,8 @@ ghost use Rattle.conode_explain_signals.specs.Lines.{
 
 use crate::signal::Signal;
 use co_sheet::EntryRow;
+use co_sheet_names::shown_name;
 use co_text::{byte_digits, push_decimal};
-use conode_decode::shown_name;
 use conode_explain_pdo::{KnownSheet, names_for};
 use std::alloc::{AllocError, Global};
 

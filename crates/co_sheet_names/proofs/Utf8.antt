@@ -3,7 +3,7 @@ use Rattle.std.proofs.Common.{◌≡◌, ℕ, Bool, true, false, List, Some, Non
 use Rattle.std.specs.Prelude.{if◌then◌else◌}
 use Rattle.std.specs.Str.{IsUtf8, is_utf8}
 use Rattle.std.proofs.lemmas.Str.{IsUtf8-from_is_utf8, is_utf8-from_IsUtf8}
-use Rattle.conode_decode.specs.Names.{if_utf8}
+use Rattle.co_sheet_names.specs.Names.{if_utf8}
 
 pub utf8_stays : (text : List ℕ) → IsUtf8 text → if_utf8 text ≡ Some text
 utf8_stays text h = rw (is_utf8-from_IsUtf8 text h) refl

@@ -3,8 +3,8 @@ use Rattle.std.specs.List.Sorted.{IsBinarySearchResult}
 use Rattle.std.proofs.lemmas.List.Sorted.{answers_always}
 use Rattle.co_value.specs.Keys.{key_cmp}
 use Rattle.co_sheet_rows.specs.declared.entry.EntryRow.{EntryRow}
-use Rattle.conode_decode.proofs.SearchedKeys.{row_found, row_absent}
-use Rattle.conode_decode.proofs.names.row_at.Goals as goal
+use Rattle.co_sheet_names.proofs.SearchedKeys.{row_found, row_absent}
+use Rattle.co_sheet_names.proofs.names.row_at.Goals as goal
 
 pub returns-in-Ok : goal.returns-in-Ok
 returns-in-Ok c =

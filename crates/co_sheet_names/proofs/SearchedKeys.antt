@@ -10,8 +10,8 @@ use Rattle.co_value.specs.declared.key.Key.{Key}
 use Rattle.co_value.specs.Keys.{same_key, same_key-refl, is_key_before, key_cmp, key_cmp_total, key_cmp_exact, is_lt-key_cmp}
 use Rattle.co_sheet_rows.specs.declared.entry.EntryRow.{EntryRow}
 use Rattle.co_sheet.specs.SheetViews.{row_view}
-use Rattle.conode_decode.specs.Names.{row_at}
-use Rattle.conode_decode.proofs.Finds.{before_differs, after_isnt_before, other_differs, first_at, nowhere}
+use Rattle.co_sheet_names.specs.Names.{row_at}
+use Rattle.co_sheet_names.proofs.Finds.{before_differs, after_isnt_before, other_differs, first_at, nowhere}
 
 abbrev pub Increase : List EntryRow → Type 0
 Increase rows = AllPairs (λ e f. is_key_before e.key f.key ≡ true) rows

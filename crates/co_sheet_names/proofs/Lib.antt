@@ -1,0 +1,3 @@
+pub mod Finds
+pub mod SearchedKeys
+pub mod Utf8
