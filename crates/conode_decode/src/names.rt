@@ -19,7 +19,7 @@ pub(crate) fn push_name(
     key: Option<Key>,
 ) -> Result<(), AllocError>
     ensures { OnOk result (string_bytes text.new
-        ≡ string_bytes text.old ++ name_text (names_view names) node key) }
+        ≡ string_bytes text.old ++ name_text (names_view names.entry) node key) }
 {
     let Some(key) = key else {
         return Ok(());
