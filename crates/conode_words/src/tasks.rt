@@ -3,7 +3,7 @@
 use co_sdo_client::Mode;
 
 /// How the object dictionary of a sheet is built.
-#[derive(Clone, Copy, Debug, PartialEq, Eq)]
+#[derive(Clone, Copy)]
 pub struct DictionaryWords {
     /// The node-ID that it is built for, 1 to 127; `None`: the sheet's own.
     pub node: Option<u8>,
@@ -14,7 +14,7 @@ pub struct DictionaryWords {
 }
 
 /// How a device is built.
-#[derive(Clone, Copy, Debug, PartialEq, Eq)]
+#[derive(Clone, Copy)]
 pub struct DeviceWords {
     /// Its node-ID and its rooms.
     pub dictionary: DictionaryWords,
@@ -23,7 +23,7 @@ pub struct DeviceWords {
 }
 
 /// The form in which a dictionary is shown.
-#[derive(Clone, Copy, Debug, PartialEq, Eq)]
+#[derive(Clone, Copy)]
 pub enum ShownAs {
     /// In columns.
     Columns,
@@ -34,14 +34,14 @@ pub enum ShownAs {
 }
 
 /// How `adapt` reads a number with a leading zero.
-#[derive(Clone, Copy, Debug, PartialEq, Eq)]
+#[derive(Clone, Copy)]
 pub enum LeadingZeros {
     Octal,
     Decimal,
 }
 
 /// In which form `explain` writes stamps.
-#[derive(Clone, Copy, Debug, PartialEq, Eq)]
+#[derive(Clone, Copy)]
 pub enum Stamps {
     /// Since the first frame.
     Relative,
@@ -54,7 +54,7 @@ pub enum Stamps {
 }
 
 /// The form of a log.
-#[derive(Clone, Copy, Debug, PartialEq, Eq)]
+#[derive(Clone, Copy)]
 pub enum LogForm {
     /// The one that its first lines show.
     Auto,
@@ -71,7 +71,7 @@ pub enum LogForm {
 }
 
 /// How far the times of a recorded device may be off, and how long it may take.
-#[derive(Clone, Copy, Debug, PartialEq, Eq)]
+#[derive(Clone, Copy)]
 pub struct TimingWords {
     /// The tolerance, in ms.
     pub tolerance: u32,
@@ -84,7 +84,7 @@ pub struct TimingWords {
 }
 
 /// How `explain` and `stats` write.
-#[derive(Clone, Copy, Debug, PartialEq, Eq)]
+#[derive(Clone, Copy, PartialEq, Eq)]
 pub enum LinesAs {
     /// As text.
     Text,
@@ -93,7 +93,7 @@ pub enum LinesAs {
 }
 
 /// How `compare` writes what it finds.
-#[derive(Clone, Copy, Debug, PartialEq, Eq)]
+#[derive(Clone, Copy)]
 pub enum ReportAs {
     /// A line for each difference.
     Text,
@@ -106,7 +106,7 @@ pub enum ReportAs {
 }
 
 /// How `lint` writes what it finds.
-#[derive(Clone, Copy, Debug, PartialEq, Eq)]
+#[derive(Clone, Copy)]
 pub enum Format {
     /// As compilers print.
     Text,
@@ -117,7 +117,7 @@ pub enum Format {
 }
 
 /// When `lint` writes in colours.
-#[derive(Clone, Copy, Debug, PartialEq, Eq)]
+#[derive(Clone, Copy)]
 pub enum Colours {
     /// On a terminal, unless the environment has NO_COLOR.
     Auto,
@@ -145,7 +145,7 @@ pub struct LintWords<'a> {
 }
 
 /// The options that choose which lines `explain` prints, as words; `None` if one isn't used.
-#[derive(Clone, Copy, Debug)]
+#[derive(Clone, Copy)]
 pub struct OnlyWords<'a> {
     /// Of which nodes.
     pub of: Option<&'a str>,
