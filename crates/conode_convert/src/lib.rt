@@ -2,11 +2,13 @@
 //! and the next line is read.
 #![tactic(auto)]
 
+mod bad_lines;
 mod converted;
 mod log_file;
 mod step;
 mod text;
 
+pub use bad_lines::{TOO_LONG, name_bad_line, read_fault};
 pub use conode_logs::Form;
 pub use converted::convert;
 pub use log_file::convert_file;

@@ -10,15 +10,13 @@ ghost use Rattle.conode_convert.specs.Converted.{at_start, faults_in, written_of
 ghost use Rattle.conode_convert.specs.Printed.{line_text};
 ghost use Rattle.conode_convert.specs.Taking.{Takes};
 
+use crate::bad_lines::{TOO_LONG, name_bad_line, read_fault};
 use crate::text::add_line;
-use co_bounded_lines::{BoundedLines, Found, ReadFault};
+use co_bounded_lines::{BoundedLines, Found};
 use conode_io::{CmdFault, flush, hand_over};
 use conode_logs::{Form, Log, LogFrame, LogLine};
 use std::alloc::Global;
 use std::io::{Read, Write};
-
-/// What is wrong with a line that has more than 512 bytes.
-const TOO_LONG: &str = "it has more than 512 bytes";
 
 /// Progress through a log.
 #[derive(Drop)]
@@ -26,19 +24,6 @@ pub(crate) struct Converting {
     lines: BoundedLines,
     log: Log,
     room: Vec<u8>,
-}
-
-// Names a bad line. If even this can't be written, only the status shows it.
-fn name_bad_line<E: Write>(number: u64, words: &str, err: &mut E) {
-    let _ = writeln!(err, "line {number}: {words}");
-}
-
-// why the next line can't be read
-fn read_fault(fault: ReadFault) -> CmdFault {
-    match fault {
-        ReadFault::Read => CmdFault::Read,
-        ReadFault::NeverEnds => CmdFault::NeverEnds,
-    }
 }
 
 // Writes the line of a frame. `room` is scratch space.
@@ -53,8 +38,10 @@ fn write_frame<W: Write>(
     ensures err { IfErr result (λ fault. (fault ≡ CmdFault.Write) ⊎ (fault ≡ CmdFault.Memory)) }
 {
     room.clear();
-    add_line(room, frame)?;
-    hand_over(room.as_slice(), out)
+    match add_line(room, frame) {
+        Ok(()) => hand_over(room.as_slice(), out),
+        Err(_) => Err(CmdFault::Memory),
+    }
 }
 
 // Writes a line as it is.
@@ -88,12 +75,16 @@ fn convert_line<W: Write, E: Write>(
     match log.read(line) {
         Ok(LogLine::Skipped) => Ok(0),
         Ok(LogLine::AsItIs) => {
-            write_as_it_is(room, line, out)?;
-            Ok(0)
+            match write_as_it_is(room, line, out) {
+                Ok(()) => Ok(0),
+                Err(fault) => Err(fault),
+            }
         }
         Ok(LogLine::Frame(frame)) => {
-            write_frame(room, &frame, out)?;
-            Ok(0)
+            match write_frame(room, &frame, out) {
+                Ok(()) => Ok(0),
+                Err(fault) => Err(fault),
+            }
         }
         Err(bad) => {
             name_bad_line(number, bad.words(), err);

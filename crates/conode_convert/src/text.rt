@@ -1,7 +1,7 @@
 //! The line of a frame, as `candump -L` writes it. Each function appends a text. `Err`: out of
 //! memory; a part of the text may be there.
 
-ghost use Rattle.std.specs.Prelude.{◌≡◌, ◌++◌, ◌∷◌, [], ◌<◌, ◌^◌, ◌%◌, OnOk};
+ghost use Rattle.std.specs.Prelude.{◌≡◌, ◌++◌, ◌∷◌, [], ◌<◌, ◌^◌, ◌%◌, OnOk, codes};
 ghost use Rattle.std.specs.List.{flat_map};
 ghost use Rattle.co_text.specs.Printed.{byte_text, digits_text, printed_digit};
 ghost use Rattle.conode_trace.specs.Printed.{seconds_text};
@@ -82,34 +82,39 @@ fn add_seconds(line: &mut Vec<u8>, seconds: u64) -> Result<(), AllocError>
     }
 }
 
+// the microseconds of a stamp, with what is around them
 #[tactic(auto, unfolding(co_text::specs::Printed::digits_text))]
 fn add_micros(line: &mut Vec<u8>, micros: u32) -> Result<(), AllocError>
-    ensures { OnOk result (line.new.items ≡ line.old.items ++ digits_text 10 6 micros) }
+    ensures { OnOk result (line.new.items
+        ≡ line.old.items ++ codes "." ++ digits_text 10 6 micros ++ codes ") ") }
 {
     let tens = micros / 10;
     let hundreds = tens / 10;
     let thousands = hundreds / 10;
     let last = thousands / 10;
     let digits = [
+        b'.',
         last_digit(last / 10),
         last_digit(last),
         last_digit(thousands),
         last_digit(hundreds),
         last_digit(tens),
         last_digit(micros),
+        b')',
+        b' ',
     ];
     line.extend_from_slice(&digits)
 }
 
+// a stamp, and a blank
 #[tactic(auto, unfolding(crate::specs::Printed::stamp_text))]
 fn add_stamp(line: &mut Vec<u8>, micros: u64) -> Result<(), AllocError>
-    ensures { OnOk result (line.new.items ≡ line.old.items ++ stamp_text micros) }
+    ensures { OnOk result
+        (line.new.items ≡ line.old.items ++ stamp_text micros ++ codes " ") }
 {
     line.extend_from_slice(b"(")?;
     add_seconds(line, micros / 1_000_000)?;
-    line.extend_from_slice(b".")?;
-    add_micros(line, (micros % 1_000_000) as u32)?;
-    line.extend_from_slice(b")")
+    add_micros(line, (micros % 1_000_000) as u32)
 }
 
 fn add_place(line: &mut Vec<u8>, place: &Place<'_>) -> Result<(), AllocError>
@@ -185,22 +190,32 @@ fn add_length(line: &mut Vec<u8>, count: u8) -> Result<(), AllocError>
     line.extend_from_slice(decimal_digits(u64::from(count)).as_str().as_bytes())
 }
 
+// data after their mark
+fn add_data(line: &mut Vec<u8>, mark: &[u8], bytes: &[u8]) -> Result<(), AllocError>
+    ensures { OnOk result
+        (line.new.items ≡ line.old.items ++ mark.now ++ flat_map byte_text bytes.now) }
+{
+    line.extend_from_slice(mark)?;
+    add_bytes(line, bytes)
+}
+
+fn add_request(line: &mut Vec<u8>, count: u8) -> Result<(), AllocError>
+    ensures { OnOk result
+        (line.new.items ≡ line.old.items ++ codes "#R" ++ length_text count) }
+{
+    line.extend_from_slice(b"#R")?;
+    add_length(line, count)
+}
+
 fn add_content(line: &mut Vec<u8>, content: &LogContent) -> Result<(), AllocError>
     ensures { OnOk result (line.new.items ≡ line.old.items ++ content_text content.now) }
 {
     match content {
-        LogContent::Data(bytes) => {
-            line.extend_from_slice(b"#")?;
-            add_bytes(line, bytes.bytes())
-        }
-        LogContent::Remote(count) => {
-            line.extend_from_slice(b"#R")?;
-            add_length(line, *count)
-        }
+        LogContent::Data(bytes) => add_data(line, b"#", bytes.bytes()),
+        LogContent::Remote(count) => add_request(line, *count),
         LogContent::Fd(flags, bytes) => {
-            line.extend_from_slice(b"##")?;
-            line.extend_from_slice(&[digit(*flags % 16)])?;
-            add_bytes(line, bytes.bytes())
+            let mark = [b'#', b'#', digit(*flags % 16)];
+            add_data(line, &mark, bytes.bytes())
         }
     }
 }
@@ -221,7 +236,6 @@ pub fn add_frame(line: &mut Vec<u8>, frame: &LogFrame<'_>) -> Result<(), AllocEr
     ensures { OnOk result (line.new.items ≡ line.old.items ++ frame_text frame.now) }
 {
     add_stamp(line, frame.micros)?;
-    line.extend_from_slice(b" ")?;
     add_place(line, &frame.place)?;
     line.extend_from_slice(b" ")?;
     add_id(line, frame.id)?;

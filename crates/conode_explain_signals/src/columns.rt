@@ -1,6 +1,6 @@
 //! The first line: the names of the columns.
 
-ghost use Rattle.std.specs.Prelude.{◌≡◌, ◌++◌, IfOk, OnOk, map, option_map, string_bytes};
+ghost use Rattle.std.specs.Prelude.{◌≡◌, ◌++◌, IfOk, OnOk, codes, map, option_map, string_bytes};
 ghost use Rattle.std.specs.List.{flat_map};
 ghost use Rattle.std.specs.Option.{option_copied};
 ghost use Rattle.co_sheet.specs.SheetViews.{row_view};
@@ -23,9 +23,10 @@ ghost use Rattle.conode_explain_signals.specs.Lines.{
 };
 
 use crate::signal::Signal;
+use crate::words::push_words;
 use co_sheet::EntryRow;
 use co_sheet_names::shown_name;
-use co_text::{byte_digits, push_decimal};
+use co_text::{byte_digits, decimal_digits};
 use conode_explain_pdo::{KnownSheet, names_for};
 use std::alloc::{AllocError, Global};
 
@@ -70,15 +71,25 @@ fn add_all_quoted(line: &mut Vec<u8>, field: &[u8]) -> Result<(), AllocError>
     Ok(())
 }
 
-fn add_csv_field(line: &mut Vec<u8>, field: &[u8]) -> Result<(), AllocError>
-    ensures { OnOk result (line.new.items ≡ line.old.items ++ csv_field field.now) }
+// a field in quotes, after a comma
+fn add_in_quotes(line: &mut Vec<u8>, field: &[u8]) -> Result<(), AllocError>
+    ensures { OnOk result (line.new.items
+        ≡ line.old.items ++ codes ",\"" ++ flat_map quoted_byte field.now ++ codes "\"") }
 {
-    if !needs_quotes(field) {
-        return line.extend_from_slice(field);
-    }
-    line.extend_from_slice(b"\"")?;
+    line.extend_from_slice(b",\"")?;
     add_all_quoted(line, field)?;
     line.extend_from_slice(b"\"")
+}
+
+// a field after a comma
+fn add_csv_field(line: &mut Vec<u8>, field: &[u8]) -> Result<(), AllocError>
+    ensures { OnOk result (line.new.items ≡ line.old.items ++ codes "," ++ csv_field field.now) }
+{
+    if needs_quotes(field) {
+        return add_in_quotes(line, field);
+    }
+    line.extend_from_slice(b",")?;
+    line.extend_from_slice(field)
 }
 
 // the entry of a signal in the sheet that counts for its node on an interface
@@ -156,8 +167,7 @@ fn push_name(text: &mut String, row: Option<&EntryRow<'_>>) -> Result<(), AllocE
     let Some(name) = shown_name(row) else {
         return Ok(());
     };
-    text.push_str(" ")?;
-    text.push_str(name)
+    push_words(text, &[" ", name])
 }
 
 #[tactic(auto, unfolding(crate::specs::Lines::column_name))]
@@ -169,11 +179,10 @@ fn set_column_name(
     ensures { OnOk result (string_bytes text.new
         ≡ column_name (option_map row_view (option_copied row.entry)) signal) }
 {
+    let node = decimal_digits(u64::from(signal.node));
+    let key = signal.key.text();
     text.clear();
-    text.push_str("node ")?;
-    push_decimal(text, u64::from(signal.node))?;
-    text.push_str(" ")?;
-    text.push_str(signal.key.text().as_str())?;
+    push_words(text, &["node ", node.as_str(), " ", key.as_str()])?;
     push_name(text, row)
 }
 
@@ -187,7 +196,6 @@ fn add_column(
         (line.new.items ≡ line.old.items ++ column (map known_view sheets.now) signal) }
 {
     set_column_name(text, row_of(sheets, signal), signal)?;
-    line.extend_from_slice(b",")?;
     add_csv_field(line, text.as_bytes())
 }
 
@@ -206,12 +214,40 @@ fn add_columns(
     Ok(())
 }
 
+// `text` is scratch space
+#[tactic(auto, unfolding(crate::specs::Lines::header))]
+fn add_header_in(
+    line: &mut Vec<u8>,
+    text: &mut String,
+    sheets: &[KnownSheet<'_, '_>],
+    signals: &[Signal],
+) -> Result<(), AllocError>
+    ensures { OnOk result
+        (line.new.items ≡ line.old.items ++ header (map known_view sheets.now) signals.now) }
+{
+    line.extend_from_slice(b"time")?;
+    add_columns(line, text, sheets, signals)?;
+    line.extend_from_slice(b"\n")
+}
+
+fn add_header(
+    alloc: Global,
+    line: &mut Vec<u8>,
+    sheets: &[KnownSheet<'_, '_>],
+    signals: &[Signal],
+) -> Result<(), AllocError>
+    ensures { OnOk result
+        (line.new.items ≡ line.old.items ++ header (map known_view sheets.now) signals.now) }
+{
+    let mut text = String::new(alloc);
+    add_header_in(line, &mut text, sheets, signals)
+}
+
 /// The first line of a table of the values of signals: `time`, and for each the node, the entry and
 /// its name, as `time,node 5 2001:01 Temperature`. The name is that of the sheet that counts on an
 /// interface that no sheet names, else that of the first interface on which the node has the entry.
 /// A name with a comma, a quote or a control character is quoted as RFC 4180 has it, the last as
 /// `\x07`. On an `Err` memory ran out.
-#[tactic(auto, unfolding(crate::specs::Lines::header))]
 pub fn header(
     alloc: Global,
     sheets: &[KnownSheet<'_, '_>],
@@ -221,9 +257,6 @@ pub fn header(
         line.items ≡ header (map known_view sheets.now) signals.now) }
 {
     let mut line = Vec::new(alloc);
-    let mut text = String::new(alloc);
-    line.extend_from_slice(b"time")?;
-    add_columns(&mut line, &mut text, sheets, signals)?;
-    line.extend_from_slice(b"\n")?;
+    add_header(alloc, &mut line, sheets, signals)?;
     Ok(line)
 }

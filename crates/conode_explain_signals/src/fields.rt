@@ -157,8 +157,8 @@ fn sdo_value<'t>(
     Some(bytes_of(data_type, frame, ended))
 }
 
-fn claim_bits(
-    bus: Bus<'_, '_, '_, '_, '_>,
+fn claim_bits<'b>(
+    bus: Bus<'b, 'b, 'b, 'b, 'b>,
     signal: Signal,
     bytes: &[u8],
     claim: Claim,
@@ -175,8 +175,8 @@ fn claim_bits(
 
 // the bits of a signal in data of PDOs
 #[tactic(auto, unfolding(crate::specs::Fields::pdo_bits))]
-fn pdo_bits(
-    bus: Bus<'_, '_, '_, '_, '_>,
+fn pdo_bits<'b>(
+    bus: Bus<'b, 'b, 'b, 'b, 'b>,
     signal: Signal,
     bytes: &[u8],
     claims: &[Claim],
@@ -195,9 +195,9 @@ fn pdo_bits(
 
 // Appends the value of an entry, if the frame has one, and returns whether it has.
 #[tactic(auto, unfolding(crate::specs::Fields::entry_field))]
-fn push_entry_field(
+fn push_entry_field<'b>(
     text: &mut String,
-    bus: Bus<'_, '_, '_, '_, '_>,
+    bus: Bus<'b, 'b, 'b, 'b, 'b>,
     claims: &[Claim],
     bytes: &[u8],
     told: &Option<Told>,
@@ -227,9 +227,9 @@ fn push_entry_field(
 /// which its SDO channel says this. Returns whether it has one; else nothing is appended. On an
 /// `Err` memory ran out, and a part of the text may be there.
 #[tactic(auto, unfolding(crate::specs::Fields::field_of))]
-pub(crate) fn push_field(
+pub(crate) fn push_field<'b>(
     text: &mut String,
-    bus: Bus<'_, '_, '_, '_, '_>,
+    bus: Bus<'b, 'b, 'b, 'b, 'b>,
     claims: &[Claim],
     bytes: &[u8],
     told: &Option<Told>,

@@ -6,6 +6,7 @@ mod fields;
 mod lines;
 mod signal;
 mod stamps;
+mod words;
 
 pub use columns::{first_missing, header};
 pub use lines::set_signal_line;

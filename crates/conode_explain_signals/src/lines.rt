@@ -14,9 +14,9 @@ use conode_explain_pdo::{Bus, Claim};
 use conode_explain_text::{StampForm, Times};
 use std::alloc::AllocError;
 
-fn push_after_comma(
+fn push_after_comma<'b>(
     text: &mut String,
-    bus: Bus<'_, '_, '_, '_, '_>,
+    bus: Bus<'b, 'b, 'b, 'b, 'b>,
     claims: &[Claim],
     bytes: &[u8],
     told: &Option<Told>,
@@ -33,9 +33,9 @@ fn push_after_comma(
 }
 
 // Appends the field of each signal, and returns whether the frame has a value of one.
-fn push_fields(
+fn push_fields<'b>(
     text: &mut String,
-    bus: Bus<'_, '_, '_, '_, '_>,
+    bus: Bus<'b, 'b, 'b, 'b, 'b>,
     claims: &[Claim],
     bytes: &[u8],
     told: &Option<Told>,
@@ -62,11 +62,11 @@ fn push_fields(
 /// PDOs carry by the mapping in force, and that of an SDO transfer that is done with it, of up to
 /// 64 bytes. Returns whether it has one. On an `Err` memory ran out, and the line is incomplete.
 #[tactic(auto, unfolding(crate::specs::Lines::signal_line))]
-pub fn set_signal_line(
+pub fn set_signal_line<'b>(
     text: &mut String,
     form: StampForm,
     times: Times,
-    bus: Bus<'_, '_, '_, '_, '_>,
+    bus: Bus<'b, 'b, 'b, 'b, 'b>,
     claims: &[Claim],
     bytes: &[u8],
     told: &Option<Told>,

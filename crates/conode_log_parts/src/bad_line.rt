@@ -6,7 +6,7 @@ ghost use Rattle.conode_log_parts.specs.BadWords.{bad_words, of_record};
 use conode_record::BadLine;
 
 /// What is wrong with a line of a log: its first wrong part.
-#[derive(Clone, Copy, Debug, PartialEq, Eq)]
+#[derive(Clone, Copy)]
 pub enum BadLogLine {
     /// Neither this line nor one before it shows which recorder wrote the log.
     Unknown,

@@ -26,7 +26,7 @@ ghost use Rattle.conode_log_parts.specs.Numbers.{
 use co_text::{byte_in, decimal_in, hex_digit, is_digit};
 
 /// The base of the numbers of a log.
-#[derive(Clone, Copy, Debug, PartialEq, Eq)]
+#[derive(Clone, Copy)]
 pub enum Base {
     /// Hexadecimal digits.
     Hexadecimal,
@@ -132,8 +132,12 @@ fn with_three(number: u64, digits: &[u8]) -> (u64, &[u8])
 pub fn millis_in(word: &[u8]) -> Option<u64>
     ensures { result ≡ millis_in word.now }
 {
-    let (whole, rest) = number_at(word, 1, 12)?;
-    let fraction = fraction_of(rest)?;
+    let Some((whole, rest)) = number_at(word, 1, 12) else {
+        return None;
+    };
+    let Some(fraction) = fraction_of(rest) else {
+        return None;
+    };
     Some(with_three(whole, fraction).0)
 }
 
@@ -144,8 +148,12 @@ pub fn millis_in(word: &[u8]) -> Option<u64>
 pub fn seconds_in(word: &[u8]) -> Option<u64>
     ensures { result ≡ seconds_in word.now }
 {
-    let (whole, rest) = number_at(word, 1, 12)?;
-    let fraction = fraction_of(rest)?;
+    let Some((whole, rest)) = number_at(word, 1, 12) else {
+        return None;
+    };
+    let Some(fraction) = fraction_of(rest) else {
+        return None;
+    };
     let (thousandths, fraction) = with_three(whole, fraction);
     Some(with_three(thousandths, fraction).0)
 }
@@ -157,7 +165,10 @@ pub fn moved(sums: bool, clock: u64, stamp: u64) -> Option<u64>
     ensures { result ≡ moved sums clock stamp }
 {
     let now = if sums {
-        clock.checked_add(stamp)?
+        let Some(sum) = clock.checked_add(stamp) else {
+            return None;
+        };
+        sum
     } else {
         stamp
     };
@@ -195,11 +206,21 @@ fn date_at(text: &[u8]) -> Option<(u64, &[u8])>
     ensures exact { option_map (λ found. (found.0, found.1.now)) result ≡ date_at text.now }
     ensures few { IfSome result (λ found. found.0 < 4000000) }
 {
-    let (year, text) = number_at(text, 4, 4)?;
-    let text = past_byte(text, b'-')?;
-    let (month, text) = number_at(text, 2, 2)?;
-    let text = past_byte(text, b'-')?;
-    let (day, text) = number_at(text, 2, 2)?;
+    let Some((year, text)) = number_at(text, 4, 4) else {
+        return None;
+    };
+    let Some(text) = past_byte(text, b'-') else {
+        return None;
+    };
+    let Some((month, text)) = number_at(text, 2, 2) else {
+        return None;
+    };
+    let Some(text) = past_byte(text, b'-') else {
+        return None;
+    };
+    let Some((day, text)) = number_at(text, 2, 2) else {
+        return None;
+    };
     if is_date(year, month, day) {
         Some((day_of(year, month, day), text))
     } else {
@@ -219,11 +240,21 @@ fn time_at(text: &[u8]) -> Option<(u64, &[u8])>
     ensures exact { option_map (λ found. (found.0, found.1.now)) result ≡ time_at text.now }
     ensures few { IfSome result (λ found. found.0 < 86500) }
 {
-    let (hour, text) = number_at(text, 2, 2)?;
-    let text = past_byte(text, b':')?;
-    let (minute, text) = number_at(text, 2, 2)?;
-    let text = past_byte(text, b':')?;
-    let (second, text) = number_at(text, 2, 2)?;
+    let Some((hour, text)) = number_at(text, 2, 2) else {
+        return None;
+    };
+    let Some(text) = past_byte(text, b':') else {
+        return None;
+    };
+    let Some((minute, text)) = number_at(text, 2, 2) else {
+        return None;
+    };
+    let Some(text) = past_byte(text, b':') else {
+        return None;
+    };
+    let Some((second, text)) = number_at(text, 2, 2) else {
+        return None;
+    };
     if is_time(hour, minute, second) {
         Some((3600 * hour + 60 * minute + second, text))
     } else {
@@ -236,13 +267,27 @@ fn time_at(text: &[u8]) -> Option<(u64, &[u8])>
 pub fn moment_at(text: &[u8]) -> Option<(u64, &[u8])>
     ensures { option_map (λ found. (found.0, found.1.now)) result ≡ moment_at text.now }
 {
-    let text = past_byte(text, b'(')?;
-    let (days, text) = date_at(text)?;
-    let text = past_byte(text, b' ')?;
-    let (seconds, text) = time_at(text)?;
-    let text = past_byte(text, b'.')?;
-    let (micros, text) = number_at(text, 6, 6)?;
-    let text = past_byte(text, b')')?;
+    let Some(text) = past_byte(text, b'(') else {
+        return None;
+    };
+    let Some((days, text)) = date_at(text) else {
+        return None;
+    };
+    let Some(text) = past_byte(text, b' ') else {
+        return None;
+    };
+    let Some((seconds, text)) = time_at(text) else {
+        return None;
+    };
+    let Some(text) = past_byte(text, b'.') else {
+        return None;
+    };
+    let Some((micros, text)) = number_at(text, 6, 6) else {
+        return None;
+    };
+    let Some(text) = past_byte(text, b')') else {
+        return None;
+    };
     Some((1_000_000 * (86_400 * days + seconds) + micros, text))
 }
 
@@ -252,11 +297,21 @@ pub fn moment_at(text: &[u8]) -> Option<(u64, &[u8])>
 pub fn stamp_at(text: &[u8]) -> Option<(u64, &[u8])>
     ensures { option_map (λ found. (found.0, found.1.now)) result ≡ stamp_at text.now }
 {
-    let text = past_byte(text, b'(')?;
-    let (seconds, text) = number_at(text, 1, 12)?;
-    let text = past_byte(text, b'.')?;
-    let (micros, text) = number_at(text, 6, 6)?;
-    let text = past_byte(text, b')')?;
+    let Some(text) = past_byte(text, b'(') else {
+        return None;
+    };
+    let Some((seconds, text)) = number_at(text, 1, 12) else {
+        return None;
+    };
+    let Some(text) = past_byte(text, b'.') else {
+        return None;
+    };
+    let Some((micros, text)) = number_at(text, 6, 6) else {
+        return None;
+    };
+    let Some(text) = past_byte(text, b')') else {
+        return None;
+    };
     Some((1_000_000 * seconds + micros, text))
 }
 
@@ -268,7 +323,10 @@ pub fn hex_number(digits: &[u8]) -> Option<u32>
 {
     let mut number: u64 = 0;
     for byte in digits {
-        number = 16 * number + u64::from(hex_digit(*byte)?);
+        let Some(digit) = hex_digit(*byte) else {
+            return None;
+        };
+        number = 16 * number + u64::from(digit);
     }
     Some(number as u32)
 }

@@ -53,8 +53,12 @@ pub fn extended_id(number: u32) -> Option<Identifier>
 fn byte_at(base: Base, text: &[u8]) -> Option<(u8, &[u8])>
     ensures { option_map (λ found. (found.0, found.1.now)) result ≡ byte_at base text.now }
 {
-    let (word, rest) = word_at(text)?;
-    let byte = byte_of(base, word)?;
+    let Some((word, rest)) = word_at(text) else {
+        return None;
+    };
+    let Some(byte) = byte_of(base, word) else {
+        return None;
+    };
     Some((byte, rest))
 }
 
@@ -81,7 +85,9 @@ pub fn bytes_at(base: Base, count: usize, text: &[u8]) -> Option<(LogBytes, &[u8
 pub fn name_at(text: &[u8]) -> Option<(Name<'_>, &[u8])>
     ensures { option_map (λ found. (found.0, found.1.now)) result ≡ name_at text.now }
 {
-    let (name, rest) = word_at(text)?;
+    let Some((name, rest)) = word_at(text) else {
+        return None;
+    };
     if name.len() <= 15 {
         Some((Name::new(name), rest))
     } else {
@@ -95,8 +101,12 @@ pub fn channel_at(text: &[u8]) -> Option<(u8, &[u8])>
     ensures exact { option_map (λ found. (found.0, found.1.now)) result ≡ channel_at text.now }
     ensures least { IfSome result (λ found. 1 ≤ found.0) }
 {
-    let (word, rest) = word_at(text)?;
-    let channel = decimal_in(word, 1, 255)?;
+    let Some((word, rest)) = word_at(text) else {
+        return None;
+    };
+    let Some(channel) = decimal_in(word, 1, 255) else {
+        return None;
+    };
     Some((channel as u8, rest))
 }
 
@@ -118,8 +128,12 @@ pub fn direction_of(word: &[u8]) -> Option<Direction>
 pub fn direction_at(text: &[u8]) -> Option<(Direction, &[u8])>
     ensures { option_map (λ found. (found.0, found.1.now)) result ≡ direction_at text.now }
 {
-    let (word, rest) = word_at(text)?;
-    let direction = direction_of(word)?;
+    let Some((word, rest)) = word_at(text) else {
+        return None;
+    };
+    let Some(direction) = direction_of(word) else {
+        return None;
+    };
     Some((direction, rest))
 }
 
@@ -130,8 +144,12 @@ pub fn count_at(most: u32, text: &[u8]) -> Option<(u32, &[u8])>
         ≡ count_at most text.now }
     ensures few { IfSome result (λ found. found.0 ≤ most) }
 {
-    let (word, rest) = word_at(text)?;
-    let count = decimal_in(word, 0, most)?;
+    let Some((word, rest)) = word_at(text) else {
+        return None;
+    };
+    let Some(count) = decimal_in(word, 0, most) else {
+        return None;
+    };
     Some((count, rest))
 }
 

@@ -39,7 +39,7 @@ use conode_log_parts::{
 use conode_record::{Direction, Identifier};
 
 /// How the numbers and the stamps of a `.asc` are written.
-#[derive(Clone, Copy, Debug, PartialEq, Eq)]
+#[derive(Clone, Copy)]
 pub struct AscForm {
     /// The base of identifiers and bytes.
     pub base: Base,
@@ -68,7 +68,9 @@ fn is_header(word: &[u8]) -> bool
 fn base_at(text: &[u8]) -> Option<(Base, &[u8])>
     ensures { option_map (λ found. (found.0, found.1.now)) result ≡ base_at text.now }
 {
-    let (word, rest) = word_at(text)?;
+    let Some((word, rest)) = word_at(text) else {
+        return None;
+    };
     if is_word(word, b"hex") {
         Some((Base::Hexadecimal, rest))
     } else if is_word(word, b"dec") {
@@ -86,7 +88,9 @@ fn relative_in(text: &[u8]) -> Option<bool>
     if is_over(text) {
         return Some(false);
     }
-    let (name, rest) = word_at(text)?;
+    let Some((name, rest)) = word_at(text) else {
+        return None;
+    };
     if !is_word(name, b"timestamps") {
         None
     } else if next_is(b"relative", rest) {
@@ -103,8 +107,12 @@ fn relative_in(text: &[u8]) -> Option<bool>
 fn form_in(text: &[u8]) -> Option<AscForm>
     ensures { result ≡ form_in text.now }
 {
-    let (base, rest) = base_at(text)?;
-    let relative = relative_in(rest)?;
+    let Some((base, rest)) = base_at(text) else {
+        return None;
+    };
+    let Some(relative) = relative_in(rest) else {
+        return None;
+    };
     Some(AscForm { base, relative })
 }
 
@@ -114,9 +122,15 @@ fn asc_id(base: Base, word: &[u8]) -> Option<Identifier>
 {
     let last = word.len() - 1;
     if word[last] == b'x' {
-        extended_id(number_in(base, &word[..last])?)
+        match number_in(base, &word[..last]) {
+            Some(number) => extended_id(number),
+            None => None,
+        }
     } else {
-        short_id(number_in(base, word)?)
+        match number_in(base, word) {
+            Some(number) => short_id(number),
+            None => None,
+        }
     }
 }
 
@@ -125,8 +139,12 @@ fn asc_id(base: Base, word: &[u8]) -> Option<Identifier>
 fn asc_id_at(base: Base, text: &[u8]) -> Option<(Identifier, &[u8])>
     ensures { option_map (λ found. (found.0, found.1.now)) result ≡ asc_id_at base text.now }
 {
-    let (word, rest) = word_at(text)?;
-    let id = asc_id(base, word)?;
+    let Some((word, rest)) = word_at(text) else {
+        return None;
+    };
+    let Some(id) = asc_id(base, word) else {
+        return None;
+    };
     Some((id, rest))
 }
 
@@ -193,9 +211,11 @@ fn asc_frame(base: Base, micros: u64, channel: u8, text: &[u8]) -> Result<LogLin
     let Some((direction, rest)) = direction_at(rest) else {
         return Err(BadLogLine::Direction);
     };
-    let content = asc_content(base, rest)?;
     let place = Place::Channel(channel);
-    Ok(frame_of(micros, place, id, content, Some(direction)))
+    match asc_content(base, rest) {
+        Ok(content) => Ok(frame_of(micros, place, id, content, Some(direction))),
+        Err(bad) => Err(bad),
+    }
 }
 
 // whether an event of a channel is no frame
@@ -243,8 +263,12 @@ fn past_name(text: &[u8]) -> &[u8]
 fn asc_flags_at(text: &[u8]) -> Option<(u8, &[u8])>
     ensures { option_map (λ found. (found.0, found.1.now)) result ≡ asc_flags_at text.now }
 {
-    let (switch, rest) = count_at(1, text)?;
-    let (error, rest) = count_at(1, rest)?;
+    let Some((switch, rest)) = count_at(1, text) else {
+        return None;
+    };
+    let Some((error, rest)) = count_at(1, rest) else {
+        return None;
+    };
     Some(((switch + 2 * error) as u8, rest))
 }
 
@@ -254,9 +278,15 @@ fn asc_length_at(text: &[u8]) -> Option<((u32, u32), &[u8])>
     ensures exact { option_map (λ found. (found.0, found.1.now)) result ≡ asc_length_at text.now }
     ensures few { IfSome result (λ found. found.0.1 ≤ 64) }
 {
-    let (word, rest) = word_at(text)?;
-    let code = number_in(Base::Hexadecimal, word)?;
-    let (count, rest) = count_at(64, rest)?;
+    let Some((word, rest)) = word_at(text) else {
+        return None;
+    };
+    let Some(code) = number_in(Base::Hexadecimal, word) else {
+        return None;
+    };
+    let Some((count, rest)) = count_at(64, rest) else {
+        return None;
+    };
     Some(((code, count), rest))
 }
 
@@ -265,9 +295,15 @@ fn asc_length_at(text: &[u8]) -> Option<((u32, u32), &[u8])>
 fn flags_after(text: &[u8]) -> Option<u32>
     ensures { result ≡ flags_after text.now }
 {
-    let (_, rest) = word_at(text)?;
-    let (_, rest) = word_at(rest)?;
-    let (flags, _) = word_at(rest)?;
+    let Some((_, rest)) = word_at(text) else {
+        return None;
+    };
+    let Some((_, rest)) = word_at(rest) else {
+        return None;
+    };
+    let Some((flags, _)) = word_at(rest) else {
+        return None;
+    };
     number_in(Base::Hexadecimal, flags)
 }
 
@@ -323,9 +359,11 @@ fn asc_fd_frame(
     let Some((id, rest)) = asc_id_at(base, text) else {
         return Err(BadLogLine::Identifier);
     };
-    let content = asc_fd_content(base, rest)?;
     let place = Place::Channel(channel);
-    Ok(frame_of(micros, place, id, content, Some(direction)))
+    match asc_fd_content(base, rest) {
+        Ok(content) => Ok(frame_of(micros, place, id, content, Some(direction))),
+        Err(bad) => Err(bad),
+    }
 }
 
 // channel, direction, and an error frame or a frame

@@ -25,7 +25,7 @@ use conode_log_parts::{BadLogLine, Base, LogLine, is_over, is_word, word_at};
 use conode_record::RecordLine;
 
 /// The form of a log.
-#[derive(Clone, Copy, Debug, PartialEq, Eq)]
+#[derive(Clone, Copy)]
 pub enum Form {
     /// No line has shown it yet.
     Unknown,
@@ -44,7 +44,7 @@ pub enum Form {
 
 /// What is known of a log so far: its form, and its clock in microseconds, for stamps counted from
 /// the line before.
-#[derive(Clone, Copy, Debug, PartialEq, Eq)]
+#[derive(Clone, Copy)]
 pub struct Log {
     /// Its form.
     pub form: Form,

@@ -31,7 +31,7 @@ use conode_log_parts::{
 use conode_record::{Direction, Identifier};
 
 /// What `candump -x` shows between the interface and the identifier.
-#[derive(Clone, Copy, PartialEq, Eq)]
+#[derive(Clone, Copy)]
 pub(crate) struct Marks {
     pub(crate) direction: Option<Direction>,
     /// The flags of a CAN FD frame: bit 0 bit rate switch, bit 1 error state indicator.
@@ -60,7 +60,9 @@ fn flag_at<'a>(letter: &[u8], value: u8, text: &'a [u8]) -> Option<(u8, &'a [u8]
         ≡ flag_at letter.now value text.now }
     ensures few { IfSome result (λ found. found.0 ≤ value) }
 {
-    let (word, rest) = word_at(text)?;
+    let Some((word, rest)) = word_at(text) else {
+        return None;
+    };
     if is_word(word, letter) {
         Some((value, rest))
     } else if is_word(word, b"-") {
@@ -74,8 +76,12 @@ fn flag_at<'a>(letter: &[u8], value: u8, text: &'a [u8]) -> Option<(u8, &'a [u8]
 fn flags_at(text: &[u8]) -> Option<(u8, &[u8])>
     ensures { option_map (λ found. (found.0, found.1.now)) result ≡ flags_at text.now }
 {
-    let (switch, text) = flag_at(b"B", 1, text)?;
-    let (error, text) = flag_at(b"E", 2, text)?;
+    let Some((switch, text)) = flag_at(b"B", 1, text) else {
+        return None;
+    };
+    let Some((error, text)) = flag_at(b"E", 2, text) else {
+        return None;
+    };
     Some((switch + error, text))
 }
 
@@ -96,8 +102,12 @@ fn mark_of(word: &[u8]) -> Option<Direction>
 fn mark_at(text: &[u8]) -> Option<(Direction, &[u8])>
     ensures { option_map (λ found. (found.0, found.1.now)) result ≡ mark_at text.now }
 {
-    let (word, rest) = word_at(text)?;
-    let direction = mark_of(word)?;
+    let Some((word, rest)) = word_at(text) else {
+        return None;
+    };
+    let Some(direction) = mark_of(word) else {
+        return None;
+    };
     Some((direction, rest))
 }
 
@@ -113,7 +123,9 @@ fn marks_at(text: &[u8]) -> Option<(Marks, &[u8])>
         };
         return Some((none, text));
     };
-    let (flags, rest) = flags_at(rest)?;
+    let Some((flags, rest)) = flags_at(rest) else {
+        return None;
+    };
     let marks = Marks {
         direction: Some(mark),
         flags,
@@ -138,8 +150,14 @@ fn screen_id(word: &[u8]) -> Option<Identifier>
     ensures { result ≡ screen_id word.now }
 {
     match word.len() {
-        3 => short_id(hex_number(word)?),
-        8 => eight_digits(hex_number(word)?),
+        3 => match hex_number(word) {
+            Some(number) => short_id(number),
+            None => None,
+        },
+        8 => match hex_number(word) {
+            Some(number) => eight_digits(number),
+            None => None,
+        },
         _ => None,
     }
 }
@@ -149,8 +167,12 @@ fn screen_id(word: &[u8]) -> Option<Identifier>
 fn screen_id_at(text: &[u8]) -> Option<(Identifier, &[u8])>
     ensures { option_map (λ found. (found.0, found.1.now)) result ≡ screen_id_at text.now }
 {
-    let (word, rest) = word_at(text)?;
-    let id = screen_id(word)?;
+    let Some((word, rest)) = word_at(text) else {
+        return None;
+    };
+    let Some(id) = screen_id(word) else {
+        return None;
+    };
     Some((id, rest))
 }
 
@@ -165,8 +187,14 @@ fn length_in(word: &[u8]) -> Option<(bool, u32)>
     }
     let number = &word[1..len - 1];
     match len {
-        3 => Some((false, decimal_in(number, 0, 8)?)),
-        4 => Some((true, decimal_in(number, 0, 64)?)),
+        3 => match decimal_in(number, 0, 8) {
+            Some(count) => Some((false, count)),
+            None => None,
+        },
+        4 => match decimal_in(number, 0, 64) {
+            Some(count) => Some((true, count)),
+            None => None,
+        },
         _ => None,
     }
 }
@@ -207,7 +235,10 @@ fn screen_classic(count: u32, text: &[u8]) -> Result<LogContent, BadLogLine>
     if next_is(b"remote", text) {
         return Ok(LogContent::Remote(count as u8));
     }
-    Ok(LogContent::Data(screen_bytes(count, text)?))
+    match screen_bytes(count, text) {
+        Ok(bytes) => Ok(LogContent::Data(bytes)),
+        Err(bad) => Err(bad),
+    }
 }
 
 // a length in brackets, and the data
@@ -222,7 +253,10 @@ fn screen_content(flags: u8, text: &[u8]) -> Result<LogContent, BadLogLine>
         return Err(BadLogLine::Length);
     };
     if fd {
-        Ok(LogContent::Fd(flags, screen_bytes(count, rest)?))
+        match screen_bytes(count, rest) {
+            Ok(bytes) => Ok(LogContent::Fd(flags, bytes)),
+            Err(bad) => Err(bad),
+        }
     } else {
         screen_classic(count, rest)
     }
@@ -242,9 +276,11 @@ fn screen_frame(micros: u64, text: &[u8]) -> Result<LogLine<'_>, BadLogLine>
     let Some((id, rest)) = screen_id_at(rest) else {
         return Err(BadLogLine::Identifier);
     };
-    let content = screen_content(marks.flags, rest)?;
     let place = Place::Interface(name);
-    Ok(frame_of(micros, place, id, content, marks.direction))
+    match screen_content(marks.flags, rest) {
+        Ok(content) => Ok(frame_of(micros, place, id, content, marks.direction)),
+        Err(bad) => Err(bad),
+    }
 }
 
 fn is_screen_note(line: &[u8]) -> bool

@@ -40,7 +40,7 @@ use conode_log_parts::{
 use conode_record::{Direction, Identifier};
 
 /// The columns of a `.trc`.
-#[derive(Clone, Copy, Debug, PartialEq, Eq)]
+#[derive(Clone, Copy)]
 pub struct Columns {
     /// Whether a column has the type of each message, and another one its direction: version 2.0
     /// and 2.1.
@@ -54,7 +54,7 @@ pub struct Columns {
 }
 
 /// What a message of a `.trc` is.
-#[derive(Clone, Copy, PartialEq, Eq)]
+#[derive(Clone, Copy)]
 pub(crate) enum Message {
     /// A frame of version 1.1 or 1.3, which has no column for its direction.
     Old(Direction),
@@ -174,7 +174,10 @@ fn old_message(word: &[u8]) -> Option<Message>
     } else if is_word(word, b"Warng") {
         Some(Message::Event)
     } else {
-        Some(Message::Old(direction_of(word)?))
+        match direction_of(word) {
+            Some(direction) => Some(Message::Old(direction)),
+            None => None,
+        }
     }
 }
 
@@ -216,21 +219,32 @@ fn new_message(word: &[u8]) -> Option<Message>
 fn message_at(typed: bool, text: &[u8]) -> Option<(Message, &[u8])>
     ensures { option_map (λ found. (found.0, found.1.now)) result ≡ message_at typed text.now }
 {
-    let (word, rest) = word_at(text)?;
-    let message = if typed {
-        new_message(word)?
-    } else {
-        old_message(word)?
+    let Some((word, rest)) = word_at(text) else {
+        return None;
     };
-    Some((message, rest))
+    let message = if typed {
+        new_message(word)
+    } else {
+        old_message(word)
+    };
+    match message {
+        Some(message) => Some((message, rest)),
+        None => None,
+    }
 }
 
 fn trc_id(word: &[u8]) -> Option<Identifier>
     ensures { result ≡ trc_id word.now }
 {
     match word.len() {
-        4 => short_id(hex_number(word)?),
-        5..=8 => extended_id(hex_number(word)?),
+        4 => match hex_number(word) {
+            Some(number) => short_id(number),
+            None => None,
+        },
+        5..=8 => match hex_number(word) {
+            Some(number) => extended_id(number),
+            None => None,
+        },
         _ => None,
     }
 }
@@ -240,8 +254,12 @@ fn trc_id(word: &[u8]) -> Option<Identifier>
 fn trc_id_at(text: &[u8]) -> Option<(Identifier, &[u8])>
     ensures { option_map (λ found. (found.0, found.1.now)) result ≡ trc_id_at text.now }
 {
-    let (word, rest) = word_at(text)?;
-    let id = trc_id(word)?;
+    let Some((word, rest)) = word_at(text) else {
+        return None;
+    };
+    let Some(id) = trc_id(word) else {
+        return None;
+    };
     Some((id, rest))
 }
 
@@ -253,7 +271,9 @@ fn past_reserved(reserved: bool, text: &[u8]) -> Option<&[u8]>
     if !reserved {
         return Some(text);
     }
-    let (_, rest) = word_at(text)?;
+    let Some((_, rest)) = word_at(text) else {
+        return None;
+    };
     Some(rest)
 }
 
@@ -282,7 +302,10 @@ fn trc_classic(count: u32, text: &[u8]) -> Result<LogContent, BadLogLine>
     if next_is(b"RTR", text) {
         return Ok(LogContent::Remote(count as u8));
     }
-    Ok(LogContent::Data(trc_bytes(count as usize, text)?))
+    match trc_bytes(count as usize, text) {
+        Ok(bytes) => Ok(LogContent::Data(bytes)),
+        Err(bad) => Err(bad),
+    }
 }
 
 // the number of a CAN FD frame's bytes, and what follows its length
@@ -293,10 +316,14 @@ fn fd_length_at(counted: bool, text: &[u8]) -> Option<(usize, &[u8])>
     ensures few { IfSome result (λ found. found.0 ≤ 64) }
 {
     if counted {
-        let (count, rest) = count_at(64, text)?;
+        let Some((count, rest)) = count_at(64, text) else {
+            return None;
+        };
         Some((count as usize, rest))
     } else {
-        let (code, rest) = count_at(15, text)?;
+        let Some((code, rest)) = count_at(15, text) else {
+            return None;
+        };
         Some((fd_length(code), rest))
     }
 }
@@ -306,22 +333,30 @@ fn fd_length_at(counted: bool, text: &[u8]) -> Option<(usize, &[u8])>
 fn trc_content(message: Message, counted: bool, text: &[u8]) -> Result<LogContent, BadLogLine>
     ensures { result ≡ trc_content message counted text.now }
 {
-    if let Message::Flexible(flags) = message {
-        let Some((count, rest)) = fd_length_at(counted, text) else {
-            return Err(BadLogLine::Length);
-        };
-        return Ok(LogContent::Fd(flags, trc_bytes(count, rest)?));
-    }
-    let Some((count, rest)) = count_at(8, text) else {
-        return Err(BadLogLine::Length);
-    };
-    if message != Message::Request {
-        return trc_classic(count, rest);
-    }
-    if is_over(rest) {
-        Ok(LogContent::Remote(count as u8))
-    } else {
-        Err(BadLogLine::Ending)
+    match message {
+        Message::Flexible(flags) => {
+            let Some((count, rest)) = fd_length_at(counted, text) else {
+                return Err(BadLogLine::Length);
+            };
+            match trc_bytes(count, rest) {
+                Ok(bytes) => Ok(LogContent::Fd(flags, bytes)),
+                Err(bad) => Err(bad),
+            }
+        }
+        Message::Request => {
+            let Some((count, rest)) = count_at(8, text) else {
+                return Err(BadLogLine::Length);
+            };
+            if is_over(rest) {
+                Ok(LogContent::Remote(count as u8))
+            } else {
+                Err(BadLogLine::Ending)
+            }
+        }
+        _ => match count_at(8, text) {
+            Some((count, rest)) => trc_classic(count, rest),
+            None => Err(BadLogLine::Length),
+        },
     }
 }
 
@@ -357,9 +392,11 @@ fn trc_frame(
     let Some(rest) = past_reserved(columns.reserved, rest) else {
         return Err(BadLogLine::Length);
     };
-    let content = trc_content(message, columns.counted, rest)?;
     let place = Place::Channel(channel);
-    Ok(frame_of(micros, place, id, content, Some(direction)))
+    match trc_content(message, columns.counted, rest) {
+        Ok(content) => Ok(frame_of(micros, place, id, content, Some(direction))),
+        Err(bad) => Err(bad),
+    }
 }
 
 // a message of this type on a channel
@@ -416,12 +453,12 @@ fn new_on(
 ) -> Result<LogLine<'_>, BadLogLine>
     ensures { result ≡ new_on columns message micros text.now }
 {
-    if message == Message::Event {
-        return Ok(LogLine::Skipped);
-    }
-    match bus_at(columns.bus, text) {
-        Some((channel, rest)) => trc_on(columns, message, micros, channel, rest),
-        None => Err(BadLogLine::Interface),
+    match message {
+        Message::Event => Ok(LogLine::Skipped),
+        _ => match bus_at(columns.bus, text) {
+            Some((channel, rest)) => trc_on(columns, message, micros, channel, rest),
+            None => Err(BadLogLine::Interface),
+        },
     }
 }
 

@@ -22,7 +22,7 @@ use co_text::{decimal_in, is_blank};
 use std::alloc::{AllocError, Global};
 
 /// The part of a word that is wrong.
-#[derive(Clone, Copy, PartialEq, Eq)]
+#[derive(Clone, Copy)]
 pub enum SheetPart {
     /// What comes before the colon.
     Interface,

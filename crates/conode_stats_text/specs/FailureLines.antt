@@ -1,5 +1,5 @@
 -- The lines of the page about SDO transfers that failed, or are open, and about EMCY messages.
-use Rattle.std.specs.Prelude.{ℕ, ◌-◌, ◌%◌, Bool, nat_lt, if◌then◌else◌, List, [], ◌∷◌, ◌++◌, codes, decimal, Option, Some, None}
+use Rattle.std.specs.Prelude.{ℕ, ◌-◌, ◌%◌, Bool, nat_lt, if◌then◌else◌, List, [], ◌∷◌, codes, decimal, Option, Some, None}
 use Rattle.std.specs.List.{concat}
 use Rattle.co_text.specs.Printed.{digits_text}
 use Rattle.co_value.specs.KeyTexts.{key_text}
@@ -8,26 +8,28 @@ use Rattle.conode_stats_counts.specs.declared.failure.FailureRow.{FailureRow}
 use Rattle.conode_stats_text.specs.Cells.{seconds}
 use Rattle.conode_stats_text.specs.StatsLines.{node_front}
 
--- how often something of a node came, in these words, and the stamp of the last
-abbrev pub counted_line : List ℕ → FailureRow → List (List ℕ) → List ℕ
-counted_line interface row words =
-    concat (node_front interface row.cause.node ∷ (words ++ decimal row.count ∷ codes ", the last at " ∷ seconds row.last ∷ codes "\n" ∷ []))
+-- how often something of a node came, in these words with a code, and the stamp of the last
+unfoldable pub counted_line : List ℕ → FailureRow → List ℕ → List ℕ → List ℕ → List ℕ
+counted_line interface row front code after =
+    concat (node_front interface row.cause.node ∷ front ∷ code ∷ after ∷ decimal row.count ∷ codes ", the last at " ∷ seconds row.last
+    ∷ codes "\n" ∷ [])
 
 -- transfers that failed, and why
-abbrev pub cause_words : Option ℕ → List (List ℕ)
-cause_words None = codes " SDO transfers without an answer: " ∷ []
-cause_words (Some code) = codes " SDO transfers aborted with " ∷ digits_text 16 8 code ∷ codes "h: " ∷ []
+abbrev pub failure_by : List ℕ → FailureRow → Option ℕ → List ℕ
+failure_by interface row None = counted_line interface row (codes " SDO transfers without an answer") [] (codes ": ")
+failure_by interface row (Some code) =
+    counted_line interface row (codes " SDO transfers aborted with ") (digits_text 16 8 code) (codes "h: ")
 
 unfoldable pub failure_line : List ℕ → FailureRow → List ℕ
-failure_line interface row = counted_line interface row (cause_words row.cause.code)
+failure_line interface row = failure_by interface row row.cause.code
 
 -- EMCY messages by error code
-abbrev pub emergency_words : Option ℕ → List (List ℕ)
-emergency_words None = codes " EMCY messages without a code: " ∷ []
-emergency_words (Some code) = codes " EMCY " ∷ digits_text 16 4 (code % 65536) ∷ codes "h: " ∷ []
+abbrev pub emergency_by : List ℕ → FailureRow → Option ℕ → List ℕ
+emergency_by interface row None = counted_line interface row (codes " EMCY messages without a code") [] (codes ": ")
+emergency_by interface row (Some code) = counted_line interface row (codes " EMCY ") (digits_text 16 4 (code % 65536)) (codes "h: ")
 
 unfoldable pub emergency_line : List ℕ → FailureRow → List ℕ
-emergency_line interface row = counted_line interface row (emergency_words row.cause.code)
+emergency_line interface row = emergency_by interface row row.cause.code
 
 -- a transfer of an entry that is open at the end, with the stamp of its newest frame
 unfoldable pub open_line : List ℕ → ℕ → Ended → List ℕ

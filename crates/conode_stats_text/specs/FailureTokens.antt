@@ -9,15 +9,19 @@ use Rattle.conode_stats_counts.specs.declared.failure.FailureRow.{FailureRow}
 use Rattle.conode_stats_text.specs.FailureLines.{is_waiting}
 use Rattle.conode_stats_text.specs.StatsTokens.{number_of}
 
+-- how often something of a node came, with the members of its code, and the stamp of the last
+unfoldable pub counted_tokens : FailureRow → List Token → List Token
+counted_tokens row code =
+    (begin_object ∷ []) ++ number_of (codes "node") row.cause.node ++ code
+    ++ number_of (codes "count") row.count ++ number_of (codes "last") row.last ++ end_object ∷ []
+
 -- the code of an abort
 abbrev pub code_members : Option ℕ → List Token
 code_members None = []
 code_members (Some code) = text_member (codes "abortCode") (digits_text 16 8 code)
 
 unfoldable pub failure_tokens : FailureRow → List Token
-failure_tokens row =
-    (begin_object ∷ []) ++ number_of (codes "node") row.cause.node ++ code_members row.cause.code
-    ++ number_of (codes "count") row.count ++ number_of (codes "last") row.last ++ end_object ∷ []
+failure_tokens row = counted_tokens row (code_members row.cause.code)
 
 -- the error code of EMCY messages
 abbrev pub error_members : Option ℕ → List Token
@@ -25,9 +29,7 @@ error_members None = []
 error_members (Some code) = text_member (codes "errorCode") (digits_text 16 4 (code % 65536))
 
 unfoldable pub emergency_tokens : FailureRow → List Token
-emergency_tokens row =
-    (begin_object ∷ []) ++ number_of (codes "node") row.cause.node ++ error_members row.cause.code
-    ++ number_of (codes "count") row.count ++ number_of (codes "last") row.last ++ end_object ∷ []
+emergency_tokens row = counted_tokens row (error_members row.cause.code)
 
 unfoldable pub key_members : Key → List Token
 key_members key = number_of (codes "index") key.index ++ number_of (codes "subIndex") key.sub

@@ -21,6 +21,15 @@ piece_text (Long number) = digits_text 16 8 number
 piece_text (Short number) = digits_text 16 4 number
 piece_text (Entry key) = key_text key
 
+-- what a cell shows
+abbrev pub shown_text : Cell → List ℕ
+shown_text (Gap words) = words.now
+shown_text (Column name) = name_text name.now
+shown_text (Id width id) = id_text id
+shown_text (Count width count) = decimal count
+shown_text (TenthsCell width number) = or_none tenths number
+shown_text (MillisCell width number) = or_none thousandths number
+
 -- names are to the left of 15 columns, figures to the right of a width
 abbrev pub cell_text : Cell → List ℕ
 cell_text (Gap words) = words.now

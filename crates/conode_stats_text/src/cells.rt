@@ -1,8 +1,8 @@
 //! Numbers in columns. Each function appends a text. `Err`: out of memory; a part of the text may
 //! be there.
 
-ghost use Rattle.std.specs.Prelude.{◌≡◌, ◌++◌, ◌<◌, ◌^◌, OnOk, List, ℕ, string_bytes, replicate};
-ghost use Rattle.co_text.specs.Printed.{digits_text};
+ghost use Rattle.std.specs.Prelude.{◌≡◌, ◌++◌, ◌<◌, ◌^◌, OnOk, List, ℕ, codes, string_bytes, replicate};
+ghost use Rattle.co_text.specs.Printed.{digits_text, printed_digit};
 ghost use Rattle.conode_stats_text.specs.Cells.{
   escaped,
   left,
@@ -14,10 +14,11 @@ ghost use Rattle.conode_stats_text.specs.Cells.{
   thousandths,
 };
 ghost use Rattle.std.specs.List.{flat_map};
-ghost use Rattle.conode_stats_text.specs.Pieces.{cell_text};
+ghost use Rattle.conode_stats_text.specs.Pieces.{cell_text, shown_text};
 ghost use Rattle.conode_stats_text.specs.StatsLines.{id_text};
 
-use co_text::{decimal_digits, push_byte, push_decimal, push_digit, push_u32};
+use arrayvec::ArrayString;
+use co_text::{push_byte, push_decimal, push_digit, push_u32};
 use std::alloc::AllocError;
 
 /// A cell of a table, or what is between two. Figures are at the right of a column of a width.
@@ -59,18 +60,53 @@ fn push_left(text: &mut String, width: usize, cell: &str) -> Result<(), AllocErr
     push_blanks(text, width.saturating_sub(cell.len()))
 }
 
+fn decimal_char(digit: u32) -> char
+    requires { digit < 10 }
+    ensures value { result ≡ printed_digit digit }
+    ensures ascii { result < 128 }
+{
+    (b'0' + digit as u8) as char
+}
+
+// a point and three digits
+#[tactic(auto, unfolding(co_text::specs::Printed::digits_text))]
+fn three_places(number: u32) -> ArrayString<4>
+    requires { number < 10 ^ 3 }
+    ensures { result.bytes ≡ codes "." ++ digits_text 10 3 number }
+{
+    let mut places = ArrayString::new();
+    places.push('.');
+    places.push(decimal_char(number / 10 / 10 % 10));
+    places.push(decimal_char(number / 10 % 10));
+    places.push(decimal_char(number % 10));
+    places
+}
+
+// a point and six digits
+#[tactic(auto, unfolding(co_text::specs::Printed::digits_text))]
+fn six_places(number: u32) -> ArrayString<7>
+    requires { number < 10 ^ 6 }
+    ensures { result.bytes ≡ codes "." ++ digits_text 10 6 number }
+{
+    let mut places = ArrayString::new();
+    places.push('.');
+    places.push(decimal_char(number / 10 / 10 / 10 / 10 / 10 % 10));
+    places.push(decimal_char(number / 10 / 10 / 10 / 10 % 10));
+    places.push(decimal_char(number / 10 / 10 / 10 % 10));
+    places.push(decimal_char(number / 10 / 10 % 10));
+    places.push(decimal_char(number / 10 % 10));
+    places.push(decimal_char(number % 10));
+    places
+}
+
 /// Appends a number of thousandths, as `1.234`.
-#[tactic(auto, unfolding(crate::specs::Cells::thousandths, co_text::specs::Printed::digits_text))]
+#[tactic(auto, unfolding(crate::specs::Cells::thousandths))]
 pub(crate) fn push_thousandths(text: &mut String, number: u64) -> Result<(), AllocError>
     ensures { OnOk result
         (string_bytes text.new ≡ string_bytes text.old ++ thousandths number) }
 {
     push_decimal(text, number / 1000)?;
-    text.push('.')?;
-    let digits = number % 1000;
-    push_digit(text, (digits / 10 / 10 % 10) as u8)?;
-    push_digit(text, (digits / 10 % 10) as u8)?;
-    push_digit(text, (digits % 10) as u8)
+    text.push_str(three_places((number % 1000) as u32).as_str())
 }
 
 // a number of tenths, as `1.2`
@@ -83,28 +119,13 @@ fn push_tenths(text: &mut String, number: u64) -> Result<(), AllocError>
     push_digit(text, (number % 10 % 10) as u8)
 }
 
-#[tactic(auto, unfolding(co_text::specs::Printed::digits_text))]
-fn push_micros(text: &mut String, micros: u32) -> Result<(), AllocError>
-    requires { micros < 10 ^ 6 }
-    ensures { OnOk result
-        (string_bytes text.new ≡ string_bytes text.old ++ digits_text 10 6 micros) }
-{
-    push_digit(text, (micros / 10 / 10 / 10 / 10 / 10 % 10) as u8)?;
-    push_digit(text, (micros / 10 / 10 / 10 / 10 % 10) as u8)?;
-    push_digit(text, (micros / 10 / 10 / 10 % 10) as u8)?;
-    push_digit(text, (micros / 10 / 10 % 10) as u8)?;
-    push_digit(text, (micros / 10 % 10) as u8)?;
-    push_digit(text, (micros % 10) as u8)
-}
-
 /// Appends a time in microseconds as seconds, as `1.000250`.
 #[tactic(auto, unfolding(crate::specs::Cells::seconds))]
 pub(crate) fn push_seconds(text: &mut String, micros: u64) -> Result<(), AllocError>
     ensures { OnOk result (string_bytes text.new ≡ string_bytes text.old ++ seconds micros) }
 {
     push_decimal(text, micros / 1_000_000)?;
-    text.push('.')?;
-    push_micros(text, (micros % 1_000_000) as u32)
+    text.push_str(six_places((micros % 1_000_000) as u32).as_str())
 }
 
 /// Appends a number of tenths, or a hyphen for `None`.
@@ -161,31 +182,35 @@ pub(crate) fn push_id(text: &mut String, id: u32) -> Result<(), AllocError>
     }
 }
 
+// what a cell shows, without the blanks before or after it
+fn push_shown(text: &mut String, cell: &Cell<'_>) -> Result<(), AllocError>
+    ensures { OnOk result
+        (string_bytes text.new ≡ string_bytes text.old ++ shown_text cell.now) }
+{
+    match *cell {
+        Cell::Gap(words) => text.push_str(words),
+        Cell::Column(name) => push_name(text, name),
+        Cell::Id(_, id) => push_id(text, id),
+        Cell::Count(_, count) => push_decimal(text, count),
+        Cell::Tenths(_, number) => push_tenths_in(text, number),
+        Cell::Millis(_, number) => push_thousandths_in(text, number),
+    }
+}
+
 // `shown` is scratch space
 fn push_cell(text: &mut String, shown: &mut String, cell: &Cell<'_>) -> Result<(), AllocError>
     ensures { OnOk result
         (string_bytes text.new ≡ string_bytes text.old ++ cell_text cell.now) }
 {
     shown.clear();
+    push_shown(shown, cell)?;
     match *cell {
-        Cell::Gap(words) => text.push_str(words),
-        Cell::Column(name) => {
-            push_name(shown, name)?;
-            push_left(text, 15, shown.as_str())
-        }
-        Cell::Id(width, id) => {
-            push_id(shown, id)?;
-            push_right(text, width, shown.as_str())
-        }
-        Cell::Count(width, count) => push_right(text, width, decimal_digits(count).as_str()),
-        Cell::Tenths(width, number) => {
-            push_tenths_in(shown, number)?;
-            push_right(text, width, shown.as_str())
-        }
-        Cell::Millis(width, number) => {
-            push_thousandths_in(shown, number)?;
-            push_right(text, width, shown.as_str())
-        }
+        Cell::Gap(_) => text.push_str(shown.as_str()),
+        Cell::Column(_) => push_left(text, 15, shown.as_str()),
+        Cell::Id(width, _)
+        | Cell::Count(width, _)
+        | Cell::Tenths(width, _)
+        | Cell::Millis(width, _) => push_right(text, width, shown.as_str()),
     }
 }
 

@@ -3,19 +3,45 @@
 
 ghost use Rattle.std.specs.Prelude.{◌≡◌, ◌++◌, ◌%◌, OnOk};
 ghost use Rattle.conode_stats_text.specs.FailureTokens.{
+  counted_tokens,
   emergency_tokens,
   failure_tokens,
   open_tokens_in,
 };
+ghost use Rattle.conode_stats_text.specs.Parts.{part_tokens};
 
 use crate::failures::is_waiting;
-use crate::page::{sorted_emergencies, sorted_failures};
 use crate::parts::{Part, put_parts};
 use co_text::{push_u32, word_digits};
 use conode_explain_transfers::Ended;
 use conode_json::JsonWriter;
 use conode_stats_counts::{Bus, FailureRow};
 use std::alloc::{AllocError, Global};
+
+// how often something of a node came, and when last
+#[tactic(auto, unfolding(crate::specs::FailureTokens::counted_tokens))]
+fn put_counted(
+    alloc: Global,
+    writer: &mut JsonWriter,
+    row: &FailureRow,
+    code: Part<'_>,
+) -> Result<(), AllocError>
+    ensures { OnOk result
+        (writer.new ≡ writer.old ++ counted_tokens row.now (part_tokens code.entry)) }
+{
+    put_parts(
+        alloc,
+        writer,
+        &[
+            Part::BeginObject,
+            Part::Number("node", u64::from(row.cause.node)),
+            code,
+            Part::Number("count", row.count),
+            Part::Number("last", row.last),
+            Part::EndObject,
+        ],
+    )
+}
 
 // `shown` is scratch space
 #[tactic(auto, unfolding(crate::specs::FailureTokens::failure_tokens))]
@@ -27,39 +53,50 @@ fn put_failure(
 ) -> Result<(), AllocError>
     ensures { OnOk result (writer.new ≡ writer.old ++ failure_tokens row.now) }
 {
-    let node = Part::Number("node", u64::from(row.cause.node));
-    let count = Part::Number("count", row.count);
-    let last = Part::Number("last", row.last);
     match row.cause.code {
-        None => put_parts(
-            alloc,
-            writer,
-            &[Part::BeginObject, node, count, last, Part::EndObject],
-        ),
+        None => put_counted(alloc, writer, row, Part::Nothing),
         Some(code) => {
             shown.clear();
             push_u32(shown, code)?;
-            let code = Part::Text("abortCode", shown.as_str());
-            put_parts(
-                alloc,
-                writer,
-                &[Part::BeginObject, node, code, count, last, Part::EndObject],
-            )
+            put_counted(alloc, writer, row, Part::Text("abortCode", shown.as_str()))
         }
     }
 }
 
-/// Writes the SDO transfers of a bus that failed, by node. `shown` is scratch space.
+// the SDO transfers with a node that failed
+fn put_failures_of(
+    alloc: Global,
+    writer: &mut JsonWriter,
+    shown: &mut String,
+    bus: &Bus,
+    node: u8,
+) -> Result<(), AllocError> {
+    for row in bus.transfers().rows() {
+        if row.cause.node == node {
+            put_failure(alloc, writer, shown, row)?;
+        }
+    }
+    Ok(())
+}
+
+/// Writes how many frames of a bus have no row, and the SDO transfers of the bus that failed, by node.
+/// `shown` is scratch space.
 pub(crate) fn put_failures(
     alloc: Global,
     writer: &mut JsonWriter,
     shown: &mut String,
     bus: &Bus,
 ) -> Result<(), AllocError> {
-    writer.begin_array_of("failedTransfers")?;
-    let rows = sorted_failures(alloc, bus)?;
-    for row in &rows {
-        put_failure(alloc, writer, shown, row)?;
+    put_parts(
+        alloc,
+        writer,
+        &[
+            Part::Number("framesLeftOut", bus.left_out()),
+            Part::Array("failedTransfers"),
+        ],
+    )?;
+    for node in 1..128u8 {
+        put_failures_of(alloc, writer, shown, bus, node)?;
     }
     let left_out = bus.transfers().left_out();
     put_parts(
@@ -76,25 +113,28 @@ pub(crate) fn put_failures(
 fn put_emergency(alloc: Global, writer: &mut JsonWriter, row: &FailureRow) -> Result<(), AllocError>
     ensures { OnOk result (writer.new ≡ writer.old ++ emergency_tokens row.now) }
 {
-    let node = Part::Number("node", u64::from(row.cause.node));
-    let count = Part::Number("count", row.count);
-    let last = Part::Number("last", row.last);
     match row.cause.code {
-        None => put_parts(
-            alloc,
-            writer,
-            &[Part::BeginObject, node, count, last, Part::EndObject],
-        ),
+        None => put_counted(alloc, writer, row, Part::Nothing),
         Some(code) => {
             let digits = word_digits((code % 65536) as u16);
-            let code = Part::Text("errorCode", digits.as_str());
-            put_parts(
-                alloc,
-                writer,
-                &[Part::BeginObject, node, code, count, last, Part::EndObject],
-            )
+            put_counted(alloc, writer, row, Part::Text("errorCode", digits.as_str()))
         }
     }
+}
+
+// the EMCY messages of a node
+fn put_emergencies_of(
+    alloc: Global,
+    writer: &mut JsonWriter,
+    bus: &Bus,
+    node: u8,
+) -> Result<(), AllocError> {
+    for row in bus.emergencies().rows() {
+        if row.cause.node == node {
+            put_emergency(alloc, writer, row)?;
+        }
+    }
+    Ok(())
 }
 
 /// Writes the EMCY messages of a bus, by node.
@@ -104,9 +144,8 @@ pub(crate) fn put_emergencies(
     bus: &Bus,
 ) -> Result<(), AllocError> {
     writer.begin_array_of("emergencies")?;
-    let rows = sorted_emergencies(alloc, bus)?;
-    for row in &rows {
-        put_emergency(alloc, writer, row)?;
+    for node in 1..128u8 {
+        put_emergencies_of(alloc, writer, bus, node)?;
     }
     let left_out = bus.emergencies().left_out();
     put_parts(

@@ -2,7 +2,8 @@
 //! Each function appends a text. `Err`: out of memory; a part of the text may be there.
 
 ghost use Rattle.std.specs.Prelude.{◌≡◌, ◌++◌, ◌<◌, ◌-◌, ◌%◌, OnOk, string_bytes};
-ghost use Rattle.conode_stats_text.specs.FailureLines.{emergency_line, failure_line, is_waiting, open_in};
+ghost use Rattle.conode_stats_text.specs.FailureLines.{counted_line, emergency_line, failure_line, is_waiting, open_in};
+ghost use Rattle.conode_stats_text.specs.Pieces.{piece_text};
 
 use crate::pieces::{Piece, push_pieces};
 use conode_explain_transfers::Ended;
@@ -11,6 +12,35 @@ use std::alloc::AllocError;
 
 /// A transfer that is open at the end is named if it had no frame for so long, in microseconds.
 const ANSWER_TIME: u64 = 1_000_000;
+
+// how often something of a node came, and when last
+#[tactic(auto, unfolding(crate::specs::FailureLines::counted_line))]
+fn push_counted<'p>(
+    text: &mut String,
+    interface: &'p [u8],
+    row: &FailureRow,
+    front: &'p str,
+    code: Piece<'p>,
+    after: &'p str,
+) -> Result<(), AllocError>
+    ensures { OnOk result (string_bytes text.new ≡ string_bytes text.old
+        ++ counted_line interface.entry.now row.now front.entry.now (piece_text code.entry)
+        after.entry.now) }
+{
+    push_pieces(
+        text,
+        &[
+            Piece::Node(interface, u32::from(row.cause.node)),
+            Piece::Words(front),
+            code,
+            Piece::Words(after),
+            Piece::Number(row.count),
+            Piece::Words(", the last at "),
+            Piece::Seconds(row.last),
+            Piece::Words("\n"),
+        ],
+    )
+}
 
 /// Appends the line of the transfers of a node that failed in one way.
 #[tactic(auto, unfolding(crate::specs::FailureLines::failure_line))]
@@ -22,34 +52,15 @@ pub(crate) fn push_failure(
     ensures { OnOk result (string_bytes text.new
         ≡ string_bytes text.old ++ failure_line interface.now row.now) }
 {
-    let node = Piece::Node(interface, u32::from(row.cause.node));
-    let count = Piece::Number(row.count);
-    let last = Piece::Seconds(row.last);
     match row.cause.code {
-        None => push_pieces(
-            text,
-            &[
-                node,
-                Piece::Words(" SDO transfers without an answer: "),
-                count,
-                Piece::Words(", the last at "),
-                last,
-                Piece::Words("\n"),
-            ],
-        ),
-        Some(code) => push_pieces(
-            text,
-            &[
-                node,
-                Piece::Words(" SDO transfers aborted with "),
-                Piece::Long(code),
-                Piece::Words("h: "),
-                count,
-                Piece::Words(", the last at "),
-                last,
-                Piece::Words("\n"),
-            ],
-        ),
+        None => {
+            let front = " SDO transfers without an answer";
+            push_counted(text, interface, row, front, Piece::Words(""), ": ")
+        }
+        Some(code) => {
+            let front = " SDO transfers aborted with ";
+            push_counted(text, interface, row, front, Piece::Long(code), "h: ")
+        }
     }
 }
 
@@ -63,34 +74,15 @@ pub(crate) fn push_emergency(
     ensures { OnOk result (string_bytes text.new
         ≡ string_bytes text.old ++ emergency_line interface.now row.now) }
 {
-    let node = Piece::Node(interface, u32::from(row.cause.node));
-    let count = Piece::Number(row.count);
-    let last = Piece::Seconds(row.last);
     match row.cause.code {
-        None => push_pieces(
-            text,
-            &[
-                node,
-                Piece::Words(" EMCY messages without a code: "),
-                count,
-                Piece::Words(", the last at "),
-                last,
-                Piece::Words("\n"),
-            ],
-        ),
-        Some(code) => push_pieces(
-            text,
-            &[
-                node,
-                Piece::Words(" EMCY "),
-                Piece::Short((code % 65536) as u16),
-                Piece::Words("h: "),
-                count,
-                Piece::Words(", the last at "),
-                last,
-                Piece::Words("\n"),
-            ],
-        ),
+        None => {
+            let front = " EMCY messages without a code";
+            push_counted(text, interface, row, front, Piece::Words(""), ": ")
+        }
+        Some(code) => {
+            let code = Piece::Short((code % 65536) as u16);
+            push_counted(text, interface, row, " EMCY ", code, "h: ")
+        }
     }
 }
 

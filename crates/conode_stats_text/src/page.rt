@@ -2,14 +2,13 @@
 
 ghost use Rattle.std.specs.Prelude.{◌≤◌, IfSome};
 
-use crate::cells::push_name;
 use crate::failures::{push_emergency, push_failure, push_open};
 use crate::lines::{push_bus, push_count, push_load, push_row};
 use crate::nodes::{is_shown, push_node_in, push_restarts};
 use crate::pieces::{Piece, push_pieces};
 use crate::sheet_times::{SheetTime, sheet_time};
 use crate::wrong::push_wrong_in;
-use conode_stats_counts::{Bus, Counts, FailureRow, Row};
+use conode_stats_counts::{Bus, Counts, Row};
 use std::alloc::{AllocError, Global};
 
 /// The contents of the page.
@@ -83,18 +82,20 @@ fn push_restarts_on(text: &mut String, bus: &Bus) -> Result<(), AllocError> {
     Ok(())
 }
 
-/// The rows of SDO transfers that failed, by node.
-pub(crate) fn sorted_failures(alloc: Global, bus: &Bus) -> Result<Vec<FailureRow>, AllocError> {
-    let mut rows = bus.transfers().rows().to_vec(alloc)?;
-    rows.sort_by_key(|row| row.cause.node)?;
-    Ok(rows)
+// the SDO transfers with a node that failed
+fn push_failures_of(text: &mut String, bus: &Bus, node: u8) -> Result<(), AllocError> {
+    for row in bus.transfers().rows() {
+        if row.cause.node == node {
+            push_failure(text, bus.interface(), row)?;
+        }
+    }
+    Ok(())
 }
 
-// the SDO transfers that failed on a bus
-fn push_failures_on(alloc: Global, text: &mut String, bus: &Bus) -> Result<(), AllocError> {
-    let rows = sorted_failures(alloc, bus)?;
-    for row in &rows {
-        push_failure(text, bus.interface(), row)?;
+// the SDO transfers that failed on a bus, by node
+fn push_failures_on(text: &mut String, bus: &Bus) -> Result<(), AllocError> {
+    for node in 1..128u8 {
+        push_failures_of(text, bus, node)?;
     }
     Ok(())
 }
@@ -109,18 +110,20 @@ fn push_open_on(text: &mut String, bus: &Bus) -> Result<(), AllocError> {
     Ok(())
 }
 
-/// The rows of EMCY messages, by node.
-pub(crate) fn sorted_emergencies(alloc: Global, bus: &Bus) -> Result<Vec<FailureRow>, AllocError> {
-    let mut rows = bus.emergencies().rows().to_vec(alloc)?;
-    rows.sort_by_key(|row| row.cause.node)?;
-    Ok(rows)
+// the EMCY messages of a node
+fn push_emergencies_of(text: &mut String, bus: &Bus, node: u8) -> Result<(), AllocError> {
+    for row in bus.emergencies().rows() {
+        if row.cause.node == node {
+            push_emergency(text, bus.interface(), row)?;
+        }
+    }
+    Ok(())
 }
 
-// the EMCY messages on a bus
-fn push_emergencies_on(alloc: Global, text: &mut String, bus: &Bus) -> Result<(), AllocError> {
-    let rows = sorted_emergencies(alloc, bus)?;
-    for row in &rows {
-        push_emergency(text, bus.interface(), row)?;
+// the EMCY messages on a bus, by node
+fn push_emergencies_on(text: &mut String, bus: &Bus) -> Result<(), AllocError> {
+    for node in 1..128u8 {
+        push_emergencies_of(text, bus, node)?;
     }
     Ok(())
 }
@@ -149,46 +152,63 @@ fn push_heartbeats_on(
     Ok(())
 }
 
+// how many there are of each of these, if there are any
+fn push_counts(text: &mut String, front: &str, counts: &[(&str, u64)]) -> Result<(), AllocError> {
+    for (what, count) in counts {
+        push_count(text, front, *what, *count)?;
+    }
+    Ok(())
+}
+
+// what else looks wrong on a bus
+fn push_counts_on(text: &mut String, cell: &mut String, bus: &Bus) -> Result<(), AllocError> {
+    cell.clear();
+    push_pieces(cell, &[Piece::Name(bus.interface()), Piece::Words(": ")])?;
+    push_counts(
+        text,
+        cell.as_str(),
+        &[
+            (MORE_FAILURES, bus.transfers().left_out()),
+            (MORE_EMERGENCIES, bus.emergencies().left_out()),
+            ("error frames", error_frames(bus)),
+            ("stamps that step back", bus.all().steps_back),
+            (MORE_IDENTIFIERS, bus.left_out()),
+        ],
+    )
+}
+
 // what looks wrong on a bus
 fn push_wrong_on(
-    alloc: Global,
     text: &mut String,
     cell: &mut String,
     sheets: &[SheetTime<'_>],
     bus: &Bus,
 ) -> Result<(), AllocError> {
     push_restarts_on(text, bus)?;
-    push_failures_on(alloc, text, bus)?;
+    push_failures_on(text, bus)?;
     push_open_on(text, bus)?;
-    push_emergencies_on(alloc, text, bus)?;
+    push_emergencies_on(text, bus)?;
     push_heartbeats_on(text, sheets, bus)?;
-    cell.clear();
-    push_name(cell, bus.interface())?;
-    cell.push_str(": ")?;
-    let front = cell.as_str();
-    push_count(text, front, MORE_FAILURES, bus.transfers().left_out())?;
-    push_count(text, front, MORE_EMERGENCIES, bus.emergencies().left_out())?;
-    push_count(text, front, "error frames", error_frames(bus))?;
-    push_count(text, front, "stamps that step back", bus.all().steps_back)?;
-    push_count(text, front, MORE_IDENTIFIERS, bus.left_out())
+    push_counts_on(text, cell, bus)
 }
 
 // all that looks wrong
-fn push_all_wrong(
-    alloc: Global,
-    text: &mut String,
-    cell: &mut String,
-    page: &Page<'_>,
-) -> Result<(), AllocError> {
+fn push_all_wrong(text: &mut String, cell: &mut String, page: &Page<'_>) -> Result<(), AllocError> {
     text.push_str("What looks wrong\n")?;
     let before = text.len();
     for bus in page.counts.buses() {
-        push_wrong_on(alloc, text, cell, page.sheets, bus)?;
+        push_wrong_on(text, cell, page.sheets, bus)?;
     }
-    push_count(text, "", "bad lines", page.bad)?;
-    push_count(text, "", MORE_INTERFACES, page.counts.left_out())?;
+    push_counts(
+        text,
+        "",
+        &[
+            ("bad lines", page.bad),
+            (MORE_INTERFACES, page.counts.left_out()),
+        ],
+    )?;
     if text.len() == before {
-        text.push_str("  nothing\n")?;
+        return text.push_str("  nothing\n");
     }
     Ok(())
 }
@@ -248,18 +268,68 @@ fn push_all_nodes(text: &mut String, cell: &mut String, page: &Page<'_>) -> Resu
     Ok(())
 }
 
-// the identifiers of a bus, the smallest first
+// the identifiers of an interface
 fn push_rows(
+    text: &mut String,
+    cell: &mut String,
+    interface: &[u8],
+    rows: &[Row],
+) -> Result<(), AllocError> {
+    for row in rows {
+        push_row(text, cell, interface, row)?;
+    }
+    Ok(())
+}
+
+// the identifiers of a bus, the smallest first
+fn push_rows_on(
     alloc: Global,
     text: &mut String,
     cell: &mut String,
     bus: &Bus,
 ) -> Result<(), AllocError> {
     let rows = sorted_rows(alloc, bus)?;
-    for row in &rows {
-        push_row(text, cell, bus.interface(), row)?;
+    push_rows(text, cell, bus.interface(), rows.as_slice())
+}
+
+// the table of identifiers
+fn push_all_rows(
+    alloc: Global,
+    text: &mut String,
+    cell: &mut String,
+    page: &Page<'_>,
+) -> Result<(), AllocError> {
+    text.push_str(HEAD)?;
+    for bus in page.counts.buses() {
+        push_rows_on(alloc, text, cell, bus)?;
     }
     Ok(())
+}
+
+// the buses
+fn push_buses(text: &mut String, page: &Page<'_>) -> Result<(), AllocError>
+    requires { IfSome page.now.bit_rate (λ rate. rate ≤ 1000000) }
+{
+    text.push_str("Buses\n")?;
+    for bus in page.counts.buses() {
+        push_front(text, bus, page.bit_rate)?;
+    }
+    Ok(())
+}
+
+// the page; `cell` is scratch space
+fn push_page(
+    alloc: Global,
+    text: &mut String,
+    cell: &mut String,
+    page: &Page<'_>,
+) -> Result<(), AllocError>
+    requires { IfSome page.now.bit_rate (λ rate. rate ≤ 1000000) }
+{
+    push_all_wrong(text, cell, page)?;
+    push_buses(text, page)?;
+    push_all_nodes(text, cell, page)?;
+    push_all_rows(alloc, text, cell, page)
 }
 
 /// Sets the text to the page: what looks wrong, the buses, their nodes, and their identifiers.
@@ -269,15 +339,5 @@ pub fn set_page(alloc: Global, text: &mut String, page: &Page<'_>) -> Result<(),
 {
     let mut cell = String::new(alloc);
     text.clear();
-    push_all_wrong(alloc, text, &mut cell, page)?;
-    text.push_str("Buses\n")?;
-    for bus in page.counts.buses() {
-        push_front(text, bus, page.bit_rate)?;
-    }
-    push_all_nodes(text, &mut cell, page)?;
-    text.push_str(HEAD)?;
-    for bus in page.counts.buses() {
-        push_rows(alloc, text, &mut cell, bus)?;
-    }
-    Ok(())
+    push_page(alloc, text, &mut cell, page)
 }

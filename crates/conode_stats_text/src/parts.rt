@@ -12,6 +12,7 @@ use std::alloc::{AllocError, Global};
 /// A part of a document.
 #[derive(Clone, Copy)]
 pub(crate) enum Part<'a> {
+    Nothing,
     BeginObject,
     EndObject,
     EndArray,
@@ -43,6 +44,7 @@ fn put_part(alloc: Global, writer: &mut JsonWriter, part: &Part<'_>) -> Result<(
     ensures { OnOk result (writer.new ≡ writer.old ++ part_tokens part.now) }
 {
     match *part {
+        Part::Nothing => Ok(()),
         Part::BeginObject => writer.begin_object(),
         Part::EndObject => writer.end_object(),
         Part::EndArray => writer.end_array(),

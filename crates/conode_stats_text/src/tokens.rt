@@ -1,7 +1,9 @@
 //! The statistics as one JSON document. Each function writes tokens. `Err`: out of memory; some
 //! tokens may be there.
 
-ghost use Rattle.std.specs.Prelude.{◌≡◌, ◌++◌, OnOk};
+ghost use Rattle.std.specs.Prelude.{◌≡◌, ◌++◌, ◌∷◌, [], OnOk};
+ghost use Rattle.json.specs.Token.{begin_object};
+ghost use Rattle.conode_json.specs.Members.{text_member};
 ghost use Rattle.conode_stats_text.specs.StatsTokens.{load_members, own_gap, row_tokens, tally_members};
 
 use crate::cells::{push_id, push_name};
@@ -21,14 +23,24 @@ fn own_gap(tally: &Tally, gap: u64) -> Option<u64>
     if tally.gaps == 0 { None } else { Some(gap) }
 }
 
+// the beginning of an object: what is counted, and the tally
 #[tactic(auto, unfolding(crate::specs::StatsTokens::tally_members))]
-fn put_tally(alloc: Global, writer: &mut JsonWriter, tally: &Tally) -> Result<(), AllocError>
-    ensures { OnOk result (writer.new ≡ writer.old ++ tally_members tally.now) }
+fn put_tally<'p>(
+    alloc: Global,
+    writer: &mut JsonWriter,
+    name: &'p str,
+    text: &'p str,
+    tally: &Tally,
+) -> Result<(), AllocError>
+    ensures { OnOk result (writer.new ≡ writer.old ++ (begin_object ∷ [])
+        ++ text_member name.entry.now text.entry.now ++ tally_members tally.now) }
 {
     put_parts(
         alloc,
         writer,
         &[
+            Part::BeginObject,
+            Part::Text(name, text),
             Part::Number("frames", tally.frames),
             Part::Number("first", tally.first),
             Part::Number("last", tally.last),
@@ -53,12 +65,7 @@ fn put_row(
 {
     shown.clear();
     push_id(shown, row.can_id)?;
-    put_parts(
-        alloc,
-        writer,
-        &[Part::BeginObject, Part::Text("id", shown.as_str())],
-    )?;
-    put_tally(alloc, writer, &row.tally)?;
+    put_tally(alloc, writer, "id", shown.as_str(), &row.tally)?;
     writer.end_object()
 }
 
@@ -80,19 +87,29 @@ fn put_load(alloc: Global, writer: &mut JsonWriter, load: &Load) -> Result<(), A
     )
 }
 
-// the identifiers of a bus, the smallest first
+// identifiers, and the end of their bus
 fn put_rows(
+    alloc: Global,
+    writer: &mut JsonWriter,
+    shown: &mut String,
+    rows: &[Row],
+) -> Result<(), AllocError> {
+    writer.begin_array_of("identifiers")?;
+    for row in rows {
+        put_row(alloc, writer, shown, row)?;
+    }
+    put_parts(alloc, writer, &[Part::EndArray, Part::EndObject])
+}
+
+// the identifiers of a bus, the smallest first, and its end
+fn put_rows_on(
     alloc: Global,
     writer: &mut JsonWriter,
     shown: &mut String,
     bus: &Bus,
 ) -> Result<(), AllocError> {
-    writer.begin_array_of("identifiers")?;
     let rows = sorted_rows(alloc, bus)?;
-    for row in &rows {
-        put_row(alloc, writer, shown, row)?;
-    }
-    writer.end_array()
+    put_rows(alloc, writer, shown, rows.as_slice())
 }
 
 // a bus
@@ -105,24 +122,13 @@ fn put_bus(
 ) -> Result<(), AllocError> {
     shown.clear();
     push_name(shown, bus.interface())?;
-    put_parts(
-        alloc,
-        writer,
-        &[Part::BeginObject, Part::Text("interface", shown.as_str())],
-    )?;
-    put_tally(alloc, writer, &bus.all())?;
+    put_tally(alloc, writer, "interface", shown.as_str(), &bus.all())?;
     put_load(alloc, writer, &bus.load())?;
-    put_parts(
-        alloc,
-        writer,
-        &[Part::Number("framesLeftOut", bus.left_out())],
-    )?;
     put_failures(alloc, writer, shown, bus)?;
     put_all_open(alloc, writer, bus)?;
     put_emergencies(alloc, writer, bus)?;
     put_nodes(alloc, writer, sheets, bus)?;
-    put_rows(alloc, writer, shown, bus)?;
-    writer.end_object()
+    put_rows_on(alloc, writer, shown, bus)
 }
 
 // the bit rate, if it is known
@@ -133,9 +139,13 @@ fn rate_of(page: &Page<'_>) -> Option<u64> {
     }
 }
 
-/// Writes the statistics as one JSON object. `Err`: out of memory; some tokens may be there.
-pub fn put_page(alloc: Global, writer: &mut JsonWriter, page: &Page<'_>) -> Result<(), AllocError> {
-    let mut shown = String::new(alloc);
+// the statistics; `shown` is scratch space
+fn put_whole(
+    alloc: Global,
+    writer: &mut JsonWriter,
+    shown: &mut String,
+    page: &Page<'_>,
+) -> Result<(), AllocError> {
     put_parts(
         alloc,
         writer,
@@ -149,7 +159,13 @@ pub fn put_page(alloc: Global, writer: &mut JsonWriter, page: &Page<'_>) -> Resu
         ],
     )?;
     for bus in page.counts.buses() {
-        put_bus(alloc, writer, &mut shown, page.sheets, bus)?;
+        put_bus(alloc, writer, shown, page.sheets, bus)?;
     }
     put_parts(alloc, writer, &[Part::EndArray, Part::EndObject])
+}
+
+/// Writes the statistics as one JSON object. `Err`: out of memory; some tokens may be there.
+pub fn put_page(alloc: Global, writer: &mut JsonWriter, page: &Page<'_>) -> Result<(), AllocError> {
+    let mut shown = String::new(alloc);
+    put_whole(alloc, writer, &mut shown, page)
 }
