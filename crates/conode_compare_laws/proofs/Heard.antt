@@ -31,93 +31,66 @@ use Rattle.conode_compare_rules.specs.declared.progress.Progress.{Progress}
 use Rattle.conode_compare_rules.specs.FrameKinds.{command_kind, command_to, data_kind}
 use Rattle.conode_compare_rules.specs.Progresses.{before_recording, begun, findings_at, progress_with}
 use Rattle.conode_compare_laws.specs.Differences.{differences_from, differences_in, state_differences}
-use Rattle.conode_compare_laws.specs.Identifiers.{AllSendAside, AreAside, AreForeign, IsAside, IsForeign, SendsAside}
+use Rattle.conode_compare_laws.specs.Identifiers.{AllSendAside, AreAside, AreElsewhere, IsAside, IsElsewhere, SendsAside}
 use Rattle.conode_compare_laws.specs.Recordings.{Recorded, Stamped, frame_of, heard_from, recording, stamped, with_stamp}
 use Rattle.conode_compare_laws.proofs.Shown.{Stage, boots, runs, fits_nothing, is_shown, stage_after}
+use Rattle.conode_compare_laws.proofs.Along.{AllGo, Goes, joined, one, then_none}
 use Rattle.conode_compare_laws.proofs.Frames.{FitsAt, Passes, aside_kind, aside_passes, begun_fits, boot_passes, command_passes, heartbeat_passes, life_kind, nmt_kind}
 use Rattle.conode_compare_laws.proofs.Inputs.{command_in, command_is, end_shown, state_by}
 
 -- ---- one frame
 
--- nothing is found at a frame, and what compare knows after it fits
-pub record Goes (subject : Subject) (rows : List Row) (micros : ℕ) (p : Progress) (frame : FrameContent) (stage : Stage) : Type 0 where
-  pub none : state_differences (data_kind subject.node frame) (findings_at subject rows p micros (data_kind subject.node frame)) ≡ []
-  pub fits : FitsAt micros stage (progress_with subject p micros (data_kind subject.node frame))
-
-goes : (subject : Subject) (rows : List Row) (micros : ℕ) (p : Progress) (frame : FrameContent) (kind : FrameKind) (stage : Stage) → data_kind subject.node frame ≡ kind
-    → Passes subject rows (begun subject p micros) micros kind stage → Goes subject rows micros p frame stage
+pub goes : (subject : Subject) (rows : List Row) (micros : ℕ) (p : Progress) (frame : FrameContent) (kind : FrameKind) (stage : Stage) → data_kind subject.node frame ≡ kind
+    → Passes subject rows (begun subject p micros) micros kind stage → Goes state_differences subject rows micros p frame stage
 unfolding findings_at progress_with
 goes subject rows micros p frame kind stage is h =
     let pass : Passes subject rows (begun subject p micros) micros (data_kind subject.node frame) stage = subst (λ other. Passes subject rows (begun subject p micros) micros other stage) (sym is) h in
     record { none = pass.none; fits = pass.fits }
 
-aside_goes : (subject : Subject) (rows : List Row) (micros : ℕ) (p : Progress) (frame : FrameContent) (stage : Stage) → (frame.id == 0) ≡ false → (frame.id == 0x700 + subject.node) ≡ false
-    → FitsAt micros stage p → Goes subject rows micros p frame stage
+pub aside_goes : (subject : Subject) (rows : List Row) (micros : ℕ) (p : Progress) (frame : FrameContent) (stage : Stage) → (frame.id == 0) ≡ false → (frame.id == 0x700 + subject.node) ≡ false
+    → FitsAt micros stage p → Goes state_differences subject rows micros p frame stage
 aside_goes subject rows micros p frame stage command control h =
     goes subject rows micros p frame (data_kind subject.node frame) stage refl
     (aside_passes subject rows (begun subject p micros) micros (data_kind subject.node frame) stage (aside_kind subject.node frame command control) (begun_fits subject p micros micros stage h))
 
--- ---- frames one after another, at one time
+-- ---- frames that are neither commands nor error control
 
-abbrev pub AllGo : Subject → List Row → ℕ → Progress → List FrameContent → Stage → Type 0
-AllGo subject rows micros p [] stage = FitsAt micros stage p
-AllGo subject rows micros p (frame ∷ later) stage =
-    (state_differences (data_kind subject.node frame) (findings_at subject rows p micros (data_kind subject.node frame)) ≡ [])
-    × AllGo subject rows micros (progress_with subject p micros (data_kind subject.node frame)) later stage
-
-joined : (subject : Subject) (rows : List Row) (micros : ℕ) (xs ys : List FrameContent) (p : Progress) (between stage : Stage) → AllGo subject rows micros p xs between
-    → ((q : Progress) → FitsAt micros between q → AllGo subject rows micros q ys stage) → AllGo subject rows micros p (xs ++ ys) stage
-joined subject rows micros [] ys p between stage h f = f p h
-joined subject rows micros (x ∷ xs) ys p between stage h f = (h.0, joined subject rows micros xs ys (progress_with subject p micros (data_kind subject.node x)) between stage h.1 f)
-
-one : (subject : Subject) (rows : List Row) (micros : ℕ) (p : Progress) (frame : FrameContent) (stage : Stage) → Goes subject rows micros p frame stage → AllGo subject rows micros p (frame ∷ []) stage
-one subject rows micros p frame stage h = (h.none, h.fits)
-
-asides : (subject : Subject) (rows : List Row) (micros : ℕ) (frames : List FrameContent) (p : Progress) (stage : Stage) → AreAside subject.node frames → FitsAt micros stage p → AllGo subject rows micros p frames stage
+pub asides : (subject : Subject) (rows : List Row) (micros : ℕ) (frames : List FrameContent) (p : Progress) (stage : Stage) → AreAside subject.node frames → FitsAt micros stage p → AllGo state_differences subject rows micros p frames stage
 asides subject rows micros [] p stage are h = h
 asides subject rows micros (frame ∷ later) p stage are h =
-    let first : Goes subject rows micros p frame stage =
+    let first : Goes state_differences subject rows micros p frame stage =
     aside_goes subject rows micros p frame stage (ne_eqb frame.id 0 are.0.0) (ne_eqb frame.id (0x700 + subject.node) are.0.1) h in
     (first.none, asides subject rows micros later (progress_with subject p micros (data_kind subject.node frame)) stage are.1 first.fits)
 
--- before the frames that follow them
-then_none : (subject : Subject) (rows : List Row) (micros : ℕ) (frames : List FrameContent) (rest : List Recorded) (p : Progress) (stage : Stage) → AllGo subject rows micros p frames stage
-    → ((q : Progress) → FitsAt micros stage q → differences_from state_differences subject rows q rest ≡ [])
-    → differences_from state_differences subject rows p (stamped micros frames ++ rest) ≡ []
-then_none subject rows micros [] rest p stage h f = f p h
-then_none subject rows micros (frame ∷ later) rest p stage h f =
-    ap (λ (x : List _). x ++ differences_from state_differences subject rows (progress_with subject p micros (data_kind subject.node frame)) (stamped micros later ++ rest)) h.0
-    ∙ then_none subject rows micros later rest (progress_with subject p micros (data_kind subject.node frame)) stage h.1 f
-
 -- ---- the frame that an input is
 
-received : (subject : Subject) (rows : List Row) (micros : ℕ) (input : InputView) (p : Progress) (actual : NodeState) → IsForeign subject.node input → FitsAt micros (runs actual) p
-    → AllGo subject rows micros p (frame_of input) (stage_after (command_in subject.node input) actual)
+pub received : (subject : Subject) (rows : List Row) (micros : ℕ) (input : InputView) (p : Progress) (actual : NodeState) → IsElsewhere (0x700 + subject.node) input → FitsAt micros (runs actual) p
+    → AllGo state_differences subject rows micros p (frame_of input) (stage_after (command_in subject.node input) actual)
 received subject rows micros Ticked p actual foreign h = h
 received subject rows micros (Applied event) p actual foreign h = h
 received subject rows micros (Framed frame) p actual foreign h = by (frame.id == 0) refl
   where
-    by : (b : Bool) → (frame.id == 0) ≡ b → AllGo subject rows micros p (frame ∷ []) (stage_after (if b then service_for subject.node (nmt_command_in frame) else None) actual)
+    by : (b : Bool) → (frame.id == 0) ≡ b → AllGo state_differences subject rows micros p (frame ∷ []) (stage_after (if b then service_for subject.node (nmt_command_in frame) else None) actual)
     by true is =
-        one subject rows micros p frame (stage_after (service_for subject.node (nmt_command_in frame)) actual)
+        one state_differences subject rows micros p frame (stage_after (service_for subject.node (nmt_command_in frame)) actual)
         (goes subject rows micros p frame (command_to subject.node (nmt_command_in frame)) (stage_after (service_for subject.node (nmt_command_in frame)) actual)
         (nmt_kind subject.node frame is)
         (command_passes subject rows (begun subject p micros) micros (nmt_command_in frame) actual (begun_fits subject p micros micros (runs actual) h)))
     by false is =
-        one subject rows micros p frame (runs actual)
+        one state_differences subject rows micros p frame (runs actual)
         (aside_goes subject rows micros p frame (runs actual) is (ne_eqb frame.id (0x700 + subject.node) foreign) h)
 
 -- ---- the boot-up, or a heartbeat
 
 -- before the frames that the device sends: its boot-up comes, or it is in the state after the input
-abbrev stage_at : Option NmtService → NodeState → Stage
+abbrev pub stage_at : Option NmtService → NodeState → Stage
 stage_at command final = if is_reset_by command then boots else runs final
 
 -- what is shown after the command is shown after the input
-abbrev Ends : Option NmtService → NodeState → NodeState → Type 0
+abbrev pub Ends : Option NmtService → NodeState → NodeState → Type 0
 Ends command actual final = (state : NmtState) → is_shown state (state_by command actual) ≡ true → is_shown state final ≡ true
 
-before_sending : (micros : ℕ) (command : Option NmtService) (actual final : NodeState) (p : Progress) → Ends command actual final → FitsAt micros (stage_after command actual) p → FitsAt micros (stage_at command final) p
+pub before_sending : (micros : ℕ) (command : Option NmtService) (actual final : NodeState) (p : Progress) → Ends command actual final → FitsAt micros (stage_after command actual) p → FitsAt micros (stage_at command final) p
 before_sending micros None actual final p ends h = ends p.nmt.state h
 before_sending micros (Some Start) actual final p ends h = ends p.nmt.state h
 before_sending micros (Some Stop) actual final p ends h = ends p.nmt.state h
@@ -126,27 +99,27 @@ before_sending micros (Some ResetNode) actual final p ends h = h
 before_sending micros (Some ResetCommunication) actual final p ends h = h
 
 heartbeat_goes : (subject : Subject) (rows : List Row) (micros : ℕ) (p : Progress) (due : Bool) (final : NodeState) → FitsAt micros (runs final) p
-    → AllGo subject rows micros p (life_frames subject.node (if due then Some (heartbeat_of final) else None)) (runs final)
+    → AllGo state_differences subject rows micros p (life_frames subject.node (if due then Some (heartbeat_of final) else None)) (runs final)
 heartbeat_goes subject rows micros p false final h = h
 heartbeat_goes subject rows micros p true final h =
-    one subject rows micros p _ (runs final)
+    one state_differences subject rows micros p _ (runs final)
     (goes subject rows micros p (record { id = 0x700 + subject.node; bytes = heartbeat_bytes (heartbeat_of final) }) (Control (state_byte (heartbeat_of final))) (runs final) (life_kind subject.node (heartbeat_of final))
     (heartbeat_passes subject rows (begun subject p micros) micros final (begun_fits subject p micros micros (runs final) h)))
 
-boot_goes : (subject : Subject) (rows : List Row) (micros : ℕ) (p : Progress) → FitsAt micros boots p
-    → Goes subject rows micros p (record { id = 0x700 + subject.node; bytes = heartbeat_bytes BootUp }) (runs node.PreOperational)
+pub boot_goes : (subject : Subject) (rows : List Row) (micros : ℕ) (p : Progress) → FitsAt micros boots p
+    → Goes state_differences subject rows micros p (record { id = 0x700 + subject.node; bytes = heartbeat_bytes BootUp }) (runs node.PreOperational)
 boot_goes subject rows micros p h =
     goes subject rows micros p (record { id = 0x700 + subject.node; bytes = heartbeat_bytes BootUp }) (Control 0) (runs node.PreOperational) (life_kind subject.node BootUp)
     (boot_passes subject rows (begun subject p micros) micros (begun_fits subject p micros micros boots h))
 
 reset_goes : (subject : Subject) (rows : List Row) (micros : ℕ) (p : Progress) (final : NodeState) → ((state : NmtState) → is_shown state node.PreOperational ≡ true → is_shown state final ≡ true) → FitsAt micros boots p
-    → AllGo subject rows micros p (life_frames subject.node (Some BootUp)) (runs final)
+    → AllGo state_differences subject rows micros p (life_frames subject.node (Some BootUp)) (runs final)
 reset_goes subject rows micros p final ends h =
-    let g : Goes subject rows micros p (record { id = 0x700 + subject.node; bytes = heartbeat_bytes BootUp }) (runs node.PreOperational) = boot_goes subject rows micros p h in
+    let g : Goes state_differences subject rows micros p (record { id = 0x700 + subject.node; bytes = heartbeat_bytes BootUp }) (runs node.PreOperational) = boot_goes subject rows micros p h in
     (g.none, ends _ g.fits)
 
-life_goes : (subject : Subject) (rows : List Row) (micros : ℕ) (p : Progress) (command : Option NmtService) (due : Bool) (actual final : NodeState) → Ends command actual final → FitsAt micros (stage_at command final) p
-    → AllGo subject rows micros p (life_frames subject.node (if is_reset_by command then Some BootUp else (if due then Some (heartbeat_of final) else None))) (runs final)
+pub life_goes : (subject : Subject) (rows : List Row) (micros : ℕ) (p : Progress) (command : Option NmtService) (due : Bool) (actual final : NodeState) → Ends command actual final → FitsAt micros (stage_at command final) p
+    → AllGo state_differences subject rows micros p (life_frames subject.node (if is_reset_by command then Some BootUp else (if due then Some (heartbeat_of final) else None))) (runs final)
 life_goes subject rows micros p None due actual final ends h = heartbeat_goes subject rows micros p due final h
 life_goes subject rows micros p (Some Start) due actual final ends h = heartbeat_goes subject rows micros p due final h
 life_goes subject rows micros p (Some Stop) due actual final ends h = heartbeat_goes subject rows micros p due final h
@@ -157,12 +130,12 @@ life_goes subject rows micros p (Some ResetCommunication) due actual final ends 
 -- ---- an input
 
 -- compare with the node-ID of the device
-abbrev of_device : Constants → Subject → Subject
+abbrev pub of_device : Constants → Subject → Subject
 of_device k subject = record subject { node = k.description.node }
 
 sent : (k : Constants) (subject : Subject) (rows : List Row) (micros : ℕ) (before : Inputs) (input : InputView) (p : Progress) → SendsAside k (moment k (moments k before) input)
     → FitsAt micros (stage_at (marked_command (moment k (moments k before) input).mark) (state_of k (input ∷ before))) p
-    → AllGo (of_device k subject) rows micros p (prescribed k before input) (runs (state_of k (input ∷ before)))
+    → AllGo state_differences (of_device k subject) rows micros p (prescribed k before input) (runs (state_of k (input ∷ before)))
 sent k subject rows micros before input p aside h =
     let s : Subject = of_device k subject in
     let m : Moment = moment k (moments k before) input in
@@ -173,25 +146,25 @@ sent k subject rows micros before input p aside h =
     let b : List FrameContent = frames_at m.timed_out in
     let c : List FrameContent = emergency_frames m.contents m.emergency in
     let d : List FrameContent = life_frames k.description.node m.life in
-    let first : AllGo s rows micros p a (stage_at command final) = asides s rows micros a p (stage_at command final) aside.answers h in
-    let second : AllGo s rows micros p (a ++ b) (stage_at command final) =
-    joined s rows micros a b p (stage_at command final) (stage_at command final) first (λ q g. asides s rows micros b q (stage_at command final) aside.time_out g) in
-    let third : AllGo s rows micros p (a ++ b ++ c) (stage_at command final) =
-    joined s rows micros (a ++ b) c p (stage_at command final) (stage_at command final) second (λ q g. asides s rows micros c q (stage_at command final) aside.emergency g) in
-    let fourth : AllGo s rows micros p (a ++ b ++ c ++ d) (runs final) =
-    joined s rows micros (a ++ b ++ c) d p (stage_at command final) (runs final) third
+    let first : AllGo state_differences s rows micros p a (stage_at command final) = asides s rows micros a p (stage_at command final) aside.answers h in
+    let second : AllGo state_differences s rows micros p (a ++ b) (stage_at command final) =
+    joined state_differences s rows micros a b p (stage_at command final) (stage_at command final) first (λ q g. asides s rows micros b q (stage_at command final) aside.time_out g) in
+    let third : AllGo state_differences s rows micros p (a ++ b ++ c) (stage_at command final) =
+    joined state_differences s rows micros (a ++ b) c p (stage_at command final) (stage_at command final) second (λ q g. asides s rows micros c q (stage_at command final) aside.emergency g) in
+    let fourth : AllGo state_differences s rows micros p (a ++ b ++ c ++ d) (runs final) =
+    joined state_differences s rows micros (a ++ b ++ c) d p (stage_at command final) (runs final) third
     (λ q g. life_goes s rows micros q command (is_heartbeat_due (producer_event m.mark m.contents) (producer_log k (moments k before))) (state_of k before) final ends g) in
-    joined s rows micros (a ++ b ++ c ++ d) (map (tpdo_frame k.description m.contents) m.due) p (runs final) (runs final) fourth
+    joined state_differences s rows micros (a ++ b ++ c ++ d) (map (tpdo_frame k.description m.contents) m.due) p (runs final) (runs final) fourth
     (λ q g. asides s rows micros (map (tpdo_frame k.description m.contents) m.due) q (runs final) aside.tpdos g)
 
-input_goes : (k : Constants) (subject : Subject) (rows : List Row) (micros : ℕ) (before : Inputs) (input : InputView) (p : Progress) → IsForeign k.description.node input → SendsAside k (moment k (moments k before) input)
+input_goes : (k : Constants) (subject : Subject) (rows : List Row) (micros : ℕ) (before : Inputs) (input : InputView) (p : Progress) → IsElsewhere (0x700 + k.description.node) input → SendsAside k (moment k (moments k before) input)
     → FitsAt micros (runs (state_of k before)) p
-    → AllGo (of_device k subject) rows micros p (frame_of input ++ prescribed k before input) (runs (state_of k (input ∷ before)))
+    → AllGo state_differences (of_device k subject) rows micros p (frame_of input ++ prescribed k before input) (runs (state_of k (input ∷ before)))
 input_goes k subject rows micros before input p foreign aside h =
     let s : Subject = of_device k subject in
     let final : NodeState = state_of k (input ∷ before) in
     let command : Option NmtService = command_in k.description.node input in
-    joined s rows micros (frame_of input) (prescribed k before input) p (stage_after command (state_of k before)) (runs final)
+    joined state_differences s rows micros (frame_of input) (prescribed k before input) p (stage_after command (state_of k before)) (runs final)
     (received s rows micros input p (state_of k before) foreign h)
     (λ q g. sent k subject rows micros before input q aside
     (subst (λ c. FitsAt micros (stage_at c final) q) (sym (command_is k (moments k before) input))
@@ -199,26 +172,26 @@ input_goes k subject rows micros before input p foreign aside h =
 
 -- ---- all inputs
 
-all_none : (k : Constants) (subject : Subject) (rows : List Row) (inputs : List Stamped) (before : Inputs) (p : Progress) → AreForeign k.description.node inputs → AllSendAside k before inputs
+all_none : (k : Constants) (subject : Subject) (rows : List Row) (inputs : List Stamped) (before : Inputs) (p : Progress) → AreElsewhere (0x700 + k.description.node) inputs → AllSendAside k before inputs
     → is_shown p.nmt.state (state_of k before) ≡ true
     → differences_from state_differences (of_device k subject) rows p (heard_from k before inputs) ≡ []
 all_none k subject rows [] before p foreign aside h = refl
 all_none k subject rows (s ∷ later) before p foreign aside h =
-    then_none (of_device k subject) rows s.micros (frame_of s.input ++ prescribed k before s.input) (heard_from k (s.input ∷ before) later) p (runs (state_of k (s.input ∷ before)))
+    then_none state_differences (of_device k subject) rows s.micros (frame_of s.input ++ prescribed k before s.input) (heard_from k (s.input ∷ before) later) p (runs (state_of k (s.input ∷ before)))
     (input_goes k subject rows s.micros before s.input p foreign.0 aside.0 h)
     (λ q g. all_none k subject rows later (s.input ∷ before) q foreign.1 aside.1 g)
 
-of_recording : (k : Constants) (subject : Subject) (rows : List Row) (inputs : List Stamped) → AreForeign k.description.node inputs → AllSendAside k [] inputs
+of_recording : (k : Constants) (subject : Subject) (rows : List Row) (inputs : List Stamped) → AreElsewhere (0x700 + k.description.node) inputs → AllSendAside k [] inputs
     → differences_in state_differences (of_device k subject) rows (recording k inputs) ≡ []
 of_recording k subject rows [] foreign aside = refl
 of_recording k subject rows (s ∷ later) foreign aside =
     let subj : Subject = of_device k subject in
-    let g : Goes subj rows s.micros (before_recording subj) (boot_up k) (runs node.PreOperational) =
+    let g : Goes state_differences subj rows s.micros (before_recording subj) (boot_up k) (runs node.PreOperational) =
     boot_goes subj rows s.micros (before_recording subj) (fits_nothing s.micros boots) in
-    then_none subj rows s.micros (boot_up k ∷ []) (heard_from k [] (s ∷ later)) (before_recording subj) (runs node.PreOperational) (g.none, g.fits)
+    then_none state_differences subj rows s.micros (boot_up k ∷ []) (heard_from k [] (s ∷ later)) (before_recording subj) (runs node.PreOperational) (g.none, g.fits)
     (λ q h. all_none k subject rows (s ∷ later) [] q foreign aside h)
 
-pub no_state_differences : (k : Constants) (subject : Subject) (rows : List Row) (inputs : List Stamped) → subject.node ≡ k.description.node → AreForeign k.description.node inputs → AllSendAside k [] inputs
+pub no_state_differences : (k : Constants) (subject : Subject) (rows : List Row) (inputs : List Stamped) → subject.node ≡ k.description.node → AreElsewhere (0x700 + k.description.node) inputs → AllSendAside k [] inputs
     → differences_in state_differences subject rows (recording k inputs) ≡ []
 no_state_differences k subject rows inputs is foreign aside =
     subst (λ n. differences_in state_differences (record subject { node = n }) rows (recording k inputs) ≡ []) (sym is)

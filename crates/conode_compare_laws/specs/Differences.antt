@@ -1,10 +1,11 @@
 -- What `compare` finds in a recording.
-use Rattle.std.specs.Prelude.{List, [], ◌∷◌, ◌++◌}
+use Rattle.std.specs.Prelude.{List, [], ◌∷◌, ◌++◌, Option, Some, None}
 use Rattle.std.specs.Option.{option_to_list}
 use Rattle.co_sheet.specs.Content.{Row}
 use Rattle.conode_compare_rules.specs.declared.finding.Finding.{Finding}
+use Rattle.conode_compare_rules.specs.declared.finding.Finding.TheVariants.{EmergencyInhibit}
 use Rattle.conode_compare_rules.specs.declared.kind.FrameKind.{FrameKind}
-use Rattle.conode_compare_rules.specs.declared.kind.FrameKind.TheVariants.{Control, OddControl}
+use Rattle.conode_compare_rules.specs.declared.kind.FrameKind.TheVariants.{Control, OddControl, Emergency, OddEmergency}
 use Rattle.conode_compare_rules.specs.declared.limits.Subject.{Subject}
 use Rattle.conode_compare_rules.specs.declared.progress.Progress.{Progress}
 use Rattle.conode_compare_rules.specs.declared.verdict.Findings.{Findings}
@@ -39,3 +40,17 @@ control_differences kind found = []
 -- these, and of each frame `boot-missing`
 abbrev pub state_differences : FrameKind → Findings → List Finding
 state_differences kind found = option_to_list found.boot ++ control_differences kind found
+
+-- ---- EMCY (CiA 301, 7.2.7)
+
+-- a difference other than `emcy-inhibit`
+abbrev pub besides_inhibit : Option Finding → List Finding
+besides_inhibit None = []
+besides_inhibit (Some (EmergencyInhibit passed inhibit)) = []
+besides_inhibit (Some finding) = finding ∷ []
+
+-- of an EMCY: `emcy-state`, `emcy-register`, `emcy-length`
+abbrev pub emergency_differences : FrameKind → Findings → List Finding
+emergency_differences (Emergency code register) found = besides_inhibit found.frame
+emergency_differences (OddEmergency length) found = besides_inhibit found.frame
+emergency_differences kind found = []

@@ -14,17 +14,26 @@ use Rattle.co_node_model.specs.Emergencies.{emergency_frames}
 use Rattle.co_node_model.specs.Tpdos.{tpdo_frame}
 use Rattle.conode_compare_laws.specs.Recordings.{Stamped}
 
--- ---- frames of others
+-- ---- what comes to a device
 
--- an input is no frame on the identifier of the device's error control
-abbrev pub IsForeign : ℕ → InputView → Type 0
-IsForeign node (Framed frame) = frame.id ≢ 0x700 + node
-IsForeign node Ticked = Unit {0}
-IsForeign node (Applied event) = Unit {0}
+-- an input is no frame with this identifier
+abbrev pub IsElsewhere : ℕ → InputView → Type 0
+IsElsewhere id (Framed frame) = frame.id ≢ id
+IsElsewhere id Ticked = Unit {0}
+IsElsewhere id (Applied event) = Unit {0}
 
--- no other node sends there
-abbrev pub AreForeign : ℕ → List Stamped → Type 0
-AreForeign node inputs = AllByRecursion (λ s. IsForeign node s.input) inputs
+-- no other node sends on this identifier
+abbrev pub AreElsewhere : ℕ → List Stamped → Type 0
+AreElsewhere id inputs = AllByRecursion (λ s. IsElsewhere id s.input) inputs
+
+-- an input is no event of the application
+abbrev pub IsNoEvent : InputView → Type 0
+IsNoEvent (Framed frame) = Unit {0}
+IsNoEvent Ticked = Unit {0}
+IsNoEvent (Applied event) = ⊥
+
+abbrev pub AreNoEvents : List Stamped → Type 0
+AreNoEvents inputs = AllByRecursion (λ s. IsNoEvent s.input) inputs
 
 -- ---- frames of the device
 
@@ -47,6 +56,20 @@ pub record SendsAside (k : Constants) (m : Moment) : Type 0 where
 abbrev pub AllSendAside : Constants → Inputs → List Stamped → Type 0
 AllSendAside k before [] = Unit {0}
 AllSendAside k before (s ∷ later) = SendsAside k (moment k (moments k before) s.input) × AllSendAside k (s.input ∷ before) later
+
+-- frames without this identifier
+abbrev pub AreWithout : ℕ → List FrameContent → Type 0
+AreWithout id frames = AllByRecursion (λ frame. frame.id ≢ id) frames
+
+-- none of SDO and of TPDOs that a device sends at an input has this identifier
+pub record SendsWithout (id : ℕ) (k : Constants) (m : Moment) : Type 0 where
+  pub answers : AreWithout id (frames_at m.exchange)
+  pub time_out : AreWithout id (frames_at m.timed_out)
+  pub tpdos : AreWithout id (map (tpdo_frame k.description m.contents) m.due)
+
+abbrev pub AllSendWithout : ℕ → Constants → Inputs → List Stamped → Type 0
+AllSendWithout id k before [] = Unit {0}
+AllSendWithout id k before (s ∷ later) = SendsWithout id k (moment k (moments k before) s.input) × AllSendWithout id k (s.input ∷ before) later
 
 -- ---- a device that keeps to them
 

@@ -3,7 +3,11 @@
 #![tactic(auto)]
 
 mod aside;
+mod built_devices;
+mod emergencies;
 mod states;
 
 pub use aside::sends_aside;
+pub use built_devices::{begins_aside, built_no_state_differences};
+pub use emergencies::no_emergency_differences;
 pub use states::no_state_differences;
