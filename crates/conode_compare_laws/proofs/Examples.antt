@@ -1,0 +1,94 @@
+-- A recording of a small device, and that the conditions of the laws are needed: what compare finds where another sender, or the
+-- device itself, uses an identifier a second time.
+use Rattle.std.proofs.Common.{◌≡◌, ℕ, Bool, true, false, List, [], ◌∷◌, Some, None, refl}
+use Rattle.std.specs.Option.{option_to_list}
+use Rattle.co_frame.specs.FrameContent.{FrameContent}
+use Rattle.co_profile.specs.declared.access.Access.TheVariants.{Rw}
+use Rattle.co_dict.specs.FreeIds.{is_good_word}
+use Rattle.co_node_model.specs.Inputs.{InputView, Ticked}
+use Rattle.co_node_model.proofs.ExampleNode.{came, device, device_with, frame, reset_node, searches, start, u16, u32}
+use Rattle.conode_record.specs.declared.content.Content.TheVariants.{Data}
+use Rattle.conode_record.specs.declared.fields.Identifier.TheVariants.{Base}
+use Rattle.conode_compare_pdos.specs.Followed.{unknown_pdos}
+use Rattle.conode_compare_rules.specs.declared.entries.Entries.{Entries}
+use Rattle.conode_compare_rules.specs.declared.finding.Finding.{Finding}
+use Rattle.conode_compare_rules.specs.declared.finding.Finding.TheVariants.{EmergencyLength, HeartbeatLength, SecondBootUp, WrongState}
+use Rattle.conode_compare_rules.specs.declared.finding.NmtState.TheVariants.{Operational, PreOperational}
+use Rattle.conode_compare_rules.specs.declared.limits.Subject.{Subject}
+use Rattle.conode_compare_rules.specs.FrameKinds.{data_kind, kind_of}
+use Rattle.conode_compare_rules.specs.Progresses as progresses
+use Rattle.conode_compare_rules.specs.Progresses.{after_command, after_odd_control, begun, booted, control_findings, findings_at, heartbeat_findings, progress_with, with_gap}
+use Rattle.conode_compare_rules.specs.States as states
+use Rattle.conode_compare_rules.specs.States.{after_boot_up, after_other, awaits_boot_up, boot_finding, control_finding, is_settled, second_boot_up, state_finding}
+use Rattle.conode_compare_rules.specs.Verdicts.{found}
+use Rattle.conode_compare_laws.specs.Differences.{differences_in, emergency_differences, state_differences}
+use Rattle.conode_compare_laws.specs.Recordings.{Recorded, Stamped, recording, with_stamp}
+
+abbrev at : ℕ → InputView → Stamped
+at micros input = record { micros = micros; input = input }
+
+-- the boot-up, with the stamp of the first input; each frame that comes, and what the device sends at it
+heard : recording device (at 1000 start ∷ at 2000 Ticked ∷ at 3000 reset_node ∷ [])
+    ≡ with_stamp 1000 (frame 0x705 1 0)
+    ∷ with_stamp 1000 (frame 0 2 0x0105)
+    ∷ with_stamp 3000 (frame 0 2 0x8105)
+    ∷ with_stamp 3000 (frame 0x705 1 0)
+    ∷ []
+unfolding searches
+heard = refl
+
+-- data frames with identifiers of 11 bits are what compare takes them for
+of_kind : (node : ℕ) (f : FrameContent) → kind_of node (Base f.id) (Data f.bytes) ≡ data_kind node f
+of_kind node f = refl
+
+-- ---- node 5, whose EMCY has the default identifier
+
+abbrev sheet : Entries
+sheet = record { period = Some 0; emergencies = true; inhibit = Some 0; inhibit_shown = None }
+
+abbrev subject : Subject
+subject = record {
+  node = 5;
+  limits = record { tolerance = 10; drift = 1; answer = 1000; boot = 10000 };
+  facts = record { before = sheet; booted = sheet; pdos = unknown_pdos; starts_itself = false; modular = false; stores = false };
+  held = record { entries = record { items = [] } };
+}
+
+abbrev state_found : List Recorded → List Finding
+state_found recorded = differences_in state_differences subject [] recorded
+
+-- another boot-up half a second later is another device's; a second later it may be its own
+second : state_found (with_stamp 0 (frame 0x705 1 0) ∷ with_stamp 500000 (frame 0x705 1 0) ∷ []) ≡ SecondBootUp 500000 ∷ []
+unfolding findings_at progress_with begun booted found control_finding second_boot_up states.after_control after_boot_up
+second = refl
+
+not_second : state_found (with_stamp 0 (frame 0x705 1 0) ∷ with_stamp 1000001 (frame 0x705 1 0) ∷ []) ≡ []
+unfolding findings_at progress_with begun booted found control_finding second_boot_up states.after_control after_boot_up
+not_second = refl
+
+-- so is a heartbeat of a state that the device can't be in, and one of two bytes
+wrong : state_found (with_stamp 0 (frame 0x705 1 0) ∷ with_stamp 500000 (frame 0x705 1 5) ∷ []) ≡ WrongState Operational PreOperational ∷ []
+unfolding findings_at progress_with begun booted found control_finding second_boot_up states.after_control after_boot_up control_findings heartbeat_findings boot_finding awaits_boot_up is_settled state_finding
+wrong = refl
+
+odd : state_found (with_stamp 0 (frame 0x705 1 0) ∷ with_stamp 500000 (frame 0x705 2 5) ∷ []) ≡ HeartbeatLength 2 ∷ []
+unfolding findings_at progress_with begun booted found control_finding second_boot_up states.after_control after_boot_up boot_finding awaits_boot_up
+odd = refl
+
+-- ---- a TPDO with the identifier of EMCY: CiA 301 doesn't restrict it, and the dictionary permits it
+
+permitted : is_good_word 5 device.start 0x85 ≡ true
+unfolding searches
+permitted = refl
+
+-- entered operational, TPDO 0 is sent by its event timer: compare takes it for an EMCY of four bytes
+abbrev twice : List Recorded
+twice = recording (device_with (u32 Rw 0x1800 1 0x85 ∷ u16 Rw 0x1800 5 1 ∷ [])) (at 1000 start ∷ at 2000 Ticked ∷ [])
+
+twice_heard : twice ≡ with_stamp 1000 (frame 0x705 1 0) ∷ with_stamp 1000 (frame 0 2 0x0105) ∷ with_stamp 2000 (frame 0x85 4 0) ∷ []
+unfolding searches
+twice_heard = refl
+
+taken_for_emergency : differences_in emergency_differences subject [] (with_stamp 1000 (frame 0x705 1 0) ∷ with_stamp 1000 (frame 0 2 0x0105) ∷ with_stamp 2000 (frame 0x85 4 0) ∷ []) ≡ EmergencyLength 4 ∷ []
+unfolding findings_at progress_with begun booted found states.after_control after_boot_up after_command states.after_command
+taken_for_emergency = refl

@@ -1,0 +1,11 @@
+pub mod Shown
+pub mod Frames
+pub mod Along
+pub mod Inputs
+pub mod Heard
+pub mod Words
+pub mod Sending
+pub mod Queues
+pub mod EmergencyFrames
+pub mod Begins
+mod Examples

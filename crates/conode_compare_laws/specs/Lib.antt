@@ -1,0 +1,3 @@
+pub mod Recordings
+pub mod Differences
+pub mod Identifiers

@@ -1,0 +1,13 @@
+//! Laws about `compare` and a device of `co_node_model` together: of a device that behaves as it is
+//! prescribed, `compare` says so. A call of a law changes nothing.
+#![tactic(auto)]
+
+mod aside;
+mod built_devices;
+mod emergencies;
+mod states;
+
+pub use aside::sends_aside;
+pub use built_devices::{begins_aside, built_no_state_differences};
+pub use emergencies::no_emergency_differences;
+pub use states::no_state_differences;
