@@ -26,10 +26,9 @@ enum { CAN = 1, SOCKET, PLAY, STRINGS, DOMAINS, TIME, OPTIONS };
 static const char *given[OPTIONS] = { [CAN] = "", [STRINGS] = "16", [DOMAINS] = "889", [TIME] = "1000" };
 static int wants_help;
 static const struct option options[] = {
-    { "can", 1, NULL, CAN },         { "stdio", 0, &in_stdio, 1 }, { "stamps", 0, &by_stamps, 1 },
-    { "socket", 1, NULL, SOCKET },   { "play", 1, NULL, PLAY },    { "strings", 1, NULL, STRINGS },
-    { "domains", 1, NULL, DOMAINS }, { "time", 1, NULL, TIME },    { "help", 0, &wants_help, 1 },
-    { NULL, 0, NULL, 0 },
+    { "can", 1, NULL, CAN }, { "stdio", 0, &in_stdio, 1 }, { "stamps", 0, &by_stamps, 1 }, { "socket", 1, NULL, SOCKET },
+    { "play", 1, NULL, PLAY }, { "strings", 1, NULL, STRINGS }, { "domains", 1, NULL, DOMAINS }, { "time", 1, NULL, TIME },
+    { "help", 0, &wants_help, 1 }, { NULL, 0, NULL, 0 },
 };
 
 /* Whether the words are right. */
@@ -51,19 +50,19 @@ static bool read_options(int count, char **words, bafokun_config *config)
 static void build(struct device *device, const char *word, const bafokun_config *config)
 {
     char *sheet = strdupa(word), *number = strsep(&sheet, "="), what[128];
-    const char *own = strchr(number, ':') ? strsep(&number, ":") : NULL;
-    const char *interface = own ? own : in_stdio ? "can0" : given[CAN];
+    const char *own = strchr(number, ':') ? strsep(&number, ":") : NULL, *interface = own ? own : in_stdio ? "can0" : given[CAN];
     uint64_t node_id;
     bafokun_fault fault;
     if (!sheet || !read_number(number, 10, 1, 127, &node_id) || !*interface || strlen(interface) > 15)
         errx(1, "%s: [INTERFACE:]N=SHEET, with N from 1 to 127, and --can without INTERFACE", word);
     device->hears_all = in_stdio && !own;
-    device->retry = UINT64_MAX;
+    device->speaks = true;
     strcpy(device->interface, interface);
     sprintf(device->name, "%s:%d", interface, (int)node_id);
-    for (struct device *at = devices; at < device; at++)
-        if (strcmp(at->name, device->name) == 0)
-            errx(1, "%s: there is a node %d on %s already", word, (int)node_id, interface);
+    for (struct device *at = devices; at < device; at++) {
+        if (strcmp(at->name, device->name) == 0) errx(1, "%s: there is a node %d on %s already", word, (int)node_id, interface);
+        device->speaks &= strcmp(at->interface, interface) != 0;
+    }
     char *text = calloc(1, MOST_SHEET + 1); /* names stay in it */
     FILE *file = fopen(sheet, "re");
     size_t length = text && file ? fread(text, 1, MOST_SHEET, file) : 0;
@@ -77,8 +76,7 @@ static void build(struct device *device, const char *word, const bafokun_config 
     bafokun_fault_text(&fault, what, sizeof what);
     if (fault.stage == BAFOKUN_FAULT_DEVICE)
         errx(1, "%s: build fault %u %04X:%02X: %s", word, fault.number, fault.index, fault.sub_index, what);
-    errx(1, "%s: fault %u line %" PRIu64 ": %s; `conode adapt %s` may mend it", word, fault.number, fault.line, what,
-         sheet);
+    errx(1, "%s: fault %u line %" PRIu64 ": %s; `conode adapt %s` may mend it", word, fault.number, fault.line, what, sheet);
 }
 
 int main(int count, char **words)
