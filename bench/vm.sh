@@ -226,7 +226,7 @@ is "a recording with $(wc -l < sent) frames of the device, against conode replay
 ./conode compare io-module.eds recording --node 8 > compared
 status=$?
 is "conode compare of it: $(tail -n 1 compared)" "$status $(head -n 1 compared)" "0 $(tail -n 1 compared)"
-[ $status -eq 0 ] || { cat compared; grep -n -e ' 000#' -e ' 708#' recording; }
+[ "$(wc -l < compared)" -eq 1 ] || { cat compared; grep -n -e ' 000#' -e ' 708#' recording; }
 # as a new user: from a clone, without its proofs, the commands of the first section of docs/EMBED.md, and a live device
 began=$(cut -d . -f 1 /proc/uptime)
 mkdir clone

@@ -3,7 +3,6 @@
 #define MOST_TAKEN 64 /* frames that are read in one turn of the loop */
 #define RETRY_MS 100  /* an interface that is down is looked at again at least so often */
 #define PASSIVE_BITS (CAN_ERR_CRTL_RX_PASSIVE | CAN_ERR_CRTL_TX_PASSIVE)
-#define BETTER_BITS (CAN_ERR_CRTL_RX_WARNING | CAN_ERR_CRTL_TX_WARNING | CAN_ERR_CRTL_ACTIVE)
 
 /* Sends the frames that the last call gave. */
 static void send_frames(struct device *device, size_t count);
@@ -100,11 +99,10 @@ static void take_frame(struct device *device, const struct can_frame *in)
 {
     bafokun_frame frame = { (uint16_t)in->can_id, in->can_dlc, { 0 } };
     canid_t error = in->can_id & CAN_ERR_FLAG ? in->can_id : 0;
-    uint8_t controller = error & CAN_ERR_CRTL ? in->data[1] : 0;
+    int controller = error & CAN_ERR_CRTL ? in->data[1] & ~(CAN_ERR_CRTL_RX_OVERFLOW | CAN_ERR_CRTL_TX_OVERFLOW) : 0;
     if (error & CAN_ERR_BUSOFF) become(device, BUS_OFF);
     if (error & CAN_ERR_RESTARTED) become(device, ACTIVE);
-    if (device->health != BUS_OFF && controller & PASSIVE_BITS) become(device, PASSIVE);
-    else if (device->health != BUS_OFF && controller & BETTER_BITS) become(device, ACTIVE);
+    if (device->health != BUS_OFF && controller) become(device, controller & PASSIVE_BITS ? PASSIVE : ACTIVE);
     if (in->can_id > CAN_SFF_MASK || in->can_dlc > 8) return;
     memcpy(frame.bytes, in->data, in->can_dlc);
     send_frames(device, bafokun_take(&device->node, &frame, FRAMES));

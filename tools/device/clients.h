@@ -1,6 +1,6 @@
 /* Clients: who gives lines, and how they are answered. */
 
-#define MOST_CLIENTS 66                /* with standard input and the file of --play; more wait until one leaves */
+#define MOST_CLIENTS 34                /* with the file of --play and standard input; more wait until one leaves */
 #define MOST_LINE 8191                 /* bytes of a line */
 #define PIECE 4096                     /* bytes that are read or written at once */
 #define MOST_TEXT (4 * UINT16_MAX + 1) /* bytes of a value that people read: each may be \xHH */

@@ -170,10 +170,11 @@ static bool tend_clients(void)
     return is_busy;
 }
 
-/* The end: answers are written, and the path is free, unless it is another's by now. */
+/* The end: the last changes are said, answers written, and the path is free, unless it is another's by now. */
 static void close_clients(void)
 {
     struct stat there;
+    say_changes();
     if (in_stdio) say(standard, ANSWER, "in %lu, out %lu, ticks %" PRIu64, frames_in, frames_out, elapsed);
     flush(standard);
     is_bad |= in_stdio && standard->is_broken;
