@@ -216,6 +216,10 @@ kill -TERM "$device"
 wait "$device"
 is 'the status' $? 0
 kill $listener
+# by their stamps, as with two processors candump may get an answer before the frame that it answers
+sort -s -k 1,1 recording > ordered
+cmp -s recording ordered || echo 'candump wrote frames out of the order of their stamps'
+mv ordered recording
 # by identifier, as the device may be late by some frames
 grep -v ' \(000\|080\|608\|208\|308\)#' recording | cut -d ' ' -f 3 | sort -s -t '#' -k 1,1 > sent
 grep ' \(000\|080\|608\|208\|308\)#' recording > received

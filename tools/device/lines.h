@@ -47,7 +47,8 @@ static uint64_t next_ms(void)
     uint64_t next = player->due > elapsed ? player->due : elapsed + DAY_MS;
     for (struct device *at = devices; at < devices_end; at++) {
         uint64_t retry = at->bus < 0 ? RETRY_MS : at->waiting > 0 ? 1 : DAY_MS;
-        next = MIN(next, elapsed + (is_crowded(at) ? retry : MIN(retry, bafokun_idle(&at->node) + UINT64_C(1))));
+        uint64_t due = is_crowded(at) ? DAY_MS : bafokun_idle(&at->node) + UINT64_C(1);
+        next = MIN(next, elapsed + MIN(due, retry));
     }
     return next;
 }
@@ -57,7 +58,8 @@ static bool take_line(struct client *client);
 static void elapse(uint64_t until)
 {
     while (elapsed < until) {
-        elapsed = MIN(next_ms(), until);
+        uint64_t next = next_ms();
+        elapsed = MIN(next, until);
         for (struct device *at = devices; at < devices_end; at++) catch_up(at);
         deliver();
         while (take_line(player) || read_piece(player)) { }
