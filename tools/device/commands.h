@@ -116,8 +116,7 @@ static bool read_words(struct request *at, char *rest)
         if (*kind == 'c') at->bits = bits[at->code >> 12 & 0xF];
         if (*kind == 'b') is_right = size == 2 && read_number(word, 16, 0, UINT8_MAX, &at->bits);
         if (*kind == 'd') is_right = read_number(word, 10, at->command->least, at->command->most, &at->number);
-        if (*kind == 'h' || *kind == 'x') is_right = bytes_of(&plain, value, bytes, &length);
-        if (*kind == 'x') is_right &= length == 5;
+        if (*kind == 'h' || *kind == 'x') is_right = bytes_of(&plain, value, bytes, &length) && (*kind == 'h' || length == 5);
         if (*kind == 'v' && !bytes_of(&at->entry, value, bytes, &length))
             return say(at->client, TROUBLE, "error: this is no value of data type %02Xh", at->entry.type);
     }

@@ -1,6 +1,5 @@
 /* Lines and connections: who gives lines, and when they are due. */
 
-static const char *play_path, *socket_path;
 static struct stat bound; /* what was made at the path of the socket */
 static int listener;
 
@@ -24,15 +23,15 @@ static void say_changes(void)
 /* Reads a piece, unless a line is there already. True: there may be more. */
 static bool read_piece(struct client *client)
 {
-    if (client->has_ended || memchr(client->text + client->begin, '\n', client->used)) return false;
-    if (!is_ready(client->in, POLLIN, false)) return false;
+    bool has_line = memchr(client->text + client->begin, '\n', client->used);
+    if (client->has_ended || has_line || !is_ready(client->in, POLLIN, false)) return false;
     client->used = MIN(client->used, MOST_LINE + 2); /* of a line that is too long the rest isn't kept */
     memmove(client->text, client->text + client->begin, client->used);
     client->begin = 0;
     ssize_t size = read(client->in, client->text + client->used, PIECE);
     if (size < 0 && (errno == EAGAIN || errno == EINTR)) return false;
     if (size < 0 && client->numbered) {
-        warn("%s", client == player ? play_path : "standard input");
+        warn("%s", client == player ? given[PLAY] : "standard input");
         is_over = is_bad = true;
     }
     client->used += (size_t)MAX(size, 0);
@@ -111,28 +110,26 @@ static void let_in(void)
     static bool is_said;
     for (struct client *client = standard + 1; client < clients_end; client++) {
         if (client->in > 0) continue;
-        int fd = accept4(listener, NULL, NULL, SOCK_NONBLOCK | SOCK_CLOEXEC);
-        bool is_trouble = fd < 0 && errno != EAGAIN && errno != EINTR && errno != ECONNABORTED;
-        if (is_trouble && !is_said) warn("%s: no client can be let in", socket_path);
-        if (fd < 0) is_said = is_trouble;
-        if (fd < 0) return;
-        client->in = client->out = fd;
-        wake_by(fd, EPOLLIN | EPOLLOUT);
+        client->in = client->out = accept4(listener, NULL, NULL, SOCK_NONBLOCK | SOCK_CLOEXEC);
+        if (client->in > 0 && wake_by(client->in, EPOLLIN | EPOLLOUT)) continue;
+        bool is_trouble = errno != EAGAIN && errno != EINTR && errno != ECONNABORTED;
+        if (is_trouble && !is_said) warn("%s: no client can be let in", given[SOCKET]);
+        is_said = is_trouble;
+        return;
     }
 }
 
-/* Standard input and output; a file that is played, and a path where the own user may connect, or NULL. */
-static void open_clients(const char *play, const char *path)
+/* Standard input and output; a file that is played, and a path where the own user may connect, if it is given. */
+static void open_clients(void)
 {
+    const char *path = given[SOCKET];
     struct sockaddr_un at = { .sun_family = AF_UNIX };
     standard->out = STDOUT_FILENO;
     standard->numbered = in_stdio ? "line" : NULL;
     if (!wake_by(standard->in, EPOLLIN) || !wake_by(standard->out, EPOLLOUT)) err(1, "standard input");
-    play_path = play;
     player->numbered = "play";
-    player->has_ended = !play;
-    if (play) player->in = open(play, O_RDONLY | O_CLOEXEC);
-    if (play && (player->in < 0 || !wake_by(player->in, EPOLLIN))) err(1, "%s", play);
+    player->in = open(given[PLAY], O_RDONLY | O_CLOEXEC);
+    if (player->in < 0 || !wake_by(player->in, EPOLLIN)) err(1, "%s", given[PLAY]);
     if (!path) return;
     if (strlen(path) >= sizeof at.sun_path) errx(1, "%s: the path is too long", path);
     strcpy(at.sun_path, path);
@@ -143,7 +140,6 @@ static void open_clients(const char *play, const char *path)
     umask(0177);
     if (bind(listener, (struct sockaddr *)&at, sizeof at) != 0 || lstat(path, &bound) != 0
         || listen(listener, SOMAXCONN) != 0 || !wake_by(listener, EPOLLIN)) err(1, "%s", path);
-    socket_path = path;
 }
 
 /* At each turn of the loop: lines are done, changes said, answers written. True: more may have come. */
@@ -153,7 +149,7 @@ static bool tend_clients(void)
     say_changes();
     for (struct client *client = clients; client < clients_end; client++) {
         bool stays = client == player || client == standard;
-        if (!stays && client->in == 0) continue;
+        if (!stays && client->in <= 0) continue;
         while (take_line(client)) { }
         is_busy |= read_piece(client);
         flush(client);
@@ -168,7 +164,7 @@ static bool tend_clients(void)
     }
     bool is_played = player->has_ended && player->used == 0 && player->due <= elapsed;
     if (in_stdio && standard->has_ended && standard->used == 0 && (by_stamps || is_played)) is_over = true;
-    if (socket_path) let_in();
+    if (given[SOCKET]) let_in();
     return is_busy;
 }
 
@@ -180,6 +176,6 @@ static void close_clients(void)
     if (in_stdio) say(standard, ANSWER, "in %lu, out %lu, ticks %" PRIu64, frames_in, frames_out, elapsed);
     flush(standard);
     is_bad |= in_stdio && standard->is_broken;
-    if (!socket_path || lstat(socket_path, &there) != 0) return;
-    if (there.st_dev == bound.st_dev && there.st_ino == bound.st_ino) unlink(socket_path);
+    if (!given[SOCKET] || lstat(given[SOCKET], &there) != 0) return;
+    if (there.st_dev == bound.st_dev && there.st_ino == bound.st_ino) unlink(given[SOCKET]);
 }
