@@ -216,6 +216,10 @@ kill -TERM "$device"
 wait "$device"
 is 'the status' $? 0
 kill $listener
+# by their stamps, as with two processors candump may get an answer before the frame that it answers
+sort -s -k 1,1 recording > ordered
+cmp -s recording ordered || echo 'candump wrote frames out of the order of their stamps'
+mv ordered recording
 # by identifier, as the device may be late by some frames
 grep -v ' \(000\|080\|608\|208\|308\)#' recording | cut -d ' ' -f 3 | sort -s -t '#' -k 1,1 > sent
 grep ' \(000\|080\|608\|208\|308\)#' recording > received
@@ -226,7 +230,7 @@ is "a recording with $(wc -l < sent) frames of the device, against conode replay
 ./conode compare io-module.eds recording --node 8 > compared
 status=$?
 is "conode compare of it: $(tail -n 1 compared)" "$status $(head -n 1 compared)" "0 $(tail -n 1 compared)"
-[ $status -eq 0 ] || { cat compared; grep -n -e ' 000#' -e ' 708#' recording; }
+[ "$(wc -l < compared)" -eq 1 ] || { cat compared; grep -n -e ' 000#' -e ' 708#' recording; }
 # as a new user: from a clone, without its proofs, the commands of the first section of docs/EMBED.md, and a live device
 began=$(cut -d . -f 1 /proc/uptime)
 mkdir clone

@@ -1,9 +1,8 @@
 /* SocketCAN: a socket for each device, what waits, and trouble: said once, given to the device and mended. */
 
 #define MOST_TAKEN 64 /* frames that are read in one turn of the loop */
-#define RETRY_MS 100  /* an interface that is down is looked at again */
+#define RETRY_MS 100  /* an interface that is down is looked at again at least so often */
 #define PASSIVE_BITS (CAN_ERR_CRTL_RX_PASSIVE | CAN_ERR_CRTL_TX_PASSIVE)
-#define BETTER_BITS (CAN_ERR_CRTL_RX_WARNING | CAN_ERR_CRTL_TX_WARNING | CAN_ERR_CRTL_ACTIVE)
 
 /* Sends the frames that the last call gave. */
 static void send_frames(struct device *device, size_t count);
@@ -12,22 +11,15 @@ static void send_frames(struct device *device, size_t count);
 static void become(struct device *device, enum health health)
 {
     enum health was = device->health;
-    struct device *first = devices;
+    if (health == DOWN) {
+        close(device->bus);
+        device->bus = -1;
+    }
     if (health == was) return;
     device->health = health;
-    while (strcmp(first->interface, device->interface) != 0) first++;
-    if (first == device) fprintf(stderr, "%s: %s\n", device->interface, health_names[health]);
-    if (health == ACTIVE && was != PASSIVE)
-        send_frames(device, bafokun_bus(&device->node, BAFOKUN_BUS_RECOVERED, FRAMES));
+    if (device->speaks) fprintf(stderr, "%s: %s\n", device->interface, health_names[health]);
+    if (health == ACTIVE && was != PASSIVE) send_frames(device, bafokun_bus(&device->node, BAFOKUN_BUS_RECOVERED, FRAMES));
     if (health != DOWN) send_frames(device, bafokun_bus(&device->node, (uint8_t)health, FRAMES));
-}
-
-static void go_down(struct device *device)
-{
-    close(device->bus);
-    device->bus = -1;
-    device->retry = elapsed + RETRY_MS;
-    become(device, DOWN);
 }
 
 /* Opens the socket of a device. False, with errno: there is no such interface, or it is down. */
@@ -35,14 +27,13 @@ static bool open_bus(struct device *device)
 {
     static const can_err_mask_t errors = CAN_ERR_BUSOFF | CAN_ERR_CRTL | CAN_ERR_RESTARTED;
     struct sockaddr_can at = { .can_family = AF_CAN, .can_ifindex = (int)if_nametoindex(device->interface) };
-    device->retry = elapsed + RETRY_MS;
     if (at.can_ifindex == 0) return false; /* as the index to bind to that would be every interface */
     int fd = device->bus = socket(PF_CAN, SOCK_RAW | SOCK_NONBLOCK | SOCK_CLOEXEC, CAN_RAW);
     if (fd >= 0 && setsockopt(fd, SOL_CAN_RAW, CAN_RAW_ERR_FILTER, &errors, sizeof errors) == 0
         && bind(fd, (struct sockaddr *)&at, sizeof at) == 0 && wake_by(fd, EPOLLIN)
         && getsockopt(fd, SOL_SOCKET, SO_ERROR, &errno, &(socklen_t){ sizeof errno }) == 0 && errno == 0) return true;
     int reason = errno;
-    go_down(device);
+    become(device, DOWN);
     errno = reason;
     return false;
 }
@@ -54,7 +45,7 @@ static bool send_now(struct device *device, const bafokun_frame *frame)
     memcpy(out.data, frame->bytes, frame->length);
     if (device->bus < 0) return false;
     if (write(device->bus, &out, sizeof out) == (ssize_t)sizeof out) return true;
-    if (errno != ENOBUFS && errno != EAGAIN && errno != EINTR) go_down(device);
+    if (errno != ENOBUFS && errno != EAGAIN && errno != EINTR) become(device, DOWN);
     return false;
 }
 
@@ -80,16 +71,13 @@ static void put_on_bus(struct device *device, const bafokun_frame *frame)
         if (at->is_tpdo) oldest = at;
     }
     bool is_heartbeat = frame->id > 0x700 && frame->bytes[0] != 0; /* and no boot-up */
-    if (same && (new.is_tpdo || (is_heartbeat && same->frame.bytes[0] == frame->bytes[0]))) {
-        *same = new;
-        return;
-    }
-    if (device->waiting >= MOST_WAITING && oldest) {
+    bool replaces = same && (new.is_tpdo || (is_heartbeat && same->frame.bytes[0] == frame->bytes[0]));
+    if (!replaces && device->waiting >= MOST_WAITING && oldest) {
         forget(device, oldest);
         device->thrown++;
     }
-    device->queue[device->waiting++] = new;
-    device->others += !new.is_tpdo;
+    *(replaces ? same : &device->queue[device->waiting++]) = new;
+    device->others += !replaces && !new.is_tpdo;
 }
 
 static void send_frames(struct device *device, size_t count)
@@ -111,11 +99,10 @@ static void take_frame(struct device *device, const struct can_frame *in)
 {
     bafokun_frame frame = { (uint16_t)in->can_id, in->can_dlc, { 0 } };
     canid_t error = in->can_id & CAN_ERR_FLAG ? in->can_id : 0;
-    uint8_t controller = error & CAN_ERR_CRTL ? in->data[1] : 0;
+    int controller = error & CAN_ERR_CRTL ? in->data[1] & ~(CAN_ERR_CRTL_RX_OVERFLOW | CAN_ERR_CRTL_TX_OVERFLOW) : 0;
     if (error & CAN_ERR_BUSOFF) become(device, BUS_OFF);
     if (error & CAN_ERR_RESTARTED) become(device, ACTIVE);
-    if (device->health != BUS_OFF && controller & PASSIVE_BITS) become(device, PASSIVE);
-    else if (device->health != BUS_OFF && controller & BETTER_BITS) become(device, ACTIVE);
+    if (device->health != BUS_OFF && controller) become(device, controller & PASSIVE_BITS ? PASSIVE : ACTIVE);
     if (in->can_id > CAN_SFF_MASK || in->can_dlc > 8) return;
     memcpy(frame.bytes, in->data, in->can_dlc);
     send_frames(device, bafokun_take(&device->node, &frame, FRAMES));
@@ -127,15 +114,15 @@ static bool tend_bus(struct device *device)
     struct can_frame in;
     int taken = 0;
     if (in_stdio) return false;
-    if (device->bus < 0 && elapsed >= device->retry) open_bus(device);
+    if (device->bus < 0) open_bus(device);
     while (device->waiting > 0 && send_now(device, &device->queue[0].frame)) forget(device, device->queue);
     if (device->bus >= 0 && device->health == DOWN && !is_crowded(device)) become(device, ACTIVE);
     catch_up(device);
-    for (ssize_t size = 0; taken < MOST_TAKEN && device->bus >= 0 && !is_crowded(device) && size >= 0; taken++) {
-        size = read(device->bus, &in, sizeof in);
-        if (size == (ssize_t)sizeof in) take_frame(device, &in);
-        if (size < 0 && errno != EAGAIN && errno != EINTR) go_down(device);
+    for (; taken < MOST_TAKEN && device->bus >= 0 && !is_crowded(device); taken++) {
+        ssize_t size = read(device->bus, &in, sizeof in);
+        if (size < 0 && errno != EAGAIN) become(device, DOWN);
+        if (size < 0) break;
+        take_frame(device, &in);
     }
-    if (device->bus >= 0) device->retry = device->waiting > 0 ? elapsed + 1 : UINT64_MAX;
-    return taken > 1;
+    return taken == MOST_TAKEN;
 }

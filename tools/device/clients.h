@@ -1,5 +1,6 @@
 /* Clients: who gives lines, and how they are answered. */
 
+#define MOST_CLIENTS 34                /* with the file of --play and standard input; more wait until one leaves */
 #define MOST_LINE 8191                 /* bytes of a line */
 #define PIECE 4096                     /* bytes that are read or written at once */
 #define MOST_TEXT (4 * UINT16_MAX + 1) /* bytes of a value that people read: each may be \xHH */
@@ -7,23 +8,21 @@
 #define MOST_WATCHES 32                /* of a client */
 #define LAST_MS 1000                   /* a signal that ends the run waits so long for each piece of output */
 
-/* Standard input and output, the file of --play, or a connection. */
+/* The file of --play, standard input and output, and connections. */
 static struct client {
     int in, out;
-    bool has_ended, is_broken; /* no line comes any more; no answer can be written */
-    const char *numbered;      /* "line" where lines may have stamps, and errors their number; else NULL */
-    bool has_first;            /* there was a stamp, */
-    uint64_t first, due;       /* and which; when the next line is due, in ms since the start */
-    size_t number, used, unread, watched; /* of lines that are done; of bytes; of watches */
+    bool is_there, has_ended, is_broken; /* it isn't free; no line comes any more; no answer can be written */
+    const char *numbered;                /* "line" where lines may have stamps, and errors their number; else NULL */
+    bool has_first;                      /* there was a stamp, */
+    uint64_t first, due;                 /* and which; when the next line is due, in ms since the start */
+    size_t number, begin, used, unread, watched; /* of lines that are done; of text from where on how much; of answers; of watches */
     struct watch { /* an entry whose changes it is told; the bytes that were said last */
         struct device *device;
         bafokun_entry_info entry;
         uint8_t *said;
     } watches[MOST_WATCHES + 1]; /* the last is for a get */
-    struct client *next;
-    char text[MOST_LINE + PIECE + 4], answers[MOST_UNREAD + MOST_TEXT + 100]; /* used; unread */
-} standard = { .out = STDOUT_FILENO }, player = { .numbered = "play", .has_ended = true, .next = &standard };
-static struct client *clients = &player; /* after the connections come these two */
+    char text[MOST_LINE + PIECE + 4], answers[MOST_UNREAD + MOST_TEXT + 100];
+} clients[MOST_CLIENTS], *const player = clients, *const standard = clients + 1, *const clients_end = clients + MOST_CLIENTS;
 static int epoll, timer, signals;
 
 /* A descriptor wakes the loop when it becomes ready. epoll doesn't take a file, which always is. */
@@ -44,7 +43,7 @@ static bool is_ready(int fd, short events, bool waits)
 /* Writes what can be written without a wait, or all of a trace, unless nobody reads it and a signal came. */
 static void flush(struct client *client)
 {
-    bool is_trace = client == &standard && in_stdio;
+    bool is_trace = client == standard && in_stdio;
     size_t done = 0;
     while (done < client->unread && !client->is_broken && is_ready(client->out, POLLOUT, is_trace)) {
         ssize_t size = write(client->out, client->answers + done, MIN(client->unread - done, PIECE));
@@ -60,12 +59,12 @@ enum kind { FRAME, ANSWER, TROUBLE };
 __attribute__((format(printf, 3, 4)))
 static bool say(struct client *client, enum kind kind, const char *format, ...)
 {
-    struct client *reader = client == &player ? &standard : client;
+    struct client *reader = client == player ? standard : client;
     va_list values;
     if (reader->unread > MOST_UNREAD) flush(reader);
     if (reader->unread > MOST_UNREAD) return false;
     char *end = reader->answers + reader->unread;
-    if (reader == &standard && in_stdio && kind != FRAME) end = stpcpy(end, "; ");
+    if (reader == standard && in_stdio && kind != FRAME) end = stpcpy(end, "; ");
     if (client->numbered && kind == TROUBLE) end += sprintf(end, "%s %zu ", client->numbered, client->number + 1);
     va_start(values, format);
     end += vsprintf(end, format, values);

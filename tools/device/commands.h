@@ -1,9 +1,8 @@
 /* A line of the application: an event line of a trace (docs/TRACES.md), or one that people write. */
 
 /*
- * A command: how it is written, the kinds of its words, how many of these it needs, what it does, and the range of its
- * number (d). Other words are an entry (k), its value (v), bytes (h), five bytes (x), an error code (c), bits of the
- * error register (b).
+ * A command: how it is written, the kinds of its words, how many of these it needs, what it does, and the range of its number (d). Other
+ * words are an entry (k), its value (v), bytes (h), five bytes (x), an error code (c), bits of the error register (b).
  */
 static const struct command {
     const char *form, *kinds;
@@ -13,10 +12,10 @@ static const struct command {
 } commands[] = {
     { "set KEY VALUE", "kv", 2, SET, 0, 0 }, { "get KEY", "k", 1, GET, 0, 0 }, { "watch KEY", "k", 1, WATCH, 0, 0 },
     { "event TPDO", "d", 1, EVENT, 1, 65536 }, { "raise CODE [BITS [EXTRA]]", "cbx", 1, RAISE, 0, 0 },
-    { "clear [BITS]", "b", 0, CLEAR, 0, 0 }, { "state", "", 0, STATE, 0, 0 },
-    { "!write KEY HEX", "kh", 2, WRITE, 0, 0 }, { "!changed KEY", "k", 1, CHANGED, 0, 0 },
-    { "!event K", "d", 1, EVENT, 0, 65535 }, { "!raise CODE BITS EXTRA", "cbx", 3, RAISE, 0, 0 },
-    { "!clear BITS", "b", 1, CLEAR, 0, 0 }, { "!tick N", "d", 1, TICK, 1, DAY_MS }, { "help", "", 0, HELP, 0, 0 },
+    { "clear [BITS]", "b", 0, CLEAR, 0, 0 }, { "state", "", 0, STATE, 0, 0 }, { "!write KEY HEX", "kh", 2, WRITE, 0, 0 },
+    { "!changed KEY", "k", 1, CHANGED, 0, 0 }, { "!event K", "d", 1, EVENT, 0, 65535 },
+    { "!raise CODE BITS EXTRA", "cbx", 3, RAISE, 0, 0 }, { "!clear BITS", "b", 1, CLEAR, 0, 0 },
+    { "!tick N", "d", 1, TICK, 1, DAY_MS }, { "help", "", 0, HELP, 0, 0 },
 }, *const commands_end = commands + sizeof commands / sizeof *commands;
 
 /* A line that is done: what its words say, and the bytes of its value. */
@@ -33,11 +32,11 @@ static size_t length;
 /* The answer to an event that gave so many frames. */
 static bool answer(const struct request *at, size_t count)
 {
-    char text[128] = " ";
+    char text[128] = "";
     uint32_t code;
     bool is_done = bafokun_answer(&at->device->node, &code) != BAFOKUN_REFUSED;
-    if (!in_stdio || !at->client->numbered) bafokun_abort_text(code, text + 1, sizeof text - 1);
-    if (!is_done) say(at->client, TROUBLE, "refused %08lX%s", (unsigned long)code, text[1] ? text : "");
+    if (!in_stdio || !at->client->numbered) bafokun_abort_text(code, text, sizeof text);
+    if (!is_done) say(at->client, TROUBLE, "refused %08" PRIX32 "%s%s", code, *text ? " " : "", text);
     send_frames(at->device, count);
     return is_done;
 }
@@ -50,7 +49,7 @@ static bool say_value(struct client *client, struct watch *at)
     if (!bafokun_value(&at->device->node, entry->index, entry->sub_index, bytes, sizeof bytes, &length)) return false;
     if (at->said && length == entry->length && memcmp(bytes, at->said, length) == 0) return true;
     write_value(entry, bytes, length, text);
-    say(client, ANSWER, "%04X:%02X %s", entry->index, entry->sub_index, text);
+    say(client, ANSWER, "%04X:%02X %s", entry->index, entry->sub_index, *text ? text : "-");
     at->said = realloc(at->said, length + 1);
     if (at->said) memcpy(at->said, bytes, length);
     entry->length = length;
@@ -79,13 +78,12 @@ static bool act(const struct request *at, enum action action)
     case RAISE: return answer(at, bafokun_raise(node, (uint16_t)at->code, (uint8_t)at->bits, bytes, FRAMES));
     case CLEAR: return answer(at, bafokun_clear(node, (uint8_t)at->bits, FRAMES));
     case TICK:
-        if (client != &player && !by_stamps) return say(client, TROUBLE, "error: here time passes by itself");
-        (client == &player ? &player : &standard)->due += at->number;
+        if (client != player && !by_stamps) return say(client, TROUBLE, "error: here time passes by itself");
+        (client == player ? player : standard)->due += at->number;
         return true;
     case STATE:
-        return say(client, ANSWER, "node %d %s, %s %s, %zu frames wait, %lu thrown away", bafokun_node_id(node),
-                   names[bafokun_state(node)], device->interface, health_names[device->health], device->waiting,
-                   device->thrown);
+        return say(client, ANSWER, "node %d %s, %s %s, %zu frames wait, %zu thrown away", bafokun_node_id(node),
+                   names[bafokun_state(node)], device->interface, health_names[device->health], device->waiting, device->thrown);
     case HELP:
         for (const struct command *each = commands; each < commands_end; each++)
             strcat(strcat(forms, each > commands ? ", " : ""), each->form);
@@ -95,8 +93,7 @@ static bool act(const struct request *at, enum action action)
             return say(client, TROUBLE, "error: %d entries are watched already", MOST_WATCHES);
         free(watch->said);
         *watch = (struct watch){ device, at->entry, NULL };
-        if (!say_value(client, watch))
-            return say(client, TROUBLE, "error: there is no entry %04X:%02X", index, sub_index);
+        if (!say_value(client, watch)) return say(client, TROUBLE, "error: there is no entry %04X:%02X", index, sub_index);
         client->watched += action == WATCH;
         return false;
     }
@@ -114,14 +111,13 @@ static bool read_words(struct request *at, char *rest)
         size_t size = *kind == 'k' ? find_entry(at->client, at->device, rest, &at->entry)
             : *kind == 'v' ? strlen(rest) : strcspn(rest, BLANKS);
         if (size == 0) return false;
-        const char *word = cut(&rest, size);
+        const char *word = cut(&rest, size), *value = strcmp(word, "-") == 0 ? "" : word; /* - for none */
         if (*kind == 'c') is_right = size == 4 && read_number(word, 16, 0, UINT16_MAX, &at->code);
         if (*kind == 'c') at->bits = bits[at->code >> 12 & 0xF];
         if (*kind == 'b') is_right = size == 2 && read_number(word, 16, 0, UINT8_MAX, &at->bits);
         if (*kind == 'd') is_right = read_number(word, 10, at->command->least, at->command->most, &at->number);
-        if (*kind == 'h' || *kind == 'x') is_right = bytes_of(&plain, word, bytes, &length);
-        if (*kind == 'x') is_right &= length == 5;
-        if (*kind == 'v' && !bytes_of(&at->entry, word, bytes, &length))
+        if (*kind == 'h' || *kind == 'x') is_right = bytes_of(&plain, value, bytes, &length) && (*kind == 'h' || length == 5);
+        if (*kind == 'v' && !bytes_of(&at->entry, value, bytes, &length))
             return say(at->client, TROUBLE, "error: this is no value of data type %02Xh", at->entry.type);
     }
     if (is_right && !*rest && kind - at->command->kinds >= at->command->needed) return true;
@@ -131,19 +127,18 @@ static bool read_words(struct request *at, char *rest)
 /* The device that a line begins with, as 5 or can0:5, which is cut off, or the only one; or says why not. */
 static struct device *read_device(struct client *client, char **line)
 {
-    struct device *device = NULL;
-    size_t size = strcspn(*line, BLANKS), found = 0;
+    struct device *found = devices_end - 1;
+    size_t size = strcspn(*line, BLANKS), count = 0;
     bool has_name = **line != '!' && size > 0 && isdigit((unsigned char)(*line)[size - 1]);
     const char *name = has_name ? cut(line, size) : NULL;
     bool is_for_all = strncmp(*line, "!tick ", 6) == 0 || strcmp(*line, "help") == 0;
     for (struct device *at = devices; at < devices_end; at++) {
         if (name && strcmp(name, at->name) != 0 && strcmp(name, strchr(at->name, ':') + 1) != 0) continue;
-        device = at;
-        found++;
+        found = at;
+        count++;
     }
-    if (found == 1 || (found > 1 && is_for_all)) return device;
-    if (found > 1) say(client, TROUBLE, "error: the node comes first, as %s", device->name);
-    else say(client, TROUBLE, "error: there is no such node, as %s is one", devices_end[-1].name);
+    if (count == 1 || (count > 1 && is_for_all)) return found;
+    say(client, TROUBLE, count > 1 ? "error: the node comes first, as %s" : "error: there is no such node, as %s is one", found->name);
     return NULL;
 }
 

@@ -3,7 +3,6 @@
 #include <bafokun.h>
 
 #include <ctype.h>
-#include <endian.h>
 #include <err.h>
 #include <errno.h>
 #include <fcntl.h>
@@ -40,14 +39,13 @@ static const char *const health_names[] = { "error active", "error passive", "bu
 
 static struct device {
     bafokun_node node;
-    char interface[16], name[48];     /* can0, can0:5 */
-    char *objects[UINT16_MAX + 1];    /* the names of objects by their index, or NULL */
-    bool hears_all;                   /* frames of each interface in --stdio */
-    int bus;                          /* its socket, -1 while the interface is down */
+    char interface[16], name[48];         /* can0, can0:5 */
+    char *objects[UINT16_MAX + 1];        /* the names of objects by their index, or NULL */
+    bool hears_all, speaks;               /* frames of each interface in --stdio; of trouble, for its interface */
+    int bus;                              /* its socket, -1 while the interface is down */
     enum health health;
-    uint64_t ticks, retry;            /* of the ms elapsed those that it had; when the bus is tried again */
-    size_t waiting, others;           /* frames that wait; of these others than TPDOs */
-    unsigned long thrown;             /* TPDOs */
+    uint64_t ticks;                       /* of the ms elapsed those that it had */
+    size_t waiting, others, thrown;       /* frames that wait; of these others than TPDOs; TPDOs that were thrown away */
     struct waiting {
         bafokun_frame frame;
         bool is_tpdo;
@@ -55,6 +53,8 @@ static struct device {
 } *devices, *devices_end;
 
 static bafokun_frame frames[BAFOKUN_MOST_FRAMES]; /* those that the last call of the library gave */
-static int in_stdio, by_stamps;                   /* the options */
+static int in_stdio, by_stamps;                   /* options, and those that take a word: */
+enum { CAN = 1, SOCKET, PLAY, STRINGS, DOMAINS, TIME, OPTIONS };
+static const char *given[OPTIONS] = { [CAN] = "", [PLAY] = "/dev/null", [STRINGS] = "16", [DOMAINS] = "889", [TIME] = "1000" };
 static uint64_t elapsed;                          /* ms since the start */
 static bool is_over, is_bad;                      /* it ends, with status 1 */

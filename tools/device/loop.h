@@ -1,7 +1,5 @@
 /* The loop: each turn does all that is ready, until a signal comes. */
 
-#define MOST_EVENTS 16
-
 /* The clock, in ms. */
 static uint64_t now(void)
 {
@@ -29,7 +27,7 @@ static void start_loop(void)
 /* Goes on until the end. */
 static void run_loop(void)
 {
-    struct epoll_event events[MOST_EVENTS];
+    struct epoll_event events[16];
     uint64_t begin = now();
     for (;;) {
         deliver();
@@ -39,7 +37,7 @@ static void run_loop(void)
         uint64_t next = begin + next_ms();
         struct itimerspec once = { { 0, 0 }, { (time_t)(next / 1000), (long)(next % 1000 * 1000000) } };
         if (!by_stamps) timerfd_settime(timer, TFD_TIMER_ABSTIME, &once, NULL);
-        epoll_wait(epoll, events, MOST_EVENTS, is_busy ? 0 : -1);
+        epoll_wait(epoll, events, 16, is_busy ? 0 : -1);
         if (!by_stamps) elapse(now() - begin);
     }
 }

@@ -21,19 +21,16 @@ static const char usage[] =
     "  --strings N, --domains N, --time N   as with conode replay; 16, 889 and 1000 if not given\n"
     "Standard input and clients say what the application does: help lists it.\n";
 
-/* The options that take a word. */
-enum { CAN = 1, SOCKET, PLAY, STRINGS, DOMAINS, TIME, OPTIONS };
-static const char *given[OPTIONS] = { [CAN] = "", [STRINGS] = "16", [DOMAINS] = "889", [TIME] = "1000" };
 static int wants_help;
+static bafokun_config config;
 static const struct option options[] = {
-    { "can", 1, NULL, CAN },         { "stdio", 0, &in_stdio, 1 }, { "stamps", 0, &by_stamps, 1 },
-    { "socket", 1, NULL, SOCKET },   { "play", 1, NULL, PLAY },    { "strings", 1, NULL, STRINGS },
-    { "domains", 1, NULL, DOMAINS }, { "time", 1, NULL, TIME },    { "help", 0, &wants_help, 1 },
-    { NULL, 0, NULL, 0 },
+    { "can", 1, NULL, CAN }, { "stdio", 0, &in_stdio, 1 }, { "stamps", 0, &by_stamps, 1 }, { "socket", 1, NULL, SOCKET },
+    { "play", 1, NULL, PLAY }, { "strings", 1, NULL, STRINGS }, { "domains", 1, NULL, DOMAINS }, { "time", 1, NULL, TIME },
+    { "help", 0, &wants_help, 1 }, { NULL, 0, NULL, 0 },
 };
 
 /* Whether the words are right. */
-static bool read_options(int count, char **words, bafokun_config *config)
+static bool read_options(int count, char **words)
 {
     uint64_t numbers[OPTIONS];
     bool is_right = true;
@@ -43,33 +40,33 @@ static bool read_options(int count, char **words, bafokun_config *config)
     }
     if (wants_help) exit(fputs(usage, stdout) < 0 || fflush(stdout) != 0);
     for (int i = STRINGS; i <= TIME; i++) is_right &= read_number(given[i], 10, 0, UINT16_MAX, &numbers[i]);
-    *config = (bafokun_config){ (uint16_t)numbers[STRINGS], (uint16_t)numbers[DOMAINS], (uint16_t)numbers[TIME] };
+    config = (bafokun_config){ (uint16_t)numbers[STRINGS], (uint16_t)numbers[DOMAINS], (uint16_t)numbers[TIME] };
     return is_right && optind < count && (in_stdio ? !*given[CAN] : !by_stamps);
 }
 
 /* Builds the device of a word [INTERFACE:]N=SHEET. */
-static void build(struct device *device, const char *word, const bafokun_config *config)
+static void build(struct device *device, const char *word)
 {
     char *sheet = strdupa(word), *number = strsep(&sheet, "="), what[128];
-    const char *own = strchr(number, ':') ? strsep(&number, ":") : NULL;
-    const char *interface = own ? own : in_stdio ? "can0" : given[CAN];
+    const char *own = strchr(number, ':') ? strsep(&number, ":") : NULL, *interface = own ? own : in_stdio ? "can0" : given[CAN];
     uint64_t node_id;
     bafokun_fault fault;
     if (!sheet || !read_number(number, 10, 1, 127, &node_id) || !*interface || strlen(interface) > 15)
         errx(1, "%s: [INTERFACE:]N=SHEET, with N from 1 to 127, and --can without INTERFACE", word);
     device->hears_all = in_stdio && !own;
-    device->retry = UINT64_MAX;
+    device->speaks = true;
     strcpy(device->interface, interface);
     sprintf(device->name, "%s:%d", interface, (int)node_id);
-    for (struct device *at = devices; at < device; at++)
-        if (strcmp(at->name, device->name) == 0)
-            errx(1, "%s: there is a node %d on %s already", word, (int)node_id, interface);
+    for (struct device *at = devices; at < device; at++) {
+        if (strcmp(at->name, device->name) == 0) errx(1, "%s: there is a node %d on %s already", word, (int)node_id, interface);
+        device->speaks &= strcmp(at->interface, interface) != 0;
+    }
     char *text = calloc(1, MOST_SHEET + 1); /* names stay in it */
     FILE *file = fopen(sheet, "re");
     size_t length = text && file ? fread(text, 1, MOST_SHEET, file) : 0;
     if (!text || !file || ferror(file) || !(text = realloc(text, length + 1))) err(1, "%s", sheet);
     fclose(file);
-    if (bafokun_build(&device->node, text, length, (uint8_t)node_id, config, &fault)) {
+    if (bafokun_build(&device->node, text, length, (uint8_t)node_id, &config, &fault)) {
         name_objects(device, text);
         return;
     }
@@ -77,25 +74,23 @@ static void build(struct device *device, const char *word, const bafokun_config 
     bafokun_fault_text(&fault, what, sizeof what);
     if (fault.stage == BAFOKUN_FAULT_DEVICE)
         errx(1, "%s: build fault %u %04X:%02X: %s", word, fault.number, fault.index, fault.sub_index, what);
-    errx(1, "%s: fault %u line %" PRIu64 ": %s; `conode adapt %s` may mend it", word, fault.number, fault.line, what,
-         sheet);
+    errx(1, "%s: fault %u line %" PRIu64 ": %s; `conode adapt %s` may mend it", word, fault.number, fault.line, what, sheet);
 }
 
 int main(int count, char **words)
 {
-    bafokun_config config;
     int fd;
     /* where a standard stream is closed, no file of ours is taken for it: reads find the end, writes fail */
     while ((fd = open("/dev/null", O_RDONLY)) >= 0 && fd <= 2) { }
     close(fd);
-    if (!read_options(count, words, &config)) return fputs(usage, stderr), 2;
+    if (!read_options(count, words)) return fputs(usage, stderr), 2;
     devices_end = devices = calloc((size_t)(count - optind), sizeof *devices);
     if (!devices) err(1, "canopen-device");
-    while (optind < count) build(devices_end++, words[optind++], &config);
+    while (optind < count) build(devices_end++, words[optind++]);
     start_loop();
     for (struct device *at = devices; !in_stdio && at < devices_end; at++)
         if (!open_bus(at) && errno != ENETDOWN) err(1, "%s", at->interface);
-    open_clients(given[PLAY], given[SOCKET]);
+    open_clients();
     for (struct device *at = devices; at < devices_end; at++) send_frames(at, bafokun_boot(&at->node, FRAMES));
     run_loop();
     close_clients();
