@@ -67,7 +67,7 @@ fn add_ten(line: &mut Vec<u8>, seconds: u64) -> Result<(), AllocError>
     requires { seconds < 10 ^ 10 }
     ensures { OnOk result (line.new.items ≡ line.old.items ++ seconds_text seconds) }
 {
-    add_five(line, (seconds / 100_000) as u32)?;
+    attempt!(add_five(line, (seconds / 100_000) as u32));
     add_five(line, (seconds % 100_000) as u32)
 }
 
@@ -112,8 +112,8 @@ fn add_stamp(line: &mut Vec<u8>, micros: u64) -> Result<(), AllocError>
     ensures { OnOk result
         (line.new.items ≡ line.old.items ++ stamp_text micros ++ codes " ") }
 {
-    line.extend_from_slice(b"(")?;
-    add_seconds(line, micros / 1_000_000)?;
+    attempt!(line.extend_from_slice(b"("));
+    attempt!(add_seconds(line, micros / 1_000_000));
     add_micros(line, (micros % 1_000_000) as u32)
 }
 
@@ -123,7 +123,7 @@ fn add_place(line: &mut Vec<u8>, place: &Place<'_>) -> Result<(), AllocError>
     match place {
         Place::Interface(name) => line.extend_from_slice(name.bytes()),
         Place::Channel(number) => {
-            line.extend_from_slice(b"can")?;
+            attempt!(line.extend_from_slice(b"can"));
             let number = u64::from(number.saturating_sub(1));
             line.extend_from_slice(decimal_digits(number).as_str().as_bytes())
         }
@@ -140,7 +140,7 @@ fn add_bytes(line: &mut Vec<u8>, bytes: &[u8]) -> Result<(), AllocError>
     ensures { OnOk result (line.new.items ≡ line.old.items ++ flat_map byte_text bytes.now) }
 {
     for byte in bytes {
-        add_byte(line, *byte)?;
+        attempt!(add_byte(line, *byte));
     }
     Ok(())
 }
@@ -167,7 +167,7 @@ fn add_four(line: &mut Vec<u8>, number: u16) -> Result<(), AllocError>
 fn add_eight(line: &mut Vec<u8>, id: u32) -> Result<(), AllocError>
     ensures { OnOk result (line.new.items ≡ line.old.items ++ digits_text 16 8 id) }
 {
-    add_four(line, (id / 65536) as u16)?;
+    attempt!(add_four(line, (id / 65536) as u16));
     add_four(line, (id % 65536) as u16)
 }
 
@@ -195,7 +195,7 @@ fn add_data(line: &mut Vec<u8>, mark: &[u8], bytes: &[u8]) -> Result<(), AllocEr
     ensures { OnOk result
         (line.new.items ≡ line.old.items ++ mark.now ++ flat_map byte_text bytes.now) }
 {
-    line.extend_from_slice(mark)?;
+    attempt!(line.extend_from_slice(mark));
     add_bytes(line, bytes)
 }
 
@@ -203,7 +203,7 @@ fn add_request(line: &mut Vec<u8>, count: u8) -> Result<(), AllocError>
     ensures { OnOk result
         (line.new.items ≡ line.old.items ++ codes "#R" ++ length_text count) }
 {
-    line.extend_from_slice(b"#R")?;
+    attempt!(line.extend_from_slice(b"#R"));
     add_length(line, count)
 }
 
@@ -235,11 +235,11 @@ fn direction_text(direction: Option<Direction>) -> &'static [u8]
 pub fn add_frame(line: &mut Vec<u8>, frame: &LogFrame<'_>) -> Result<(), AllocError>
     ensures { OnOk result (line.new.items ≡ line.old.items ++ frame_text frame.now) }
 {
-    add_stamp(line, frame.micros)?;
-    add_place(line, &frame.place)?;
-    line.extend_from_slice(b" ")?;
-    add_id(line, frame.id)?;
-    add_content(line, &frame.content)?;
+    attempt!(add_stamp(line, frame.micros));
+    attempt!(add_place(line, &frame.place));
+    attempt!(line.extend_from_slice(b" "));
+    attempt!(add_id(line, frame.id));
+    attempt!(add_content(line, &frame.content));
     line.extend_from_slice(direction_text(frame.direction))
 }
 
@@ -248,6 +248,6 @@ pub fn add_frame(line: &mut Vec<u8>, frame: &LogFrame<'_>) -> Result<(), AllocEr
 pub(crate) fn add_line(line: &mut Vec<u8>, frame: &LogFrame<'_>) -> Result<(), AllocError>
     ensures { OnOk result (line.new.items ≡ line.old.items ++ line_text frame.now) }
 {
-    add_frame(line, frame)?;
+    attempt!(add_frame(line, frame));
     line.extend_from_slice(b"\n")
 }
