@@ -63,17 +63,17 @@ lines $half frames > "$folder/lines"
 cmp "$folder/by_device" "$folder/by_replay"
 echo "$half frames and event lines: as conode replay, $(wc -l < "$folder/by_device") lines"
 
-# so many lines of all kinds, to one of the two; the peak of memory in kB goes into a file
+# so many lines of all kinds, to one of the two: fails where an answer is wrong; the peak of memory in kB goes into a file
 run() {
     lines "$1" all | {
         /usr/bin/time -f %M -o "$folder/memory" "$folder/$2/canopen-device" "8=$sheet" --stdio --stamps || echo $? > "$folder/failed"
     } | awk '/^; 1018:02 / { if ($3 == 2622465) right++; else wrong++ } END { print right + 0, wrong + 0 }' > "$folder/answers"
+    read -r right wrong < "$folder/answers"
+    echo "$1 lines of all kinds, $2: $right questions answered, $wrong wrong; $(cat "$folder/memory") kB"
+    [ ! -e "$folder/failed" ] && [ "$right" -ge $(($1 / 1000)) ] && [ "$wrong" -eq 0 ]
 }
 run $((half / 100)) made
 few=$(cat "$folder/memory")
 run $half made
-most=$(cat "$folder/memory")
+[ "$(cat "$folder/memory")" -le $((few + 1024)) ]
 run $half asan
-read -r right wrong < "$folder/answers"
-echo "$half lines of all kinds: $right questions answered, $wrong wrong; $few kB after a hundredth of them, $most kB"
-[ ! -e "$folder/failed" ] && [ "$right" -ge $((half / 1000)) ] && [ "$wrong" -eq 0 ] && [ "$most" -le $((few + 1024)) ]

@@ -267,7 +267,7 @@ echo "$failed failed"
 MACHINE
 
 (cd "$folder/disk" && find . | cpio -o -H newc 2> /dev/null | gzip) > "$folder/image"
-timeout $((seconds + 1800)) qemu-system-x86_64 -accel "${ACCELERATOR:-tcg}" -m 1024 -smp 2 -cpu max -nographic -no-reboot \
+timeout $((seconds + 5400)) qemu-system-x86_64 -accel "${ACCELERATOR:-tcg}" -m 1024 -smp 2 -cpu max -nographic -no-reboot \
     -kernel "/boot/vmlinuz-$release" -initrd "$folder/image" -append 'console=ttyS0 quiet panic=1' \
     -virtfs local,path=/,mount_tag=host,security_model=none,readonly=on,multidevs=remap 2>&1 | sed -u -n '1,/begins/d; s/\r$//p' | tee "$folder/said"
 grep -qx '0 failed' "$folder/said"

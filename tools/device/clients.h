@@ -10,11 +10,11 @@
 
 /* The file of --play, standard input and output, and connections. */
 static struct client {
-    int in, out;
-    bool is_there, has_ended, is_broken; /* it isn't free; no line comes any more; no answer can be written */
-    const char *numbered;                /* "line" where lines may have stamps, and errors their number; else NULL */
-    bool has_first;                      /* there was a stamp, */
-    uint64_t first, due;                 /* and which; when the next line is due, in ms since the start */
+    int in, out;               /* in isn't above 0 where the place of a connection is free */
+    bool has_ended, is_broken; /* no line comes any more; no answer can be written */
+    const char *numbered;      /* "line" where lines may have stamps, and errors their number; else NULL */
+    bool has_first;            /* there was a stamp, */
+    uint64_t first, due;       /* and which; when the next line is due, in ms since the start */
     size_t number, begin, used, unread, watched; /* of lines that are done; of text from where on how much; of answers; of watches */
     struct watch { /* an entry whose changes it is told; the bytes that were said last */
         struct device *device;
