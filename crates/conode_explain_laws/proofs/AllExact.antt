@@ -34,7 +34,7 @@ pub record Same (stamp : ℕ → ℕ) (d : Description) (log : Log) (recording :
   pub holds : ExactIn (following_after recording).transfer (data_after recording) current
   pub same : downloads_done d.rows recording ≡ sets
 
-kept_of : (held : Option Transfer) (got : List ℕ) → StaysOpen held got → IfSome held (λ t. t.taken ≡ digest_of got)
+pub kept_of : (held : Option Transfer) (got : List ℕ) → StaysOpen held got → IfSome held (λ t. t.taken ≡ digest_of got)
 kept_of None got h = tt
 kept_of (Some t) got h = h.taken
 
@@ -66,7 +66,7 @@ with_request stamp d contents frame log recording sets h lawful small n plain =
           ∙ ap (λ x. write_set x (length longer) ++ sets) (sym one.sets);
     }
 
-is_eight : (n : ℕ) → n ≡ 8 → (n == 8) ≡ true
+pub is_eight : (n : ℕ) → n ≡ 8 → (n == 8) ≡ true
 is_eight n h = grind (arith, nat_tests)
 
 with_frame : (stamp : ℕ → ℕ) (d : Description) (contents : Contents) (frame : List ℕ) (older : List Input) → Same stamp d (log_of d older) (recorded stamp d older) (downloads_set stamp d older)
@@ -104,7 +104,7 @@ drops (Some t) got current (exact_upload u n) = exact_upload u refl
 drops (Some t) got current (exact_segments toggle h c) = exact_dropped toggle h.in_turn refl
 drops (Some t) got current (exact_dropped toggle h c) = exact_dropped toggle h refl
 
-all_same : (stamp : ℕ → ℕ) (d : Description) (inputs : List Input) → AreInputs d inputs → ArePlain inputs → Same stamp d (log_of d inputs) (recorded stamp d inputs) (downloads_set stamp d inputs)
+pub all_same : (stamp : ℕ → ℕ) (d : Description) (inputs : List Input) → AreInputs d inputs → ArePlain inputs → Same stamp d (log_of d inputs) (recorded stamp d inputs) (downloads_set stamp d inputs)
 all_same stamp d [] h p = record { current = None; serves = serves_first d.rows [] refl; holds = refl; same = refl }
 all_same stamp d (Received contents frame ∷ older) h p =
     with_frame stamp d contents frame older (all_same stamp d older h.1 p.1) h.0.0 h.0.1 p.0.0 p.0.1

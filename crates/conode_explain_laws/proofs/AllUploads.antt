@@ -1,288 +1,231 @@
--- The uploads that explain says are done are some of those that the channel serves whole: over all inputs.
-use Rattle.std.proofs.Common.{◌≡◌, ℕ, Bool, true, false, not, List, [], ◌∷◌, ◌++◌, length, Option, Some, None, refl, sym, ap, ◌∙◌, inl, inr, subst}
-use Rattle.std.specs.Prelude.{if◌then◌else◌, IfSome, ◌==◌, ◌&&◌, ◌||◌, nat_le}
-use Rattle.std.specs.List.{list_any}
-use Rattle.std.specs.Option.{option_map_or}
+-- The uploads that explain says are done, and those that the channel serves whole: over all inputs.
+use Rattle.std.proofs.Common.{◌≡◌, ℕ, suc, Bool, true, false, List, [], ◌∷◌, ◌++◌, length, Option, Some, None, refl, sym, ap, ◌∙◌, ◌⊎◌, inl, inr, subst}
+use Rattle.std.specs.Prelude.{if◌then◌else◌, IfSome, ◌==◌}
 use Rattle.std.proofs.lemmas.Bool.{eqb-true, false≢true}
-use Rattle.co_value.specs.declared.key.Key.{Key}
 use Rattle.co_value.specs.Numbers.{AreBytes}
-use Rattle.co_frame.specs.Segments.{is_odd}
 use Rattle.co_frame.specs.SdoRequests.{request_in}
-use Rattle.co_frame.specs.declared.sdo_request.SdoRequest.{SdoRequest}
-use Rattle.co_frame.specs.declared.sdo_request.SdoRequest.TheVariants.{DownloadInitiate, Upload as UploadInitiate, UploadSegment as NextSegment, BlockUploadInitiate, BlockDownloadInitiate}
 use Rattle.co_dict.specs.Rows.{Contents}
 use Rattle.co_dict.specs.Stores.{Description, IsDictionary}
-use Rattle.co_sdo.specs.declared.stage.Stage.{Stage}
-use Rattle.co_sdo.specs.declared.stage.Stage.TheVariants.{Upload as Uploading, SubBlock, LastTaken, BlockUpload, BlockUploadEnded}
-use Rattle.co_sdo.specs.Log.{Answer, Exchange, Log, Exchanged, TimedOut, Dropped, requests}
-use Rattle.co_sdo.specs.SubBlocks.{sub_block, taken_segments, has_last}
-use Rattle.co_sdo.specs.Uploads.{value_at, is_last_after}
-use Rattle.co_sdo.specs.Refused.{reading_refusal}
-use Rattle.co_sdo.specs.Opened.{OpenTransfer, opened, opened_by, opened_after, acknowledged, is_end_sent, block_upload_stage}
-use Rattle.co_sdo.specs.OpenTransfers.{Transfer as Opened, Since, is_last_part, is_inside, has_cut, is_finished, transfer_of, open_since, begins, and_event, since_with, since_initiate}
-use Rattle.co_sdo.specs.Replies.{reply_to, answers_to, open_key, time_out_reply, is_in_sub_block}
+use Rattle.co_sdo.specs.Log.{Log, Exchanged, TimedOut, Dropped}
+use Rattle.co_sdo.specs.Opened.{OpenTransfer, opened_after}
+use Rattle.co_sdo.specs.OpenTransfers.{since_initiate}
+use Rattle.co_sdo.specs.Replies.{reply_to, answers_to, open_key, time_out_reply}
 use Rattle.co_sdo.specs.Steps.{opened_next}
-use Rattle.co_sdo.proofs.Logs.{inside_is}
 use Rattle.co_sdo_laws.proofs.Channel.{Serves, serves_first, served, serves_ticked, ended}
 use Rattle.conode_explain_transfers.specs.declared.kinds.Side.TheVariants.{Client}
 use Rattle.conode_explain_transfers.specs.declared.transfer.Transfer.{Transfer}
-use Rattle.conode_explain_transfers.specs.Followed.{Event}
+use Rattle.conode_explain_transfers.specs.Data.{data_after}
+use Rattle.conode_explain_transfers.specs.Followed.{Event, following_after}
+use Rattle.conode_explain_transfers.specs.Stages.{confirmed_with}
+use Rattle.conode_explain_transfers.proofs.DataLemmas.{open_after}
 use Rattle.conode_explain_laws.specs.Recordings.{Input, Received, Elapsed, Expired, Abandoned, Started, AreInputs, log_of, and_frame, and_answers, recorded}
-use Rattle.conode_explain_laws.specs.Downloads.{Complete, AreSome}
-use Rattle.conode_explain_laws.specs.Uploads.{uploads_done, upload_of, upload_since, served_with, uploads_served}
-use Rattle.conode_explain_laws.proofs.Readings.{Nothing}
-use Rattle.conode_explain_laws.proofs.Exchanges.{same_toggle}
+use Rattle.conode_explain_laws.specs.Downloads.{Complete, AreSome, ArePlain}
+use Rattle.conode_explain_laws.specs.Uploads.{Read, answered_whole, acknowledged_whole, ended_by, read_served, uploads_done, uploads_served}
+use Rattle.conode_explain_laws.proofs.Readings.{Nothing, request_reading, reading_of}
+use Rattle.conode_explain_laws.proofs.Exchanges.{client_plain}
 use Rattle.conode_explain_laws.proofs.AllInputs.{short_reading, dropped_since}
+use Rattle.conode_explain_laws.proofs.Exact.{ExactIn, exact_upload, exact_segments, exact_dropped, upload_plain}
+use Rattle.conode_explain_laws.proofs.AllExact.{all_same, kept_of, is_eight}
 use Rattle.conode_explain_laws.proofs.Views.{Closes}
 use Rattle.conode_explain_laws.proofs.UploadViews.{view_of, holds, read_as, hears_answers, hears_frame, hears_all, IsAside, KnowsAside, aside_turn, aborted_closes}
-use Rattle.conode_explain_laws.proofs.UploadExchanges.{Follows, aside, asked, gone, segmented, Ends, at_once, last_segment, CompletesOutside, Following, exchange}
-
--- ---- what the channel has served
-
-abbrev upload : ℕ → Key → List ℕ → List Complete
-upload n key bytes = record { frame = n; key = key; bytes = bytes } ∷ []
-
--- an upload is open at the channel
-abbrev is_upload_stage : Stage → Bool
-is_upload_stage (Uploading sent) = true
-is_upload_stage _ = false
-
-abbrev is_upload_open : Option OpenTransfer → Bool
-is_upload_open None = false
-is_upload_open (Some o) = is_upload_stage o.stage
-
-abbrev open_bytes : Option OpenTransfer → List ℕ
-open_bytes None = []
-open_bytes (Some o) = o.bytes
-
-block_upload_no : (block_size : ℕ) (later : List Exchange) → is_upload_stage (block_upload_stage block_size later) ≡ false
-block_upload_no block_size [] = refl
-block_upload_no block_size (x ∷ older) = by (list_any is_end_sent x.answers)
-  where
-    by : (b : Bool) → is_upload_stage (if b then BlockUploadEnded else BlockUpload (acknowledged (requests (x ∷ older))) (length x.answers)) ≡ false
-    by true = refl
-    by false = refl
-
-block_download_no : (size : Option ℕ) (later : List (List ℕ)) (b : Bool)
-    → is_upload_stage (if b then LastTaken size else SubBlock size (length (taken_segments (sub_block later)))) ≡ false
-block_download_no size later true = refl
-block_download_no size later false = refl
-
--- its bytes are those that the entry had at initiate
-upload_by : (n : ℕ) (key : Key) (sent : ℕ) (bytes : List ℕ) (r : Option SdoRequest) (t : Opened) → opened_by r t ≡ Some (record { key = key; stage = Uploading sent; bytes = bytes })
-    → upload_of r t.begin.contents n ≡ upload n key bytes
-upload_by n key sent bytes (Some (UploadInitiate other)) t h =
-    let same : other ≡ key = ap open_key h in
-    let is : value_at t.begin.contents other ≡ bytes = ap open_bytes h in
-    ap (λ k. upload n k (value_at t.begin.contents other)) same ∙ ap (λ xs. upload n key xs) is
-upload_by n key sent bytes (Some (DownloadInitiate other size)) t h = absurd (false≢true (ap is_upload_open h))
-upload_by n key sent bytes (Some (BlockUploadInitiate other block_size threshold)) t h = absurd (false≢true (sym (block_upload_no block_size t.later) ∙ ap is_upload_open h))
-upload_by n key sent bytes (Some (BlockDownloadInitiate other size)) t h =
-    absurd (false≢true (sym (block_download_no size (requests t.later) (has_last (requests t.later))) ∙ ap is_upload_open h))
-upload_by n key sent bytes r t h = absurd (false≢true (ap is_upload_open h))
-
-upload_open : (n : ℕ) (key : Key) (sent : ℕ) (bytes : List ℕ) (s : Option Since) → opened (open_since s) ≡ Some (record { key = key; stage = Uploading sent; bytes = bytes })
-    → upload_since s n ≡ upload n key bytes
-upload_open n key sent bytes None h = absurd (false≢true (ap is_upload_open h))
-upload_open n key sent bytes (Some s) h = by (has_cut s.begin s.later || is_finished (transfer_of s)) h
-  where
-    by : (over : Bool) → opened (if over then None else Some (transfer_of s)) ≡ Some (record { key = key; stage = Uploading sent; bytes = bytes })
-        → upload_of (request_in s.begin.request) s.begin.contents n ≡ upload n key bytes
-    by true h = absurd (false≢true (ap is_upload_open h))
-    by false h = upload_by n key sent bytes (request_in s.begin.request) (transfer_of s) h
-
--- an initiate request, and a later one
-begun_served : (n : ℕ) (answers : List Answer) (s : Option Since) (x : Exchange) (whole : List Complete) → list_any is_last_part answers ≡ true → begins (open_since s) x.request ≡ true
-    → upload_of (request_in x.request) x.contents n ≡ whole → (if list_any is_last_part answers then upload_since (since_with (Exchanged x) s) n else []) ≡ whole
-begun_served n answers s x whole l b e = rw (l, b) e
-
-since_more : (n : ℕ) (x : Exchange) (s : Option Since) → upload_since (and_event (Exchanged x) s) n ≡ upload_since s n
-since_more n x None = refl
-since_more n x (Some s) = refl
-
-later_served : (n : ℕ) (answers : List Answer) (s : Option Since) (x : Exchange) (whole : List Complete) → list_any is_last_part answers ≡ true → begins (open_since s) x.request ≡ false
-    → upload_since s n ≡ whole → (if list_any is_last_part answers then upload_since (since_with (Exchanged x) s) n else []) ≡ whole
-later_served n answers s x whole l b e = rw (l, b) (since_more n x s ∙ e)
-
-never : (b : Bool) → (b && false) ≡ false
-never true = refl
-never false = refl
-
-module _ (d : Description) (contents : Contents) (frame : List ℕ) (key : Key) (bytes : List ℕ) where
-  -- the answer has all bytes
-  once_last : (current : Option OpenTransfer) → is_in_sub_block current ≡ false → request_in frame ≡ Some (UploadInitiate key) → reading_refusal d contents key ≡ None
-      → (nat_le 1 (length bytes) && nat_le (length bytes) 4) ≡ true → bytes ≡ value_at contents key → list_any is_last_part (answers_to d contents current frame) ≡ true
-  once_last current o r n short is =
-      let long : (nat_le 1 (length (value_at contents key)) && nat_le (length (value_at contents key)) 4) ≡ true = subst (λ xs. (nat_le 1 (length xs) && nat_le (length xs) 4) ≡ true) is short in
-      rw (o, r, n, long) refl
-
-  -- the answer has the last segment
-  segment_last : (sent : ℕ) → request_in frame ≡ Some (NextSegment (is_odd sent)) → is_last_after sent bytes ≡ true
-      → list_any is_last_part (answers_to d contents (Some (record { key = key; stage = Uploading sent; bytes = bytes })) frame) ≡ true
-  segment_last sent r l = rw (r, same_toggle (is_odd sent), l) refl
-
-  begins_one : (s : Option Since) → is_in_sub_block (opened (open_since s)) ≡ false → request_in frame ≡ Some (UploadInitiate key) → begins (open_since s) frame ≡ true
-  begins_one s o r =
-      let inside : option_map_or is_inside (open_since s) false ≡ false = sym (inside_is (open_since s)) ∙ o in
-      rw (inside, r) refl
-
-  begins_none : (s : Option Since) (toggle : Bool) → request_in frame ≡ Some (NextSegment toggle) → begins (open_since s) frame ≡ false
-  begins_none s toggle r = rw r (never (not (option_map_or is_inside (open_since s) false)))
-
-  -- what a request completes is what the channel has served whole with it
-  served_is : (n : ℕ) (log : Log) (current : Option OpenTransfer) → opened_after log ≡ current → CompletesOutside d contents current frame key bytes
-      → served_with (reply_to d contents log frame) (Exchanged (record { request = frame; contents = contents; answers = reply_to d contents log frame }) ∷ log) n ≡ upload n key bytes
-  served_is n log current e h =
-      let s = since_initiate log in
-      let x : Exchange = record { request = frame; contents = contents; answers = reply_to d contents log frame } in
-      let replies : reply_to d contents log frame ≡ answers_to d contents current frame = ap (λ c. answers_to d contents c frame) e in
-      elim h.completes [
-        | at_once r refusal short is ↦
-            begun_served n (reply_to d contents log frame) s x (upload n key bytes)
-            (ap (list_any is_last_part) replies ∙ once_last current h.outside r refusal short is)
-            (begins_one s (ap is_in_sub_block e ∙ h.outside) r)
-            (rw r (ap (λ xs. upload n key xs) (sym is)))
-        | last_segment sent c r l ↦
-            later_served n (reply_to d contents log frame) s x (upload n key bytes)
-            (ap (list_any is_last_part) (replies ∙ ap (λ o. answers_to d contents o frame) c) ∙ segment_last sent r l)
-            (begins_none s (is_odd sent) r)
-            (upload_open n key sent bytes s (e ∙ c))
-      ]
+use Rattle.conode_explain_laws.proofs.UploadSteps.{acknowledged_next, answered_next, completes, ticked_whole, dropped_whole}
+use Rattle.conode_explain_laws.proofs.UploadExchanges.{aside, asked, gone, segmented, begun, blocks, at_end, FollowsIn, Ends, IsPlain, exchange}
 
 -- ---- lists
+
+-- what explain says is done, and what is served: with one of each more, or where some may be left out, with one that is served
+record Compares (Loose : Type 0) (R : List Complete → List Complete → Type 0) : Type 0 where
+  none : R [] []
+  both : (more some all : List Complete) → R some all → R (more ++ some) (more ++ all)
+  served : Loose → (more some all : List Complete) → R some all → R some (more ++ all)
 
 some_more : (more some all : List Complete) → AreSome some all → AreSome some (more ++ all)
 some_more [] some all h = h
 some_more (x ∷ more) [] all h = tt
 some_more (x ∷ more) (one ∷ others) all h = inr (some_more more (one ∷ others) all h)
 
-both_more : (one : Complete) (more some all : List Complete) → more ≡ one ∷ [] → AreSome some all → AreSome (one ∷ some) (more ++ all)
-both_more one more some all e h = rw e (inl (refl, h))
+both_more : (more some all : List Complete) → AreSome some all → AreSome (more ++ some) (more ++ all)
+both_more [] some all h = h
+both_more (x ∷ more) some all h = inl (refl, both_more more some all h)
+
+are_some : Compares (Unit {0}) AreSome
+are_some = record { none = tt; both = both_more; served = λ l. some_more }
+
+are_same : Compares ⊥ (λ some all. some ≡ all)
+are_same = record { none = refl; both = λ more some all h. ap (λ w. more ++ w) h; served = λ l. absurd l }
 
 -- ---- a frame that hasn't eight bytes
 
-short_reads : (micros : ℕ) (frame : List ℕ) (heard : Bool) (held : Option Transfer) (got : List ℕ) (done : List Complete) (count : ℕ)
-    → KnowsAside done (read_as micros Client frame (holds heard held got done count) Nothing)
-short_reads micros frame heard None got done count = record { holds = tt; same = refl }
-short_reads micros frame heard (Some t) got done count = aside_turn micros Client frame heard t got done count Nothing (inl refl)
+short_reads : (Loose : Type 0) (micros : ℕ) (frame : List ℕ) (heard : Bool) (held : Option Transfer) (got : List ℕ) (done : List Complete) (count : ℕ) → Loose
+    → KnowsAside Loose done (read_as micros Client frame (holds heard held got done count) Nothing)
+short_reads Loose micros frame heard None got done count l = record { holds = tt; same = refl }
+short_reads Loose micros frame heard (Some t) got done count l = aside_turn Loose micros Client frame heard t got done count Nothing (inl (l, refl))
+
+-- ---- how frames are read where none begins a download in blocks
+
+client_reads : (held : Option Transfer) (got : List ℕ) (current : Option OpenTransfer) (micros : ℕ) (frame : List ℕ) → ExactIn held got current → reading_of held Client micros frame ≡ request_reading (request_in frame) micros frame
+client_reads None got current micros frame h = refl
+client_reads (Some t) got current micros frame (exact_upload up n) = upload_plain t micros frame up
+client_reads (Some t) got current micros frame (exact_segments toggle h c) = client_plain t toggle micros frame h.in_turn.stage
+client_reads (Some t) got current micros frame (exact_dropped toggle h c) = client_plain t toggle micros frame h.stage
 
 -- ---- what holds after all inputs
 
-record Related (stamp : ℕ → ℕ) (d : Description) (log : Log) (recording : List Event) (whole : List Complete) : Type 0 where
-  current : Option OpenTransfer
-  serves : Serves d.rows log current
-  follows : Following (view_of recording) current
-  some : AreSome (uploads_done recording) whole
+module _ (Loose : Type 0) (R : List Complete → List Complete → Type 0) (compares : Compares Loose R) (stamp : ℕ → ℕ) (d : Description) where
+  record Related (log : Log) (recording : List Event) (whole : List Complete) : Type 0 where
+    current : Option OpenTransfer
+    serves : Serves d.rows log current
+    follows : FollowsIn Loose (following_after recording).transfer (data_after recording) current (acknowledged_whole log)
+    related : R (uploads_done recording) whole
 
--- a request of eight bytes
-with_request : (stamp : ℕ → ℕ) (d : Description) (contents : Contents) (frame : List ℕ) (log : Log) (recording : List Event) (whole : List Complete) → Related stamp d log recording whole
-    → IsDictionary d contents → AreBytes frame → length frame ≡ 8
-    → Related stamp d (Exchanged (record { request = frame; contents = contents; answers = reply_to d contents log frame }) ∷ log)
-    (and_answers stamp (reply_to d contents log frame) (and_frame stamp Client frame recording))
-    (served_with (reply_to d contents log frame) (Exchanged (record { request = frame; contents = contents; answers = reply_to d contents log frame }) ∷ log)
-    (length (and_answers stamp (reply_to d contents log frame) (and_frame stamp Client frame recording))) ++ whole)
-with_request stamp d contents frame log recording whole h lawful small n =
-    let one = served d contents log h.current frame h.serves lawful n in
-    let answers = reply_to d contents log frame in
-    let longer = and_answers stamp answers (and_frame stamp Client frame recording) in
-    let next = opened_next d contents h.current frame in
-    let Whole : Key → List ℕ → Type 0 = CompletesOutside d contents h.current frame in
-    let more = served_with answers (Exchanged (record { request = frame; contents = contents; answers = answers }) ∷ log) (length longer) in
-    let step : Ends next Whole (uploads_done recording) (view_of longer) =
-    subst (λ v. Ends next Whole (uploads_done recording) v) (sym (hears_all stamp answers (and_frame stamp Client frame recording)))
-    (subst (λ a. Ends next Whole (uploads_done recording) (hears_answers stamp a (view_of (and_frame stamp Client frame recording))))
-    (sym one.replies)
-    (subst (λ v. Ends next Whole (uploads_done recording) (hears_answers stamp (answers_to d contents h.current frame) v))
-    (sym (hears_frame stamp Client frame recording))
-    (exchange d contents stamp frame h.current (view_of recording) small h.follows))) in
-    record {
-      current = next;
-      serves = one.next;
-      follows = step.follows;
-      some = elim step.reads [
-        | inl e ↦ subst (λ w. AreSome w (more ++ whole)) (sym e) (some_more more (uploads_done recording) whole h.some)
-        | inr r ↦ subst (λ w. AreSome w (more ++ whole)) (sym r.is)
-            (both_more (record { frame = length longer; key = r.key; bytes = r.bytes }) more (uploads_done recording) whole
-            (served_is d contents frame r.key r.bytes (length longer) log h.current h.serves.opens r.served) h.some)
-      ];
-    }
+  -- a request of eight bytes
+  with_request : (contents : Contents) (frame : List ℕ) (log : Log) (recording : List Event) (whole : List Complete) → Related log recording whole
+      → IsDictionary d contents → AreBytes frame → length frame ≡ 8 → IsPlain Loose (following_after recording).transfer (stamp (length recording)) frame
+      → Related (Exchanged (record { request = frame; contents = contents; answers = reply_to d contents log frame }) ∷ log)
+      (and_answers stamp (reply_to d contents log frame) (and_frame stamp Client frame recording))
+      (read_served (answered_whole (reply_to d contents log frame) (Exchanged (record { request = frame; contents = contents; answers = reply_to d contents log frame }) ∷ log))
+      (length (and_answers stamp (reply_to d contents log frame) (and_frame stamp Client frame recording)))
+      ++ (read_served (ended_by (request_in frame) (acknowledged_whole log)) (suc (length recording)) ++ whole))
+  with_request contents frame log recording whole h lawful small n plain =
+      let one = served d contents log h.current frame h.serves lawful n in
+      let made = completes d contents log h.current frame h.serves.opens in
+      let answers = reply_to d contents log frame in
+      let longer = and_answers stamp answers (and_frame stamp Client frame recording) in
+      let next = opened_next d contents h.current frame in
+      let ended = read_served (ended_by (request_in frame) (acknowledged_whole log)) (suc (length recording)) in
+      let answered = read_served (answered_next d contents h.current frame) (length longer) in
+      let kept = kept_of (following_after recording).transfer (data_after recording) (open_after recording) in
+      let P = Ends Loose next (acknowledged_next h.current frame) (answered_next d contents h.current frame) (ended ++ uploads_done recording) (uploads_done recording) in
+      let step : P (view_of longer) =
+      subst P (sym (hears_all stamp answers (and_frame stamp Client frame recording)))
+      (subst (λ a. P (hears_answers stamp a (view_of (and_frame stamp Client frame recording)))) (sym one.replies)
+      (subst (λ v. P (hears_answers stamp (answers_to d contents h.current frame) v)) (sym (hears_frame stamp Client frame recording))
+      (exchange Loose d contents stamp frame h.current (acknowledged_whole log) (view_of recording) small lawful h.follows kept plain))) in
+      record {
+        current = next;
+        serves = one.next;
+        follows = subst (FollowsIn Loose (following_after longer).transfer (data_after longer) next) (sym made.acknowledged) step.follows;
+        related = subst (λ x. R (uploads_done longer) (read_served x (length longer) ++ (ended ++ whole))) (sym made.answered)
+            (elim step.reads [
+              | inl r ↦ subst (λ w. R w (answered ++ (ended ++ whole))) (sym r.1)
+                  (compares.served r.0 answered (uploads_done recording) (ended ++ whole) (compares.served r.0 ended (uploads_done recording) whole h.related))
+              | inr e ↦ subst (λ w. R w (answered ++ (ended ++ whole))) (sym e)
+                  (compares.both answered (ended ++ uploads_done recording) (ended ++ whole) (compares.both ended (uploads_done recording) whole h.related))
+            ]);
+      }
 
-aside_all : (held : Option Transfer) (got : List ℕ) (current : Option OpenTransfer) → IfSome held IsAside → IfSome held (λ t. Follows t got current)
-aside_all None got current h = tt
-aside_all (Some t) got current h = aside h
+  aside_all : (held : Option Transfer) (got : List ℕ) (current : Option OpenTransfer) (ended : Option Read) → Loose → IfSome held (IsAside Loose) → FollowsIn Loose held got current ended
+  aside_all None got current ended l h = inl l
+  aside_all (Some t) got current ended l h = aside h (inl l)
 
--- a frame of another length
-with_short : (stamp : ℕ → ℕ) (d : Description) (frame : List ℕ) (log : Log) (recording : List Event) (whole : List Complete) → Related stamp d log recording whole → (length frame == 8) ≡ false
-    → Related stamp d log (and_frame stamp Client frame recording) whole
-with_short stamp d frame log recording whole h n =
-    let v = view_of recording in
-    let k : KnowsAside (uploads_done recording) (view_of (and_frame stamp Client frame recording)) =
-    subst (KnowsAside (uploads_done recording)) (sym (hears_frame stamp Client frame recording))
-    (subst (λ reading. KnowsAside (uploads_done recording) (read_as (stamp v.count) Client frame v reading)) (sym (short_reading v.following.transfer (stamp v.count) frame n))
-    (short_reads (stamp v.count) frame v.following.heard v.following.transfer v.got v.done v.count)) in
-    record {
-      current = h.current;
-      serves = h.serves;
-      follows = aside_all _ _ h.current k.holds;
-      some = subst (λ w. AreSome w whole) (sym k.same) h.some;
-    }
+  -- a frame of another length
+  with_short : (frame : List ℕ) (log : Log) (recording : List Event) (whole : List Complete) → Related log recording whole → (length frame == 8) ≡ false → Loose
+      → (one other : List Complete) → Related log (and_frame stamp Client frame recording) (one ++ (other ++ whole))
+  with_short frame log recording whole h n l one other =
+      let v = view_of recording in
+      let k : KnowsAside Loose (uploads_done recording) (view_of (and_frame stamp Client frame recording)) =
+      subst (KnowsAside Loose (uploads_done recording)) (sym (hears_frame stamp Client frame recording))
+      (subst (λ reading. KnowsAside Loose (uploads_done recording) (read_as (stamp v.count) Client frame v reading)) (sym (short_reading v.following.transfer (stamp v.count) frame n))
+      (short_reads Loose (stamp v.count) frame v.following.heard v.following.transfer v.got v.done v.count l)) in
+      record {
+        current = h.current;
+        serves = h.serves;
+        follows = aside_all _ _ h.current _ l k.holds;
+        related = subst (λ w. R w (one ++ (other ++ whole))) (sym k.same)
+            (compares.served l one (uploads_done recording) (other ++ whole) (compares.served l other (uploads_done recording) whole h.related));
+      }
 
-with_frame : (stamp : ℕ → ℕ) (d : Description) (contents : Contents) (frame : List ℕ) (older : List Input) → Related stamp d (log_of d older) (recorded stamp d older) (uploads_served stamp d older)
-    → IsDictionary d contents → AreBytes frame
-    → Related stamp d (log_of d (Received contents frame ∷ older)) (recorded stamp d (Received contents frame ∷ older)) (uploads_served stamp d (Received contents frame ∷ older))
-with_frame stamp d contents frame older h lawful small = by (length frame == 8) refl
-  where
-    by : (long : Bool) → (length frame == 8) ≡ long
-        → Related stamp d
-        (if long then Exchanged (record { request = frame; contents = contents; answers = reply_to d contents (log_of d older) frame }) ∷ log_of d older else log_of d older)
-        (and_answers stamp (if long then reply_to d contents (log_of d older) frame else []) (and_frame stamp Client frame (recorded stamp d older)))
-        (served_with (if long then reply_to d contents (log_of d older) frame else [])
-        (if long then Exchanged (record { request = frame; contents = contents; answers = reply_to d contents (log_of d older) frame }) ∷ log_of d older else log_of d older)
-        (length (and_answers stamp (if long then reply_to d contents (log_of d older) frame else []) (and_frame stamp Client frame (recorded stamp d older))))
-        ++ uploads_served stamp d older)
-    by true e = with_request stamp d contents frame (log_of d older) (recorded stamp d older) (uploads_served stamp d older) h lawful small (eqb-true (length frame) 8 e)
-    by false e = with_short stamp d frame (log_of d older) (recorded stamp d older) (uploads_served stamp d older) h e
+  with_frame : (contents : Contents) (frame : List ℕ) (older : List Input) → Related (log_of d older) (recorded stamp d older) (uploads_served stamp d older)
+      → IsDictionary d contents → AreBytes frame → Loose ⊎ (length frame ≡ 8) → IsPlain Loose (following_after (recorded stamp d older)).transfer (stamp (length (recorded stamp d older))) frame
+      → Related (log_of d (Received contents frame ∷ older)) (recorded stamp d (Received contents frame ∷ older)) (uploads_served stamp d (Received contents frame ∷ older))
+  with_frame contents frame older h lawful small eight plain = by (length frame == 8) refl eight
+    where
+      by : (long : Bool) → (length frame == 8) ≡ long → Loose ⊎ (length frame ≡ 8)
+          → Related
+          (if long then Exchanged (record { request = frame; contents = contents; answers = reply_to d contents (log_of d older) frame }) ∷ log_of d older else log_of d older)
+          (and_answers stamp (if long then reply_to d contents (log_of d older) frame else []) (and_frame stamp Client frame (recorded stamp d older)))
+          (read_served (answered_whole (if long then reply_to d contents (log_of d older) frame else [])
+          (if long then Exchanged (record { request = frame; contents = contents; answers = reply_to d contents (log_of d older) frame }) ∷ log_of d older else log_of d older))
+          (length (and_answers stamp (if long then reply_to d contents (log_of d older) frame else []) (and_frame stamp Client frame (recorded stamp d older))))
+          ++ (read_served (ended_by (request_in frame) (acknowledged_whole (log_of d older))) (suc (length (recorded stamp d older)))
+          ++ uploads_served stamp d older))
+      by true e eight = with_request contents frame (log_of d older) (recorded stamp d older) (uploads_served stamp d older) h lawful small (eqb-true (length frame) 8 e) plain
+      by false e (inl l) = with_short frame (log_of d older) (recorded stamp d older) (uploads_served stamp d older) h e l
+          (read_served (answered_whole [] (log_of d older)) (length (and_frame stamp Client frame (recorded stamp d older))))
+          (read_served (ended_by (request_in frame) (acknowledged_whole (log_of d older))) (suc (length (recorded stamp d older))))
+      by false e (inr eight) = absurd (false≢true (sym e ∙ is_eight (length frame) eight))
 
--- a transfer that times out
-with_abort : (stamp : ℕ → ℕ) (d : Description) (log : Log) (recording : List Event) (whole : List Complete) → Related stamp d log recording whole
-    → Related stamp d (TimedOut (time_out_reply log) ∷ log) (and_answers stamp (time_out_reply log) recording) whole
-with_abort stamp d log recording whole h =
-    let c = aborted_closes stamp (open_key (opened_after log)) 0x05040000 (view_of recording) in
-    let k : Closes (uploads_done recording) (view_of (and_answers stamp (time_out_reply log) recording)) =
-    subst (Closes (uploads_done recording)) (sym (hears_all stamp (time_out_reply log) recording)) c in
-    record {
-      current = None;
-      serves = serves_first d.rows (TimedOut (time_out_reply log) ∷ log) (ended log (time_out_reply log));
-      follows = rw k.none tt;
-      some = subst (λ w. AreSome w whole) (sym k.same) h.some;
-    }
+  -- a transfer that times out
+  with_abort : (log : Log) (recording : List Event) (whole : List Complete) → Related log recording whole
+      → Related (TimedOut (time_out_reply log) ∷ log) (and_answers stamp (time_out_reply log) recording) whole
+  with_abort log recording whole h =
+      let c = aborted_closes stamp (open_key (opened_after log)) 0x05040000 (view_of recording) in
+      let k : Closes (uploads_done recording) (view_of (and_answers stamp (time_out_reply log) recording)) =
+      subst (Closes (uploads_done recording)) (sym (hears_all stamp (time_out_reply log) recording)) c in
+      record {
+        current = None;
+        serves = serves_first d.rows (TimedOut (time_out_reply log) ∷ log) (ended log (time_out_reply log));
+        follows = rw k.none (inr (record { none = refl; no_end = refl }));
+        related = subst (λ w. R w whole) (sym k.same) h.related;
+      }
 
--- a transfer that is dropped
-drops : (held : Option Transfer) (got : List ℕ) (current : Option OpenTransfer) → IfSome held (λ t. Follows t got current) → IfSome held (λ t. Follows t got None)
-drops None got current h = tt
-drops (Some t) got current (aside a) = aside a
-drops (Some t) got current (asked a) = asked a
-drops (Some t) got current (gone sent a c) = gone sent a refl
-drops (Some t) got current (segmented sent bytes a g c) = gone sent a refl
+  -- a transfer that is dropped
+  drops : (held : Option Transfer) (got : List ℕ) (current : Option OpenTransfer) (ended : Option Read) → FollowsIn Loose held got current ended → FollowsIn Loose held got None ended
+  drops None got current ended (inl l) = inl l
+  drops None got current ended (inr h) = inr (record { none = refl; no_end = h.no_end })
+  drops (Some t) got current ended (aside a (inl l)) = aside a (inl l)
+  drops (Some t) got current ended (aside a (inr h)) = aside a (inr (record { none = refl; no_end = h.no_end }))
+  drops (Some t) got current ended (asked l a) = asked l a
+  drops (Some t) got current ended (gone a c e) = gone a refl e
+  drops (Some t) got current ended (segmented sent bytes a g c e) = gone (record { direction = a.direction; unconfirmed = ap confirmed_with a.stage; unended = rw a.stage refl }) refl e
+  drops (Some t) got current ended (begun block_size bytes a g c e) = gone (record { direction = a.is.direction; unconfirmed = ap confirmed_with a.stage; unended = rw a.stage refl }) refl e
+  drops (Some t) got current ended (blocks position sent bytes a c e) = gone (record { direction = a.is.direction; unconfirmed = ap confirmed_with a.stage; unended = rw a.stage refl }) refl e
+  drops (Some t) got current ended (at_end crc bytes a g c e) = at_end crc bytes a g (inl refl) e
 
-related : (stamp : ℕ → ℕ) (d : Description) (inputs : List Input) → AreInputs d inputs → Related stamp d (log_of d inputs) (recorded stamp d inputs) (uploads_served stamp d inputs)
-related stamp d [] h = record { current = None; serves = serves_first d.rows [] refl; follows = tt; some = tt }
-related stamp d (Received contents frame ∷ older) h = with_frame stamp d contents frame older (related stamp d older h.1) h.0.0 h.0.1
-related stamp d (Elapsed ∷ older) h =
-    let r = related stamp d older h.1 in
-    record { current = r.current; serves = serves_ticked d.rows (log_of d older) r.current r.serves; follows = r.follows; some = r.some }
-related stamp d (Expired ∷ older) h = with_abort stamp d (log_of d older) (recorded stamp d older) (uploads_served stamp d older) (related stamp d older h.1)
-related stamp d (Abandoned ∷ older) h =
-    let r = related stamp d older h.1 in
-    record {
-      current = None;
-      serves = serves_first d.rows (Dropped ∷ log_of d older) (dropped_since (since_initiate (log_of d older)));
-      follows = drops _ _ r.current r.follows;
-      some = r.some;
-    }
-related stamp d (Started ∷ older) h =
-    let r = related stamp d older h.1 in
-    record { current = None; serves = serves_first d.rows [] refl; follows = tt; some = r.some }
+  -- whether frames are plain, where no upload may be left out
+  older_plain : (input : Input) (older : List Input) → Loose ⊎ ArePlain (input ∷ older) → Loose ⊎ ArePlain older
+  older_plain input older (inl l) = inl l
+  older_plain input older (inr p) = inr p.1
+
+  frame_plain : (contents : Contents) (frame : List ℕ) (older : List Input) → AreInputs d older → Loose ⊎ ArePlain (Received contents frame ∷ older)
+      → IsPlain Loose (following_after (recorded stamp d older)).transfer (stamp (length (recorded stamp d older))) frame
+  frame_plain contents frame older h (inl l) = inl l
+  frame_plain contents frame older h (inr p) =
+      let s = all_same stamp d older h p.1 in
+      inr (p.0.1, client_reads (following_after (recorded stamp d older)).transfer (data_after (recorded stamp d older)) s.current (stamp (length (recorded stamp d older))) frame s.holds)
+
+  frame_long : (contents : Contents) (frame : List ℕ) (older : List Input) → Loose ⊎ ArePlain (Received contents frame ∷ older) → Loose ⊎ (length frame ≡ 8)
+  frame_long contents frame older (inl l) = inl l
+  frame_long contents frame older (inr p) = inr p.0.0
+
+  all_related : (inputs : List Input) → AreInputs d inputs → Loose ⊎ ArePlain inputs → Related (log_of d inputs) (recorded stamp d inputs) (uploads_served stamp d inputs)
+  all_related [] h p = record { current = None; serves = serves_first d.rows [] refl; follows = inr (record { none = refl; no_end = refl }); related = compares.none }
+  all_related (Received contents frame ∷ older) h p =
+      with_frame contents frame older (all_related older h.1 (older_plain (Received contents frame) older p)) h.0.0 h.0.1 (frame_long contents frame older p) (frame_plain contents frame older h.1 p)
+  all_related (Elapsed ∷ older) h p =
+      let r = all_related older h.1 (older_plain Elapsed older p) in
+      record {
+        current = r.current;
+        serves = serves_ticked d.rows (log_of d older) r.current r.serves;
+        follows = subst (FollowsIn Loose (following_after (recorded stamp d older)).transfer (data_after (recorded stamp d older)) r.current) (sym (ticked_whole (log_of d older))) r.follows;
+        related = r.related;
+      }
+  all_related (Expired ∷ older) h p = with_abort (log_of d older) (recorded stamp d older) (uploads_served stamp d older) (all_related older h.1 (older_plain Expired older p))
+  all_related (Abandoned ∷ older) h p =
+      let r = all_related older h.1 (older_plain Abandoned older p) in
+      record {
+        current = None;
+        serves = serves_first d.rows (Dropped ∷ log_of d older) (dropped_since (since_initiate (log_of d older)));
+        follows = subst (FollowsIn Loose (following_after (recorded stamp d older)).transfer (data_after (recorded stamp d older)) None) (sym (dropped_whole (log_of d older)))
+            (drops (following_after (recorded stamp d older)).transfer (data_after (recorded stamp d older)) r.current (acknowledged_whole (log_of d older)) r.follows);
+        related = r.related;
+      }
+  all_related (Started ∷ older) h p =
+      let r = all_related older h.1 (older_plain Started older p) in
+      record { current = None; serves = serves_first d.rows [] refl; follows = inr (record { none = refl; no_end = refl }); related = r.related }
 
 pub some_are_served : (stamp : ℕ → ℕ) (d : Description) (inputs : List Input) → AreInputs d inputs → AreSome (uploads_done (recorded stamp d inputs)) (uploads_served stamp d inputs)
-some_are_served stamp d inputs h = (related stamp d inputs h).some
+some_are_served stamp d inputs h = (all_related (Unit {0}) AreSome are_some stamp d inputs h (inl tt)).related
+
+pub all_are_served : (stamp : ℕ → ℕ) (d : Description) (inputs : List Input) → AreInputs d inputs → ArePlain inputs → uploads_done (recorded stamp d inputs) ≡ uploads_served stamp d inputs
+all_are_served stamp d inputs h p = (all_related ⊥ (λ some all. some ≡ all) are_same stamp d inputs h (inr p)).related

@@ -211,7 +211,7 @@ begins_exactly d contents stamp current _ t micros frame done count q e k small 
 
 -- ---- a segment
 
-capped : (d : Description) (key : Key) (row : Option Row) → IsDescription d → d.rows key ≡ row → option_map_or (λ r. r.capacity) row 0 ≤ 65535
+pub capped : (d : Description) (key : Key) (row : Option Row) → IsDescription d → d.rows key ≡ row → option_map_or (λ r. r.capacity) row 0 ≤ 65535
 capped d key None h e = omega arith
 capped d key (Some row) h e = h.capacity key row e
 
@@ -404,7 +404,7 @@ to_dropped d contents stamp frame heard t got done count toggle h small r q n =
     (read_as d.rows (stamp count) Client frame (record { following = record { heard = heard; transfer = Some t }; got = got; done = done; count = count }) (request_reading r (stamp count) frame))
     (answered_reads d.rows (stamp count) frame heard t got done count (request_reading r (stamp count) frame) (in_segments t toggle h) refl refl).same
 
-upload_plain : (t : Transfer) (micros : ℕ) (frame : List ℕ) → IsUpload t → reading_of (Some t) Client micros frame ≡ request_reading (request_in frame) micros frame
+pub upload_plain : (t : Transfer) (micros : ℕ) (frame : List ℕ) → IsUpload t → reading_of (Some t) Client micros frame ≡ request_reading (request_in frame) micros frame
 upload_plain t micros frame e = by (is_inside t.stage) t.direction e
   where
     by : (inside : Bool) (x : Direction) → x ≡ Upload

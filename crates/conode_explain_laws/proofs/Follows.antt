@@ -16,6 +16,7 @@ use Rattle.co_frame.specs.declared.sdo_response.SdoResponse.{SdoResponse}
 use Rattle.co_frame.specs.declared.sdo_response.SdoResponse.TheVariants.{DownloadDone, UploadExpedited, UploadInitiated, BlockDownloadInitiated, BlockUploadInitiated}
 use Rattle.co_dict.specs.Rows.{Rows}
 use Rattle.co_sdo.specs.declared.stage.Stage.TheVariants.{Download as Receiving, SubBlock as InSubBlock, LastTaken}
+use Rattle.co_sdo.specs.OpenTransfers.{is_upload_end}
 use Rattle.co_sdo.specs.Opened.{OpenTransfer}
 use Rattle.co_sdo.specs.Downloads.{Download as Whole}
 use Rattle.conode_explain_transfers.specs.declared.kinds.Direction.{Direction}
@@ -200,14 +201,14 @@ client_no_response (Some t) micros frame = by (awaits_segment t Client) (is_abor
 -- ---- a frame of the client confirms no download
 
 -- the transfer isn't confirmed, or is irregular
-abbrev IsLate : Turn → Type 0
+abbrev pub IsLate : Turn → Type 0
 IsLate turn = (turn.transfer.irregular ≡ true) ⊎ (confirmed_with turn.transfer.stage ≡ None)
 
 either_late : (b : Bool) (x y : Turn) → IsLate x → IsLate y → IsLate (if b then x else y)
 either_late true x y hx hy = hx
 either_late false x y hx hy = hy
 
-late_segment_at : (stage : Stage) (t : Transfer) (segment : BlockSegment) → confirmed_with t.stage ≡ None → IsLate (block_segment_at stage t segment)
+pub late_segment_at : (stage : Stage) (t : Transfer) (segment : BlockSegment) → confirmed_with t.stage ≡ None → IsLate (block_segment_at stage t segment)
 late_segment_at (SubBlock false) t segment u =
     either_late (nat_lt segment.sequence t.next_number) (segment_again t segment) _ (inl refl)
     (either_late (segment.sequence == awaited_number t) (segment_added t segment) (segment_ahead t segment) (inr refl) (inr u))
@@ -244,14 +245,19 @@ late_end : (by : Bool) (t : Transfer) (unused crc : ℕ) → IsLate (block_ended
 late_end true t unused crc = late_end_at t.stage t unused crc
 late_end false t unused crc = inl refl
 
+-- only the client's end of a block upload may confirm one
+pub late_other : (t : Transfer) (request : SdoRequest) (frame : List ℕ) → is_upload_end (Some request) ≡ false → IsLate (request_turn t request frame)
+late_other t (DownloadSegment toggle segment last) frame n = late_download t.stage t toggle segment last
+late_other t (NextSegment toggle) frame n = late_upload t.stage t toggle
+late_other t BlockUploadStart frame n = late_start t.stage t
+late_other t (BlockUploadAcknowledge sequence block_size) frame n = late_acknowledge (not (is_download t.direction)) t sequence block_size
+late_other t UploadEnd frame n = absurd (false≢true (sym n))
+late_other t (BlockDownloadEnd unused) frame n = late_end (is_download t.direction) t unused (crc_in frame)
+late_other t _ frame n = inl refl
+
 late_request : (t : Transfer) (request : SdoRequest) (frame : List ℕ) → t.direction ≡ Download → IsLate (request_turn t request frame)
-late_request t (DownloadSegment toggle segment last) frame d = late_download t.stage t toggle segment last
-late_request t (NextSegment toggle) frame d = late_upload t.stage t toggle
-late_request t BlockUploadStart frame d = late_start t.stage t
-late_request t (BlockUploadAcknowledge sequence block_size) frame d = late_acknowledge (not (is_download t.direction)) t sequence block_size
 late_request t UploadEnd frame d = inl (ap (λ x. (end_confirmed (not (is_download x)) t).transfer.irregular) d)
-late_request t (BlockDownloadEnd unused) frame d = late_end (is_download t.direction) t unused (crc_in frame)
-late_request t _ frame d = inl refl
+late_request t request frame d = late_other t request frame refl
 
 -- it isn't followed, or was answered
 abbrev pub Stays : Transfer → Type 0

@@ -1,7 +1,6 @@
 -- What no frame changes of an open transfer.
 use Rattle.std.proofs.Common.{◌≡◌, ℕ, ◌+◌, Bool, true, false, not, List, [], refl, sym, ap, ◌∙◌}
 use Rattle.std.specs.Prelude.{◌&&◌, ◌==◌, nat_lt, if◌then◌else◌}
-use Rattle.std.proofs.lemmas.Bool.{false≢true}
 use Rattle.arrayvec.specs.ArrayVec.{ArrayVec}
 use Rattle.co_value.specs.declared.key.Key.{Key}
 use Rattle.co_value.specs.Keys.{same_key}
@@ -26,13 +25,12 @@ use Rattle.conode_explain_transfers.specs.Turns.{request_turn, response_turn}
 use Rattle.conode_explain_laws.proofs.Readings.{Reading, Segment, Request, Response, turn_of}
 
 -- a transfer that is irregular or answered stays so; its direction stays, and so does the protocol
--- of a download, and of any transfer that is answered
+-- of a download
 pub record Keeps (before after : Transfer) : Type 0 where
   pub irregular : before.irregular ≡ true → after.irregular ≡ true
   pub answered : is_initiated before.stage ≡ false → is_initiated after.stage ≡ false
   pub direction : after.direction ≡ before.direction
   pub protocol : before.direction ≡ Download → after.protocol ≡ before.protocol
-  pub settled : is_initiated before.stage ≡ false → after.protocol ≡ before.protocol
 
 abbrev pub KeepsIn : Transfer → Turn → Type 0
 KeepsIn before turn = Keeps before turn.transfer
@@ -42,15 +40,15 @@ KeepsIn before turn = Keeps before turn.transfer
 -- nothing that is kept, but the stage
 moves : (t u : Transfer) → u.irregular ≡ t.irregular → is_initiated u.stage ≡ false → u.direction ≡ t.direction → u.protocol ≡ t.protocol
     → Keeps t u
-moves t u i s d p = record { irregular = λ h. i ∙ h; answered = λ h. s; direction = d; protocol = λ h. p; settled = λ h. p }
+moves t u i s d p = record { irregular = λ h. i ∙ h; answered = λ h. s; direction = d; protocol = λ h. p }
 
 -- it is irregular then
 spoils : (t u : Transfer) → u.irregular ≡ true → (is_initiated t.stage ≡ false → is_initiated u.stage ≡ false) → u.direction ≡ t.direction
     → u.protocol ≡ t.protocol → Keeps t u
-spoils t u i s d p = record { irregular = λ h. i; answered = s; direction = d; protocol = λ h. p; settled = λ h. p }
+spoils t u i s d p = record { irregular = λ h. i; answered = s; direction = d; protocol = λ h. p }
 
 same : (t : Transfer) → Keeps t t
-same t = record { irregular = λ h. h; answered = λ h. h; direction = refl; protocol = λ h. refl; settled = λ h. refl }
+same t = record { irregular = λ h. h; answered = λ h. h; direction = refl; protocol = λ h. refl }
 
 spoiled : (t : Transfer) → Keeps t (irregular t)
 spoiled t = spoils t (irregular t) refl (λ h. h) refl refl
@@ -60,13 +58,12 @@ either true t x y kx ky = kx
 either false t x y kx ky = ky
 
 -- an upload becomes of any protocol when it is answered
-uploads : (t u : Transfer) → is_initiated t.stage ≡ true → t.direction ≡ Upload → u.irregular ≡ t.irregular → is_initiated u.stage ≡ false → u.direction ≡ t.direction → Keeps t u
-uploads t u first up i s d = record {
+uploads : (t u : Transfer) → t.direction ≡ Upload → u.irregular ≡ t.irregular → is_initiated u.stage ≡ false → u.direction ≡ t.direction → Keeps t u
+uploads t u up i s d = record {
   irregular = λ h. i ∙ h;
   answered = λ h. s;
   direction = d;
   protocol = λ h. absurd (let e : Download ≡ Upload = sym h ∙ up in cc);
-  settled = λ h. absurd (false≢true (sym h ∙ first));
 }
 
 -- ---- responses to initiate
@@ -181,9 +178,9 @@ response_keeps t (DownloadDone key) frame =
     answers t key _ (λ first. either (is_download t.direction) t (download_answered t t.protocol) (unexpected t) (download_keeps t t.protocol refl) (spoiled t))
 response_keeps t (DownloadSegmentDone toggle) frame = segment_done_keeps t.stage t toggle
 response_keeps t (UploadExpedited key value) frame =
-    answers t key _ (λ first. upload_keeps t t.direction _ refl (λ up. uploads t _ first up refl refl refl))
+    answers t key _ (λ first. upload_keeps t t.direction _ refl (λ up. uploads t _ up refl refl refl))
 response_keeps t (UploadInitiated key size) frame =
-    answers t key _ (λ first. upload_keeps t t.direction _ refl (λ up. uploads t _ first up refl refl refl))
+    answers t key _ (λ first. upload_keeps t t.direction _ refl (λ up. uploads t _ up refl refl refl))
 response_keeps t (UploadSegment toggle segment last) frame = upload_segment_keeps t.stage t toggle segment last
 response_keeps t (BlockDownloadInitiated key block_size) frame =
     answers t key _ (λ first. either (is_download t.direction && is_block t.protocol) t _ (unexpected t) (moves t _ refl refl refl refl) (spoiled t))

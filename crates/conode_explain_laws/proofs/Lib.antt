@@ -10,7 +10,10 @@ pub mod NoDownloads
 pub mod Exact
 pub mod AllExact
 pub mod UploadViews
+pub mod UploadSteps
+pub mod UploadBlocks
 pub mod UploadExchanges
 pub mod AllUploads
 pub mod Examples
 mod UploadExamples
+mod ClientExamples

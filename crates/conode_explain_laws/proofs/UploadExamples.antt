@@ -7,7 +7,7 @@ use Rattle.co_frame.specs.SdoResponses.{response_row_in}
 use Rattle.co_value.specs.declared.key.Key.{Key}
 use Rattle.co_sdo.specs.Refused.{reading_refusal, initiate_refusal, completion_refusal}
 use Rattle.co_sdo.proofs.ExampleChannel.{at, dictionary, hex}
-use Rattle.conode_explain_laws.specs.Recordings.{Abandoned, recorded}
+use Rattle.conode_explain_laws.specs.Recordings.{Expired, Abandoned, recorded}
 use Rattle.conode_explain_laws.specs.Downloads.{Complete}
 use Rattle.conode_explain_laws.specs.Uploads.{uploads_done, uploads_served}
 use Rattle.conode_explain_laws.proofs.Examples.{Scene, start, happens, all_come}
@@ -98,3 +98,92 @@ short_done = refl
 short_served : served with_short ≡ read 13 (at 0x2100 0) (codes "30313233343536373839") ∷ []
 unfolding request_row_in response_row_in reading_refusal initiate_refusal completion_refusal has_object
 short_served = refl
+
+-- ---- in blocks
+
+-- in sub-blocks of one segment each: done with the fifteenth frame, the client's end
+abbrev acknowledged : Scene
+acknowledged = all_come (codes "A000210001000000" ∷ codes "A300000000000000" ∷ codes "A201010000000000" ∷ codes "A201010000000000" ∷ []) written
+
+abbrev in_blocks : Scene
+in_blocks = all_come (codes "A100000000000000" ∷ []) acknowledged
+
+blocks_done : done in_blocks ≡ read 15 (at 0x2100 0) (codes "30313233343536373839") ∷ []
+unfolding request_row_in response_row_in reading_refusal initiate_refusal completion_refusal has_object
+blocks_done = refl
+
+blocks_served : served in_blocks ≡ read 15 (at 0x2100 0) (codes "30313233343536373839") ∷ []
+unfolding request_row_in response_row_in reading_refusal initiate_refusal completion_refusal has_object
+blocks_served = refl
+
+-- before it, it isn't done
+acknowledged_done : done acknowledged ≡ []
+unfolding request_row_in response_row_in reading_refusal initiate_refusal completion_refusal has_object
+acknowledged_done = refl
+
+acknowledged_served : served acknowledged ≡ []
+unfolding request_row_in response_row_in reading_refusal initiate_refusal completion_refusal has_object
+acknowledged_served = refl
+
+-- the client supports the CRC (the server doesn't), and acknowledges one of two segments first; the second comes again. The device
+-- writes other bytes to the entry between
+abbrev sent_again : Scene
+sent_again =
+    all_come (codes "A2017F0000000000" ∷ codes "A2017F0000000000" ∷ codes "A100000000000000" ∷ [])
+    (with_other (all_come (codes "A40021007F000000" ∷ codes "A300000000000000" ∷ []) written))
+
+again_done : done sent_again ≡ read 16 (at 0x2100 0) (codes "30313233343536373839") ∷ []
+unfolding request_row_in response_row_in reading_refusal initiate_refusal completion_refusal has_object
+again_done = refl
+
+again_served : served sent_again ≡ read 16 (at 0x2100 0) (codes "30313233343536373839") ∷ []
+unfolding request_row_in response_row_in reading_refusal initiate_refusal completion_refusal has_object
+again_served = refl
+
+-- the channel drops it after its own end: with the client's end it is served whole, though the channel answers with an abort
+abbrev ended_late : Scene
+ended_late = all_come (codes "A100000000000000" ∷ []) (happens Abandoned acknowledged)
+
+late_done : done ended_late ≡ read 15 (at 0x2100 0) (codes "30313233343536373839") ∷ []
+unfolding request_row_in response_row_in reading_refusal initiate_refusal completion_refusal has_object
+late_done = refl
+
+late_served : served ended_late ≡ read 15 (at 0x2100 0) (codes "30313233343536373839") ∷ []
+unfolding request_row_in response_row_in reading_refusal initiate_refusal completion_refusal has_object
+late_served = refl
+
+-- where it times out there, the abort comes before the client's end: it is neither
+abbrev timed_out : Scene
+timed_out = all_come (codes "A100000000000000" ∷ []) (happens Expired acknowledged)
+
+timed_out_done : done timed_out ≡ []
+unfolding request_row_in response_row_in reading_refusal initiate_refusal completion_refusal has_object
+timed_out_done = refl
+
+timed_out_served : served timed_out ≡ []
+unfolding request_row_in response_row_in reading_refusal initiate_refusal completion_refusal has_object
+timed_out_served = refl
+
+-- the client ends it before the last acknowledgement: it is neither
+abbrev ended_early : Scene
+ended_early = all_come (codes "A000210001000000" ∷ codes "A300000000000000" ∷ codes "A201010000000000" ∷ codes "A100000000000000" ∷ []) written
+
+early_done : done ended_early ≡ []
+unfolding request_row_in response_row_in reading_refusal initiate_refusal completion_refusal has_object
+early_done = refl
+
+early_served : served ended_early ≡ []
+unfolding request_row_in response_row_in reading_refusal initiate_refusal completion_refusal has_object
+early_served = refl
+
+-- the channel drops a download in blocks: explain takes the next request for a segment of it, and the channel serves it
+abbrev after_blocks : Scene
+after_blocks = all_come (codes "4017100000000000" ∷ []) (happens Abandoned (all_come (codes "2B171000E8030000" ∷ codes "C000210000000000" ∷ []) start))
+
+after_blocks_done : done after_blocks ≡ []
+unfolding request_row_in response_row_in reading_refusal initiate_refusal completion_refusal has_object
+after_blocks_done = refl
+
+after_blocks_served : served after_blocks ≡ read 6 (at 0x1017 0) (codes "E803") ∷ []
+unfolding request_row_in response_row_in reading_refusal initiate_refusal completion_refusal has_object
+after_blocks_served = refl

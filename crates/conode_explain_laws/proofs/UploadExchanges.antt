@@ -1,111 +1,185 @@
 -- What explain's open upload and the channel's open transfer have to do with one another, and one request with its answers.
-use Rattle.std.proofs.Common.{◌≡◌, ℕ, suc, ◌+◌, ◌*◌, ◌<◌, ◌≤◌, Bool, true, false, not, List, [], ◌∷◌, ◌++◌, length, take, Option, Some, None, refl, sym, ap, ◌∙◌, ◌⊎◌, inl, inr, subst, arith}
-use Rattle.std.specs.Prelude.{if◌then◌else◌, IfSome, nat_le, ◌&&◌}
-use Rattle.std.proofs.lemmas.Bool.{false≢true}
+--
+-- `Loose` says which of the two laws it is for: where it holds, explain may lose what the channel goes on with (a frame that hasn't
+-- eight bytes, a block download), and such an upload isn't done. Where it doesn't, both always are as far.
+use Rattle.std.proofs.Common.{◌≡◌, ℕ, suc, ◌+◌, ◌*◌, ◌-◌, ◌/◌, ◌^◌, ◌<◌, ◌≤◌, Bool, true, false, not, List, [], ◌∷◌, ◌++◌, length, take, Option, Some, None, refl, sym, ap, ◌∙◌, ◌⊎◌, inl, inr, subst, arith, append-nil}
+use Rattle.std.specs.Prelude.{if◌then◌else◌, IfSome, min, nat_le, nat_lt, ◌==◌, ◌&&◌}
+use Rattle.std.proofs.lemmas.Bool.{eqb-true, false≢true}
 use Rattle.std.proofs.lemmas.Bool.Decides.{nat_tests}
 use Rattle.co_value.specs.declared.key.Key.{Key}
 use Rattle.co_value.specs.Keys.{same_key-refl}
-use Rattle.co_value.specs.Numbers.{AreBytes, unsigned_of, low_bytes}
-use Rattle.co_frame.specs.Segments.{same_bool, is_odd}
+use Rattle.co_value.specs.Numbers.{AreBytes}
+use Rattle.co_frame.specs.Segments.{is_odd}
 use Rattle.co_frame.specs.SdoRequests.{request_in}
-use Rattle.co_frame.specs.SdoResponses.{response_row_in, response_in, response_bytes}
+use Rattle.co_frame.specs.SdoResponses.{response_in, response_bytes}
 use Rattle.co_frame.specs.declared.sdo_request.ExpeditedData.TheVariants.{Indicated}
 use Rattle.co_frame.specs.declared.sdo_request.SdoRequest.{SdoRequest}
-use Rattle.co_frame.specs.declared.sdo_request.SdoRequest.TheVariants.{DownloadExpedited, DownloadInitiate, DownloadSegment, Upload as UploadInitiate, UploadSegment as NextSegment, Abort as Abandon, BlockUploadInitiate, BlockUploadStart, BlockUploadAcknowledge, BlockUploadEnd, BlockDownloadInitiate, BlockDownloadEnd}
+use Rattle.co_frame.specs.declared.sdo_request.SdoRequest.TheVariants.{DownloadExpedited, DownloadInitiate, DownloadSegment, Upload as UploadInitiate, UploadSegment as NextSegment, Abort as Abandon, BlockUploadInitiate, BlockUploadStart, BlockUploadAcknowledge, BlockUploadEnd as UploadEnd, BlockDownloadInitiate, BlockDownloadEnd}
 use Rattle.co_frame.specs.declared.sdo_response.SdoResponse.{SdoResponse}
-use Rattle.co_frame.specs.declared.sdo_response.SdoResponse.TheVariants.{UploadExpedited, UploadInitiated, UploadSegment, BlockDownloadAcknowledge, BlockUploadInitiated}
+use Rattle.co_frame.specs.declared.sdo_response.SdoResponse.TheVariants.{UploadExpedited, UploadInitiated, UploadSegment, BlockDownloadAcknowledge, BlockUploadInitiated, BlockUploadEnd as EndSent}
 use Rattle.co_dict.specs.Rows.{Rows, Contents}
-use Rattle.co_dict.specs.Stores.{Description}
-use Rattle.co_dict.specs.Refusals.{first_of}
+use Rattle.co_dict.specs.Stores.{Description, IsDictionary}
+use Rattle.co_dict.specs.Refusals.{first_of, refused_if}
 use Rattle.co_sdo.specs.declared.stage.Stage.{Stage}
-use Rattle.co_sdo.specs.declared.stage.Stage.TheVariants.{SubBlock as InSubBlock, Upload as Uploading}
-use Rattle.co_sdo.specs.Refused.{reading_refusal}
+use Rattle.co_sdo.specs.declared.stage.Stage.TheVariants.{Download as Receiving, Upload as Uploading, SubBlock as InSubBlockStage, BlockUploadInitiated as Begun, BlockUpload, BlockUploadEnded}
+use Rattle.co_sdo.specs.Refused.{reading_refusal, initiate_refusal}
 use Rattle.co_sdo.specs.Log.{Answer, Response as Replied}
 use Rattle.co_sdo.specs.SubBlocks.{ends_sub_block}
-use Rattle.co_sdo.specs.Uploads.{value_at, upload_initiated, part_after, is_last_after}
+use Rattle.co_sdo.specs.Uploads.{value_at, upload_initiated, part_after, is_last_after, segment_count, sub_block_length, sub_block_sent, block_upload_end}
 use Rattle.co_sdo.specs.Opened.{OpenTransfer}
-use Rattle.co_sdo.specs.Replies.{aborted, unless_refused, block_size_refusal, sub_block_refusal, frame_answers, request_answers, is_in_sub_block, answers_to, taken_with, upload_answers}
+use Rattle.co_sdo.specs.Replies.{aborted, unless_refused, block_size_refusal, sub_block_refusal, segment_refusal, frame_answers, request_answers, is_in_sub_block, is_sub_block, answers_to, taken_with}
 use Rattle.co_sdo.specs.Completed.{unless}
-use Rattle.co_sdo.specs.Steps.{opened_at, after_request, opened_next, after_upload_initiate, after_upload_segment}
+use Rattle.co_sdo.specs.Steps.{opened_at, after_request, after_segment, opened_next, after_upload_initiate, after_upload_segment, after_start, after_acknowledge}
+use Rattle.co_sdo.specs.OpenTransfers.{is_initiate, is_upload_end}
 use Rattle.co_sdo.proofs.Continuations.{not_odd}
-use Rattle.co_sdo_laws.proofs.Frames.{acknowledged_read, segment_sent_read, expedited_sent_read}
+use Rattle.co_sdo.proofs.RefusalLemmas.{not_refused, second_none}
+use Rattle.co_sdo.proofs.StoreLemmas.{value_fits}
+use Rattle.co_sdo_laws.proofs.Frames.{acknowledged_read, segment_sent_read, expedited_sent_read, upload_initiated_read, block_upload_initiated_read, upload_end_read}
 use Rattle.co_sdo_laws.proofs.Segments.{joined, taken_all, part_small}
+use Rattle.conode_explain_transfers.specs.declared.digest.Digest.{Digest}
+use Rattle.conode_explain_transfers.specs.declared.kinds.Direction.{Direction}
 use Rattle.conode_explain_transfers.specs.declared.kinds.Direction.TheVariants.{Download, Upload}
 use Rattle.conode_explain_transfers.specs.declared.kinds.Protocol.TheVariants.{Block, Undecided}
 use Rattle.conode_explain_transfers.specs.declared.kinds.Side.TheVariants.{Client, Server}
 use Rattle.conode_explain_transfers.specs.declared.kinds.What.TheVariants.{Part}
-use Rattle.conode_explain_transfers.specs.declared.stage.Stage.TheVariants.{Initiated, UploadTaken, UploadAsked, Confirmed}
+use Rattle.conode_explain_transfers.specs.declared.stage.Stage.{Stage as Progress}
+use Rattle.conode_explain_transfers.specs.declared.stage.Stage.TheVariants.{Initiated, UploadTaken, UploadAsked, BlockInitiated, SubBlock, AllAcknowledged, BlockEnded, Confirmed}
 use Rattle.conode_explain_transfers.specs.declared.transfer.Transfer.{Transfer}
-use Rattle.conode_explain_transfers.specs.BlockTurns.{is_block, acknowledged, block_ended, crc_in, end_confirmed, end_confirmed_at}
-use Rattle.conode_explain_transfers.specs.Endings.{verdict}
+use Rattle.conode_explain_transfers.specs.BlockTurns.{is_block, acknowledged, acknowledged_at, acknowledged_in, next_sub_block as after_sub_block, block_ended, block_ended_at, crc_in, end_confirmed, end_confirmed_at}
+use Rattle.conode_explain_transfers.specs.Digests.{counted, digest_of}
+use Rattle.conode_explain_transfers.specs.Endings.{size_fault, verdict}
 use Rattle.conode_explain_transfers.specs.Followed.{with_frame}
 use Rattle.conode_explain_transfers.specs.Initiates.{has_crc, initiate_of}
-use Rattle.conode_explain_transfers.specs.Transfers.{begun, after, is_download, goes_on as part}
-use Rattle.conode_explain_laws.specs.Downloads.{Complete, if_done}
-use Rattle.conode_explain_laws.specs.Uploads.{is_plain_upload}
-use Rattle.conode_explain_laws.proofs.Readings.{Reading, Segment, Begin, Abort, Request, Response, Nothing, begun_with, request_reading, response_reading, reading_of, turn_of}
+use Rattle.conode_explain_transfers.specs.Readings.{is_in_sub_block as is_inside, is_sender}
+use Rattle.conode_explain_transfers.specs.Stages.{confirmed_with}
+use Rattle.conode_explain_transfers.specs.Transfers.{Turn, begun as begun_with_initiate, after, is_download, goes_on as part, takes_pending, unexpected}
+use Rattle.conode_explain_transfers.specs.Turns.{request_turn}
+use Rattle.conode_explain_transfers.proofs.DataLemmas.{taking}
+use Rattle.conode_explain_laws.specs.Downloads.{Complete, is_block_begin, if_done}
+use Rattle.conode_explain_laws.specs.Uploads.{is_upload, Read, ended_by, read_served}
+use Rattle.conode_explain_laws.proofs.Readings.{Reading, Segment, Begin, Abort, Request, Response, Nothing, begun_with, begins_or, request_reading, response_reading, plain_reading, sub_block_reading, reading_of, turn_of}
 use Rattle.conode_explain_laws.proofs.Views.{View, Closes, no_write, is_begin}
-use Rattle.conode_explain_laws.proofs.Follows.{BegunBy, begun_by, client_no_response, is_response, request_spoils}
-use Rattle.conode_explain_laws.proofs.Begins.{HasKey, has_key, small_index, inside_answers, outside_answers, outside_opens, response_is, acknowledged_spoils, awaits, maybe_write, write_of}
+use Rattle.conode_explain_laws.proofs.Follows.{IsLate, late_segment_at, late_other, BegunBy, begun_by, client_no_response, is_response, request_spoils}
+use Rattle.conode_explain_laws.proofs.Begins.{HasKey, has_key, small_index, inside_answers, outside_answers, outside_opens, response_is, acknowledged_spoils, awaits, write_of}
 use Rattle.conode_explain_laws.proofs.Exchanges.{same_toggle}
-use Rattle.conode_explain_laws.proofs.UploadViews.{holds, read_as, hears, hears_answers, begin_writes, abort_closes, aborted_closes, IsAside, KnowsAside, aside_turn, aside_reads, aside_answers}
+use Rattle.conode_explain_laws.proofs.Exact.{capped}
+use Rattle.conode_explain_laws.proofs.UploadViews.{holds, read_as, hears, hears_answers, begin_writes, abort_closes, aborted_closes, turned, late_turn, IsAside, KnowsAside, aside_turn, aside_reads, aside_answers}
+use Rattle.conode_explain_laws.proofs.UploadSteps.{all_of, with_segment, with_acknowledge, answered_by, acknowledged_by, answered_next, acknowledged_next}
+use Rattle.conode_explain_laws.proofs.UploadBlocks.{InBlocks, InSubBlock, acknowledged_data, all_data, first_data, more_heard}
 
 -- ---- both
 
 -- an upload in segments, of which this many have come
-pub record InUpload (t : Transfer) (sent : ℕ) : Type 0 where
+pub record InUpload (t : Transfer) (bytes : List ℕ) (sent : ℕ) : Type 0 where
   pub direction : t.direction ≡ Upload
   pub stage : t.stage ≡ UploadTaken (is_odd sent)
+  pub regular : t.irregular ≡ false
+  pub size : t.size ≡ Some (length bytes)
+  pub few : length bytes ≤ 65535
+
+-- an upload in blocks that the server has agreed to
+pub record InBegun (t : Transfer) (bytes : List ℕ) (block_size : ℕ) : Type 0 where
+  pub is : InBlocks t bytes
+  pub stage : t.stage ≡ BlockInitiated
+  pub number : t.next_number ≡ 1
+  pub pending : t.pending.items ≡ []
+  pub size : t.block_size ≡ block_size
+  pub small : block_size < 128
+
+-- the server's end has come
+pub record AtEnd (t : Transfer) (bytes : List ℕ) (crc : ℕ) : Type 0 where
+  pub is : InBlocks t bytes
+  pub stage : t.stage ≡ BlockEnded crc
+
+abbrev is_ended : Progress → Bool
+is_ended (BlockEnded crc) = true
+is_ended _ = false
+
+-- an upload that no request completes
+pub record IsWaiting (t : Transfer) : Type 0 where
+  pub direction : t.direction ≡ Upload
+  pub unconfirmed : confirmed_with t.stage ≡ None
+  pub unended : is_ended t.stage ≡ false
+
+-- the channel has no upload open, and none awaits the client's end; and the next frame isn't inside a sub-block
+abbrev is_segmented : Stage → Bool
+is_segmented (Receiving size toggle) = true
+is_segmented _ = false
+
+abbrev pub no_upload : Option OpenTransfer → Bool
+no_upload None = true
+no_upload (Some o) = is_segmented o.stage
+
+pub record NoUpload (current : Option OpenTransfer) (ended : Option Read) : Type 0 where
+  pub none : no_upload current ≡ true
+  pub no_end : ended ≡ None
 
 -- explain's transfer isn't followed; or its initiate request isn't answered; or the channel has dropped it; or both are as far in an
--- upload in segments, and what has come is the first of the channel's bytes
-pub data Follows (t : Transfer) (got : List ℕ) (current : Option OpenTransfer) : Type 0 where
-  aside : IsAside t → Follows t got current
-  asked : t.stage ≡ Initiated → Follows t got current
-  gone : (sent : ℕ) → InUpload t sent → current ≡ None → Follows t got current
-  segmented : (sent : ℕ) (bytes : List ℕ) → InUpload t sent → got ≡ take (7 * sent) bytes → current ≡ Some (record { key = t.key; stage = Uploading sent; bytes = bytes }) → Follows t got current
+-- upload in segments, and what has come is the first of the channel's bytes; or in an upload in blocks: before its start, in a
+-- sub-block, or at its end, where the channel may have dropped it
+pub data Follows (Loose : Type 0) (t : Transfer) (got : List ℕ) (current : Option OpenTransfer) (ended : Option Read) : Type 0 where
+  aside : IsAside Loose t → Loose ⊎ NoUpload current ended → Follows Loose t got current ended
+  asked : Loose → t.stage ≡ Initiated → Follows Loose t got current ended
+  gone : IsWaiting t → current ≡ None → ended ≡ None → Follows Loose t got current ended
+  segmented : (sent : ℕ) (bytes : List ℕ) → InUpload t bytes sent → got ≡ take (7 * sent) bytes
+      → current ≡ Some (record { key = t.key; stage = Uploading sent; bytes = bytes }) → ended ≡ None → Follows Loose t got current ended
+  begun : (block_size : ℕ) (bytes : List ℕ) → InBegun t bytes block_size → got ≡ []
+      → current ≡ Some (record { key = t.key; stage = Begun block_size; bytes = bytes }) → ended ≡ None → Follows Loose t got current ended
+  blocks : (position sent : ℕ) (bytes : List ℕ) → InSubBlock t got bytes position sent
+      → current ≡ Some (record { key = t.key; stage = BlockUpload position sent; bytes = bytes }) → ended ≡ None → Follows Loose t got current ended
+  at_end : (crc : ℕ) (bytes : List ℕ) → AtEnd t bytes crc → got ≡ bytes
+      → (current ≡ None) ⊎ (current ≡ Some (record { key = t.key; stage = BlockUploadEnded; bytes = bytes })) → ended ≡ Some (record { key = t.key; bytes = bytes })
+      → Follows Loose t got current ended
 
--- one more upload is done, of which this holds
-pub record Reads (Served : Key → List ℕ → Type 0) (done : List Complete) (v : View) : Type 0 where
-  pub key : Key
-  pub bytes : List ℕ
-  pub served : Served key bytes
-  pub is : v.done ≡ record { frame = v.count; key = key; bytes = bytes } ∷ done
+abbrev pub FollowsIn : Type 0 → Option Transfer → List ℕ → Option OpenTransfer → Option Read → Type 0
+FollowsIn Loose None got current ended = Loose ⊎ NoUpload current ended
+FollowsIn Loose (Some t) got current ended = Follows Loose t got current ended
 
--- after a request with its answers: what is open then, and what was served
-pub record Ends (next : Option OpenTransfer) (Served : Key → List ℕ → Type 0) (done : List Complete) (v : View) : Type 0 where
-  pub follows : IfSome v.following.transfer (λ t. Follows t v.got next)
-  pub reads : (v.done ≡ done) ⊎ Reads Served done v
+-- after a request with its answers: what is open then, and which upload awaits the client's end; and what is done, where the
+-- answers complete an upload, after what the request completed
+pub record Ends (Loose : Type 0) (next : Option OpenTransfer) (ended answered : Option Read) (whole done : List Complete) (v : View) : Type 0 where
+  pub follows : FollowsIn Loose v.following.transfer v.got next ended
+  pub reads : (Loose × (v.done ≡ done)) ⊎ (v.done ≡ read_served answered v.count ++ whole)
 
--- an upload that a request completes, with what is open at the channel before
-pub data Completes (d : Description) (contents : Contents) (current : Option OpenTransfer) (r : Option SdoRequest) (key : Key) (bytes : List ℕ) : Type 0 where
-  at_once : r ≡ Some (UploadInitiate key) → reading_refusal d contents key ≡ None → (nat_le 1 (length bytes) && nat_le (length bytes) 4) ≡ true → bytes ≡ value_at contents key
-      → Completes d contents current r key bytes
-  last_segment : (sent : ℕ) → current ≡ Some (record { key = key; stage = Uploading sent; bytes = bytes }) → r ≡ Some (NextSegment (is_odd sent)) → is_last_after sent bytes ≡ true
-      → Completes d contents current r key bytes
+module _ (Loose : Type 0) (next : Option OpenTransfer) (ended : Option Read) (whole done : List Complete) where
+  -- nothing is open
+  ends_closed : (v : View) → NoUpload next ended → Closes whole v → Ends Loose next ended None whole done v
+  ends_closed v n h = record { follows = rw h.none (inr n); reads = inr h.same }
 
-module _ (next : Option OpenTransfer) (Served : Key → List ℕ → Type 0) (done : List Complete) where
-  ends_closed : (v : View) → Closes done v → Ends next Served done v
-  ends_closed v h = record { follows = rw h.none tt; reads = inl h.same }
-
-  aside_follows : (current : Option Transfer) (got : List ℕ) → IfSome current IsAside → IfSome current (λ t. Follows t got next)
-  aside_follows None got h = tt
-  aside_follows (Some t) got h = aside h
-
-  ends_aside : (v : View) → KnowsAside done v → Ends next Served done v
-  ends_aside v h = record { follows = aside_follows v.following.transfer v.got h.holds; reads = inl h.same }
-
-  closed : (stamp : ℕ → ℕ) (key : Key) (code : ℕ) (v : View) → v.done ≡ done → Ends next Served done (hears_answers stamp (aborted key code) v)
-  closed stamp key code v e =
+  closed : (stamp : ℕ → ℕ) (key : Key) (code : ℕ) (v : View) → NoUpload next ended → v.done ≡ whole → Ends Loose next ended None whole done (hears_answers stamp (aborted key code) v)
+  closed stamp key code v n e =
       let c = aborted_closes stamp key code v in
-      ends_closed (hears_answers stamp (aborted key code) v) (record { none = c.none; same = c.same ∙ e })
+      ends_closed (hears_answers stamp (aborted key code) v) n (record { none = c.none; same = c.same ∙ e })
 
-  -- a refusal is an abort
-  refused : (stamp : ℕ → ℕ) (refusal : Option ℕ) (key : Key) (answers : List Answer) (v : View) → v.done ≡ done
-      → (refusal ≡ None → Ends next Served done (hears_answers stamp answers v))
-      → Ends next Served done (hears_answers stamp (unless_refused refusal key answers) v)
-  refused stamp None key answers v e h = h refl
-  refused stamp (Some code) key answers v e h = closed stamp key code v e
+  aside_follows : (held : Option Transfer) (got : List ℕ) → Loose ⊎ NoUpload next ended → IfSome held (IsAside Loose) → FollowsIn Loose held got next ended
+  aside_follows None got n h = n
+  aside_follows (Some t) got n h = aside h n
+
+  -- no upload
+  ends_aside : (v : View) → Loose ⊎ NoUpload next ended → KnowsAside Loose whole v → Ends Loose next ended None whole done v
+  ends_aside v n h = record { follows = aside_follows v.following.transfer v.got n h.holds; reads = inr h.same }
+
+  -- one that may be left out
+  ends_loose : (answered : Option Read) (v : View) → Loose → KnowsAside Loose done v → Ends Loose next ended answered whole done v
+  ends_loose answered v l h = record { follows = aside_follows v.following.transfer v.got (inl l) h.holds; reads = inl (l, h.same) }
+
+  closed_loose : (answered : Option Read) (stamp : ℕ → ℕ) (key : Key) (code : ℕ) (v : View) → Loose → v.done ≡ done → Ends Loose next ended answered whole done (hears_answers stamp (aborted key code) v)
+  closed_loose answered stamp key code v l e =
+      let c = aborted_closes stamp key code v in
+      record { follows = rw c.none (inl l); reads = inl (l, c.same ∙ e) }
+
+-- a refusal is an abort
+refused : (Loose : Type 0) (stamp : ℕ → ℕ) (refusal : Option ℕ) (key : Key) (answers : List Answer) (next : Option OpenTransfer) (answered : Option Read) (done : List Complete) (v : View) → v.done ≡ done
+    → (refusal ≡ None → Ends Loose next None answered done done (hears_answers stamp answers v))
+    → Ends Loose (unless refusal next) None (unless refusal answered) done done (hears_answers stamp (unless_refused refusal key answers) v)
+refused Loose stamp None key answers next answered done v e h = h refl
+refused Loose stamp (Some code) key answers next answered done v e h = closed Loose None None done done stamp key code v (record { none = refl; no_end = refl }) e
+
+refused_begin : (Loose : Type 0) (stamp : ℕ → ℕ) (refusal : Option ℕ) (key : Key) (answers : List Answer) (next : Option OpenTransfer) (done : List Complete) (v : View) → v.done ≡ done
+    → (refusal ≡ None → Ends Loose next None None done done (hears_answers stamp answers v))
+    → Ends Loose (unless refusal next) None None done done (hears_answers stamp (unless_refused refusal key answers) v)
+refused_begin Loose stamp None key answers next done v e h = h refl
+refused_begin Loose stamp (Some code) key answers next done v e h = closed Loose None None done done stamp key code v (record { none = refl; no_end = refl }) e
 
 -- one answer that is read so
 answered : (stamp : ℕ → ℕ) (response : SdoResponse) (v : View) (reading : Reading) (P : View → Type 0)
@@ -113,45 +187,61 @@ answered : (stamp : ℕ → ℕ) (response : SdoResponse) (v : View) (reading : 
     → P (read_as (stamp v.count) Server (response_bytes response) v reading) → P (hears_answers stamp (Replied response ∷ []) v)
 answered stamp response v reading P e h = subst (λ r. P (read_as (stamp v.count) Server (response_bytes response) v r)) (sym e) h
 
+-- ---- sizes
+
+few_bytes : (d : Description) (contents : Contents) (key : Key) → IsDictionary d contents → length (value_at contents key) ≤ 65535
+few_bytes d contents key h =
+    let fits = value_fits d contents key h in
+    let cap = capped d key (d.rows key) h.description refl in
+    omega (arith, fits, cap)
+
+size_is : (size : Option ℕ) (count : ℕ) (bytes : List ℕ) → size ≡ Some (length bytes) → count ≡ counted (length bytes) → length bytes ≤ 65535 → size_fault size count ≡ None
+size_is size count bytes s c few =
+    let m : length bytes ≤ 2 ^ 64 - 1 = omega (arith, few) in
+    let n : count ≡ length bytes = c ∙ not_above (length bytes) (2 ^ 64 - 1) m in
+    let same : (length bytes == length bytes) ≡ true = grind (arith, nat_tests) in
+    rw (s, n, same) refl
+  where
+    not_above : (n most : ℕ) → n ≤ most → min n most ≡ n
+    not_above n most h = omega arith
+
+regular_done : (u : Transfer) (write : List Complete) → u.irregular ≡ false → size_fault u.size u.taken.count ≡ None → is_upload u.direction ≡ true
+    → (if is_upload u.direction then if_done (verdict u None) write else []) ≡ write
+regular_done u write r s p = rw (p, r, s) refl
+
 -- ---- after an initiate request: explain has this transfer
 
 abbrev asks : Transfer → List Complete → ℕ → View
 asks t done count = holds true (Some t) [] done count
 
 -- the channel takes the frame inside a sub-block
-inside : (stamp : ℕ → ℕ) (rows : Rows) (o : OpenTransfer) (stage : Stage) (t : Transfer) (frame : List ℕ) (done : List Complete) (count : ℕ) (next : Option OpenTransfer) (Served : Key → List ℕ → Type 0) → t.stage ≡ Initiated
-    → Ends next Served done (hears_answers stamp (frame_answers rows o stage frame) (asks t done count))
-inside stamp rows o (InSubBlock indicated taken) t frame done count next Served s = by_end (ends_sub_block frame)
+inside : (Loose : Type 0) (stamp : ℕ → ℕ) (rows : Rows) (o : OpenTransfer) (stage : Stage) (t : Transfer) (frame : List ℕ) (whole done : List Complete) (count : ℕ) (next : Option OpenTransfer) (ended answers : Option Read) → Loose → t.stage ≡ Initiated
+    → Ends Loose next ended answers whole done (hears_answers stamp (frame_answers rows o stage frame) (asks t done count))
+inside Loose stamp rows o (InSubBlockStage indicated taken) t frame whole done count next ended answers l s = by_end (ends_sub_block frame)
   where
-    by_end : (ends : Bool)
-        → Ends next Served done (hears_answers stamp
-        (if ends then unless_refused (sub_block_refusal rows o taken frame) o.key (Replied (BlockDownloadAcknowledge (taken_with taken frame) 127) ∷ []) else [])
-        (asks t done count))
-    by_end false = record { follows = asked s; reads = inl refl }
-    by_end true =
-        let response = BlockDownloadAcknowledge (taken_with taken frame) 127 in
-        refused next Served done stamp (sub_block_refusal rows o taken frame) o.key (Replied response ∷ []) (asks t done count) refl
-        (λ e. ends_aside next Served done (hears_answers stamp (Replied response ∷ []) (asks t done count))
-        (answered stamp response (asks t done count) (Response response) (KnowsAside done)
+    response : SdoResponse
+    response = BlockDownloadAcknowledge (taken_with taken frame) 127
+
+    by_refusal : (refusal : Option ℕ) → Ends Loose next ended answers whole done (hears_answers stamp (unless_refused refusal o.key (Replied response ∷ [])) (asks t done count))
+    by_refusal (Some code) = closed_loose Loose next ended whole done answers stamp o.key code (asks t done count) l refl
+    by_refusal None =
+        ends_loose Loose next ended whole done answers (hears_answers stamp (Replied response ∷ []) (asks t done count)) l
+        (answered stamp response (asks t done count) (Response response) (KnowsAside Loose done)
         (response_is response t (stamp count) s (acknowledged_read (taken_with taken frame) 127))
-        (aside_turn (stamp count) Server (response_bytes response) true t [] done count (Response response)
-        (inl (acknowledged_spoils (is_download t.direction) t (taken_with taken frame) 127 s)))))
-inside stamp rows o _ t frame done count next Served s = closed next Served done stamp o.key 0x05040001 (asks t done count) refl
+        (aside_turn Loose (stamp count) Server (response_bytes response) true t [] done count (Response response)
+        (inl (l, acknowledged_spoils (is_download t.direction) t (taken_with taken frame) 127 s))))
+
+    by_end : (ends : Bool)
+        → Ends Loose next ended answers whole done (hears_answers stamp
+        (if ends then unless_refused (sub_block_refusal rows o taken frame) o.key (Replied response ∷ []) else [])
+        (asks t done count))
+    by_end false = record { follows = asked l s; reads = inl (l, refl) }
+    by_end true = by_refusal (sub_block_refusal rows o taken frame)
+inside Loose stamp rows o _ t frame whole done count next ended answers l s = closed_loose Loose next ended whole done answers stamp o.key 0x05040001 (asks t done count) l refl
 
 -- an upload
 abbrev uploads : Key → ℕ → List ℕ → Transfer
-uploads key micros frame = begun (initiate_of key Upload Undecided) micros frame
-
-two_bytes : (x : ℕ) → x < 65536 → unsigned_of (low_bytes 2 x) ≡ x
-two_bytes x h = omega arith
-
-initiated_read : (key : Key) (size : ℕ) → key.index < 65536 → response_in (response_bytes (UploadInitiated key (Some size))) ≡ Some (UploadInitiated key (Some (unsigned_of (low_bytes 4 size))))
-unfolding response_row_in
-initiated_read key size k = rw (two_bytes key.index k) refl
-
-block_initiated_read : (key : Key) (size : ℕ) → key.index < 65536 → response_in (response_bytes (BlockUploadInitiated key (Some size))) ≡ Some (BlockUploadInitiated key (Some (unsigned_of (low_bytes 4 size))))
-unfolding response_row_in
-block_initiated_read key size k = rw (two_bytes key.index k) refl
+uploads key micros frame = begun_with_initiate (initiate_of key Upload Undecided) micros frame
 
 -- at least one byte, and no more than four
 is_some : (value : List ℕ) → (nat_le 1 (length value) && nat_le (length value) 4) ≡ true → 1 ≤ length value
@@ -161,49 +251,71 @@ few : (value : List ℕ) → (nat_le 1 (length value) && nat_le (length value) 4
 few value e = grind (arith, nat_tests)
 
 -- it is answered at once
-expedited_done : (stamp : ℕ → ℕ) (key : Key) (value : List ℕ) (micros : ℕ) (frame : List ℕ) (done : List Complete) (count : ℕ) (Served : Key → List ℕ → Type 0)
-    → key.index < 65536 → (nat_le 1 (length value) && nat_le (length value) 4) ≡ true → Served key value
-    → Ends None Served done (hears_answers stamp (Replied (UploadExpedited key (Indicated (record { items = value }))) ∷ []) (asks (uploads key micros frame) done count))
-expedited_done stamp key value micros frame done count Served k e h =
+expedited_done : (Loose : Type 0) (stamp : ℕ → ℕ) (key : Key) (value : List ℕ) (micros : ℕ) (frame : List ℕ) (done : List Complete) (count : ℕ)
+    → key.index < 65536 → (nat_le 1 (length value) && nat_le (length value) 4) ≡ true
+    → Ends Loose None None (Some (record { key = key; bytes = value })) done done (hears_answers stamp (Replied (UploadExpedited key (Indicated (record { items = value }))) ∷ []) (asks (uploads key micros frame) done count))
+expedited_done Loose stamp key value micros frame done count k e =
     let response = UploadExpedited key (Indicated (record { items = value })) in
-    answered stamp response (asks (uploads key micros frame) done count) (Response response) (Ends None Served done)
+    answered stamp response (asks (uploads key micros frame) done count) (Response response) (Ends Loose None None (Some (record { key = key; bytes = value })) done done)
     (response_is response (uploads key micros frame) (stamp count) refl (expedited_sent_read key value k (is_some value e) (few value e)))
-    (rw (same_key-refl key) (record { follows = tt; reads = inr (record { key = key; bytes = value; served = h; is = refl }) }))
+    (rw (same_key-refl key) (record { follows = inr (record { none = refl; no_end = refl }); reads = inr refl }))
 
 -- it is answered in segments
-segments_begin : (stamp : ℕ → ℕ) (key : Key) (value : List ℕ) (micros : ℕ) (frame : List ℕ) (done : List Complete) (count : ℕ) (Served : Key → List ℕ → Type 0)
-    → key.index < 65536
-    → Ends (opened_at key (Uploading 0) value) Served done (hears_answers stamp (Replied (UploadInitiated key (Some (length value))) ∷ []) (asks (uploads key micros frame) done count))
-segments_begin stamp key value micros frame done count Served k =
+segments_begin : (Loose : Type 0) (stamp : ℕ → ℕ) (key : Key) (value : List ℕ) (micros : ℕ) (frame : List ℕ) (done : List Complete) (count : ℕ)
+    → key.index < 65536 → length value ≤ 65535
+    → Ends Loose (opened_at key (Uploading 0) value) None None done done (hears_answers stamp (Replied (UploadInitiated key (Some (length value))) ∷ []) (asks (uploads key micros frame) done count))
+segments_begin Loose stamp key value micros frame done count k m =
     let response = UploadInitiated key (Some (length value)) in
-    let heard = UploadInitiated key (Some (unsigned_of (low_bytes 4 (length value)))) in
-    answered stamp response (asks (uploads key micros frame) done count) (Response heard) (Ends (opened_at key (Uploading 0) value) Served done)
-    (ap response_reading (initiated_read key (length value) k))
-    (rw (same_key-refl key) (record { follows = segmented 0 value (record { direction = refl; stage = refl }) refl refl; reads = inl refl }))
+    answered stamp response (asks (uploads key micros frame) done count) (Response response) (Ends Loose (opened_at key (Uploading 0) value) None None done done)
+    (ap response_reading (upload_initiated_read key (length value) k (omega (arith, m))))
+    (rw (same_key-refl key) (record {
+      follows = segmented 0 value (record { direction = refl; stage = refl; regular = refl; size = refl; few = m }) refl refl refl;
+      reads = inr refl;
+    }))
 
-upload_begins : (stamp : ℕ → ℕ) (key : Key) (value : List ℕ) (micros : ℕ) (frame : List ℕ) (done : List Complete) (count : ℕ) (Served : Key → List ℕ → Type 0)
-    → key.index < 65536 → ((nat_le 1 (length value) && nat_le (length value) 4) ≡ true → Served key value)
-    → Ends (after_upload_initiate key value) Served done (hears_answers stamp (upload_initiated key value) (asks (uploads key micros frame) done count))
-upload_begins stamp key value micros frame done count Served k h = by (nat_le 1 (length value) && nat_le (length value) 4) refl
+upload_begins : (Loose : Type 0) (stamp : ℕ → ℕ) (key : Key) (value : List ℕ) (micros : ℕ) (frame : List ℕ) (done : List Complete) (count : ℕ)
+    → key.index < 65536 → length value ≤ 65535
+    → Ends Loose (after_upload_initiate key value) None (if nat_le 1 (length value) && nat_le (length value) 4 then Some (record { key = key; bytes = value }) else None) done done
+    (hears_answers stamp (upload_initiated key value) (asks (uploads key micros frame) done count))
+upload_begins Loose stamp key value micros frame done count k m = by (nat_le 1 (length value) && nat_le (length value) 4) refl
   where
     by : (short : Bool) → (nat_le 1 (length value) && nat_le (length value) 4) ≡ short
-        → Ends (if short then None else opened_at key (Uploading 0) value) Served done
+        → Ends Loose (if short then None else opened_at key (Uploading 0) value) None (if short then Some (record { key = key; bytes = value }) else None) done done
         (hears_answers stamp (if short then Replied (UploadExpedited key (Indicated (record { items = value }))) ∷ [] else Replied (UploadInitiated key (Some (length value))) ∷ []) (asks (uploads key micros frame) done count))
-    by true e = expedited_done stamp key value micros frame done count Served k e (h e)
-    by false e = segments_begin stamp key value micros frame done count Served k
+    by true e = expedited_done Loose stamp key value micros frame done count k e
+    by false e = segments_begin Loose stamp key value micros frame done count k m
 
 -- an upload in blocks
-abbrev blocks : Key → ℕ → ℕ → List ℕ → Transfer
-blocks key block_size micros frame = begun (record (initiate_of key Upload Block) { crc = has_crc frame; block_size = block_size }) micros frame
+abbrev in_blocks : Key → ℕ → ℕ → List ℕ → Transfer
+in_blocks key block_size micros frame = begun_with_initiate (record (initiate_of key Upload Block) { crc = has_crc frame; block_size = block_size }) micros frame
 
-blocks_begin : (stamp : ℕ → ℕ) (key : Key) (block_size size micros : ℕ) (frame : List ℕ) (done : List Complete) (count : ℕ) → key.index < 65536
-    → KnowsAside done (hears_answers stamp (Replied (BlockUploadInitiated key (Some size)) ∷ []) (asks (blocks key block_size micros frame) done count))
-blocks_begin stamp key block_size size micros frame done count k =
-    let response = BlockUploadInitiated key (Some size) in
-    let heard = BlockUploadInitiated key (Some (unsigned_of (low_bytes 4 size))) in
-    answered stamp response (asks (blocks key block_size micros frame) done count) (Response heard) (KnowsAside done)
-    (ap response_reading (block_initiated_read key size k))
-    (rw (same_key-refl key) (record { holds = inr (inr (refl, refl)); same = refl }))
+never : (b : Bool) → (b && false) ≡ false
+never true = refl
+never false = refl
+
+second_true : (a b : Bool) → not (a && b) ≡ false → b ≡ true
+second_true true true h = refl
+second_true true false h = sym h
+second_true false b h = absurd (false≢true (sym h))
+
+block_size_small : (size : ℕ) → block_size_refusal size ≡ None → size < 128
+block_size_small size h =
+    let within : nat_le size 127 ≡ true = second_true (nat_le 1 size) (nat_le size 127) (not_refused _ _ h) in
+    grind (arith, nat_tests)
+
+blocks_begin : (Loose : Type 0) (stamp : ℕ → ℕ) (key : Key) (block_size : ℕ) (value : List ℕ) (micros : ℕ) (frame : List ℕ) (done : List Complete) (count : ℕ)
+    → key.index < 65536 → length value ≤ 65535 → block_size < 128
+    → Ends Loose (opened_at key (Begun block_size) value) None None done done (hears_answers stamp (Replied (BlockUploadInitiated key (Some (length value))) ∷ []) (asks (in_blocks key block_size micros frame) done count))
+blocks_begin Loose stamp key block_size value micros frame done count k m small =
+    let response = BlockUploadInitiated key (Some (length value)) in
+    answered stamp response (asks (in_blocks key block_size micros frame) done count) (Response response) (Ends Loose (opened_at key (Begun block_size) value) None None done done)
+    (ap response_reading (block_upload_initiated_read key (length value) k (omega (arith, m))))
+    (rw (same_key-refl key) (record {
+      follows = begun block_size value
+          (record { is = record { direction = refl; protocol = refl; regular = refl; crc = never (has_crc frame); size = refl; few = m }; stage = refl; number = refl; pending = refl; size = refl; small = small })
+          refl refl refl;
+      reads = inr refl;
+    }))
 
 -- a download
 abbrev downloads : Option Transfer → Type 0
@@ -212,123 +324,129 @@ downloads x = IfSome x (λ t. t.direction ≡ Download)
 download : (x : Option Transfer) (t : Transfer) → x ≡ Some t → downloads x → t.direction ≡ Download
 download x t e h = subst downloads e h
 
+unless_no_upload : (refusal : Option ℕ) (next : Option OpenTransfer) → no_upload next ≡ true → no_upload (unless refusal next) ≡ true
+unless_no_upload None next h = h
+unless_no_upload (Some code) next h = refl
+
 -- by the request, outside a sub-block
-outside : (d : Description) (contents : Contents) (stamp : ℕ → ℕ) (current : Option OpenTransfer) (request : SdoRequest) (t : Transfer) (micros : ℕ) (frame : List ℕ) (done : List Complete) (count : ℕ)
-    → begun_with request micros frame ≡ Some t → HasKey frame request → AreBytes frame
-    → Ends (after_request d contents current (Some request)) (Completes d contents current (Some request)) done
-    (hears_answers stamp (request_answers d contents current (Some request)) (asks t done count))
-outside d contents stamp current (UploadInitiate key) t micros frame done count e k small =
-    let same : uploads key micros frame ≡ t = cc in
-    let index : key.index < 65536 = subst (λ x. x.index < 65536) (sym k) (small_index frame small) in
-    let value = value_at contents key in
-    let Served = Completes d contents current (Some (UploadInitiate key)) in
-    let refusal = reading_refusal d contents key in
-    subst (λ u. Ends (unless refusal (after_upload_initiate key value)) Served done
-    (hears_answers stamp (unless_refused refusal key (upload_initiated key value)) (asks u done count))) same
-    (refused (unless refusal (after_upload_initiate key value)) Served done stamp refusal key (upload_initiated key value) (asks (uploads key micros frame) done count) refl
-    (λ n. subst (λ x. Ends (unless x (after_upload_initiate key value)) Served done (hears_answers stamp (upload_initiated key value) (asks (uploads key micros frame) done count))) (sym n)
-    (upload_begins stamp key value micros frame done count Served index (λ short. at_once refl n short refl))))
-outside d contents stamp current (BlockUploadInitiate key block_size threshold) t micros frame done count e k small =
-    let same : blocks key block_size micros frame ≡ t = cc in
-    let index : key.index < 65536 = subst (λ x. x.index < 65536) (sym k) (small_index frame small) in
-    let Served = Completes d contents current (Some (BlockUploadInitiate key block_size threshold)) in
-    let next = after_request d contents current (Some (BlockUploadInitiate key block_size threshold)) in
-    let response = BlockUploadInitiated key (Some (length (value_at contents key))) in
-    subst (λ u. Ends next Served done (hears_answers stamp (request_answers d contents current (Some (BlockUploadInitiate key block_size threshold))) (asks u done count))) same
-    (refused next Served done stamp (first_of (reading_refusal d contents key) (block_size_refusal block_size)) key (Replied response ∷ []) (asks (blocks key block_size micros frame) done count) refl
-    (λ n. ends_aside next Served done _ (blocks_begin stamp key block_size (length (value_at contents key)) micros frame done count index)))
-outside d contents stamp current (DownloadExpedited key value) t micros frame done count e k small =
-    let p : t.direction ≡ Download = download (begun_with (DownloadExpedited key value) micros frame) t e refl in
-    ends_aside _ _ done _ (aside_answers stamp (request_answers d contents current (Some (DownloadExpedited key value))) done (asks t done count) (record { holds = inr (inl p); same = refl }))
-outside d contents stamp current (DownloadInitiate key size) t micros frame done count e k small =
-    let p : t.direction ≡ Download = download (begun_with (DownloadInitiate key size) micros frame) t e refl in
-    ends_aside _ _ done _ (aside_answers stamp (request_answers d contents current (Some (DownloadInitiate key size))) done (asks t done count) (record { holds = inr (inl p); same = refl }))
-outside d contents stamp current (BlockDownloadInitiate key size) t micros frame done count e k small =
-    let p : t.direction ≡ Download = download (begun_with (BlockDownloadInitiate key size) micros frame) t e refl in
-    ends_aside _ _ done _ (aside_answers stamp (request_answers d contents current (Some (BlockDownloadInitiate key size))) done (asks t done count) (record { holds = inr (inl p); same = refl }))
-outside d contents stamp current _ t micros frame done count e k small = absurd (let f : None ≡ Some t = e in cc)
+module _ (Loose : Type 0) (d : Description) (contents : Contents) (stamp : ℕ → ℕ) (current : Option OpenTransfer) (ended : Option Read) (t : Transfer) (micros : ℕ) (frame : List ℕ) (done : List Complete) (count n : ℕ) where
+  -- the client's end is none
+  abbrev Begins : SdoRequest → Type 0
+  Begins request =
+      Ends Loose (after_request d contents current (Some request)) (acknowledged_by current (Some request)) (answered_by d contents current (Some request))
+      (read_served (ended_by (Some request) ended) n ++ done) done (hears_answers stamp (request_answers d contents current (Some request)) (asks t done count))
 
--- what a frame completes: outside a sub-block
-pub record CompletesOutside (d : Description) (contents : Contents) (current : Option OpenTransfer) (frame : List ℕ) (key : Key) (bytes : List ℕ) : Type 0 where
-  pub outside : is_in_sub_block current ≡ false
-  pub completes : Completes d contents current (request_in frame) key bytes
+  outside : (request : SdoRequest) → begun_with request micros frame ≡ Some t → HasKey frame request → AreBytes frame → IsDictionary d contents → Loose ⊎ (is_block_begin (Some request) ≡ false) → Begins request
+  outside (UploadInitiate key) e k small lawful plain =
+      let same : uploads key micros frame ≡ t = cc in
+      let index : key.index < 65536 = subst (λ x. x.index < 65536) (sym k) (small_index frame small) in
+      let value = value_at contents key in
+      let refusal = reading_refusal d contents key in
+      let answer : Option Read = if nat_le 1 (length value) && nat_le (length value) 4 then Some (record { key = key; bytes = value }) else None in
+      subst (λ u. Ends Loose (unless refusal (after_upload_initiate key value)) None (unless refusal answer) done done
+      (hears_answers stamp (unless_refused refusal key (upload_initiated key value)) (asks u done count))) same
+      (refused Loose stamp refusal key (upload_initiated key value) (after_upload_initiate key value) answer done (asks (uploads key micros frame) done count) refl
+      (λ r. upload_begins Loose stamp key value micros frame done count index (few_bytes d contents key lawful)))
+  outside (BlockUploadInitiate key block_size threshold) e k small lawful plain =
+      let same : in_blocks key block_size micros frame ≡ t = cc in
+      let index : key.index < 65536 = subst (λ x. x.index < 65536) (sym k) (small_index frame small) in
+      let value = value_at contents key in
+      let refusal = first_of (reading_refusal d contents key) (block_size_refusal block_size) in
+      let response = BlockUploadInitiated key (Some (length value)) in
+      subst (λ u. Ends Loose (unless refusal (opened_at key (Begun block_size) value)) None None done done
+      (hears_answers stamp (unless_refused refusal key (Replied response ∷ [])) (asks u done count))) same
+      (refused_begin Loose stamp refusal key (Replied response ∷ []) (opened_at key (Begun block_size) value) done (asks (in_blocks key block_size micros frame) done count) refl
+      (λ r. blocks_begin Loose stamp key block_size value micros frame done count index (few_bytes d contents key lawful)
+      (block_size_small block_size (second_none (reading_refusal d contents key) (block_size_refusal block_size) r))))
+  outside (DownloadExpedited key value) e k small lawful plain =
+      let p : t.direction ≡ Download = download (begun_with (DownloadExpedited key value) micros frame) t e refl in
+      ends_aside Loose _ _ done done _ (inr (record { none = refl; no_end = refl }))
+      (aside_answers Loose stamp (request_answers d contents current (Some (DownloadExpedited key value))) done (asks t done count) (record { holds = inr p; same = refl }))
+  outside (DownloadInitiate key size) e k small lawful plain =
+      let p : t.direction ≡ Download = download (begun_with (DownloadInitiate key size) micros frame) t e refl in
+      ends_aside Loose _ _ done done _ (inr (record { none = unless_no_upload (initiate_refusal d key size) (opened_at key (Receiving size false) []) refl; no_end = refl }))
+      (aside_answers Loose stamp (request_answers d contents current (Some (DownloadInitiate key size))) done (asks t done count) (record { holds = inr p; same = refl }))
+  outside (BlockDownloadInitiate key size) e k small lawful (inr plain) = absurd (false≢true (sym plain))
+  outside (BlockDownloadInitiate key size) e k small lawful (inl l) =
+      let p : t.direction ≡ Download = download (begun_with (BlockDownloadInitiate key size) micros frame) t e refl in
+      ends_aside Loose _ _ done done _ (inl l)
+      (aside_answers Loose stamp (request_answers d contents current (Some (BlockDownloadInitiate key size))) done (asks t done count) (record { holds = inr p; same = refl }))
+  outside _ e k small lawful plain = absurd (let f : None ≡ Some t = e in cc)
 
-served_outside : (d : Description) (contents : Contents) (current : Option OpenTransfer) (frame : List ℕ) (next : Option OpenTransfer) (done : List Complete) (v : View) → is_in_sub_block current ≡ false
-    → Ends next (Completes d contents current (request_in frame)) done v → Ends next (CompletesOutside d contents current frame) done v
-served_outside d contents current frame next done v o h = record {
-  follows = h.follows;
-  reads = elim h.reads [
-    | inl e ↦ inl e
-    | inr r ↦ inr (record { key = r.key; bytes = r.bytes; served = record { outside = o; completes = r.served }; is = r.is })
-  ];
-}
+outside_answered : (d : Description) (contents : Contents) (current : Option OpenTransfer) (frame : List ℕ) → is_in_sub_block current ≡ false → answered_next d contents current frame ≡ answered_by d contents current (request_in frame)
+outside_answered d contents current frame h = rw h refl
 
-begins : (d : Description) (contents : Contents) (stamp : ℕ → ℕ) (current : Option OpenTransfer) (t : Transfer) (micros : ℕ) (frame : List ℕ) (done : List Complete) (count : ℕ)
-    → BegunBy frame micros t → AreBytes frame
-    → Ends (opened_next d contents current frame) (CompletesOutside d contents current frame) done
+outside_acknowledged : (current : Option OpenTransfer) (frame : List ℕ) → is_in_sub_block current ≡ false → acknowledged_next current frame ≡ acknowledged_by current (request_in frame)
+outside_acknowledged current frame h = rw h refl
+
+begins : (Loose : Type 0) (d : Description) (contents : Contents) (stamp : ℕ → ℕ) (current : Option OpenTransfer) (ended : Option Read) (t : Transfer) (micros : ℕ) (frame : List ℕ) (done : List Complete) (count n : ℕ)
+    → BegunBy frame micros t → AreBytes frame → IsDictionary d contents → Loose ⊎ (is_block_begin (request_in frame) ≡ false) → Loose ⊎ (is_in_sub_block current ≡ false)
+    → Ends Loose (opened_next d contents current frame) (acknowledged_next current frame) (answered_next d contents current frame) (read_served (ended_by (request_in frame) ended) n ++ done) done
     (hears_answers stamp (answers_to d contents current frame) (asks t done count))
-begins d contents stamp current t micros frame done count b small = by current (is_in_sub_block current) refl
+begins Loose d contents stamp current ended t micros frame done count n b small lawful plain out = by current (is_in_sub_block current) refl out
   where
     begun_is : t.stage ≡ Initiated
     begun_is = let a = awaits b.request micros frame in subst (λ x. IfSome x (λ t. t.stage ≡ Initiated)) b.initiates a
 
-    by : (current : Option OpenTransfer) (x : Bool) → is_in_sub_block current ≡ x
-        → Ends (opened_next d contents current frame) (CompletesOutside d contents current frame) done
+    by : (current : Option OpenTransfer) (x : Bool) → is_in_sub_block current ≡ x → Loose ⊎ (is_in_sub_block current ≡ false)
+        → Ends Loose (opened_next d contents current frame) (acknowledged_next current frame) (answered_next d contents current frame) (read_served (ended_by (request_in frame) ended) n ++ done) done
         (hears_answers stamp (answers_to d contents current frame) (asks t done count))
-    by None true h = absurd (false≢true h)
-    by (Some o) true h =
-        subst (λ answers. Ends (opened_next d contents (Some o) frame) (CompletesOutside d contents (Some o) frame) done (hears_answers stamp answers (asks t done count)))
+    by None true h out = absurd (false≢true h)
+    by (Some o) true h (inr away) = absurd (false≢true (sym away ∙ h))
+    by (Some o) true h (inl l) =
+        subst (λ answers. Ends Loose (opened_next d contents (Some o) frame) (acknowledged_next (Some o) frame) (answered_next d contents (Some o) frame) (read_served (ended_by (request_in frame) ended) n ++ done) done (hears_answers stamp answers (asks t done count)))
         (sym (inside_answers d contents o frame h))
-        (inside stamp d.rows o o.stage t frame done count _ _ begun_is)
-    by current false h =
+        (inside Loose stamp d.rows o o.stage t frame _ done count _ _ _ l begun_is)
+    by current false h out =
         let k : IfSome (request_in frame) (HasKey frame) = has_key frame in
-        served_outside d contents current frame (opened_next d contents current frame) done (hears_answers stamp (answers_to d contents current frame) (asks t done count)) h
-        (rw (outside_answers d contents current frame h, outside_opens d contents current frame h, b.is)
-        (outside d contents stamp current b.request t micros frame done count b.initiates (subst (λ r. IfSome r (HasKey frame)) b.is k) small))
+        rw (outside_answers d contents current frame h, outside_opens d contents current frame h, outside_answered d contents current frame h, outside_acknowledged current frame h, b.is)
+        (outside Loose d contents stamp current ended t micros frame done count n b.request b.initiates (subst (λ r. IfSome r (HasKey frame)) b.is k) small lawful
+        (subst (λ r. Loose ⊎ (is_block_begin r ≡ false)) b.is plain))
 
--- ---- a frame of the client while an upload awaits the request of a segment
+-- ---- a request that completes nothing
 
-acknowledged_late : (by : Bool) (t : Transfer) (toggle : Bool) (sequence block_size : ℕ) → t.stage ≡ UploadTaken toggle → (acknowledged by t sequence block_size).transfer.irregular ≡ true
-acknowledged_late true t toggle sequence block_size e = rw e refl
-acknowledged_late false t toggle sequence block_size e = refl
+either_late : (b : Bool) (x y : Turn) → IsLate x → IsLate y → IsLate (if b then x else y)
+either_late true x y hx hy = hx
+either_late false x y hx hy = hy
 
-ended_late : (by : Bool) (t : Transfer) (toggle : Bool) (unused crc : ℕ) → t.stage ≡ UploadTaken toggle → (block_ended by t unused crc).transfer.irregular ≡ true
-ended_late true t toggle unused crc e = rw e refl
-ended_late false t toggle unused crc e = refl
+late_end_at : (stage : Progress) (t : Transfer) → is_ended stage ≡ false → IsLate (end_confirmed_at stage t)
+late_end_at (BlockEnded crc) t h = absurd (false≢true (sym h))
+late_end_at _ t h = inl refl
 
-confirmed_late : (by block : Bool) (t : Transfer) (toggle : Bool) → t.stage ≡ UploadTaken toggle → is_block t.protocol ≡ block → (end_confirmed by t).transfer.irregular ≡ true
-confirmed_late true true t toggle e b = rw b (ap (λ s. (end_confirmed_at s t).transfer.irregular) e)
-confirmed_late true false t toggle e b = rw b refl
-confirmed_late false block t toggle e b = refl
+late_end : (by : Bool) (t : Transfer) → is_ended t.stage ≡ false → IsLate (end_confirmed by t)
+late_end true t h = either_late (is_block t.protocol) (end_confirmed_at t.stage t) (unexpected t) (late_end_at t.stage t h) (inl refl)
+late_end false t h = inl refl
 
--- it completes nothing
-module _ (micros : ℕ) (frame : List ℕ) (heard : Bool) (t : Transfer) (got : List ℕ) (done : List Complete) (count sent : ℕ) where
-  spoils_it : (request : SdoRequest) → (turn_of t (Request request) frame).transfer.irregular ≡ true
-      → (read_as micros Client frame (holds heard (Some t) got done count) (Request request)).done ≡ done
-  spoils_it request i = (aside_turn micros Client frame heard t got done count (Request request) (inl i)).same
+-- it isn't the client's end, or the server's wasn't sent
+late_request : (t : Transfer) (request : SdoRequest) (frame : List ℕ) → (is_ended t.stage ≡ false) ⊎ (is_upload_end (Some request) ≡ false) → IsLate (request_turn t request frame)
+late_request t UploadEnd frame (inl n) = late_end (not (is_download t.direction)) t n
+late_request t UploadEnd frame (inr away) = absurd (false≢true (sym away))
+late_request t request frame h = late_other t request frame refl
 
-  asks_quietly : (toggle same : Bool) → InUpload t sent → same_bool toggle (is_odd sent) ≡ same
-      → (read_as micros Client frame (holds heard (Some t) got done count) (Request (NextSegment toggle))).done ≡ done
-  asks_quietly toggle true h e = rw (h.stage, e) refl
-  asks_quietly toggle false h e = spoils_it (NextSegment toggle) (rw (h.stage, e) refl)
+abbrev IsLateReading : Transfer → List ℕ → Reading → Type 0
+IsLateReading t frame (Request request) = IsLate (request_turn t request frame)
+IsLateReading t frame _ = Unit {0}
 
-  quiet : (reading : Reading) → InUpload t sent → is_begin reading ≡ false → is_response reading ≡ false
-      → (read_as micros Client frame (holds heard (Some t) got done count) reading).done ≡ done
-  quiet (Begin new) h n m = absurd (false≢true (sym n))
-  quiet (Response response) h n m = absurd (false≢true (sym m))
-  quiet (Abort code) h n m = ap (λ w. w ++ done) (no_write (is_plain_upload t.direction t.protocol) _ refl)
-  quiet (Segment segment) h n m = (aside_turn micros Client frame heard t got done count (Segment segment) (inl (rw h.stage refl))).same
-  quiet Nothing h n m = (aside_turn micros Client frame heard t got done count Nothing (inl refl)).same
-  quiet (Request (DownloadSegment toggle segment last)) h n m = spoils_it (DownloadSegment toggle segment last) (rw h.stage refl)
-  quiet (Request (NextSegment toggle)) h n m = asks_quietly toggle (same_bool toggle (is_odd sent)) h refl
-  quiet (Request BlockUploadStart) h n m = spoils_it BlockUploadStart (rw h.stage refl)
-  quiet (Request (BlockUploadAcknowledge sequence block_size)) h n m =
-      spoils_it (BlockUploadAcknowledge sequence block_size) (acknowledged_late (not (is_download t.direction)) t (is_odd sent) sequence block_size h.stage)
-  quiet (Request BlockUploadEnd) h n m = spoils_it BlockUploadEnd (confirmed_late (not (is_download t.direction)) (is_block t.protocol) t (is_odd sent) h.stage refl)
-  quiet (Request (BlockDownloadEnd unused)) h n m = spoils_it (BlockDownloadEnd unused) (ended_late (is_download t.direction) t (is_odd sent) unused (crc_in frame) h.stage)
-  quiet (Request request) h n m = spoils_it request refl
+late_reading : (t : Transfer) (r : Option SdoRequest) (micros : ℕ) (frame : List ℕ) → (is_ended t.stage ≡ false) ⊎ (is_upload_end r ≡ false) → IsLateReading t frame (request_reading r micros frame)
+late_reading t None micros frame h = tt
+late_reading t (Some (Abandon key code)) micros frame h = tt
+late_reading t (Some request) micros frame h = by (begun_with request micros frame)
+  where
+    by : (x : Option Transfer) → IsLateReading t frame (begins_or x (Request request))
+    by None = late_request t request frame h
+    by (Some new) = tt
 
--- ---- segments
+quiet : (micros : ℕ) (frame : List ℕ) (heard : Bool) (t : Transfer) (got : List ℕ) (done : List Complete) (count : ℕ) (reading : Reading)
+    → confirmed_with t.stage ≡ None → is_begin reading ≡ false → is_response reading ≡ false → IsLateReading t frame reading
+    → (read_as micros Client frame (holds heard (Some t) got done count) reading).done ≡ done
+quiet micros frame heard t got done count (Begin new) u n m late = absurd (false≢true (sym n))
+quiet micros frame heard t got done count (Response response) u n m late = absurd (false≢true (sym m))
+quiet micros frame heard t got done count (Abort code) u n m late = ap (λ w. w ++ done) (no_write (is_upload t.direction) _ refl)
+quiet micros frame heard t got done count (Segment segment) u n m late = late_turn micros Client heard t got done count (turn_of t (Segment segment) frame) (late_segment_at t.stage t segment u)
+quiet micros frame heard t got done count (Request request) u n m late = late_turn micros Client heard t got done count (turn_of t (Request request) frame) late
+quiet micros frame heard t got done count Nothing u n m late = late_turn micros Client heard t got done count (turn_of t Nothing frame) (inl refl)
+
+-- ---- uploads in segments
 
 -- explain after the request of one
 abbrev asks_next : Transfer → Bool → ℕ → Transfer
@@ -339,14 +457,6 @@ abbrev confirmed : Transfer → Bool → ℕ → ℕ → List ℕ → Transfer
 confirmed t toggle micros sent bytes =
     after (asks_next t toggle micros) (record { what = Part; transfer = record (asks_next t toggle micros) { stage = Confirmed None; pending = record { items = [] } }; takes = Some (part_after sent bytes) })
 
-abbrev after_last : Bool → Transfer → Bool → ℕ → ℕ → List ℕ → List ℕ → List Complete → ℕ → View
-after_last heard t toggle micros sent bytes got done count = record {
-  following = record { heard = heard; transfer = None };
-  got = got ++ part_after sent bytes;
-  done = (if is_plain_upload t.direction t.protocol then if_done (verdict (confirmed t toggle micros sent bytes) None) (write_of (suc count) t.key (got ++ part_after sent bytes)) else []) ++ done;
-  count = suc count;
-}
-
 asks_segment : (micros : ℕ) (frame : List ℕ) (heard : Bool) (t : Transfer) (got : List ℕ) (done : List Complete) (count : ℕ) (toggle : Bool) → t.stage ≡ UploadTaken toggle
     → read_as micros Client frame (holds heard (Some t) got done count) (Request (NextSegment toggle)) ≡ holds heard (Some (asks_next t toggle micros)) got done (suc count)
 asks_segment micros frame heard t got done count toggle e = rw (e, same_toggle toggle) refl
@@ -355,159 +465,540 @@ whole_now : (got bytes : List ℕ) (sent : ℕ) → got ≡ take (7 * sent) byte
 whole_now got bytes sent g = ap (λ xs. xs ++ part_after sent bytes) g ∙ joined bytes sent
 
 -- the channel answers with one
-segment_comes : (stamp : ℕ → ℕ) (micros : ℕ) (heard : Bool) (t : Transfer) (got : List ℕ) (done : List Complete) (count sent : ℕ) (bytes : List ℕ) (toggle last : Bool) (Served : Key → List ℕ → Type 0)
-    → InUpload t sent → got ≡ take (7 * sent) bytes → is_odd sent ≡ toggle → is_last_after sent bytes ≡ last → (last ≡ true → Served t.key bytes)
-    → Ends (if last then None else opened_at t.key (Uploading (sent + 1)) bytes) Served done
+segment_comes : (Loose : Type 0) (stamp : ℕ → ℕ) (micros : ℕ) (heard : Bool) (t : Transfer) (got : List ℕ) (done : List Complete) (count sent : ℕ) (bytes : List ℕ) (toggle last : Bool)
+    → InUpload t bytes sent → got ≡ take (7 * sent) bytes → t.taken ≡ digest_of got → is_odd sent ≡ toggle → is_last_after sent bytes ≡ last
+    → Ends Loose (if last then None else opened_at t.key (Uploading (sent + 1)) bytes) None (if last then Some (record { key = t.key; bytes = bytes }) else None) done done
     (hears_answers stamp (Replied (UploadSegment toggle (record { items = part_after sent bytes }) last) ∷ []) (holds heard (Some (asks_next t toggle micros)) got done count))
-segment_comes stamp micros heard t got done count sent bytes toggle true Served h g o l served =
+segment_comes Loose stamp micros heard t got done count sent bytes toggle true h g kept o l =
     let response = UploadSegment toggle (record { items = part_after sent bytes }) true in
-    answered stamp response (holds heard (Some (asks_next t toggle micros)) got done count) (Response response) (Ends None Served done)
+    answered stamp response (holds heard (Some (asks_next t toggle micros)) got done count) (Response response) (Ends Loose None None (Some (record { key = t.key; bytes = bytes })) done done)
     (ap response_reading (segment_sent_read toggle (part_after sent bytes) true (part_small sent bytes)))
-    (rw (same_toggle toggle) (record { follows = tt; reads = written }))
+    (rw (same_toggle toggle) (record { follows = inr (record { none = refl; no_end = refl }); reads = inr written }))
   where
     bytes_are : got ++ part_after sent bytes ≡ bytes
     bytes_are = whole_now got bytes sent g ∙ taken_all bytes sent l
 
-    written : ((after_last heard t toggle micros sent bytes got done count).done ≡ done) ⊎ Reads Served done (after_last heard t toggle micros sent bytes got done count)
-    written = elim (maybe_write (is_plain_upload t.direction t.protocol) (verdict (confirmed t toggle micros sent bytes) None) (write_of (suc count) t.key (got ++ part_after sent bytes))) [
-      | inl e ↦ inl (ap (λ w. w ++ done) e)
-      | inr e ↦ inr (record { key = t.key; bytes = bytes; served = served refl; is = ap (λ w. w ++ done) e ∙ ap (λ xs. write_of (suc count) t.key xs ++ done) bytes_are })
-    ]
-segment_comes stamp micros heard t got done count sent bytes toggle false Served h g o l served =
+    right : size_fault t.size (confirmed t toggle micros sent bytes).taken.count ≡ None
+    right =
+        let k = taking t.taken got (Some (part_after sent bytes)) kept in
+        size_is t.size (confirmed t toggle micros sent bytes).taken.count bytes h.size (ap (λ (g : Digest). g.count) k ∙ ap (λ xs. counted (length xs)) bytes_are) h.few
+
+    written : (if is_upload t.direction then if_done (verdict (confirmed t toggle micros sent bytes) None) (write_of (suc count) t.key (got ++ part_after sent bytes)) else []) ++ done
+        ≡ record { frame = suc count; key = t.key; bytes = bytes } ∷ done
+    written =
+        ap (λ w. w ++ done) (regular_done (confirmed t toggle micros sent bytes) (write_of (suc count) t.key (got ++ part_after sent bytes)) h.regular right (ap is_upload h.direction))
+        ∙ ap (λ xs. write_of (suc count) t.key xs ++ done) bytes_are
+segment_comes Loose stamp micros heard t got done count sent bytes toggle false h g kept o l =
     let one : sent + 1 ≡ suc sent = omega arith in
     let response = UploadSegment toggle (record { items = part_after sent bytes }) false in
-    answered stamp response (holds heard (Some (asks_next t toggle micros)) got done count) (Response response) (Ends (opened_at t.key (Uploading (sent + 1)) bytes) Served done)
+    answered stamp response (holds heard (Some (asks_next t toggle micros)) got done count) (Response response) (Ends Loose (opened_at t.key (Uploading (sent + 1)) bytes) None None done done)
     (ap response_reading (segment_sent_read toggle (part_after sent bytes) false (part_small sent bytes)))
     (rw (same_toggle toggle) (record {
-      follows = segmented (suc sent) bytes (record { direction = h.direction; stage = ap (λ b. UploadTaken b) alternates }) (whole_now got bytes sent g)
-          (ap (λ n. opened_at t.key (Uploading n) bytes) one);
-      reads = inl refl;
+      follows = segmented (suc sent) bytes (record { direction = h.direction; stage = ap (λ b. UploadTaken b) alternates; regular = h.regular; size = h.size; few = h.few }) (whole_now got bytes sent g)
+          (ap (λ n. opened_at t.key (Uploading n) bytes) one) refl;
+      reads = inr refl;
     }))
   where
     alternates : not toggle ≡ is_odd (suc sent)
     alternates = ap not (sym o) ∙ sym (not_odd sent)
 
--- the request of one, by its toggle
-segment_step : (d : Description) (contents : Contents) (stamp : ℕ → ℕ) (micros : ℕ) (frame : List ℕ) (heard : Bool) (t : Transfer) (got : List ℕ) (done : List Complete) (count sent : ℕ) (bytes : List ℕ) (expected toggle : Bool)
-    → InUpload t sent → got ≡ take (7 * sent) bytes → is_odd sent ≡ expected
-    → Ends (after_upload_segment (record { key = t.key; stage = Uploading sent; bytes = bytes }) (Uploading sent) toggle)
-    (Completes d contents (Some (record { key = t.key; stage = Uploading sent; bytes = bytes })) (Some (NextSegment toggle))) done
-    (hears_answers stamp (upload_answers (record { key = t.key; stage = Uploading sent; bytes = bytes }) (Uploading sent) toggle)
-    (read_as micros Client frame (holds heard (Some t) got done count) (Request (NextSegment toggle))))
-segment_step d contents stamp micros frame heard t got done count sent bytes true true h g o =
-    subst (λ v. Ends (after_upload_segment (record { key = t.key; stage = Uploading sent; bytes = bytes }) (Uploading sent) true)
-    (Completes d contents (Some (record { key = t.key; stage = Uploading sent; bytes = bytes })) (Some (NextSegment true))) done
-    (hears_answers stamp (upload_answers (record { key = t.key; stage = Uploading sent; bytes = bytes }) (Uploading sent) true) v))
-    (sym (asks_segment micros frame heard t got done count true (h.stage ∙ ap (λ b. UploadTaken b) o)))
-    (rw o (segment_comes stamp micros heard t got done (suc count) sent bytes true (is_last_after sent bytes) _ h g o refl (λ l. last_segment sent refl (ap (λ b. Some (NextSegment b)) (sym o)) l)))
-segment_step d contents stamp micros frame heard t got done count sent bytes false false h g o =
-    subst (λ v. Ends (after_upload_segment (record { key = t.key; stage = Uploading sent; bytes = bytes }) (Uploading sent) false)
-    (Completes d contents (Some (record { key = t.key; stage = Uploading sent; bytes = bytes })) (Some (NextSegment false))) done
-    (hears_answers stamp (upload_answers (record { key = t.key; stage = Uploading sent; bytes = bytes }) (Uploading sent) false) v))
-    (sym (asks_segment micros frame heard t got done count false (h.stage ∙ ap (λ b. UploadTaken b) o)))
-    (rw o (segment_comes stamp micros heard t got done (suc count) sent bytes false (is_last_after sent bytes) _ h g o refl (λ l. last_segment sent refl (ap (λ b. Some (NextSegment b)) (sym o)) l)))
-segment_step d contents stamp micros frame heard t got done count sent bytes true false h g o =
-    rw o (closed None _ done stamp t.key 0x05030000 (read_as micros Client frame (holds heard (Some t) got done count) (Request (NextSegment false)))
-    (quiet micros frame heard t got done count sent (Request (NextSegment false)) h refl refl))
-segment_step d contents stamp micros frame heard t got done count sent bytes false true h g o =
-    rw o (closed None _ done stamp t.key 0x05030000 (read_as micros Client frame (holds heard (Some t) got done count) (Request (NextSegment true)))
-    (quiet micros frame heard t got done count sent (Request (NextSegment true)) h refl refl))
+-- what a request makes of what is open
+abbrev Goes : Type 0 → Description → Contents → (ℕ → ℕ) → Option OpenTransfer → Option Read → Option SdoRequest → ℕ → List Complete → View → Type 0
+Goes Loose d contents stamp current ended r n done v =
+    Ends Loose (after_request d contents current r) (acknowledged_by current r) (answered_by d contents current r) (read_served (ended_by r ended) n ++ done) done (hears_answers stamp (request_answers d contents current r) v)
 
--- ---- every request
+nothing : NoUpload None None
+nothing = record { none = refl; no_end = refl }
 
--- explain's transfer and the channel's, before a request
-abbrev pub Following : View → Option OpenTransfer → Type 0
-Following v current = IfSome v.following.transfer (λ t. Follows t v.got current)
+module _ (Loose : Type 0) (d : Description) (contents : Contents) (stamp : ℕ → ℕ) (frame : List ℕ) (heard : Bool) (t : Transfer) (got : List ℕ) (done : List Complete) (count : ℕ) where
+  abbrev reads : Option SdoRequest → View
+  reads r = read_as (stamp count) Client frame (holds heard (Some t) got done count) (request_reading r (stamp count) frame)
 
-client_plain : (t : Transfer) (sent micros : ℕ) (frame : List ℕ) → InUpload t sent → reading_of (Some t) Client micros frame ≡ request_reading (request_in frame) micros frame
-client_plain t sent micros frame h = rw h.stage refl
+  -- the request of a segment, by its toggle
+  segment_step : (sent : ℕ) (bytes : List ℕ) (expected toggle : Bool) → InUpload t bytes sent → got ≡ take (7 * sent) bytes → t.taken ≡ digest_of got → is_odd sent ≡ expected
+      → Goes Loose d contents stamp (opened_at t.key (Uploading sent) bytes) None (Some (NextSegment toggle)) (suc count) done (reads (Some (NextSegment toggle)))
+  segment_step sent bytes true true h g kept o =
+      subst (Goes Loose d contents stamp (opened_at t.key (Uploading sent) bytes) None (Some (NextSegment true)) (suc count) done)
+      (sym (asks_segment (stamp count) frame heard t got done count true (h.stage ∙ ap (λ b. UploadTaken b) o)))
+      (rw o (segment_comes Loose stamp (stamp count) heard t got done (suc count) sent bytes true (is_last_after sent bytes) h g kept o refl))
+  segment_step sent bytes false false h g kept o =
+      subst (Goes Loose d contents stamp (opened_at t.key (Uploading sent) bytes) None (Some (NextSegment false)) (suc count) done)
+      (sym (asks_segment (stamp count) frame heard t got done count false (h.stage ∙ ap (λ b. UploadTaken b) o)))
+      (rw o (segment_comes Loose stamp (stamp count) heard t got done (suc count) sent bytes false (is_last_after sent bytes) h g kept o refl))
+  segment_step sent bytes true false h g kept o =
+      let u : confirmed_with t.stage ≡ None = ap confirmed_with h.stage in
+      let late = late_reading t (Some (NextSegment false)) (stamp count) frame (inr refl) in
+      rw o (closed Loose None None done done stamp t.key 0x05030000 (reads (Some (NextSegment false))) nothing
+      (quiet (stamp count) frame heard t got done count (Request (NextSegment false)) u refl refl late))
+  segment_step sent bytes false true h g kept o =
+      let u : confirmed_with t.stage ≡ None = ap confirmed_with h.stage in
+      let late = late_reading t (Some (NextSegment true)) (stamp count) frame (inr refl) in
+      rw o (closed Loose None None done done stamp t.key 0x05030000 (reads (Some (NextSegment true))) nothing
+      (quiet (stamp count) frame heard t got done count (Request (NextSegment true)) u refl refl late))
+
+  -- ---- uploads in blocks
+
+  -- the start
+  abbrev started : Transfer
+  started = with_frame Part (after t (part (record t { stage = SubBlock false }))) (stamp count) Client
+
+  starts : t.stage ≡ BlockInitiated → reads (Some BlockUploadStart) ≡ holds heard (Some started) got done (suc count)
+  starts e = rw e refl
+
+  -- a sub-block comes
+  sub_block_comes : (u : Transfer) (taken bytes : List ℕ) (position size n : ℕ) → InSubBlock u taken bytes position 0 → size ≤ u.block_size → size < 128
+      → Ends Loose (opened_at u.key (BlockUpload position (sub_block_length bytes position size)) bytes) None None done done
+      (hears_answers stamp (sub_block_sent bytes position size) (holds heard (Some u) taken done n))
+  sub_block_comes u taken bytes position size n h within small =
+      let length = sub_block_length bytes position size in
+      let sum : 0 + length ≡ length = omega arith in
+      let first = h.first in
+      more_heard stamp heard taken bytes done position length u n 0 (Ends Loose (opened_at u.key (BlockUpload position length) bytes) None None done done) h (omega (arith, first)) (omega (arith, within)) (omega (arith, small))
+      (λ w m k e. record {
+        follows = blocks position length bytes (subst (InSubBlock w taken bytes position) sum k) (ap (λ key. opened_at key (BlockUpload position length) bytes) (sym e)) refl;
+        reads = inr refl;
+      })
+
+  start_step : (block_size : ℕ) (bytes : List ℕ) → InBegun t bytes block_size → got ≡ []
+      → Goes Loose d contents stamp (opened_at t.key (Begun block_size) bytes) None (Some BlockUploadStart) (suc count) done (reads (Some BlockUploadStart))
+  start_step block_size bytes h g =
+      let more : (0 + 0 == segment_count bytes) ≡ false = grind (arith, nat_tests) in
+      let size = h.size in
+      let none : first_data bytes (0 + 0) ≡ [] = rw more refl in
+      subst (Goes Loose d contents stamp (opened_at t.key (Begun block_size) bytes) None (Some BlockUploadStart) (suc count) done) (sym (starts h.stage))
+      (sub_block_comes started got bytes 0 block_size (suc count)
+      (record {
+        is = record { direction = h.is.direction; protocol = h.is.protocol; regular = h.is.regular; crc = h.is.crc; size = h.is.size; few = h.is.few };
+        stage = ap (λ b. SubBlock b) (sym more);
+        number = h.number;
+        pending = ap length h.pending;
+        before = g;
+        joined = ap (λ xs. xs ++ t.pending.items) g ∙ h.pending ∙ sym none;
+        first = omega arith;
+        most = omega arith;
+      })
+      (omega (arith, size)) h.small)
+
+  -- an acknowledgement, by what it makes of explain's transfer
+  acknowledge_is : (position sent sequence size : ℕ) (bytes : List ℕ) → InSubBlock t got bytes position sent
+      → turn_of t (Request (BlockUploadAcknowledge sequence size)) frame ≡ acknowledged_in (position + sent == segment_count bytes) t sequence size
+  acknowledge_is position sent sequence size bytes h =
+      ap (λ x. acknowledged (not (is_download x)) t sequence size) h.is.direction ∙ ap (λ stage. acknowledged_at stage t sequence size) h.stage
+
+  -- of all segments
+  all_acknowledged : (position sent sequence size : ℕ) (bytes : List ℕ) → InSubBlock t got bytes position sent → nat_lt sent sequence ≡ false → (position + sequence == segment_count bytes) ≡ true
+      → (turn_of t (Request (BlockUploadAcknowledge sequence size)) frame ≡ part (record t { stage = AllAcknowledged })) × ((position + sent == segment_count bytes) ≡ true)
+  all_acknowledged position sent sequence size bytes h few all =
+      let p = h.pending in
+      let most = h.most in
+      let whole : (position + sent == segment_count bytes) ≡ true = grind (arith, nat_tests) in
+      let awaited : length t.pending.items / 7 + 1 ≡ sent + 1 = omega (arith, p) in
+      let below : nat_lt sequence (length t.pending.items / 7 + 1) ≡ true = grind (arith, nat_tests) in
+      let last : (sequence + 1 == length t.pending.items / 7 + 1) ≡ true = grind (arith, nat_tests) in
+      (acknowledge_is position sent sequence size bytes h ∙ ap (λ b. acknowledged_in b t sequence size) whole ∙ rw (below, last) refl, whole)
+
+  -- of some
+  some_acknowledged : (position sent sequence size : ℕ) (bytes : List ℕ) → InSubBlock t got bytes position sent → nat_lt sent sequence ≡ false → (position + sequence == segment_count bytes) ≡ false
+      → turn_of t (Request (BlockUploadAcknowledge sequence size)) frame ≡ takes_pending (after_sub_block t size) (7 * sequence)
+  some_acknowledged position sent sequence size bytes h few more =
+      let p = h.pending in
+      let awaited : length t.pending.items / 7 + 1 ≡ sent + 1 = omega (arith, p) in
+      let below : nat_lt sequence (length t.pending.items / 7 + 1) ≡ true = grind (arith, nat_tests) in
+      acknowledge_is position sent sequence size bytes h ∙ rw (below, not_last (position + sent == segment_count bytes) (sequence + 1 == length t.pending.items / 7 + 1) refl refl) refl
+    where
+      not_last : (a b : Bool) → (position + sent == segment_count bytes) ≡ a → (sequence + 1 == length t.pending.items / 7 + 1) ≡ b → (a && b) ≡ false
+      not_last true true x y =
+          let p = h.pending in
+          let awaited : length t.pending.items / 7 + 1 ≡ sent + 1 = omega (arith, p) in
+          let whole : position + sent ≡ segment_count bytes = eqb-true _ _ x in
+          let same : sequence + 1 ≡ length t.pending.items / 7 + 1 = eqb-true _ _ y in
+          absurd (grind (arith, nat_tests))
+      not_last true false x y = refl
+      not_last false b x y = refl
+
+  -- the server's end comes
+  end_comes : (u : Transfer) (bytes : List ℕ) (position sent n : ℕ) → InBlocks u bytes → u.stage ≡ AllAcknowledged → 7 ≤ length u.pending.items
+      → got ++ take (length u.pending.items - (7 * segment_count bytes - length bytes)) u.pending.items ≡ bytes
+      → Ends Loose (opened_at u.key BlockUploadEnded bytes) (Some (record { key = u.key; bytes = bytes })) None done done
+      (hears_answers stamp (block_upload_end bytes) (holds heard (Some u) got done n))
+  end_comes u bytes position sent n is e some all =
+      let unused = 7 * segment_count bytes - length bytes in
+      let response = EndSent unused in
+      let P : View → Type 0 = Ends Loose (opened_at u.key BlockUploadEnded bytes) (Some (record { key = u.key; bytes = bytes })) None done done in
+      let crc = crc_in (response_bytes response) in
+      let turn : turn_of u (Response response) (response_bytes response) ≡ takes_pending (record u { stage = BlockEnded crc }) (length u.pending.items - unused) =
+      ap (λ x. block_ended (not (is_download x)) u unused crc) is.direction ∙ ap (λ stage. block_ended_at stage u unused crc) e in
+      let read : reading_of (Some u) Server (stamp n) (response_bytes response) ≡ response_reading (response_in (response_bytes response)) = rw e refl in
+      answered stamp response (holds heard (Some u) got done n) (Response response) P (read ∙ ap response_reading (upload_end_read unused (omega arith)))
+      (subst (λ x. P (turned (stamp n) Server heard u got done n x)) (sym turn)
+      (record {
+        follows = at_end crc bytes (record { is = record { direction = is.direction; protocol = is.protocol; regular = is.regular; crc = is.crc; size = is.size; few = is.few }; stage = refl }) all (inr refl) refl;
+        reads = inr refl;
+      }))
+
+  -- an acknowledgement
+  acknowledge_step : (position sent sequence size : ℕ) (bytes : List ℕ) → InSubBlock t got bytes position sent
+      → Goes Loose d contents stamp (opened_at t.key (BlockUpload position sent) bytes) None (Some (BlockUploadAcknowledge sequence size)) (suc count) done (reads (Some (BlockUploadAcknowledge sequence size)))
+  acknowledge_step position sent sequence size bytes h = by_number (nat_lt sent sequence) refl
+    where
+      o : OpenTransfer
+      o = record { key = t.key; stage = BlockUpload position sent; bytes = bytes }
+
+      v : View
+      v = reads (Some (BlockUploadAcknowledge sequence size))
+
+      late : v.done ≡ done
+      late =
+          quiet (stamp count) frame heard t got done count (Request (BlockUploadAcknowledge sequence size)) (ap confirmed_with h.stage) refl refl
+          (late_reading t (Some (BlockUploadAcknowledge sequence size)) (stamp count) frame (inr refl))
+
+      P : Option ℕ → Bool → View → Type 0
+      P refusal all w =
+          Ends Loose (unless refusal (if all then opened_at t.key BlockUploadEnded bytes else unless (block_size_refusal size) (opened_at t.key (BlockUpload (position + sequence) (sub_block_length bytes (position + sequence) size)) bytes)))
+          (unless refusal (if all then all_of o else None)) None done done
+          (hears_answers stamp (unless_refused refusal t.key (if all then block_upload_end bytes else unless_refused (block_size_refusal size) t.key (sub_block_sent bytes (position + sequence) size))) w)
+
+      by_size : (refusal : Option ℕ) → block_size_refusal size ≡ refusal → nat_lt sent sequence ≡ false → (position + sequence == segment_count bytes) ≡ false
+          → Ends Loose (unless refusal (opened_at t.key (BlockUpload (position + sequence) (sub_block_length bytes (position + sequence) size)) bytes)) None None done done
+          (hears_answers stamp (unless_refused refusal t.key (sub_block_sent bytes (position + sequence) size)) v)
+      by_size (Some code) r few more = closed Loose None None done done stamp t.key code v nothing late
+      by_size None r few more =
+          let most = h.most in
+          let under : position + sequence < segment_count bytes = grind (arith, nat_tests) in
+          let within : sequence ≤ sent = grind (arith, nat_tests) in
+          let unfinished : (position + sequence + 0 == segment_count bytes) ≡ false = grind (arith, nat_tests) in
+          let taken = got ++ take (7 * sequence) t.pending.items in
+          let front : taken ≡ take (7 * (position + sequence)) bytes = acknowledged_data t got bytes position sent sequence h within under in
+          let none : first_data bytes (position + sequence + 0) ≡ take (7 * (position + sequence + 0)) bytes = rw unfinished refl in
+          let sum : position + sequence ≡ position + sequence + 0 = omega arith in
+          let u = with_frame Part (after t (takes_pending (after_sub_block t size) (7 * sequence))) (stamp count) Client in
+          subst (λ turn. Ends Loose (opened_at t.key (BlockUpload (position + sequence) (sub_block_length bytes (position + sequence) size)) bytes) None None done done
+          (hears_answers stamp (sub_block_sent bytes (position + sequence) size) (turned (stamp count) Client heard t got done count turn)))
+          (sym (some_acknowledged position sent sequence size bytes h few more))
+          (sub_block_comes u taken bytes (position + sequence) size (suc count)
+          (record {
+            is = record { direction = h.is.direction; protocol = h.is.protocol; regular = h.is.regular; crc = h.is.crc; size = h.is.size; few = h.is.few };
+            stage = ap (λ b. SubBlock b) (sym unfinished);
+            number = refl;
+            pending = refl;
+            before = front;
+            joined = append-nil taken ∙ front ∙ ap (λ n. take (7 * n) bytes) sum ∙ sym none;
+            first = under;
+            most = omega (arith, under);
+          })
+          (omega arith) (block_size_small size r))
+
+      by_all : (all : Bool) → nat_lt sent sequence ≡ false → (position + sequence == segment_count bytes) ≡ all → P None all v
+      by_all false few more = by_size (block_size_refusal size) refl few more
+      by_all true few whole =
+          let made = all_acknowledged position sent sequence size bytes h few whole in
+          let p = h.pending in
+          let first = h.first in
+          let every : position + sent ≡ segment_count bytes = eqb-true _ _ made.1 in
+          let u = with_frame Part (after t (part (record t { stage = AllAcknowledged }))) (stamp count) Client in
+          subst (λ turn. P None true (turned (stamp count) Client heard t got done count turn)) (sym made.0)
+          (end_comes u bytes position sent (suc count)
+          (record { direction = h.is.direction; protocol = h.is.protocol; regular = h.is.regular; crc = h.is.crc; size = h.is.size; few = h.is.few })
+          refl (omega (arith, p, first, every)) (all_data t got bytes position sent h made.1))
+
+      by_number : (above : Bool) → nat_lt sent sequence ≡ above → P (refused_if above 0x05040003) (position + sequence == segment_count bytes) v
+      by_number true e = closed Loose None None done done stamp t.key 0x05040003 v nothing late
+      by_number false e = by_all (position + sequence == segment_count bytes) e refl
+
+  -- the client's end
+  end_reads : (crc : ℕ) (bytes : List ℕ) → AtEnd t bytes crc → got ≡ bytes → t.taken ≡ digest_of got
+      → Closes (record { frame = suc count; key = t.key; bytes = bytes } ∷ done) (reads (Some UploadEnd))
+  end_reads crc bytes h g kept =
+      let confirmed_turn : turn_of t (Request UploadEnd) frame ≡ part (record t { stage = Confirmed None }) =
+      ap (λ x. end_confirmed (not (is_download x)) t) h.is.direction
+      ∙ ap (λ b. if b then end_confirmed_at t.stage t else unexpected t) h.is.protocol
+      ∙ ap (λ stage. end_confirmed_at stage t) h.stage
+      ∙ ap (λ b. part (record t { stage = Confirmed (if b then Some crc else None) })) h.is.crc in
+      let u = after t (part (record t { stage = Confirmed None })) in
+      let right : size_fault t.size t.taken.count ≡ None =
+      size_is t.size t.taken.count bytes h.is.size (ap (λ (g : Digest). g.count) kept ∙ ap (λ xs. counted (length xs)) g) h.is.few in
+      subst (λ turn. Closes (record { frame = suc count; key = t.key; bytes = bytes } ∷ done) (turned (stamp count) Client heard t got done count turn)) (sym confirmed_turn)
+      (record {
+        none = refl;
+        same =
+            ap (λ w. w ++ done) (regular_done u (write_of (suc count) t.key got) h.is.regular right (ap is_upload h.is.direction))
+            ∙ ap (λ xs. write_of (suc count) t.key xs ++ done) g;
+      })
+
+  -- ---- every request
+
+  -- where the channel has dropped the upload
+  to_gone : (r : Option SdoRequest) → IsWaiting t → is_begin (request_reading r (stamp count) frame) ≡ false → Goes Loose d contents stamp None None r (suc count) done (reads r)
+  to_gone (Some (DownloadExpedited key value)) h n = absurd (false≢true (sym n))
+  to_gone (Some (DownloadInitiate key size)) h n = absurd (false≢true (sym n))
+  to_gone (Some (UploadInitiate key)) h n = absurd (false≢true (sym n))
+  to_gone (Some (BlockUploadInitiate key block_size threshold)) h n = absurd (false≢true (sym n))
+  to_gone (Some (BlockDownloadInitiate key size)) h n = absurd (false≢true (sym n))
+  to_gone (Some (Abandon key code)) h n = ends_closed Loose _ _ done done _ nothing (abort_closes (stamp count) Client frame heard (Some t) got done count (Abort code) refl)
+  to_gone r h n =
+      closed Loose _ _ done done stamp (record { index = 0; sub = 0 }) 0x05040001 (reads r) nothing
+      (quiet (stamp count) frame heard t got done count (request_reading r (stamp count) frame) h.unconfirmed refl refl (late_reading t r (stamp count) frame (inl h.unended)))
+
+  -- where it sends segments
+  to_segments : (sent : ℕ) (bytes : List ℕ) (r : Option SdoRequest) → InUpload t bytes sent → got ≡ take (7 * sent) bytes → t.taken ≡ digest_of got → is_begin (request_reading r (stamp count) frame) ≡ false
+      → Goes Loose d contents stamp (opened_at t.key (Uploading sent) bytes) None r (suc count) done (reads r)
+  to_segments sent bytes (Some (NextSegment toggle)) h g kept n = segment_step sent bytes (is_odd sent) toggle h g kept refl
+  to_segments sent bytes (Some (DownloadExpedited key value)) h g kept n = absurd (false≢true (sym n))
+  to_segments sent bytes (Some (DownloadInitiate key size)) h g kept n = absurd (false≢true (sym n))
+  to_segments sent bytes (Some (UploadInitiate key)) h g kept n = absurd (false≢true (sym n))
+  to_segments sent bytes (Some (BlockUploadInitiate key block_size threshold)) h g kept n = absurd (false≢true (sym n))
+  to_segments sent bytes (Some (BlockDownloadInitiate key size)) h g kept n = absurd (false≢true (sym n))
+  to_segments sent bytes (Some (Abandon key code)) h g kept n = ends_closed Loose _ _ done done _ nothing (abort_closes (stamp count) Client frame heard (Some t) got done count (Abort code) refl)
+  to_segments sent bytes r h g kept n =
+      closed Loose _ _ done done stamp t.key 0x05040001 (reads r) nothing
+      (quiet (stamp count) frame heard t got done count (request_reading r (stamp count) frame) (ap confirmed_with h.stage) refl refl (late_reading t r (stamp count) frame (inl (ap is_ended h.stage))))
+
+  -- where it awaits the start of an upload in blocks
+  to_begun : (block_size : ℕ) (bytes : List ℕ) (r : Option SdoRequest) → InBegun t bytes block_size → got ≡ [] → is_begin (request_reading r (stamp count) frame) ≡ false
+      → Goes Loose d contents stamp (opened_at t.key (Begun block_size) bytes) None r (suc count) done (reads r)
+  to_begun block_size bytes (Some BlockUploadStart) h g n = start_step block_size bytes h g
+  to_begun block_size bytes (Some (DownloadExpedited key value)) h g n = absurd (false≢true (sym n))
+  to_begun block_size bytes (Some (DownloadInitiate key size)) h g n = absurd (false≢true (sym n))
+  to_begun block_size bytes (Some (UploadInitiate key)) h g n = absurd (false≢true (sym n))
+  to_begun block_size bytes (Some (BlockUploadInitiate key size threshold)) h g n = absurd (false≢true (sym n))
+  to_begun block_size bytes (Some (BlockDownloadInitiate key size)) h g n = absurd (false≢true (sym n))
+  to_begun block_size bytes (Some (Abandon key code)) h g n = ends_closed Loose _ _ done done _ nothing (abort_closes (stamp count) Client frame heard (Some t) got done count (Abort code) refl)
+  to_begun block_size bytes r h g n =
+      closed Loose _ _ done done stamp t.key 0x05040001 (reads r) nothing
+      (quiet (stamp count) frame heard t got done count (request_reading r (stamp count) frame) (ap confirmed_with h.stage) refl refl (late_reading t r (stamp count) frame (inl (ap is_ended h.stage))))
+
+  -- where a sub-block was sent
+  to_blocks : (position sent : ℕ) (bytes : List ℕ) (r : Option SdoRequest) → InSubBlock t got bytes position sent → is_begin (request_reading r (stamp count) frame) ≡ false
+      → Goes Loose d contents stamp (opened_at t.key (BlockUpload position sent) bytes) None r (suc count) done (reads r)
+  to_blocks position sent bytes (Some (BlockUploadAcknowledge sequence size)) h n = acknowledge_step position sent sequence size bytes h
+  to_blocks position sent bytes (Some (DownloadExpedited key value)) h n = absurd (false≢true (sym n))
+  to_blocks position sent bytes (Some (DownloadInitiate key size)) h n = absurd (false≢true (sym n))
+  to_blocks position sent bytes (Some (UploadInitiate key)) h n = absurd (false≢true (sym n))
+  to_blocks position sent bytes (Some (BlockUploadInitiate key size threshold)) h n = absurd (false≢true (sym n))
+  to_blocks position sent bytes (Some (BlockDownloadInitiate key size)) h n = absurd (false≢true (sym n))
+  to_blocks position sent bytes (Some (Abandon key code)) h n = ends_closed Loose _ _ done done _ nothing (abort_closes (stamp count) Client frame heard (Some t) got done count (Abort code) refl)
+  to_blocks position sent bytes r h n =
+      closed Loose _ _ done done stamp t.key 0x05040001 (reads r) nothing
+      (quiet (stamp count) frame heard t got done count (request_reading r (stamp count) frame) (ap confirmed_with h.stage) refl refl (late_reading t r (stamp count) frame (inl (ap is_ended h.stage))))
+
+  -- where it awaits the client's end
+  to_end : (crc : ℕ) (bytes : List ℕ) (r : Option SdoRequest) → AtEnd t bytes crc → got ≡ bytes → t.taken ≡ digest_of got → is_begin (request_reading r (stamp count) frame) ≡ false
+      → Goes Loose d contents stamp (opened_at t.key BlockUploadEnded bytes) (Some (record { key = t.key; bytes = bytes })) r (suc count) done (reads r)
+  to_end crc bytes (Some UploadEnd) h g kept n = ends_closed Loose _ _ _ done _ nothing (end_reads crc bytes h g kept)
+  to_end crc bytes (Some (DownloadExpedited key value)) h g kept n = absurd (false≢true (sym n))
+  to_end crc bytes (Some (DownloadInitiate key size)) h g kept n = absurd (false≢true (sym n))
+  to_end crc bytes (Some (UploadInitiate key)) h g kept n = absurd (false≢true (sym n))
+  to_end crc bytes (Some (BlockUploadInitiate key size threshold)) h g kept n = absurd (false≢true (sym n))
+  to_end crc bytes (Some (BlockDownloadInitiate key size)) h g kept n = absurd (false≢true (sym n))
+  to_end crc bytes (Some (Abandon key code)) h g kept n = ends_closed Loose _ _ done done _ nothing (abort_closes (stamp count) Client frame heard (Some t) got done count (Abort code) refl)
+  to_end crc bytes r h g kept n =
+      closed Loose _ _ done done stamp t.key 0x05040001 (reads r) nothing
+      (quiet (stamp count) frame heard t got done count (request_reading r (stamp count) frame) (ap confirmed_with h.stage) refl refl (late_reading t r (stamp count) frame (inr refl)))
+
+  -- and where it has dropped the upload after its own end
+  to_dropped_end : (crc : ℕ) (bytes : List ℕ) (r : Option SdoRequest) → AtEnd t bytes crc → got ≡ bytes → t.taken ≡ digest_of got → is_begin (request_reading r (stamp count) frame) ≡ false
+      → Goes Loose d contents stamp None (Some (record { key = t.key; bytes = bytes })) r (suc count) done (reads r)
+  to_dropped_end crc bytes (Some UploadEnd) h g kept n =
+      closed Loose _ _ _ done stamp (record { index = 0; sub = 0 }) 0x05040001 (reads (Some UploadEnd)) nothing (end_reads crc bytes h g kept).same
+  to_dropped_end crc bytes (Some (DownloadExpedited key value)) h g kept n = absurd (false≢true (sym n))
+  to_dropped_end crc bytes (Some (DownloadInitiate key size)) h g kept n = absurd (false≢true (sym n))
+  to_dropped_end crc bytes (Some (UploadInitiate key)) h g kept n = absurd (false≢true (sym n))
+  to_dropped_end crc bytes (Some (BlockUploadInitiate key size threshold)) h g kept n = absurd (false≢true (sym n))
+  to_dropped_end crc bytes (Some (BlockDownloadInitiate key size)) h g kept n = absurd (false≢true (sym n))
+  to_dropped_end crc bytes (Some (Abandon key code)) h g kept n = ends_closed Loose _ _ done done _ nothing (abort_closes (stamp count) Client frame heard (Some t) got done count (Abort code) refl)
+  to_dropped_end crc bytes r h g kept n =
+      closed Loose _ _ done done stamp (record { index = 0; sub = 0 }) 0x05040001 (reads r) nothing
+      (quiet (stamp count) frame heard t got done count (request_reading r (stamp count) frame) (ap confirmed_with h.stage) refl refl (late_reading t r (stamp count) frame (inr refl)))
+
+-- ---- the channel has no upload open
+
+no_segment : (d : Description) (contents : Contents) (o : OpenTransfer) (stage : Stage) (toggle : Bool) (segment : List ℕ) (last : Bool) → is_segmented stage ≡ true → no_upload (after_segment d contents o stage toggle segment last) ≡ true
+no_segment d contents o (Receiving size expected) toggle segment last h = unless_no_upload (segment_refusal d contents o size expected toggle segment last) _ (by last)
+  where
+    by : (last : Bool) → no_upload (if last then None else opened_at o.key (Receiving size (not expected)) (o.bytes ++ segment)) ≡ true
+    by true = refl
+    by false = refl
+no_segment d contents o _ toggle segment last h = absurd (false≢true h)
+
+no_next : (o : OpenTransfer) (stage : Stage) (toggle : Bool) → is_segmented stage ≡ true → (no_upload (after_upload_segment o stage toggle) ≡ true) × (with_segment o stage toggle ≡ None)
+no_next o (Receiving size expected) toggle h = (refl, refl)
+no_next o _ toggle h = absurd (false≢true h)
+
+no_start : (o : OpenTransfer) (stage : Stage) → is_segmented stage ≡ true → no_upload (after_start o stage) ≡ true
+no_start o (Receiving size expected) h = refl
+no_start o _ h = absurd (false≢true h)
+
+no_acknowledge : (o : OpenTransfer) (stage : Stage) (sequence size : ℕ) → is_segmented stage ≡ true → (no_upload (after_acknowledge o stage sequence size) ≡ true) × (with_acknowledge o stage sequence ≡ None)
+no_acknowledge o (Receiving size expected) sequence block_size h = (refl, refl)
+no_acknowledge o _ sequence block_size h = absurd (false≢true h)
+
+-- a request that begins nothing makes none of it
+record OpensNone (d : Description) (contents : Contents) (current : Option OpenTransfer) (r : Option SdoRequest) : Type 0 where
+  next : no_upload (after_request d contents current r) ≡ true
+  answers : answered_by d contents current r ≡ None
+  acknowledges : acknowledged_by current r ≡ None
+
+opens_none : (d : Description) (contents : Contents) (current : Option OpenTransfer) (r : Option SdoRequest) → no_upload current ≡ true → is_initiate r ≡ false → OpensNone d contents current r
+opens_none d contents None (Some (DownloadSegment toggle segment last)) h n = record { next = refl; answers = refl; acknowledges = refl }
+opens_none d contents (Some o) (Some (DownloadSegment toggle segment last)) h n = record { next = no_segment d contents o o.stage toggle segment.items last h; answers = refl; acknowledges = refl }
+opens_none d contents None (Some (NextSegment toggle)) h n = record { next = refl; answers = refl; acknowledges = refl }
+opens_none d contents (Some o) (Some (NextSegment toggle)) h n = let one = no_next o o.stage toggle h in record { next = one.0; answers = one.1; acknowledges = refl }
+opens_none d contents None (Some BlockUploadStart) h n = record { next = refl; answers = refl; acknowledges = refl }
+opens_none d contents (Some o) (Some BlockUploadStart) h n = record { next = no_start o o.stage h; answers = refl; acknowledges = refl }
+opens_none d contents None (Some (BlockUploadAcknowledge sequence size)) h n = record { next = refl; answers = refl; acknowledges = refl }
+opens_none d contents (Some o) (Some (BlockUploadAcknowledge sequence size)) h n = let one = no_acknowledge o o.stage sequence size h in record { next = one.0; answers = refl; acknowledges = one.1 }
+opens_none d contents current None h n = record { next = refl; answers = refl; acknowledges = refl }
+opens_none d contents current (Some (Abandon key code)) h n = record { next = refl; answers = refl; acknowledges = refl }
+opens_none d contents current (Some UploadEnd) h n = record { next = refl; answers = refl; acknowledges = refl }
+opens_none d contents current (Some (BlockDownloadEnd unused)) h n = record { next = refl; answers = refl; acknowledges = refl }
+opens_none d contents current (Some _) h n = absurd (false≢true (sym n))
+
+begins_nothing : (r : Option SdoRequest) (micros : ℕ) (frame : List ℕ) → is_begin (request_reading r micros frame) ≡ false → is_initiate r ≡ false
+begins_nothing (Some (DownloadExpedited key value)) micros frame n = absurd (false≢true (sym n))
+begins_nothing (Some (DownloadInitiate key size)) micros frame n = absurd (false≢true (sym n))
+begins_nothing (Some (UploadInitiate key)) micros frame n = absurd (false≢true (sym n))
+begins_nothing (Some (BlockUploadInitiate key size threshold)) micros frame n = absurd (false≢true (sym n))
+begins_nothing (Some (BlockDownloadInitiate key size)) micros frame n = absurd (false≢true (sym n))
+begins_nothing r micros frame n = refl
+
+none_ended : (r : Option SdoRequest) (ended : Option Read) → ended ≡ None → ended_by r ended ≡ None
+none_ended r ended e = by (is_upload_end r)
+  where
+    by : (b : Bool) → (if b then ended else None) ≡ None
+    by true = e
+    by false = refl
+
+to_none : (Loose : Type 0) (d : Description) (contents : Contents) (stamp : ℕ → ℕ) (current : Option OpenTransfer) (ended : Option Read) (r : Option SdoRequest) (n : ℕ) (done : List Complete) (v : View)
+    → NoUpload current ended → is_initiate r ≡ false → KnowsAside Loose done v → Goes Loose d contents stamp current ended r n done v
+to_none Loose d contents stamp current ended r n done v h i k =
+    let one = opens_none d contents current r h.none i in
+    rw (none_ended r ended h.no_end, one.answers)
+    (ends_aside Loose _ _ done done _ (inr (record { none = one.next; no_end = one.acknowledges })) (aside_answers Loose stamp (request_answers d contents current r) done v k))
+
+-- ---- every frame
+
+segmented_outside : (stage : Stage) → is_segmented stage ≡ true → is_sub_block stage ≡ false
+segmented_outside (Receiving size toggle) h = refl
+segmented_outside _ h = absurd (false≢true h)
+
+no_upload_outside : (current : Option OpenTransfer) → no_upload current ≡ true → is_in_sub_block current ≡ false
+no_upload_outside None h = refl
+no_upload_outside (Some o) h = segmented_outside o.stage h
+
+-- the channel isn't inside a sub-block of a download, or some uploads may be left out
+outside_or : (Loose : Type 0) (held : Option Transfer) (got : List ℕ) (current : Option OpenTransfer) (ended : Option Read) → FollowsIn Loose held got current ended → Loose ⊎ (is_in_sub_block current ≡ false)
+outside_or Loose None got current ended (inl l) = inl l
+outside_or Loose None got current ended (inr h) = inr (no_upload_outside current h.none)
+outside_or Loose (Some t) got current ended (aside a (inl l)) = inl l
+outside_or Loose (Some t) got current ended (aside a (inr h)) = inr (no_upload_outside current h.none)
+outside_or Loose (Some t) got current ended (asked l a) = inl l
+outside_or Loose (Some t) got current ended (gone a c e) = inr (ap is_in_sub_block c)
+outside_or Loose (Some t) got current ended (segmented sent bytes a g c e) = inr (ap is_in_sub_block c)
+outside_or Loose (Some t) got current ended (begun block_size bytes a g c e) = inr (ap is_in_sub_block c)
+outside_or Loose (Some t) got current ended (blocks position sent bytes a c e) = inr (ap is_in_sub_block c)
+outside_or Loose (Some t) got current ended (at_end crc bytes a g (inl c) e) = inr (ap is_in_sub_block c)
+outside_or Loose (Some t) got current ended (at_end crc bytes a g (inr c) e) = inr (ap is_in_sub_block c)
+
+-- the client's frames in an upload are read as requests
+upload_plain : (t : Transfer) (micros : ℕ) (frame : List ℕ) → t.direction ≡ Upload → reading_of (Some t) Client micros frame ≡ request_reading (request_in frame) micros frame
+upload_plain t micros frame e = by (is_inside t.stage) t.direction e
+  where
+    by : (inside : Bool) (x : Direction) → x ≡ Upload
+        → (if (if inside then is_sender x Client else false) then sub_block_reading t.block_size Client micros frame else plain_reading Client micros frame) ≡ request_reading (request_in frame) micros frame
+    by true x e = rw e refl
+    by false x e = refl
 
 -- before the answer to initiate: any frame of the client but an initiate request ends it, or makes it irregular
-asked_reads : (micros : ℕ) (frame : List ℕ) (heard : Bool) (t : Transfer) (got : List ℕ) (done : List Complete) (count : ℕ) (reading : Reading)
-    → t.stage ≡ Initiated → is_begin reading ≡ false → is_response reading ≡ false → KnowsAside done (read_as micros Client frame (holds heard (Some t) got done count) reading)
-asked_reads micros frame heard t got done count (Begin new) h n m = absurd (false≢true (sym n))
-asked_reads micros frame heard t got done count (Response response) h n m = absurd (false≢true (sym m))
-asked_reads micros frame heard t got done count (Abort code) h n m = record {
+asked_reads : (Loose : Type 0) (micros : ℕ) (frame : List ℕ) (heard : Bool) (t : Transfer) (got : List ℕ) (done : List Complete) (count : ℕ) (reading : Reading) → Loose
+    → t.stage ≡ Initiated → is_begin reading ≡ false → is_response reading ≡ false → KnowsAside Loose done (read_as micros Client frame (holds heard (Some t) got done count) reading)
+asked_reads Loose micros frame heard t got done count (Begin new) l h n m = absurd (false≢true (sym n))
+asked_reads Loose micros frame heard t got done count (Response response) l h n m = absurd (false≢true (sym m))
+asked_reads Loose micros frame heard t got done count (Abort code) l h n m = record {
   holds = tt;
-  same = ap (λ w. w ++ done) (no_write (is_plain_upload t.direction t.protocol) _ refl);
+  same = ap (λ w. w ++ done) (no_write (is_upload t.direction) _ refl);
 }
-asked_reads micros frame heard t got done count (Segment segment) h n m = aside_turn micros Client frame heard t got done count (Segment segment) (inl (rw h refl))
-asked_reads micros frame heard t got done count (Request request) h n m = aside_turn micros Client frame heard t got done count (Request request) (inl (request_spoils t request frame h))
-asked_reads micros frame heard t got done count Nothing h n m = aside_turn micros Client frame heard t got done count Nothing (inl refl)
+asked_reads Loose micros frame heard t got done count (Segment segment) l h n m = aside_turn Loose micros Client frame heard t got done count (Segment segment) (inl (l, rw h refl))
+asked_reads Loose micros frame heard t got done count (Request request) l h n m = aside_turn Loose micros Client frame heard t got done count (Request request) (inl (l, request_spoils t request frame h))
+asked_reads Loose micros frame heard t got done count Nothing l h n m = aside_turn Loose micros Client frame heard t got done count Nothing (inl (l, refl))
 
--- a request where the channel has dropped the upload
-to_gone : (d : Description) (contents : Contents) (stamp : ℕ → ℕ) (frame : List ℕ) (heard : Bool) (t : Transfer) (got : List ℕ) (done : List Complete) (count sent : ℕ) (r : Option SdoRequest)
-    → InUpload t sent → is_begin (request_reading r (stamp count) frame) ≡ false
-    → Ends (after_request d contents None r) (Completes d contents None r) done
-    (hears_answers stamp (request_answers d contents None r) (read_as (stamp count) Client frame (holds heard (Some t) got done count) (request_reading r (stamp count) frame)))
-to_gone d contents stamp frame heard t got done count sent (Some (DownloadExpedited key value)) h n = absurd (false≢true (sym n))
-to_gone d contents stamp frame heard t got done count sent (Some (DownloadInitiate key size)) h n = absurd (false≢true (sym n))
-to_gone d contents stamp frame heard t got done count sent (Some (UploadInitiate key)) h n = absurd (false≢true (sym n))
-to_gone d contents stamp frame heard t got done count sent (Some (BlockUploadInitiate key block_size threshold)) h n = absurd (false≢true (sym n))
-to_gone d contents stamp frame heard t got done count sent (Some (BlockDownloadInitiate key size)) h n = absurd (false≢true (sym n))
-to_gone d contents stamp frame heard t got done count sent (Some (Abandon key code)) h n =
-    ends_closed _ _ done _ (abort_closes (stamp count) Client frame heard (Some t) got done count (Abort code) refl)
-to_gone d contents stamp frame heard t got done count sent r h n =
-    closed _ _ done stamp (record { index = 0; sub = 0 }) 0x05040001
-    (read_as (stamp count) Client frame (holds heard (Some t) got done count) (request_reading r (stamp count) frame))
-    (quiet (stamp count) frame heard t got done count sent (request_reading r (stamp count) frame) h refl refl)
+-- where no upload may be left out, no request begins a download in blocks, and all are read as requests
+abbrev pub IsPlain : Type 0 → Option Transfer → ℕ → List ℕ → Type 0
+IsPlain Loose held micros frame = Loose ⊎ ((is_block_begin (request_in frame) ≡ false) × (reading_of held Client micros frame ≡ request_reading (request_in frame) micros frame))
 
--- and where it sends segments
-to_segments : (d : Description) (contents : Contents) (stamp : ℕ → ℕ) (frame : List ℕ) (heard : Bool) (t : Transfer) (got : List ℕ) (done : List Complete) (count sent : ℕ) (bytes : List ℕ) (r : Option SdoRequest)
-    → InUpload t sent → got ≡ take (7 * sent) bytes → is_begin (request_reading r (stamp count) frame) ≡ false
-    → Ends (after_request d contents (opened_at t.key (Uploading sent) bytes) r) (Completes d contents (opened_at t.key (Uploading sent) bytes) r) done
-    (hears_answers stamp (request_answers d contents (opened_at t.key (Uploading sent) bytes) r)
-    (read_as (stamp count) Client frame (holds heard (Some t) got done count) (request_reading r (stamp count) frame)))
-to_segments d contents stamp frame heard t got done count sent bytes (Some (NextSegment toggle)) h g n =
-    segment_step d contents stamp (stamp count) frame heard t got done count sent bytes (is_odd sent) toggle h g refl
-to_segments d contents stamp frame heard t got done count sent bytes (Some (DownloadExpedited key value)) h g n = absurd (false≢true (sym n))
-to_segments d contents stamp frame heard t got done count sent bytes (Some (DownloadInitiate key size)) h g n = absurd (false≢true (sym n))
-to_segments d contents stamp frame heard t got done count sent bytes (Some (UploadInitiate key)) h g n = absurd (false≢true (sym n))
-to_segments d contents stamp frame heard t got done count sent bytes (Some (BlockUploadInitiate key block_size threshold)) h g n = absurd (false≢true (sym n))
-to_segments d contents stamp frame heard t got done count sent bytes (Some (BlockDownloadInitiate key size)) h g n = absurd (false≢true (sym n))
-to_segments d contents stamp frame heard t got done count sent bytes (Some (Abandon key code)) h g n =
-    ends_closed _ _ done _ (abort_closes (stamp count) Client frame heard (Some t) got done count (Abort code) refl)
-to_segments d contents stamp frame heard t got done count sent bytes r h g n =
-    closed _ _ done stamp t.key 0x05040001
-    (read_as (stamp count) Client frame (holds heard (Some t) got done count) (request_reading r (stamp count) frame))
-    (quiet (stamp count) frame heard t got done count sent (request_reading r (stamp count) frame) h refl refl)
+-- after a frame of the client with its answers
+abbrev pub EndsWith : Type 0 → Description → Contents → (ℕ → ℕ) → List ℕ → Option OpenTransfer → Option Read → List Complete → ℕ → View → Type 0
+EndsWith Loose d contents stamp frame current ended done count v =
+    Ends Loose (opened_next d contents current frame) (acknowledged_next current frame) (answered_next d contents current frame) (read_served (ended_by (request_in frame) ended) (suc count) ++ done) done
+    (hears_answers stamp (answers_to d contents current frame) v)
 
-goes_on : (d : Description) (contents : Contents) (stamp : ℕ → ℕ) (frame : List ℕ) (current : Option OpenTransfer) (heard : Bool) (held : Option Transfer) (got : List ℕ) (done : List Complete) (count : ℕ) (reading : Reading)
-    → reading_of held Client (stamp count) frame ≡ reading → is_begin reading ≡ false → IfSome held (λ t. Follows t got current)
-    → Ends (opened_next d contents current frame) (CompletesOutside d contents current frame) done
-    (hears_answers stamp (answers_to d contents current frame) (read_as (stamp count) Client frame (holds heard held got done count) reading))
-goes_on d contents stamp frame current heard None got done count reading e n h =
-    ends_aside _ _ done _ (aside_answers stamp (answers_to d contents current frame) done _ (aside_reads (stamp count) Client frame heard None got done count reading tt n))
-goes_on d contents stamp frame current heard (Some t) got done count reading e n h =
-    elim h [
-      | aside a ↦ ends_aside _ _ done _ (aside_answers stamp (answers_to d contents current frame) done _ (aside_reads (stamp count) Client frame heard (Some t) got done count reading a n))
-      | asked a ↦
-          let m : is_response reading ≡ false = sym (ap is_response e) ∙ client_no_response (Some t) (stamp count) frame in
-          ends_aside _ _ done _ (aside_answers stamp (answers_to d contents current frame) done _ (asked_reads (stamp count) frame heard t got done count reading a n m))
-      | gone sent a c ↦
-          let is : reading ≡ request_reading (request_in frame) (stamp count) frame = sym e ∙ client_plain t sent (stamp count) frame a in
-          let m : is_begin (request_reading (request_in frame) (stamp count) frame) ≡ false = sym (ap is_begin is) ∙ n in
-          rw (c, is) (served_outside d contents None frame _ done _ refl (to_gone d contents stamp frame heard t got done count sent (request_in frame) a m))
-      | segmented sent bytes a g c ↦
-          let is : reading ≡ request_reading (request_in frame) (stamp count) frame = sym e ∙ client_plain t sent (stamp count) frame a in
-          let m : is_begin (request_reading (request_in frame) (stamp count) frame) ≡ false = sym (ap is_begin is) ∙ n in
-          rw (c, is) (served_outside d contents (opened_at t.key (Uploading sent) bytes) frame _ done _ refl (to_segments d contents stamp frame heard t got done count sent bytes (request_in frame) a g m))
-    ]
+-- outside a sub-block
+outside_goes : (Loose : Type 0) (d : Description) (contents : Contents) (stamp : ℕ → ℕ) (frame : List ℕ) (current : Option OpenTransfer) (ended : Option Read) (done : List Complete) (count : ℕ) (v : View)
+    → is_in_sub_block current ≡ false → Goes Loose d contents stamp current ended (request_in frame) (suc count) done v → EndsWith Loose d contents stamp frame current ended done count v
+outside_goes Loose d contents stamp frame current ended done count v o h =
+    rw (outside_answers d contents current frame o, outside_opens d contents current frame o, outside_answered d contents current frame o, outside_acknowledged current frame o) h
 
-by_reading : (d : Description) (contents : Contents) (stamp : ℕ → ℕ) (frame : List ℕ) (current : Option OpenTransfer) (heard : Bool) (held : Option Transfer) (got : List ℕ) (done : List Complete) (count : ℕ) (reading : Reading)
-    → reading_of held Client (stamp count) frame ≡ reading → AreBytes frame → IfSome held (λ t. Follows t got current)
-    → Ends (opened_next d contents current frame) (CompletesOutside d contents current frame) done
-    (hears_answers stamp (answers_to d contents current frame) (read_as (stamp count) Client frame (holds heard held got done count) reading))
-by_reading d contents stamp frame current heard held got done count (Begin new) e small h =
-    let b = begun_by held (stamp count) frame new e in
-    let same = begin_writes (stamp count) frame heard held got done count new in
-    subst (λ before. Ends (opened_next d contents current frame) (CompletesOutside d contents current frame) before
-    (hears_answers stamp (answers_to d contents current frame) (read_as (stamp count) Client frame (holds heard held got done count) (Begin new)))) same
-    (begins d contents stamp current new (stamp count) frame _ (suc count) b small)
-by_reading d contents stamp frame current heard held got done count reading e small h = goes_on d contents stamp frame current heard held got done count reading e refl h
+module _ (Loose : Type 0) (d : Description) (contents : Contents) (stamp : ℕ → ℕ) (frame : List ℕ) (ended : Option Read) (heard : Bool) (got : List ℕ) (done : List Complete) (count : ℕ) where
+  abbrev After : Option OpenTransfer → Option Transfer → Reading → Type 0
+  After current held reading = EndsWith Loose d contents stamp frame current ended done count (read_as (stamp count) Client frame (holds heard held got done count) reading)
 
-pub exchange : (d : Description) (contents : Contents) (stamp : ℕ → ℕ) (frame : List ℕ) (current : Option OpenTransfer) (v : View) → AreBytes frame → Following v current
-    → Ends (opened_next d contents current frame) (CompletesOutside d contents current frame) v.done
-    (hears_answers stamp (answers_to d contents current frame) (hears stamp Client frame v))
-exchange d contents stamp frame current v small h =
-    by_reading d contents stamp frame current v.following.heard v.following.transfer v.got v.done v.count (reading_of v.following.transfer Client (stamp v.count) frame) refl small h
+  -- an upload that may be left out
+  loosely : (current : Option OpenTransfer) (held : Option Transfer) (reading : Reading) → Loose → KnowsAside Loose done (read_as (stamp count) Client frame (holds heard held got done count) reading) → After current held reading
+  loosely current held reading l k = ends_loose Loose _ _ _ done _ _ l (aside_answers Loose stamp (answers_to d contents current frame) done _ k)
+
+  -- no upload
+  none_open : (current : Option OpenTransfer) (held : Option Transfer) (reading : Reading) → NoUpload current ended → IfSome held (IsAside Loose) → reading ≡ request_reading (request_in frame) (stamp count) frame → is_begin reading ≡ false
+      → After current held reading
+  none_open current held reading away a is n =
+      outside_goes Loose d contents stamp frame current ended done count _ (no_upload_outside current away.none)
+      (to_none Loose d contents stamp current ended (request_in frame) (suc count) done _ away (begins_nothing (request_in frame) (stamp count) frame (sym (ap is_begin is) ∙ n))
+      (aside_reads Loose (stamp count) Client frame heard held got done count reading a n))
+
+  -- one that is followed, outside a sub-block
+  followed : (current : Option OpenTransfer) (t : Transfer) (reading : Reading) → reading_of (Some t) Client (stamp count) frame ≡ reading → is_begin reading ≡ false → t.direction ≡ Upload → is_in_sub_block current ≡ false
+      → (is_begin (request_reading (request_in frame) (stamp count) frame) ≡ false
+      → Goes Loose d contents stamp current ended (request_in frame) (suc count) done (read_as (stamp count) Client frame (holds heard (Some t) got done count) (request_reading (request_in frame) (stamp count) frame)))
+      → After current (Some t) reading
+  followed current t reading e n up o go =
+      let is : reading ≡ request_reading (request_in frame) (stamp count) frame = sym e ∙ upload_plain t (stamp count) frame up in
+      let m : is_begin (request_reading (request_in frame) (stamp count) frame) ≡ false = sym (ap is_begin is) ∙ n in
+      subst (After current (Some t)) (sym is)
+      (outside_goes Loose d contents stamp frame current ended done count (read_as (stamp count) Client frame (holds heard (Some t) got done count) (request_reading (request_in frame) (stamp count) frame)) o (go m))
+
+  goes_on : (current : Option OpenTransfer) (held : Option Transfer) (reading : Reading) → reading_of held Client (stamp count) frame ≡ reading → is_begin reading ≡ false
+      → FollowsIn Loose held got current ended → IfSome held (λ t. t.taken ≡ digest_of got) → IsPlain Loose held (stamp count) frame → After current held reading
+  goes_on current None reading e n (inl l) kept plain = loosely current None reading l (aside_reads Loose (stamp count) Client frame heard None got done count reading tt n)
+  goes_on current None reading e n (inr away) kept plain = none_open current None reading away tt (sym e) n
+  goes_on current (Some t) reading e n (aside a (inl l)) kept plain = loosely current (Some t) reading l (aside_reads Loose (stamp count) Client frame heard (Some t) got done count reading a n)
+  goes_on current (Some t) reading e n (aside a (inr away)) kept (inl l) = loosely current (Some t) reading l (aside_reads Loose (stamp count) Client frame heard (Some t) got done count reading a n)
+  goes_on current (Some t) reading e n (aside a (inr away)) kept (inr plain) = none_open current (Some t) reading away a (sym e ∙ plain.1) n
+  goes_on current (Some t) reading e n (asked l a) kept plain =
+      loosely current (Some t) reading l (asked_reads Loose (stamp count) frame heard t got done count reading l a n (sym (ap is_response e) ∙ client_no_response (Some t) (stamp count) frame))
+  goes_on current (Some t) reading e n (gone a c x) kept plain =
+      followed current t reading e n a.direction (ap is_in_sub_block c) (λ m. rw (c, x) (to_gone Loose d contents stamp frame heard t got done count (request_in frame) a m))
+  goes_on current (Some t) reading e n (segmented sent bytes a g c x) kept plain =
+      followed current t reading e n a.direction (ap is_in_sub_block c) (λ m. rw (c, x) (to_segments Loose d contents stamp frame heard t got done count sent bytes (request_in frame) a g kept m))
+  goes_on current (Some t) reading e n (begun block_size bytes a g c x) kept plain =
+      followed current t reading e n a.is.direction (ap is_in_sub_block c) (λ m. rw (c, x) (to_begun Loose d contents stamp frame heard t got done count block_size bytes (request_in frame) a g m))
+  goes_on current (Some t) reading e n (blocks position sent bytes a c x) kept plain =
+      followed current t reading e n a.is.direction (ap is_in_sub_block c) (λ m. rw (c, x) (to_blocks Loose d contents stamp frame heard t got done count position sent bytes (request_in frame) a m))
+  goes_on current (Some t) reading e n (at_end crc bytes a g (inr c) x) kept plain =
+      followed current t reading e n a.is.direction (ap is_in_sub_block c) (λ m. rw (c, x) (to_end Loose d contents stamp frame heard t got done count crc bytes (request_in frame) a g kept m))
+  goes_on current (Some t) reading e n (at_end crc bytes a g (inl c) x) kept plain =
+      followed current t reading e n a.is.direction (ap is_in_sub_block c) (λ m. rw (c, x) (to_dropped_end Loose d contents stamp frame heard t got done count crc bytes (request_in frame) a g kept m))
+
+  by_reading : (current : Option OpenTransfer) (held : Option Transfer) (reading : Reading) → reading_of held Client (stamp count) frame ≡ reading → AreBytes frame → IsDictionary d contents
+      → FollowsIn Loose held got current ended → IfSome held (λ t. t.taken ≡ digest_of got) → IsPlain Loose held (stamp count) frame → After current held reading
+  by_reading current held (Begin new) e small lawful h kept plain =
+      let b = begun_by held (stamp count) frame new e in
+      let v = read_as (stamp count) Client frame (holds heard held got done count) (Begin new) in
+      let first : Loose ⊎ (is_block_begin (request_in frame) ≡ false) = elim plain [ inl l ↦ inl l | inr p ↦ inr p.0 ] in
+      subst (λ before. Ends Loose (opened_next d contents current frame) (acknowledged_next current frame) (answered_next d contents current frame) (read_served (ended_by (request_in frame) ended) (suc count) ++ before) before
+      (hears_answers stamp (answers_to d contents current frame) v)) (begin_writes (stamp count) frame heard held got done count new)
+      (begins Loose d contents stamp current ended new (stamp count) frame v.done (suc count) (suc count) b small lawful first (outside_or Loose held got current ended h))
+  by_reading current held reading e small lawful h kept plain = goes_on current held reading e refl h kept plain
+
+pub exchange : (Loose : Type 0) (d : Description) (contents : Contents) (stamp : ℕ → ℕ) (frame : List ℕ) (current : Option OpenTransfer) (ended : Option Read) (v : View) → AreBytes frame → IsDictionary d contents
+    → FollowsIn Loose v.following.transfer v.got current ended → IfSome v.following.transfer (λ t. t.taken ≡ digest_of v.got) → IsPlain Loose v.following.transfer (stamp v.count) frame
+    → EndsWith Loose d contents stamp frame current ended v.done v.count (hears stamp Client frame v)
+exchange Loose d contents stamp frame current ended v small lawful h kept plain =
+    by_reading Loose d contents stamp frame ended v.following.heard v.got v.done v.count current v.following.transfer (reading_of v.following.transfer Client (stamp v.count) frame) refl small lawful h kept plain

@@ -15,8 +15,6 @@ use Rattle.co_sdo.specs.Downloads.{Download as Whole}
 use Rattle.conode_explain_transfers.specs.declared.ended.Ended.{Ended}
 use Rattle.conode_explain_transfers.specs.declared.ended.Ending.{Ending}
 use Rattle.conode_explain_transfers.specs.declared.ended.Ending.TheVariants.{Done}
-use Rattle.conode_explain_transfers.specs.declared.kinds.Protocol.{Protocol}
-use Rattle.conode_explain_transfers.specs.declared.kinds.Protocol.TheVariants.{Block}
 use Rattle.conode_explain_transfers.specs.declared.transfer.Transfer.{Transfer}
 use Rattle.conode_explain_transfers.specs.Data.{data_after}
 use Rattle.conode_explain_transfers.specs.Transfers.{is_download}
@@ -30,11 +28,6 @@ pub record Complete : Type 0 where
   pub bytes : List ℕ
 
 -- ---- by explain
-
--- a transfer that isn't in blocks: expedited or segmented
-abbrev pub is_plain : Protocol → Bool
-is_plain Block = false
-is_plain _ = true
 
 -- the initiate request of the open transfer
 abbrev pub initiated_by : Option Transfer → Option SdoRequest

@@ -1,3 +1,4 @@
 pub mod Recordings
 pub mod Downloads
 pub mod Uploads
+pub mod Clients

@@ -6,4 +6,4 @@ mod downloads;
 mod uploads;
 
 pub use downloads::all_downloads;
-pub use uploads::plain_uploads;
+pub use uploads::all_uploads;

@@ -1,5 +1,0 @@
-use Rattle.conode_explain_laws.proofs.AllUploads.{some_are_served}
-use Rattle.conode_explain_laws.proofs.uploads.plain_uploads.Goals as goal
-
-pub returns : goal.returns
-returns c = record { done_is_served = some_are_served }
