@@ -44,12 +44,14 @@ use Rattle.conode_compare.specs.declared.notes.Noted.{Noted}
 use Rattle.conode_compare.specs.Noted.{choice_lines, noted_at, nothing_noted, notes_with}
 
 -- what is compared: a device, the entries of its data sheet, the codes of their original data types
--- by the line of their sections, the name of the recording, the interface, if it is named, and
--- whether choices and the values of entries are noted
+-- by the line of their sections, the names that the sheet has of vendor and product, the name of the
+-- recording, the interface, if it is named, and whether choices and the values of entries are noted
 pub record Comparison : Type 0 where
   pub subject : Subject
   pub rows : List Row
   pub originals : ℕ → Option (List ℕ)
+  pub vendor_name : Option (List ℕ)
+  pub product_name : Option (List ℕ)
   pub recording : List ℕ
   pub interface : Option (List ℕ)
   pub choices : Bool

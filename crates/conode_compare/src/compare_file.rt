@@ -17,6 +17,7 @@ use crate::writes::Settings;
 use co_sheet::{EntryRow, Sheet, read};
 use co_sheet_changes::Originals;
 use conode_compare_held::{HeldEntries, HeldFault};
+use conode_compare_report::SheetNames;
 use conode_compare_rules::{Limits, Subject, facts_of};
 use conode_compare_text::Tally;
 use conode_io::{
@@ -226,11 +227,13 @@ fn bad_keys<E: Write>(fault: HeldFault, err: &mut E) -> ExitCode
     ExitCode::from(NOT_COMPARED)
 }
 
-// compares the recording of a path with a data sheet, whose entries have these original data types
+// compares the recording of a path with a data sheet, whose entries have these original data types,
+// and which has these names
 fn compare_sheet<R: Files + AllocGlobal + Input, O: Write, E: Write>(
     rt: &R,
     sheet: &Sheet<'_>,
     originals: &Originals,
+    names: SheetNames<'_>,
     paths: &Paths<'_>,
     asked: Asked<'_>,
     out: &mut O,
@@ -261,6 +264,7 @@ fn compare_sheet<R: Files + AllocGlobal + Input, O: Write, E: Write>(
         subject,
         rows,
         originals,
+        names,
         recording: paths.recording,
         interface,
         choices: asked.choices,
@@ -288,7 +292,10 @@ fn compare_text<R: Files + AllocGlobal + Input, O: Write, E: Write>(
     ensures { exit_status result ≤ 2 }
 {
     match Originals::in_text(rt.alloc(), text) {
-        Ok(originals) => compare_sheet(rt, sheet, &originals, paths, asked, out, err),
+        Ok(originals) => {
+            let names = SheetNames::in_text(text);
+            compare_sheet(rt, sheet, &originals, names, paths, asked, out, err)
+        }
         Err(_) => {
             let _ = out_of_memory(out);
             ExitCode::from(NOT_COMPARED)

@@ -96,6 +96,7 @@ pub(crate) fn about_of<'s, 'a>(
         node: settings.subject.node,
         limits: settings.subject.limits,
         rows: settings.rows,
+        names: settings.names,
         vendor: identity_at(settings, 1),
         product: identity_at(settings, 2),
         revision: identity_at(settings, 3),

@@ -22,6 +22,7 @@ use co_sheet_changes::Originals;
 use co_sheet_names::row_at;
 use co_value::{DataType, Key};
 use conode_compare_notes::Warning;
+use conode_compare_report::SheetNames;
 use conode_compare_rules::{Finding, Findings, Subject};
 use conode_compare_text::{set_finding_line, set_warning_line};
 use conode_compare_values::Mismatch;
@@ -38,6 +39,8 @@ pub struct Settings<'s, 'a> {
     pub rows: &'s [EntryRow<'a>],
     /// The original data types of these entries, where the sheet was adapted.
     pub originals: &'s Originals,
+    /// The names that its data sheet has of vendor and product, for a document.
+    pub names: SheetNames<'s>,
     /// The name of the recording, for the lines.
     pub recording: &'s str,
     /// The interface whose frames are compared; `None`: that of the first frame.

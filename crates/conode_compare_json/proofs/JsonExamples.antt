@@ -4,7 +4,7 @@ use Rattle.std.specs.Fmt.{digits}
 use Rattle.std.specs.Str.{chars, is_utf8}
 use lib.Utf8.{encode}
 use Rattle.json.specs.Print.{escape_byte, print_from}
-use Rattle.json.specs.Token.{key, number}
+use Rattle.json.specs.Token.{begin_object, end_object, key, number, string}
 use Rattle.co_text.specs.Printed.{digits_text}
 use Rattle.conode_lint_text.specs.Characters.{characters_of, windows_1252}
 use Rattle.conode_json.specs.Members.{array_begin, flag_member, number_member, object_begin, text_member}
@@ -13,9 +13,10 @@ use Rattle.conode_compare_text.specs.Tallies.{no_frames}
 use Rattle.conode_compare_report.specs.Reports.{nothing_kept}
 use Rattle.conode_compare_report.specs.declared.outcome.Outcome.TheVariants.{NoDifference, Differences, NoFrame, SeveralInterfaces}
 use Rattle.conode_compare_report.specs.Outcomes.{of_tally, outcome_name, outcome_of}
-use Rattle.conode_compare_json.specs.CoverageTokens.{abort_tokens, aborts_member, coverage_member, covered_members, entries_member, entry_tokens, key_members, name_member, served_tokens, services_member, states_member, type_tokens, types_member}
-use Rattle.conode_compare_json.specs.NotedTokens.{context_member, context_tokens, findings_member, noted_tokens, said_members}
-use Rattle.conode_compare_json.specs.JsonDocument.{compared_members, device_member, ended_members, document_tokens, frames_member, head_members, json_document, kind_tokens, kinds_member, limits_member, recording_members}
+use Rattle.conode_compare_json.specs.CoverageTokens.{abort_tokens, aborts_member, coverage_member, entries_member, entry_tokens, served_tokens, services_member, states_member, type_tokens, types_member}
+use Rattle.conode_compare_json.specs.NotedTokens.{context_member, context_tokens, findings_member, noted_tokens, said_tokens}
+use Rattle.conode_compare_json.specs.JsonDocument.{document_begin, document_tokens, ended_members, json_document, kind_tokens, kinds_member, outcome_members}
+use Rattle.conode_compare_json.specs.Parts.{bytes_if}
 use Rattle.conode_compare_json.proofs.Reported.{about, report}
 
 -- ---- how it ended
@@ -38,20 +39,22 @@ not_compared = refl
 
 -- ---- what is left out
 
-no_name : name_member None ≡ []
+no_name : bytes_if (codes "name") None ≡ []
 unfolding text_member
 no_name = refl
 
 -- a recording without a frame of the interface
-no_stamps : recording_members (nothing_kept [] 5)
-    ≡ key (codes "lines") ∷ number (codes "0") ∷ key (codes "badLines") ∷ number (codes "0") ∷ key (codes "unlisted") ∷ number (codes "0") ∷ []
-unfolding recording_members nothing_kept number_member digits
+no_stamps : outcome_members about (nothing_kept [] 5)
+    ≡ key (codes "verdict") ∷ string (codes "differences") ∷ key (codes "frames") ∷ begin_object ∷ key (codes "prescribed") ∷ number (codes "2")
+    ∷ key (codes "different") ∷ number (codes "1") ∷ key (codes "unjudged") ∷ number (codes "0") ∷ end_object
+    ∷ key (codes "lines") ∷ number (codes "0") ∷ key (codes "badLines") ∷ number (codes "0") ∷ key (codes "unlisted") ∷ number (codes "0") ∷ []
+unfolding ended_members nothing_kept object_begin text_member number_member digits
 no_stamps = refl
 
 -- ---- the document
 
 document : json_document about report
-    ≡ codes "{\"version\":1,\"program\":\"0.12.0\",\"sheet\":\"a&b.eds\",\"recording\":\"a.log\",\"device\":{\"node\":5,\"vendor\":69,\"revision\":4294967295},"
+    ≡ codes "{\"version\":1,\"program\":\"0.12.0\",\"sheet\":\"a&b.eds\",\"recording\":\"a.log\",\"device\":{\"node\":5,\"vendor\":69,\"revision\":4294967295,\"vendorName\":\"A\\\"B\",\"recordedSerial\":123456},"
     ++ codes "\"limits\":{\"tolerance\":10,\"drift\":1,\"answer\":1000,\"boot\":10000},\"verdict\":\"differences\",\"frames\":{\"prescribed\":2,\"different\":1,\"unjudged\":0},"
     ++ codes "\"lines\":8,\"badLines\":1,\"begin\":1000000,\"end\":3020001,\"unlisted\":0,"
     ++ codes "\"findings\":[{\"line\":3,\"stamp\":3020001,\"kind\":\"heartbeat-late\",\"text\":\"heartbeat-late: 1020.001 ms since the last one, 1017:00 has 1000 ms\","
@@ -63,5 +66,5 @@ document : json_document about report
     ++ codes "\"coverage\":{\"entries\":[{\"index\":4119,\"subIndex\":0,\"name\":\"<Heartbeat>\",\"read\":false,\"written\":true,\"refused\":false}],"
     ++ codes "\"services\":[{\"name\":\"boot-up\",\"count\":1}],\"states\":{\"initialising\":false,\"preOperational\":true,\"operational\":false,\"stopped\":false},"
     ++ codes "\"tpdoTypes\":[{\"type\":254,\"count\":7}],\"abortCodes\":[{\"code\":\"06020000\",\"count\":2}]}}\n"
-unfolding json_document document_tokens head_members compared_members ended_members device_member limits_member frames_member recording_members findings_member noted_tokens said_members context_member context_tokens kinds_member kind_tokens coverage_member entries_member entry_tokens key_members covered_members services_member served_tokens states_member types_member type_tokens aborts_member abort_tokens finding_text timed_number millis_text array_begin object_begin text_member number_member flag_member characters_of windows_1252 is_utf8 chars encode digits_text digits print_from escape_byte
+unfolding json_document document_tokens document_begin ended_members findings_member noted_tokens said_tokens context_member context_tokens kinds_member kind_tokens coverage_member entries_member entry_tokens services_member served_tokens states_member types_member type_tokens aborts_member abort_tokens finding_text timed_number millis_text array_begin object_begin text_member number_member flag_member characters_of windows_1252 is_utf8 chars encode digits_text digits print_from escape_byte
 document = refl

@@ -38,6 +38,8 @@ about = record {
   node = 5;
   limits = record { tolerance = 10; drift = 1; answer = 1000; boot = 10000 };
   rows = heartbeat_row ∷ [];
+  vendor_name = Some (codes "A\"B");
+  product_name = None;
   vendor = Some 69;
   product = None;
   revision = Some 0xFFFFFFFF;
@@ -58,6 +60,7 @@ covered = record {
   states = record { initialising = false; pre_operational = true; operational = false; stopped = false };
   types = record { number = 254; count = 7 } ∷ [];
   aborts = record { number = 0x06020000; count = 2 } ∷ [];
+  identity = record { revision = None; serial = Some 123456 };
 }
 
 abbrev pub report : Kept

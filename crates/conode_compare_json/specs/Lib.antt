@@ -1,3 +1,4 @@
+pub mod Parts
 pub mod NotedTokens
 pub mod CoverageTokens
 pub mod JsonDocument

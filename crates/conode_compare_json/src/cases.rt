@@ -106,7 +106,7 @@ fn push_more(alloc: Global, text: &mut String, count: u64) -> Result<(), AllocEr
     )
 }
 
-// the first lines of the differences of a kind, of which so many were found
+// the first lines of these differences of a kind, of which so many were found
 fn push_first_lines(
     alloc: Global,
     text: &mut String,
@@ -120,6 +120,22 @@ fn push_first_lines(
     let count = own.len().min(MOST_LINES);
     push_lines(alloc, text, recording, &own[..count])?;
     push_more(alloc, text, found.saturating_sub(count as u64))
+}
+
+// the first lines of the differences of a kind, of which so many were found, in a report
+fn push_own_lines(
+    alloc: Global,
+    text: &mut String,
+    recording: &str,
+    counted: Counted,
+    report: &Report,
+) -> Result<(), AllocError>
+    ensures { OnOk result (string_bytes text.new ≡ string_bytes text.old
+        ++ lines_markup recording.now counted.found
+        (filter (is_of_kind counted.kind) report.now.noted)) }
+{
+    let own = of_kind(alloc, counted.kind, report)?;
+    push_first_lines(alloc, text, recording, counted.found, own.as_slice())
 }
 
 fn differences_word(count: u64) -> &'static str
@@ -175,11 +191,10 @@ fn push_failed(
         ≡ string_bytes text.old ++ failed_markup recording.now counted report.now.noted) }
 {
     let kind = counted.kind;
-    let own = of_kind(alloc, kind, report)?;
     let word = differences_word(counted.found);
     let rule = kind.rule().as_bytes();
     push_failure(alloc, text, kind.name(), counted.found, word, rule)?;
-    push_first_lines(alloc, text, recording, counted.found, own.as_slice())?;
+    push_own_lines(alloc, text, recording, counted, report)?;
     push_words(text, "</failure></testcase>\n")
 }
 

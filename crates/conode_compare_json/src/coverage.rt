@@ -3,17 +3,13 @@
 
 ghost use Rattle.std.specs.Prelude.{◌≡◌, ◌++◌, map, zip, OnOk};
 ghost use Rattle.std.specs.List.{flat_map};
-ghost use Rattle.std.specs.Option.{option_copied};
 ghost use Rattle.co_sheet.specs.SheetViews.{row_view};
 ghost use Rattle.conode_compare_json.specs.CoverageTokens.{
   abort_tokens,
   aborts_member,
   coverage_member,
-  covered_members,
   entries_member,
   entry_tokens,
-  key_members,
-  name_member,
   served_tokens,
   services_member,
   states_member,
@@ -21,39 +17,11 @@ ghost use Rattle.conode_compare_json.specs.CoverageTokens.{
   types_member,
 };
 
+use crate::parts::{Part, put_parts};
 use co_sheet::EntryRow;
-use co_text::push_u32;
-use co_value::Key;
 use conode_compare_report::{Coverage, Covered, Numbered, Served, States};
 use conode_json::JsonWriter;
 use std::alloc::{AllocError, Global};
-
-// the name of an entry, if it has one
-fn put_name(alloc: Global, writer: &mut JsonWriter, name: Option<&[u8]>) -> Result<(), AllocError>
-    ensures { OnOk result (writer.new ≡ writer.old ++ name_member (option_copied name.entry)) }
-{
-    match name {
-        Some(name) => writer.put_bytes(alloc, "name", name),
-        None => Ok(()),
-    }
-}
-
-#[tactic(auto, unfolding(crate::specs::CoverageTokens::key_members))]
-fn put_key(alloc: Global, writer: &mut JsonWriter, key: Key) -> Result<(), AllocError>
-    ensures { OnOk result (writer.new ≡ writer.old ++ key_members key) }
-{
-    writer.put_number(alloc, "index", i128::from(key.index))?;
-    writer.put_number(alloc, "subIndex", i128::from(key.sub))
-}
-
-#[tactic(auto, unfolding(crate::specs::CoverageTokens::covered_members))]
-fn put_covered(writer: &mut JsonWriter, covered: Covered) -> Result<(), AllocError>
-    ensures { OnOk result (writer.new ≡ writer.old ++ covered_members covered) }
-{
-    writer.put_flag("read", covered.read)?;
-    writer.put_flag("written", covered.written)?;
-    writer.put_flag("refused", covered.refused)
-}
 
 #[tactic(auto, unfolding(crate::specs::CoverageTokens::entry_tokens))]
 fn put_entry(
@@ -64,11 +32,20 @@ fn put_entry(
 ) -> Result<(), AllocError>
     ensures { OnOk result (writer.new ≡ writer.old ++ entry_tokens (row_view row.now, covered)) }
 {
-    writer.begin_object()?;
-    put_key(alloc, writer, row.key)?;
-    put_name(alloc, writer, row.name)?;
-    put_covered(writer, covered)?;
-    writer.end_object()
+    put_parts(
+        alloc,
+        writer,
+        &[
+            Part::BeginObject,
+            Part::Number("index", row.key.index as u64),
+            Part::Number("subIndex", row.key.sub as u64),
+            Part::Bytes("name", row.name),
+            Part::Flag("read", covered.read),
+            Part::Flag("written", covered.written),
+            Part::Flag("refused", covered.refused),
+            Part::EndObject,
+        ],
+    )
 }
 
 // the entries of the sheet, each with what the recording has of it
@@ -108,10 +85,16 @@ fn put_entries(
 fn put_served(alloc: Global, writer: &mut JsonWriter, served: Served) -> Result<(), AllocError>
     ensures { OnOk result (writer.new ≡ writer.old ++ served_tokens served) }
 {
-    writer.begin_object()?;
-    writer.put_text("name", served.service.name())?;
-    writer.put_number(alloc, "count", i128::from(served.count))?;
-    writer.end_object()
+    put_parts(
+        alloc,
+        writer,
+        &[
+            Part::BeginObject,
+            Part::Text("name", served.service.name()),
+            Part::Number("count", served.count),
+            Part::EndObject,
+        ],
+    )
 }
 
 #[tactic(auto, unfolding(crate::specs::CoverageTokens::services_member))]
@@ -130,31 +113,47 @@ fn put_services(
 }
 
 #[tactic(auto, unfolding(crate::specs::CoverageTokens::states_member))]
-fn put_states(writer: &mut JsonWriter, states: States) -> Result<(), AllocError>
+fn put_states(alloc: Global, writer: &mut JsonWriter, states: States) -> Result<(), AllocError>
     ensures { OnOk result (writer.new ≡ writer.old ++ states_member states) }
 {
-    writer.begin_object_of("states")?;
-    writer.put_flag("initialising", states.initialising)?;
-    writer.put_flag("preOperational", states.pre_operational)?;
-    writer.put_flag("operational", states.operational)?;
-    writer.put_flag("stopped", states.stopped)?;
-    writer.end_object()
+    put_parts(
+        alloc,
+        writer,
+        &[
+            Part::Object("states"),
+            Part::Flag("initialising", states.initialising),
+            Part::Flag("preOperational", states.pre_operational),
+            Part::Flag("operational", states.operational),
+            Part::Flag("stopped", states.stopped),
+            Part::EndObject,
+        ],
+    )
 }
 
-fn put_all_states(writer: &mut JsonWriter, coverage: &Coverage) -> Result<(), AllocError>
+fn put_all_states(
+    alloc: Global,
+    writer: &mut JsonWriter,
+    coverage: &Coverage,
+) -> Result<(), AllocError>
     ensures { OnOk result (writer.new ≡ writer.old ++ states_member coverage.now.states) }
 {
-    put_states(writer, coverage.states)
+    put_states(alloc, writer, coverage.states)
 }
 
 #[tactic(auto, unfolding(crate::specs::CoverageTokens::type_tokens))]
 fn put_type(alloc: Global, writer: &mut JsonWriter, numbered: Numbered) -> Result<(), AllocError>
     ensures { OnOk result (writer.new ≡ writer.old ++ type_tokens numbered) }
 {
-    writer.begin_object()?;
-    writer.put_number(alloc, "type", i128::from(numbered.number))?;
-    writer.put_number(alloc, "count", i128::from(numbered.count))?;
-    writer.end_object()
+    put_parts(
+        alloc,
+        writer,
+        &[
+            Part::BeginObject,
+            Part::Number("type", numbered.number as u64),
+            Part::Number("count", numbered.count),
+            Part::EndObject,
+        ],
+    )
 }
 
 #[tactic(auto, unfolding(crate::specs::CoverageTokens::types_member))]
@@ -172,12 +171,16 @@ fn put_types(alloc: Global, writer: &mut JsonWriter, coverage: &Coverage) -> Res
 fn put_abort(alloc: Global, writer: &mut JsonWriter, numbered: Numbered) -> Result<(), AllocError>
     ensures { OnOk result (writer.new ≡ writer.old ++ abort_tokens numbered) }
 {
-    let mut code = String::new(alloc);
-    push_u32(&mut code, numbered.number)?;
-    writer.begin_object()?;
-    writer.put_text("code", code.as_str())?;
-    writer.put_number(alloc, "count", i128::from(numbered.count))?;
-    writer.end_object()
+    put_parts(
+        alloc,
+        writer,
+        &[
+            Part::BeginObject,
+            Part::Code("code", numbered.number),
+            Part::Number("count", numbered.count),
+            Part::EndObject,
+        ],
+    )
 }
 
 #[tactic(auto, unfolding(crate::specs::CoverageTokens::aborts_member))]
@@ -205,7 +208,7 @@ pub(crate) fn put_coverage(
     writer.begin_object_of("coverage")?;
     put_entries(alloc, writer, rows, coverage)?;
     put_services(alloc, writer, coverage)?;
-    put_all_states(writer, coverage)?;
+    put_all_states(alloc, writer, coverage)?;
     put_types(alloc, writer, coverage)?;
     put_aborts(alloc, writer, coverage)?;
     writer.end_object()

@@ -1,127 +1,80 @@
 //! The document of JSON (RFC 8259). Each function with a writer writes tokens. `Err`: out of
 //! memory; some tokens may be there.
 
-ghost use Rattle.std.specs.Prelude.{◌≡◌, ◌++◌, option_map, pos, IfOk, OnOk};
-ghost use Rattle.conode_json.specs.Members.{number_if};
+ghost use Rattle.std.specs.Prelude.{◌≡◌, ◌++◌, IfOk, OnOk};
 ghost use Rattle.conode_compare_report.specs.Abouts.{about_view};
+ghost use Rattle.conode_compare_json.specs.CoverageTokens.{coverage_member};
 ghost use Rattle.conode_compare_json.specs.JsonDocument.{
-  compared_members,
-  device_member,
+  document_begin,
   document_tokens,
   end_of,
   ended_members,
-  frames_member,
-  head_members,
   json_document,
   kind_tokens,
   kinds_member,
-  limits_member,
-  recording_members,
+  outcome_members,
 };
 
 use crate::coverage::put_coverage;
 use crate::noted::put_findings;
-use conode_compare_report::{About, Counted, Outcome, Report};
-use conode_compare_rules::Limits;
+use crate::parts::{Part, put_parts};
+use conode_compare_report::{About, Counted, Identity, Outcome, Report};
 use conode_compare_text::Tally;
 use conode_json::JsonWriter;
 use std::alloc::{AllocError, Global};
 
 /// The version of the document's form.
-const VERSION: i128 = 1;
+const VERSION: u64 = 1;
 
-// a number that there may be
-fn put_any(
-    alloc: Global,
-    writer: &mut JsonWriter,
-    name: &str,
-    number: Option<u64>,
-) -> Result<(), AllocError>
-    ensures { OnOk result
-        (writer.new ≡ writer.old ++ number_if name.now (option_map pos number)) }
-{
-    match number {
-        Some(number) => writer.put_number(alloc, name, i128::from(number)),
-        None => Ok(()),
-    }
-}
-
-// the node-ID, and the identity that the sheet has
-#[tactic(auto, unfolding(crate::specs::JsonDocument::device_member))]
-fn put_device(
+// what was compared, and how
+#[tactic(auto, unfolding(crate::specs::JsonDocument::document_begin))]
+fn begin_document(
     alloc: Global,
     writer: &mut JsonWriter,
     about: &About<'_, '_>,
+    shown: Identity,
 ) -> Result<(), AllocError>
-    ensures { OnOk result (writer.new ≡ writer.old ++ device_member (about_view about.now)) }
+    ensures { OnOk result (writer.new ≡ writer.old ++ document_begin (about_view about.now) shown) }
 {
-    writer.begin_object_of("device")?;
-    writer.put_number(alloc, "node", i128::from(about.node))?;
-    put_any(alloc, writer, "vendor", about.vendor)?;
-    put_any(alloc, writer, "product", about.product)?;
-    put_any(alloc, writer, "revision", about.revision)?;
-    writer.end_object()
+    put_parts(
+        alloc,
+        writer,
+        &[
+            Part::BeginObject,
+            Part::Number("version", VERSION),
+            Part::Text("program", about.version),
+            Part::Text("sheet", about.sheet),
+            Part::Text("recording", about.recording),
+            Part::Object("device"),
+            Part::Number("node", about.node as u64),
+            Part::NumberIf("vendor", about.vendor),
+            Part::NumberIf("product", about.product),
+            Part::NumberIf("revision", about.revision),
+            Part::Bytes("vendorName", about.names.vendor),
+            Part::Bytes("productName", about.names.product),
+            Part::NumberIf("recordedRevision", shown.revision),
+            Part::NumberIf("recordedSerial", shown.serial),
+            Part::EndObject,
+            Part::Object("limits"),
+            Part::Number("tolerance", about.limits.tolerance as u64),
+            Part::Number("drift", about.limits.drift as u64),
+            Part::Number("answer", about.limits.answer as u64),
+            Part::Number("boot", about.limits.boot as u64),
+            Part::EndObject,
+        ],
+    )
 }
 
-#[tactic(auto, unfolding(crate::specs::JsonDocument::limits_member))]
-fn put_limits(alloc: Global, writer: &mut JsonWriter, limits: Limits) -> Result<(), AllocError>
-    ensures { OnOk result (writer.new ≡ writer.old ++ limits_member limits) }
-{
-    writer.begin_object_of("limits")?;
-    writer.put_number(alloc, "tolerance", i128::from(limits.tolerance))?;
-    writer.put_number(alloc, "drift", i128::from(limits.drift))?;
-    writer.put_number(alloc, "answer", i128::from(limits.answer))?;
-    writer.put_number(alloc, "boot", i128::from(limits.boot))?;
-    writer.end_object()
-}
-
-#[tactic(auto, unfolding(crate::specs::JsonDocument::frames_member))]
-fn put_frames(alloc: Global, writer: &mut JsonWriter, tally: Tally) -> Result<(), AllocError>
-    ensures { OnOk result (writer.new ≡ writer.old ++ frames_member tally) }
-{
-    writer.begin_object_of("frames")?;
-    writer.put_number(alloc, "prescribed", i128::from(tally.prescribed))?;
-    writer.put_number(alloc, "different", i128::from(tally.different))?;
-    writer.put_number(alloc, "unjudged", i128::from(tally.unjudged))?;
-    writer.end_object()
-}
-
-// what was compared, and how
-#[tactic(auto, unfolding(crate::specs::JsonDocument::compared_members))]
 fn put_compared(
     alloc: Global,
     writer: &mut JsonWriter,
     about: &About<'_, '_>,
+    report: &Report,
 ) -> Result<(), AllocError>
-    ensures { OnOk result (writer.new ≡ writer.old ++ compared_members (about_view about.now)) }
+    ensures { OnOk result (writer.new
+        ≡ writer.old ++ document_begin (about_view about.now) report.now.coverage.identity) }
 {
-    writer.put_number(alloc, "version", VERSION)?;
-    writer.put_text("program", about.version)?;
-    writer.put_text("sheet", about.sheet)?;
-    writer.put_text("recording", about.recording)?;
-    put_device(alloc, writer, about)?;
-    put_limits(alloc, writer, about.limits)
-}
-
-// how it ended
-#[tactic(auto, unfolding(crate::specs::JsonDocument::ended_members))]
-fn put_ended(
-    alloc: Global,
-    writer: &mut JsonWriter,
-    about: &About<'_, '_>,
-) -> Result<(), AllocError>
-    ensures { OnOk result (writer.new ≡ writer.old ++ ended_members (about_view about.now)) }
-{
-    writer.put_text("verdict", Outcome::of(about).name())?;
-    put_frames(alloc, writer, about.tally)
-}
-
-#[tactic(auto, unfolding(crate::specs::JsonDocument::head_members))]
-fn put_head(alloc: Global, writer: &mut JsonWriter, about: &About<'_, '_>) -> Result<(), AllocError>
-    ensures { OnOk result (writer.new ≡ writer.old ++ head_members (about_view about.now)) }
-{
-    put_compared(alloc, writer, about)?;
-    put_ended(alloc, writer, about)
+    begin_document(alloc, writer, about, report.coverage.identity)
 }
 
 // the stamp of the newest frame, if there is one
@@ -132,28 +85,67 @@ fn end_of(report: &Report) -> Option<u64>
     Some(report.end)
 }
 
-// the lines of the recording, and the stamps of its first and its newest frame
-#[tactic(auto, unfolding(crate::specs::JsonDocument::recording_members))]
-fn put_recording(alloc: Global, writer: &mut JsonWriter, report: &Report) -> Result<(), AllocError>
-    ensures { OnOk result (writer.new ≡ writer.old ++ recording_members report.now) }
+// how it ended, with this verdict, the newest frame at this stamp
+#[tactic(auto, unfolding(crate::specs::JsonDocument::ended_members))]
+fn put_ended(
+    alloc: Global,
+    writer: &mut JsonWriter,
+    verdict: &str,
+    tally: Tally,
+    report: &Report,
+    end: Option<u64>,
+) -> Result<(), AllocError>
+    ensures { OnOk result (writer.new
+        ≡ writer.old ++ ended_members verdict.now tally report.now end) }
 {
-    writer.put_number(alloc, "lines", i128::from(report.lines))?;
-    writer.put_number(alloc, "badLines", i128::from(report.bad_lines))?;
-    put_any(alloc, writer, "begin", report.begin)?;
-    put_any(alloc, writer, "end", end_of(report))?;
-    writer.put_number(alloc, "unlisted", i128::from(report.unlisted))
+    put_parts(
+        alloc,
+        writer,
+        &[
+            Part::Text("verdict", verdict),
+            Part::Object("frames"),
+            Part::Number("prescribed", tally.prescribed),
+            Part::Number("different", tally.different),
+            Part::Number("unjudged", tally.unjudged),
+            Part::EndObject,
+            Part::Number("lines", report.lines),
+            Part::Number("badLines", report.bad_lines),
+            Part::NumberIf("begin", report.begin),
+            Part::NumberIf("end", end),
+            Part::Number("unlisted", report.unlisted),
+        ],
+    )
+}
+
+fn put_outcome(
+    alloc: Global,
+    writer: &mut JsonWriter,
+    about: &About<'_, '_>,
+    report: &Report,
+) -> Result<(), AllocError>
+    ensures { OnOk result (writer.new ≡ writer.old
+        ++ outcome_members (about_view about.now) report.now) }
+{
+    let verdict = Outcome::of(about).name();
+    put_ended(alloc, writer, verdict, about.tally, report, end_of(report))
 }
 
 #[tactic(auto, unfolding(crate::specs::JsonDocument::kind_tokens))]
 fn put_kind(alloc: Global, writer: &mut JsonWriter, counted: Counted) -> Result<(), AllocError>
     ensures { OnOk result (writer.new ≡ writer.old ++ kind_tokens counted) }
 {
-    writer.begin_object()?;
-    writer.put_text("name", counted.kind.name())?;
-    writer.put_text("rule", counted.kind.rule())?;
-    writer.put_number(alloc, "found", i128::from(counted.found))?;
-    writer.put_number(alloc, "occasions", i128::from(counted.occasions))?;
-    writer.end_object()
+    put_parts(
+        alloc,
+        writer,
+        &[
+            Part::BeginObject,
+            Part::Text("name", counted.kind.name()),
+            Part::Text("rule", counted.kind.rule()),
+            Part::Number("found", counted.found),
+            Part::Number("occasions", counted.occasions),
+            Part::EndObject,
+        ],
+    )
 }
 
 #[tactic(auto, unfolding(crate::specs::JsonDocument::kinds_member))]
@@ -167,6 +159,18 @@ fn put_kinds(alloc: Global, writer: &mut JsonWriter, report: &Report) -> Result<
     writer.end_array()
 }
 
+fn put_covered(
+    alloc: Global,
+    writer: &mut JsonWriter,
+    about: &About<'_, '_>,
+    report: &Report,
+) -> Result<(), AllocError>
+    ensures { OnOk result (writer.new ≡ writer.old
+        ++ coverage_member (about_view about.now).rows report.now.coverage) }
+{
+    put_coverage(alloc, writer, about.rows, &report.coverage)
+}
+
 #[tactic(auto, unfolding(crate::specs::JsonDocument::document_tokens))]
 fn put_document(
     alloc: Global,
@@ -177,12 +181,11 @@ fn put_document(
     ensures { OnOk result (writer.new
         ≡ writer.old ++ document_tokens (about_view about.now) report.now) }
 {
-    writer.begin_object()?;
-    put_head(alloc, writer, about)?;
-    put_recording(alloc, writer, report)?;
+    put_compared(alloc, writer, about, report)?;
+    put_outcome(alloc, writer, about, report)?;
     put_findings(alloc, writer, report)?;
     put_kinds(alloc, writer, report)?;
-    put_coverage(alloc, writer, about.rows, &report.coverage)?;
+    put_covered(alloc, writer, about, report)?;
     writer.end_object()
 }
 

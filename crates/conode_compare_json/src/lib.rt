@@ -6,6 +6,7 @@ mod coverage;
 mod document;
 mod junit;
 mod noted;
+mod parts;
 
 pub use document::json_document;
 pub use junit::junit_document;

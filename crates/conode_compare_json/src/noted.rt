@@ -1,16 +1,17 @@
 //! The differences that are listed, in JSON. Each function writes tokens. `Err`: out of memory;
 //! some tokens may be there.
 
-ghost use Rattle.std.specs.Prelude.{◌≡◌, ◌++◌, IfOk, OnOk, string_bytes};
+ghost use Rattle.std.specs.Prelude.{◌≡◌, ◌++◌, OnOk};
 ghost use Rattle.conode_compare_text.specs.FindingTexts.{finding_text};
 ghost use Rattle.conode_compare_json.specs.NotedTokens.{
   context_member,
   context_tokens,
   findings_member,
   noted_tokens,
-  said_members,
+  said_tokens,
 };
 
+use crate::parts::{Part, put_parts};
 use conode_compare_report::{ContextLine, Kind, Noted, Report};
 use conode_compare_text::push_finding;
 use conode_json::JsonWriter;
@@ -24,10 +25,16 @@ fn put_context_line(
 ) -> Result<(), AllocError>
     ensures { OnOk result (writer.new ≡ writer.old ++ context_tokens line.now) }
 {
-    writer.begin_object()?;
-    writer.put_number(alloc, "line", i128::from(line.number))?;
-    writer.put_bytes(alloc, "text", line.bytes.as_slice())?;
-    writer.end_object()
+    put_parts(
+        alloc,
+        writer,
+        &[
+            Part::BeginObject,
+            Part::Number("line", line.number),
+            Part::Bytes("text", Some(line.bytes.as_slice())),
+            Part::EndObject,
+        ],
+    )
 }
 
 #[tactic(auto, unfolding(crate::specs::NotedTokens::context_member))]
@@ -45,23 +52,38 @@ fn put_context(
     writer.end_array()
 }
 
-fn text_of(alloc: Global, noted: &Noted) -> Result<String, AllocError>
-    ensures { IfOk result
-        (λ text. string_bytes text ≡ finding_text noted.now.value_type noted.now.finding) }
+// what was found, in this text: its kind, and what CiA 301 prescribes
+#[tactic(auto, unfolding(crate::specs::NotedTokens::said_tokens))]
+fn put_said(
+    alloc: Global,
+    writer: &mut JsonWriter,
+    noted: &Noted,
+    text: &str,
+) -> Result<(), AllocError>
+    ensures { OnOk result (writer.new ≡ writer.old ++ said_tokens noted.now text.now) }
+{
+    let kind = Kind::of(noted.finding);
+    put_parts(
+        alloc,
+        writer,
+        &[
+            Part::BeginObject,
+            Part::Number("line", noted.line),
+            Part::Number("stamp", noted.micros),
+            Part::Text("kind", kind.name()),
+            Part::Text("text", text),
+            Part::Text("rule", kind.rule()),
+        ],
+    )
+}
+
+fn put_found(alloc: Global, writer: &mut JsonWriter, noted: &Noted) -> Result<(), AllocError>
+    ensures { OnOk result (writer.new ≡ writer.old
+        ++ said_tokens noted.now (finding_text noted.now.value_type noted.now.finding)) }
 {
     let mut text = String::new(alloc);
     push_finding(&mut text, noted.value_type, noted.finding)?;
-    Ok(text)
-}
-
-// what was found: its kind, and what CiA 301 prescribes
-#[tactic(auto, unfolding(crate::specs::NotedTokens::said_members))]
-fn put_said(writer: &mut JsonWriter, kind: Kind, text: &str) -> Result<(), AllocError>
-    ensures { OnOk result (writer.new ≡ writer.old ++ said_members kind text.now) }
-{
-    writer.put_text("kind", kind.name())?;
-    writer.put_text("text", text)?;
-    writer.put_text("rule", kind.rule())
+    put_said(alloc, writer, noted, text.as_str())
 }
 
 #[tactic(auto, unfolding(crate::specs::NotedTokens::noted_tokens))]
@@ -74,11 +96,7 @@ fn put_noted(
     ensures { OnOk result
         (writer.new ≡ writer.old ++ noted_tokens report.now.context noted.now) }
 {
-    let text = text_of(alloc, noted)?;
-    writer.begin_object()?;
-    writer.put_number(alloc, "line", i128::from(noted.line))?;
-    writer.put_number(alloc, "stamp", i128::from(noted.micros))?;
-    put_said(writer, Kind::of(noted.finding), text.as_str())?;
+    put_found(alloc, writer, noted)?;
     put_context(alloc, writer, report.around(noted))?;
     writer.end_object()
 }

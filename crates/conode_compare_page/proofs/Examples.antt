@@ -23,8 +23,8 @@ use Rattle.conode_compare_page.specs.declared.states.Shown.TheVariants.{Nothing,
 use Rattle.conode_compare_page.specs.declared.coverage.Listed.TheVariants.{TransmissionTypes, AbortCodes}
 use Rattle.conode_compare_page.specs.declared.picture.TheConstants.{LEGEND}
 use Rattle.conode_compare_page.specs.declared.coverage.TheConstants.{NO_TYPES, TYPES}
-use Rattle.conode_compare_page.specs.Coverage.{class_of, count_or, entry_end, found_class, is_listed, numbers_text, state_item, transferred_count}
-use Rattle.conode_compare_page.specs.Device.{identity_row, interface_row}
+use Rattle.conode_compare_page.specs.Coverage.{count_or, entry_end, found_begin, is_listed, item_begin, numbers_text, row_begin, state_item, transferred_count}
+use Rattle.conode_compare_page.specs.Device.{any_row, identity_row, recorded_row}
 use Rattle.conode_compare_page.specs.Differences.{context_line, list_end, said}
 use Rattle.conode_compare_page.specs.Head.{headline}
 use Rattle.conode_compare_page.specs.Indexed.{indexed}
@@ -44,9 +44,13 @@ identity_values : identity_row (codes "A") None ∷ identity_row (codes "A") (So
 unfolding digits_text
 identity_values = refl
 
-interfaces : interface_row None ∷ interface_row (Some (codes "c<0")) ∷ [] ≡ [] ∷ codes "<dt>Interface</dt><dd>c&lt;0</dd>\n" ∷ []
+texts : any_row (codes "A") None ∷ any_row (codes "A") (Some (codes "c<0")) ∷ [] ≡ [] ∷ codes "<dt>A</dt><dd>c&lt;0</dd>\n" ∷ []
 unfolding escaped_character characters_of is_utf8 chars lib.Utf8.encode
-interfaces = refl
+texts = refl
+
+recorded : recorded_row (codes "A") None ∷ recorded_row (codes "A") (Some 0x1E240) ∷ [] ≡ [] ∷ codes "<dt>A, as recorded</dt><dd>0001E240h</dd>\n" ∷ []
+unfolding digits_text
+recorded = refl
 
 -- ---- differences
 
@@ -160,8 +164,9 @@ axis = refl
 
 -- ---- what the recording tested
 
-counts : class_of 0 ∷ count_or (codes "none") 0 ∷ found_class 0 ∷ class_of 12 ∷ count_or (codes "none") 12 ∷ found_class 12 ∷ []
-    ≡ codes " class=\"not\"" ∷ codes "none" ∷ [] ∷ [] ∷ codes "12" ∷ codes " found" ∷ []
+counts : item_begin 0 ∷ count_or (codes "none") 0 ∷ row_begin 0 ∷ found_begin 0 ∷ item_begin 12 ∷ count_or (codes "none") 12 ∷ row_begin 12 ∷ found_begin 12 ∷ []
+    ≡ codes "<li class=\"not\">" ∷ codes "none" ∷ codes "<tr class=\"not\"><td>" ∷ codes "</td><td class=\"n\" data-is=\"Found\">"
+    ∷ codes "<li>" ∷ codes "12" ∷ codes "<tr><td>" ∷ codes "</td><td class=\"n found\" data-is=\"Found\">" ∷ []
 unfolding digits
 counts = refl
 
@@ -197,9 +202,9 @@ states_seen = refl
 
 types : numbers_text TransmissionTypes TYPES.now NO_TYPES.now [] ∷ numbers_text TransmissionTypes TYPES.now NO_TYPES.now (record { number = 254; count = 3 } ∷ []) ∷ []
     ≡ NO_TYPES.now ∷ (TYPES.now ++ codes "<li>type 254<b>3</b></li>\n</ul>\n") ∷ []
-unfolding digits
+unfolding numbers_text digits
 types = refl
 
 aborts : numbers_text AbortCodes [] [] (record { number = 0x06020000; count = 2 } ∷ []) ≡ codes "<li><code>06020000h</code><b>2</b></li>\n</ul>\n"
-unfolding digits_text digits
+unfolding numbers_text digits_text digits
 aborts = refl

@@ -22,9 +22,9 @@ use Rattle.conode_compare_page.specs.declared.coverage.TheConstants.{TYPES, NO_T
 use Rattle.conode_compare_page.specs.declared.kinds.TheConstants.{OPENING}
 use Rattle.conode_compare_page.specs.Indexed.{indexed}
 
--- the class of what didn't come
-abbrev pub class_of : ℕ → List ℕ
-class_of count = if count == 0 then codes " class=\"not\"" else []
+-- the beginning of the item of what came so often; of 0 it is soft
+abbrev pub item_begin : ℕ → List ℕ
+item_begin count = if count == 0 then codes "<li class=\"not\">" else codes "<li>"
 
 -- a count, or a word for 0
 abbrev pub count_or : List ℕ → ℕ → List ℕ
@@ -32,17 +32,21 @@ count_or none count = if count == 0 then none else decimal count
 
 -- ---- kinds of differences
 
--- one more class of the cell of a kind that was found
-abbrev pub found_class : ℕ → List ℕ
-found_class count = if count == 0 then [] else codes " found"
+-- the beginning of the row of a kind; of one that couldn't show it is soft
+abbrev pub row_begin : ℕ → List ℕ
+row_begin occasions = if occasions == 0 then codes "<tr class=\"not\"><td>" else codes "<tr><td>"
+
+-- the beginning of the cell of how often it was found; it has a class more if it was
+abbrev pub found_begin : ℕ → List ℕ
+found_begin found =
+    if found == 0 then codes "</td><td class=\"n\" data-is=\"Found\">" else codes "</td><td class=\"n found\" data-is=\"Found\">"
 
 -- the row of a kind: how often it could have shown, and how often it did
 unfoldable pub kind_row : Counted → List ℕ
 kind_row counted = concat (
-    codes "<tr" ∷ class_of counted.occasions ∷ codes "><td>" ∷ kind_name counted.kind ∷ codes "</td><td>" ∷ kind_rule counted.kind
+    row_begin counted.occasions ∷ kind_name counted.kind ∷ codes "</td><td>" ∷ kind_rule counted.kind
     ∷ codes "</td><td class=\"n\" data-is=\"Occasions\">" ∷ count_or (codes "none") counted.occasions
-    ∷ codes "</td><td class=\"n" ∷ found_class counted.found ∷ codes "\" data-is=\"Found\">" ∷ decimal counted.found
-    ∷ codes "</td></tr>\n" ∷ [])
+    ∷ found_begin counted.found ∷ decimal counted.found ∷ codes "</td></tr>\n" ∷ [])
 
 unfoldable pub kinds_table : List Counted → List ℕ
 kinds_table kinds = OPENING.now ++ flat_map kind_row kinds ++ codes "</tbody>\n</table>\n"
@@ -107,16 +111,16 @@ entries_text rows entries =
 
 unfoldable pub service_item : Served → List ℕ
 service_item served = concat (
-    codes "<li" ∷ class_of served.count ∷ codes ">" ∷ service_name served.service ∷ codes "<b>"
-    ∷ count_or (codes "not seen") served.count ∷ codes "</b></li>\n" ∷ [])
+    item_begin served.count ∷ service_name served.service ∷ codes "<b>" ∷ count_or (codes "not seen") served.count
+    ∷ codes "</b></li>\n" ∷ [])
 
 unfoldable pub services_text : List Served → List ℕ
 services_text services = codes "<h3>Services</h3>\n<ul>\n" ++ flat_map service_item services ++ codes "</ul>\n"
 
 unfoldable pub state_item : List ℕ → Bool → List ℕ
 state_item name seen = concat (
-    codes "<li" ∷ (if seen then [] else codes " class=\"not\"") ∷ codes ">" ∷ name ∷ codes "<b>"
-    ∷ (if seen then codes "seen" else codes "not seen") ∷ codes "</b></li>\n" ∷ [])
+    (if seen then codes "<li>" else codes "<li class=\"not\">") ∷ name
+    ∷ (if seen then codes "<b>seen</b></li>\n" else codes "<b>not seen</b></li>\n") ∷ [])
 
 unfoldable pub states_text : States → List ℕ
 states_text states =
@@ -132,19 +136,15 @@ numbered_item AbortCodes numbered = concat (
     codes "<li><code>" ∷ digits_text 16 8 numbered.number ∷ codes "h</code><b>" ∷ decimal numbered.count ∷ codes "</b></li>\n" ∷ [])
 
 -- a list under its head; of no number other words
-abbrev pub numbers_text : Listed → List ℕ → List ℕ → List Numbered → List ℕ
+unfoldable pub numbers_text : Listed → List ℕ → List ℕ → List Numbered → List ℕ
 numbers_text listed head none numbers =
     if length numbers == 0 then none else head ++ flat_map (numbered_item listed) numbers ++ codes "</ul>\n"
 
-unfoldable pub types_text : List Numbered → List ℕ
-types_text types = numbers_text TransmissionTypes TYPES.now NO_TYPES.now types
-
-unfoldable pub aborts_text : List Numbered → List ℕ
-aborts_text aborts = numbers_text AbortCodes ABORTS.now NO_ABORTS.now aborts
-
 unfoldable pub seen_text : CoverageView → List ℕ
 seen_text coverage =
-    services_text coverage.services ++ states_text coverage.states ++ types_text coverage.types ++ aborts_text coverage.aborts
+    services_text coverage.services ++ states_text coverage.states
+    ++ numbers_text TransmissionTypes TYPES.now NO_TYPES.now coverage.types
+    ++ numbers_text AbortCodes ABORTS.now NO_ABORTS.now coverage.aborts
 
 -- ---- all of it
 

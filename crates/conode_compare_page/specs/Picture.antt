@@ -177,15 +177,14 @@ frame_lanes bins =
     frames_lane bins Heartbeats ++ frames_lane bins Emergencies ++ frames_lane bins Transfers
     ++ frames_lane bins Tpdos ++ frames_lane bins Rpdos
 
-unfoldable pub lanes_picture : Kept → List ℕ
-lanes_picture report =
-    differences_lane report.lanes.bins report.lanes report.noted ++ states_lane report.lanes.bins ++ frame_lanes report.lanes.bins
-    ++ axis_text (quarter_of report.lanes)
+unfoldable pub lanes_picture : LanesView → List Noted → List ℕ
+lanes_picture lanes noted =
+    differences_lane lanes.bins lanes noted ++ states_lane lanes.bins ++ frame_lanes lanes.bins ++ axis_text (quarter_of lanes)
 
 -- the lanes, if there is a frame; the end of the section
-abbrev pub any_picture : Kept → List ℕ
-any_picture report =
-    if length report.lanes.bins == 0 then codes "<p>No frame was compared.</p>\n</section>\n" else lanes_picture report
+abbrev pub any_picture : LanesView → List Noted → List ℕ
+any_picture lanes noted =
+    if length lanes.bins == 0 then codes "<p>No frame was compared.</p>\n</section>\n" else lanes_picture lanes noted
 
 unfoldable pub picture : Kept → List ℕ
-picture report = codes "<section>\n<h2>The bus over time</h2>\n" ++ any_picture report
+picture report = codes "<section>\n<h2>The bus over time</h2>\n" ++ any_picture report.lanes report.noted

@@ -2,10 +2,8 @@
 //! a part of it may be there.
 
 ghost use Rattle.std.specs.Prelude.{◌≡◌, ◌++◌, OnOk, string_bytes};
-ghost use Rattle.std.specs.List.{flat_map};
 ghost use Rattle.conode_compare_report.specs.Abouts.{about_view};
 ghost use Rattle.conode_compare_page.specs.Coverage.{
-  aborts_text,
   numbered_item,
   numbers_text,
   seen_text,
@@ -14,7 +12,6 @@ ghost use Rattle.conode_compare_page.specs.Coverage.{
   state_item,
   states_text,
   tested,
-  types_text,
 };
 
 use crate::entries::push_entries;
@@ -49,9 +46,7 @@ fn push_service(alloc: Global, text: &mut String, served: &Served) -> Result<(),
         alloc,
         text,
         &[
-            Piece::Markup("<li"),
-            Piece::Markup(either(served.count == 0, " class=\"not\"", "")),
-            Piece::Markup(">"),
+            Piece::Markup(either(served.count == 0, "<li class=\"not\">", "<li>")),
             Piece::Markup(served.service.name()),
             Piece::Markup("<b>"),
             Piece::Count(served.count, "not seen"),
@@ -60,27 +55,15 @@ fn push_service(alloc: Global, text: &mut String, served: &Served) -> Result<(),
     )
 }
 
-fn push_service_items(
-    alloc: Global,
-    text: &mut String,
-    services: &[Served],
-) -> Result<(), AllocError>
-    ensures { OnOk result (string_bytes text.new
-        ≡ string_bytes text.old ++ flat_map service_item services.now) }
-{
-    for served in services {
-        push_service(alloc, text, served)?;
-    }
-    Ok(())
-}
-
 #[tactic(auto, unfolding(crate::specs::Coverage::services_text))]
 fn push_services(alloc: Global, text: &mut String, services: &[Served]) -> Result<(), AllocError>
     ensures { OnOk result (string_bytes text.new
         ≡ string_bytes text.old ++ services_text services.now) }
 {
     text.push_str("<h3>Services</h3>\n<ul>\n")?;
-    push_service_items(alloc, text, services)?;
+    for served in services {
+        push_service(alloc, text, served)?;
+    }
     text.push_str("</ul>\n")
 }
 
@@ -93,13 +76,9 @@ fn push_state(alloc: Global, text: &mut String, name: &str, seen: bool) -> Resul
         alloc,
         text,
         &[
-            Piece::Markup("<li"),
-            Piece::Markup(either(seen, "", " class=\"not\"")),
-            Piece::Markup(">"),
+            Piece::Markup(either(seen, "<li>", "<li class=\"not\">")),
             Piece::Markup(name),
-            Piece::Markup("<b>"),
-            Piece::Markup(either(seen, "seen", "not seen")),
-            Piece::Markup("</b></li>\n"),
+            Piece::Markup(either(seen, "<b>seen</b></li>\n", "<b>not seen</b></li>\n")),
         ],
     )
 }
@@ -131,7 +110,7 @@ fn push_numbered(
             text,
             &[
                 Piece::Markup("<li>type "),
-                Piece::Number(u64::from(numbered.number)),
+                Piece::Number(numbered.number as u64),
                 Piece::Markup("<b>"),
                 Piece::Number(numbered.count),
                 Piece::Markup("</b></li>\n"),
@@ -152,6 +131,7 @@ fn push_numbered(
 }
 
 // a list under its head; of no number other words
+#[tactic(auto, unfolding(crate::specs::Coverage::numbers_text))]
 fn push_numbers(
     alloc: Global,
     text: &mut String,
@@ -173,29 +153,6 @@ fn push_numbers(
     text.push_str("</ul>\n")
 }
 
-#[tactic(auto, unfolding(crate::specs::Coverage::types_text))]
-fn push_types(alloc: Global, text: &mut String, types: &[Numbered]) -> Result<(), AllocError>
-    ensures { OnOk result
-        (string_bytes text.new ≡ string_bytes text.old ++ types_text types.now) }
-{
-    push_numbers(
-        alloc,
-        text,
-        Listed::TransmissionTypes,
-        TYPES,
-        NO_TYPES,
-        types,
-    )
-}
-
-#[tactic(auto, unfolding(crate::specs::Coverage::aborts_text))]
-fn push_aborts(alloc: Global, text: &mut String, aborts: &[Numbered]) -> Result<(), AllocError>
-    ensures { OnOk result
-        (string_bytes text.new ≡ string_bytes text.old ++ aborts_text aborts.now) }
-{
-    push_numbers(alloc, text, Listed::AbortCodes, ABORTS, NO_ABORTS, aborts)
-}
-
 #[tactic(auto, unfolding(crate::specs::Coverage::seen_text))]
 fn push_seen(alloc: Global, text: &mut String, coverage: &Coverage) -> Result<(), AllocError>
     ensures { OnOk result
@@ -203,8 +160,17 @@ fn push_seen(alloc: Global, text: &mut String, coverage: &Coverage) -> Result<()
 {
     push_services(alloc, text, coverage.services.as_slice())?;
     push_states(alloc, text, coverage.states)?;
-    push_types(alloc, text, coverage.types.as_slice())?;
-    push_aborts(alloc, text, coverage.aborts.as_slice())
+    let types = coverage.types.as_slice();
+    push_numbers(
+        alloc,
+        text,
+        Listed::TransmissionTypes,
+        TYPES,
+        NO_TYPES,
+        types,
+    )?;
+    let aborts = coverage.aborts.as_slice();
+    push_numbers(alloc, text, Listed::AbortCodes, ABORTS, NO_ABORTS, aborts)
 }
 
 /// Appends what the recording tested, without the end of the section.

@@ -5,16 +5,18 @@ ghost use Rattle.std.specs.Prelude.{◌≡◌, ◌++◌, OnOk, string_bytes};
 ghost use Rattle.std.specs.Option.{option_copied};
 ghost use Rattle.conode_compare_report.specs.Abouts.{about_view};
 ghost use Rattle.conode_compare_page.specs.Device.{
+  any_row,
   compared_rows,
   device,
   foot,
   identity,
   identity_row,
-  interface_row,
+  names,
+  recorded_row,
   stamps_row,
 };
 
-use conode_compare_report::{About, Report};
+use conode_compare_report::{About, Identity, Report};
 use conode_markup::{Piece, push_pieces};
 use std::alloc::{AllocError, Global};
 
@@ -57,37 +59,83 @@ fn push_identity_row(
     }
 }
 
-#[tactic(auto, unfolding(crate::specs::Device::identity))]
-fn push_identity(alloc: Global, text: &mut String, about: &About<'_, '_>) -> Result<(), AllocError>
-    ensures { OnOk result (string_bytes text.new
-        ≡ string_bytes text.old ++ identity (about_view about.now)) }
-{
-    text.push_str("<section>\n<h2>Device</h2>\n<dl>\n")?;
-    push_identity_row(alloc, text, "Vendor-ID", about.vendor)?;
-    push_identity_row(alloc, text, "Product code", about.product)?;
-    push_identity_row(alloc, text, "Revision number", about.revision)
-}
-
-fn push_interface(
+// a text from outside with its name, if there is one
+fn push_any<'t>(
     alloc: Global,
     text: &mut String,
-    interface: Option<&[u8]>,
+    name: &'t str,
+    value: Option<&'t [u8]>,
 ) -> Result<(), AllocError>
     ensures { OnOk result (string_bytes text.new
-        ≡ string_bytes text.old ++ interface_row (option_copied interface.entry)) }
+        ≡ string_bytes text.old ++ any_row name.now (option_copied value.entry)) }
 {
-    match interface {
+    match value {
         None => Ok(()),
-        Some(name) => push_pieces(
+        Some(value) => push_pieces(
             alloc,
             text,
             &[
-                Piece::Markup("<dt>Interface</dt><dd>"),
-                Piece::Text(name),
+                Piece::Markup("<dt>"),
+                Piece::Markup(name),
+                Piece::Markup("</dt><dd>"),
+                Piece::Text(value),
                 Piece::Markup("</dd>\n"),
             ],
         ),
     }
+}
+
+// a number that the recording shows, with its name, if it shows one
+fn push_recorded(
+    alloc: Global,
+    text: &mut String,
+    name: &str,
+    value: Option<u64>,
+) -> Result<(), AllocError>
+    ensures { OnOk result (string_bytes text.new
+        ≡ string_bytes text.old ++ recorded_row name.now value) }
+{
+    match value {
+        None => Ok(()),
+        Some(number) => push_pieces(
+            alloc,
+            text,
+            &[
+                Piece::Markup("<dt>"),
+                Piece::Markup(name),
+                Piece::Markup(", as recorded</dt><dd>"),
+                Piece::Code((number % 0x1_0000_0000) as u32),
+                Piece::Markup("h</dd>\n"),
+            ],
+        ),
+    }
+}
+
+#[tactic(auto, unfolding(crate::specs::Device::names))]
+fn push_names(alloc: Global, text: &mut String, about: &About<'_, '_>) -> Result<(), AllocError>
+    ensures { OnOk result (string_bytes text.new
+        ≡ string_bytes text.old ++ names (about_view about.now)) }
+{
+    text.push_str("<section>\n<h2>Device</h2>\n<dl>\n")?;
+    push_any(alloc, text, "Vendor", about.names.vendor)?;
+    push_any(alloc, text, "Product", about.names.product)
+}
+
+#[tactic(auto, unfolding(crate::specs::Device::identity))]
+fn push_identity(
+    alloc: Global,
+    text: &mut String,
+    about: &About<'_, '_>,
+    shown: Identity,
+) -> Result<(), AllocError>
+    ensures { OnOk result (string_bytes text.new
+        ≡ string_bytes text.old ++ identity (about_view about.now) shown) }
+{
+    push_identity_row(alloc, text, "Vendor-ID", about.vendor)?;
+    push_identity_row(alloc, text, "Product code", about.product)?;
+    push_identity_row(alloc, text, "Revision number", about.revision)?;
+    push_recorded(alloc, text, "Revision number", shown.revision)?;
+    push_recorded(alloc, text, "Serial number", shown.serial)
 }
 
 // the stamps, if there is a frame, and the end of the section
@@ -156,7 +204,8 @@ pub(crate) fn push_device(
     ensures { OnOk result (string_bytes text.new
         ≡ string_bytes text.old ++ device (about_view about.now) report.now) }
 {
-    push_identity(alloc, text, about)?;
+    push_names(alloc, text, about)?;
+    push_identity(alloc, text, about, report.coverage.identity)?;
     push_compared(
         alloc,
         text,
@@ -165,7 +214,7 @@ pub(crate) fn push_device(
         report.lines,
         report.bad_lines,
     )?;
-    push_interface(alloc, text, about.interface)?;
+    push_any(alloc, text, "Interface", about.interface)?;
     push_stamps(alloc, text, report)
 }
 

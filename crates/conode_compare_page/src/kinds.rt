@@ -2,7 +2,6 @@
 //! memory; a part of it may be there.
 
 ghost use Rattle.std.specs.Prelude.{◌≡◌, ◌++◌, OnOk, string_bytes};
-ghost use Rattle.std.specs.List.{flat_map};
 ghost use Rattle.conode_compare_page.specs.Coverage.{kind_row, kinds_table};
 
 use crate::words::either;
@@ -30,31 +29,21 @@ fn push_kind(alloc: Global, text: &mut String, counted: &Counted) -> Result<(), 
         alloc,
         text,
         &[
-            Piece::Markup("<tr"),
-            Piece::Markup(either(counted.occasions == 0, " class=\"not\"", "")),
-            Piece::Markup("><td>"),
+            Piece::Markup(either(counted.occasions == 0, "<tr class=\"not\"><td>", "<tr><td>")),
             Piece::Markup(counted.kind.name()),
             Piece::Markup("</td><td>"),
             Piece::Markup(counted.kind.rule()),
             Piece::Markup("</td><td class=\"n\" data-is=\"Occasions\">"),
             Piece::Count(counted.occasions, "none"),
-            Piece::Markup("</td><td class=\"n"),
-            Piece::Markup(either(counted.found == 0, "", " found")),
-            Piece::Markup("\" data-is=\"Found\">"),
+            Piece::Markup(either(
+                counted.found == 0,
+                "</td><td class=\"n\" data-is=\"Found\">",
+                "</td><td class=\"n found\" data-is=\"Found\">",
+            )),
             Piece::Number(counted.found),
             Piece::Markup("</td></tr>\n"),
         ],
     )
-}
-
-fn push_rows(alloc: Global, text: &mut String, kinds: &[Counted]) -> Result<(), AllocError>
-    ensures { OnOk result (string_bytes text.new
-        ≡ string_bytes text.old ++ flat_map kind_row kinds.now) }
-{
-    for counted in kinds {
-        push_kind(alloc, text, counted)?;
-    }
-    Ok(())
 }
 
 /// Begins the section, and appends the table of the kinds.
@@ -68,6 +57,8 @@ pub(crate) fn push_kinds(
         (string_bytes text.new ≡ string_bytes text.old ++ kinds_table kinds.now) }
 {
     text.push_str(OPENING)?;
-    push_rows(alloc, text, kinds)?;
+    for counted in kinds {
+        push_kind(alloc, text, counted)?;
+    }
     text.push_str("</tbody>\n</table>\n")
 }

@@ -210,25 +210,35 @@ fn push_frame_lanes(alloc: Global, text: &mut String, bins: &[Bin]) -> Result<()
 }
 
 #[tactic(auto, unfolding(crate::specs::Picture::lanes_picture))]
-fn push_lanes(alloc: Global, text: &mut String, report: &Report) -> Result<(), AllocError>
+fn push_lanes(
+    alloc: Global,
+    text: &mut String,
+    lanes: &Lanes,
+    noted: &[Noted],
+) -> Result<(), AllocError>
     ensures { OnOk result (string_bytes text.new
-        ≡ string_bytes text.old ++ lanes_picture report.now) }
+        ≡ string_bytes text.old ++ lanes_picture lanes.now noted.now) }
 {
-    let bins = report.lanes.bins.as_slice();
-    push_differences_lane(alloc, text, bins, &report.lanes, report.noted.as_slice())?;
+    let bins = lanes.bins.as_slice();
+    push_differences_lane(alloc, text, bins, lanes, noted)?;
     push_states(alloc, text, bins)?;
     push_frame_lanes(alloc, text, bins)?;
-    push_axis(alloc, text, quarter_of(&report.lanes))
+    push_axis(alloc, text, quarter_of(lanes))
 }
 
-fn push_any(alloc: Global, text: &mut String, report: &Report) -> Result<(), AllocError>
+fn push_any(
+    alloc: Global,
+    text: &mut String,
+    lanes: &Lanes,
+    report: &Report,
+) -> Result<(), AllocError>
     ensures { OnOk result (string_bytes text.new
-        ≡ string_bytes text.old ++ any_picture report.now) }
+        ≡ string_bytes text.old ++ any_picture lanes.now report.now.noted) }
 {
-    if report.lanes.bins.is_empty() {
+    if lanes.bins.is_empty() {
         text.push_str("<p>No frame was compared.</p>\n</section>\n")
     } else {
-        push_lanes(alloc, text, report)
+        push_lanes(alloc, text, lanes, report.noted.as_slice())
     }
 }
 
@@ -242,5 +252,5 @@ pub(crate) fn push_picture(
     ensures { OnOk result (string_bytes text.new ≡ string_bytes text.old ++ picture report.now) }
 {
     text.push_str("<section>\n<h2>The bus over time</h2>\n")?;
-    push_any(alloc, text, report)
+    push_any(alloc, text, report.lanes(), report)
 }

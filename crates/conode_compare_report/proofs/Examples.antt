@@ -43,10 +43,12 @@ use Rattle.conode_compare_report.specs.Befores.{role_of, rpdos_of}
 use Rattle.conode_compare_report.specs.Contexts.{KeptLine, around}
 use Rattle.conode_compare_report.specs.Counts.{numbered_with}
 use Rattle.conode_compare_report.specs.Coverages.{CoverageView, coverage_with, lane_of, no_coverage, no_services, service_of, services_with, transfers_with}
+use Rattle.conode_compare_report.specs.Identities.{no_identity}
 use Rattle.conode_compare_report.specs.Kinds.{kind_number}
 use Rattle.conode_compare_report.specs.Occasions.{answer_passed, command_passed, control_passed, counts_found, counts_passed, emergency_passed, ended_passed, frame_passed, no_counts, side_passed, tpdo_passed, upload_passed}
 use Rattle.conode_compare_report.specs.Reports.{nothing_kept, with_bad_line, with_finding, with_frame, with_line}
 use Rattle.conode_compare_report.specs.Services.{service_number}
+use Rattle.conode_compare_report.specs.SheetNames.{info_in}
 use Rattle.conode_compare_report.specs.Spans.{LanesView, bin_with, both_bins, empty_bin, joined, lanes_with, no_lanes, no_states, widened}
 use Rattle.conode_compare_report.specs.Views.{Kept}
 use Rattle.conode_compare_report.specs.Widths.{Seen, spans_of}
@@ -463,6 +465,20 @@ aborts_counted : (covered (ended 0x2001 Download Expedited refused ∷ ended 0x2
 unfolding transfers_with numbered_with no_coverage
 aborts_counted = refl
 
+-- 1018:03 and 04, as the newest upload of four bytes shows them; one of another length, a download and a refusal show nothing
+abbrev of_identity : ℕ → List ℕ → Ended
+of_identity sub bytes = record (ended 0x1018 Upload Expedited done) { key = record { index = 0x1018; sub = sub }; bytes = length bytes; first = record { items = bytes } }
+
+identity_shown : (covered (of_identity 3 (1 ∷ 0 ∷ 2 ∷ 0 ∷ []) ∷ of_identity 4 (0x40 ∷ 0xE2 ∷ 1 ∷ 0 ∷ []) ∷ of_identity 1 (7 ∷ 0 ∷ 0 ∷ 0 ∷ []) ∷ of_identity 3 (9 ∷ 0 ∷ 0 ∷ 0 ∷ []) ∷ [])).identity
+    ≡ record { revision = Some 0x20001; serial = Some 123456 }
+unfolding transfers_with numbered_with no_coverage
+identity_shown = refl
+
+identity_not_shown : map (λ e. (covered (e ∷ [])).identity) (of_identity 4 (1 ∷ 2 ∷ []) ∷ record (of_identity 4 (1 ∷ 2 ∷ 3 ∷ 4 ∷ [])) { direction = Download } ∷ record (of_identity 4 (1 ∷ 2 ∷ 3 ∷ 4 ∷ [])) { ending = refused } ∷ record (of_identity 4 (1 ∷ 2 ∷ 3 ∷ 4 ∷ [])) { key = record { index = 0x1019; sub = 4 } } ∷ [])
+    ≡ no_identity ∷ no_identity ∷ no_identity ∷ no_identity ∷ []
+unfolding transfers_with numbered_with no_coverage
+identity_not_shown = refl
+
 no_room_for_more : numbered_with 1 9 (record { number = 8; count = 1 } ∷ []) ≡ record { number = 8; count = 1 } ∷ []
 unfolding numbered_with
 no_room_for_more = refl
@@ -487,3 +503,14 @@ frame_is_covered = refl
 frame_in_its_lane : one_frame.lanes ≡ record { begin = 9000; width = 1000; bins = record one_beat { differences = 0 } ∷ [] }
 unfolding with_frame lanes_with widened bin_with nothing_kept lane_of
 frame_in_its_lane = refl
+
+-- ---- names in the sheet
+
+-- in any case of their letters, without blanks, the first; only in the section DeviceInfo, and with a value
+abbrev sheet : List ℕ
+sheet =
+    codes "[FileInfo]\nVendorName=a\n[ deviceinfo ]\n;VendorName=b\nVendorName=\nvendorname = <A&B> \nVendorName=c\n[1018]\nProductName=d\n"
+
+names_in_sheet : info_in (codes "VendorName") sheet ∷ info_in (codes "ProductName") sheet ∷ info_in (codes "VendorName") (0xEF ∷ 0xBB ∷ 0xBF ∷ codes "[DeviceInfo]\r\nVendorName=e\r\n") ∷ []
+    ≡ Some (codes "<A&B>") ∷ None ∷ Some (codes "e") ∷ []
+names_in_sheet = refl

@@ -15,6 +15,8 @@ pub record Described : Type 0 where
   pub node : ℕ
   pub limits : Limits
   pub rows : List Row
+  pub vendor_name : Option (List ℕ)
+  pub product_name : Option (List ℕ)
   pub vendor : Option ℕ
   pub product : Option ℕ
   pub revision : Option ℕ
@@ -30,6 +32,8 @@ about_view about = record {
   node = about.node;
   limits = about.limits;
   rows = map row_view about.rows.now;
+  vendor_name = option_copied about.names.vendor;
+  product_name = option_copied about.names.product;
   vendor = about.vendor;
   product = about.product;
   revision = about.revision;

@@ -20,6 +20,7 @@ use Rattle.conode_compare_report.specs.declared.before.Role.{Role}
 use Rattle.conode_compare_report.specs.declared.before.Role.TheVariants.{Sync as SyncRole, Time as TimeRole, Tpdo, Rpdo, Other}
 use Rattle.conode_compare_report.specs.declared.coverage.Covered.{Covered}
 use Rattle.conode_compare_report.specs.declared.coverage.Numbered.{Numbered}
+use Rattle.conode_compare_report.specs.declared.identity.Identity.{Identity}
 use Rattle.conode_compare_report.specs.declared.lanes.Lane.{Lane}
 use Rattle.conode_compare_report.specs.declared.lanes.Lane.TheVariants.{Heartbeats, Emergencies, Transfers, Tpdos, Rpdos}
 use Rattle.conode_compare_report.specs.declared.lanes.States.{States}
@@ -27,6 +28,7 @@ use Rattle.conode_compare_report.specs.declared.service.Served.{Served}
 use Rattle.conode_compare_report.specs.declared.service.Service.{Service}
 use Rattle.conode_compare_report.specs.declared.service.Service.TheVariants.{Start, Stop, EnterPreOperational, ResetNode, ResetCommunication, BootUp, Heartbeat, NodeGuarding, Emergency, Sync, Time, ExpeditedUpload, SegmentedUpload, BlockUpload, ExpeditedDownload, SegmentedDownload, BlockDownload, Tpdo1, Tpdo2, Tpdo3, Tpdo4, Rpdo1, Rpdo2, Rpdo3, Rpdo4}
 use Rattle.conode_compare_report.specs.Counts.{changed_at, numbered_with, one_more}
+use Rattle.conode_compare_report.specs.Identities.{identity_with, no_identity}
 use Rattle.conode_compare_report.specs.Services.{service_number}
 use Rattle.conode_compare_report.specs.Spans.{no_states, states_with}
 
@@ -36,6 +38,7 @@ pub record CoverageView : Type 0 where
   pub states : States
   pub types : List Numbered
   pub aborts : List Numbered
+  pub identity : Identity
 
 -- ---- services
 
@@ -185,6 +188,7 @@ transfers_with rows None coverage = coverage
 transfers_with rows (Some ended) coverage = record coverage {
   entries = entries_with rows ended coverage.entries;
   aborts = aborts_with ended.ending coverage.aborts;
+  identity = identity_with ended coverage.identity;
 }
 
 -- a frame, after which a state is known
@@ -202,4 +206,5 @@ no_coverage rows = record {
   states = no_states;
   types = [];
   aborts = [];
+  identity = no_identity;
 }

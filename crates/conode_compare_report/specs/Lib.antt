@@ -4,11 +4,13 @@ pub mod Contexts
 pub mod Counts
 pub mod Coverages
 pub mod Histories
+pub mod Identities
 pub mod Kinds
 pub mod Occasions
 pub mod Outcomes
 pub mod Reports
 pub mod Services
+pub mod SheetNames
 pub mod Spans
 pub mod Views
 pub mod Widths

@@ -1,5 +1,6 @@
 //! What a document says of the comparison itself.
 
+use crate::names::SheetNames;
 use co_sheet::EntryRow;
 use conode_compare_rules::Limits;
 use conode_compare_text::Tally;
@@ -21,6 +22,8 @@ pub struct About<'s, 'a> {
     pub limits: Limits,
     /// The entries of the data sheet, in increasing key.
     pub rows: &'s [EntryRow<'a>],
+    /// The names that the data sheet has of its vendor and its product.
+    pub names: SheetNames<'s>,
     /// The vendor-ID, the product code and the revision number of the sheet: 1018:01, 02 and 03.
     pub vendor: Option<u64>,
     pub product: Option<u64>,

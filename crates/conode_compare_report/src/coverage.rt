@@ -20,6 +20,7 @@ ghost use Rattle.conode_compare_report.specs.Occasions.{ended_in};
 
 use crate::before::Role;
 use crate::counts::count_number;
+use crate::identity::Identity;
 use crate::lanes::States;
 use crate::service::{Served, count_service, no_services, service_of};
 use co_sheet::EntryRow;
@@ -62,6 +63,8 @@ pub struct Coverage {
     pub types: Vec<Numbered>,
     /// The abort codes of its transfers, in the order in which they came first: at most 64.
     pub aborts: Vec<Numbered>,
+    /// What it showed of its identity.
+    pub identity: Identity,
 }
 
 impl Model for Coverage {
@@ -75,6 +78,7 @@ impl Model for Coverage {
       states = coverage.states;
       types = coverage.types.items;
       aborts = coverage.aborts.items;
+      identity = coverage.identity;
     } };
 }
 
@@ -180,6 +184,7 @@ impl Coverage {
             states: States::none(),
             types: Vec::new(alloc),
             aborts: Vec::new(alloc),
+            identity: Identity::none(),
         })
     }
 
@@ -198,6 +203,7 @@ impl Coverage {
             return Ok(());
         };
         note_entry(&mut self.entries, rows, ended);
+        self.identity.note(ended);
         count_abort(&mut self.aborts, ended.ending)
     }
 

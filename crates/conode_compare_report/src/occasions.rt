@@ -289,7 +289,8 @@ fn pass_side(
     }
 }
 
-fn is_done(ending: Ending) -> bool
+/// Whether a transfer was confirmed.
+pub(crate) fn is_done(ending: Ending) -> bool
     ensures { result ≡ is_done ending }
 {
     matches!(ending, Ending::Done { crc: _ })

@@ -7,4 +7,4 @@ pub returns : goal.returns
 unfolding failed_markup
 returns c =
     three c.push_words.result _ _ _ _ _ _ _ (rw (c.name.ensures, c.differences_word-word.ensures, c.as_bytes-rule.ensures.value, c.rule.ensures) at c.in_ok-push_failure.ensures)
-    (rw (c.as_slice.ensures.value, c.in_ok-own.ensures) at c.in_ok-push_first_lines.ensures) c.push_words.ensures
+    c.in_ok-push_own_lines.ensures c.push_words.ensures
