@@ -27,7 +27,7 @@ use Rattle.co_sheet.proofs.TwiceLemmas.{AllBelow, AllAbove, above, seen-before}
 use Rattle.co_sheet.proofs.KeyLemmas.{listings-rise}
 use Rattle.co_sheet_faults.specs.Soundness.{unless, is_found, is_unread_at, unread_in_lists, are_lists_at_fault}
 use Rattle.co_sheet_faults.specs.AllChecks.{all_missing_mandatory}
-use Rattle.co_sheet_faults.specs.private.Collected.{listing_collected, section_collected, compact_pdo, collected}
+use Rattle.co_sheet_faults.specs.private.Collected.{collected_after, listing_collected, section_collected, compact_pdo, collected}
 use Rattle.co_sheet_faults.specs.private.ListParts.{is_list_at_fault, is_listing_at_fault, is_named, lacks_mandatory}
 
 -- ---- whether anything is found
@@ -280,31 +280,26 @@ not-not : (b : Bool) → not (not b) ≡ b
 not-not true = refl
 not-not false = refl
 
-five-append : (f a b c d e : List SheetFault) → ((((f ++ a) ++ b) ++ c) ++ d) ++ e ≡ f ++ (a ++ (b ++ (c ++ (d ++ e))))
-five-append f a b c d e =
-    append_assoc (((f ++ a) ++ b) ++ c) d e ∙ append_assoc ((f ++ a) ++ b) c (d ++ e) ∙ append_assoc (f ++ a) b (c ++ (d ++ e)) ∙ append_assoc f a (b ++ (c ++ (d ++ e)))
+three-append : (f a b c : List SheetFault) → ((f ++ a) ++ b) ++ c ≡ f ++ (a ++ (b ++ c))
+three-append f a b c = append_assoc (f ++ a) b c ∙ append_assoc f a (b ++ c)
 
--- step by step, over sections and the same as tables have them
-pub collected-all : (ss ts : List TextSection) (items : List ListingOfCode) (f f1 f2 f3 f4 f5 : List SheetFault) (has are again missing : Bool)
-    → has ≡ not (is_none (section_at MandatoryObjects ss)) → are ≡ list_any is_list_at_fault ss → ts ≡ ss → again ≡ list_any (is_listing_at_fault ts) (listings ts)
-    → map listing_view items ≡ listings ts → missing ≡ (has && not are && not again && lacks_mandatory items)
-    → f1 ≡ f ++ fault_if (not has) MissingSection 0 → f2 ≡ f1 ++ flat_map section_collected ss → f3 ≡ f2 ++ compact_pdo ss
-    → f4 ≡ f3 ++ flat_map (listing_collected ts) (listings ts) → f5 ≡ f4 ++ fault_if missing MissingMandatory 0
-    → f5 ≡ f ++ collected ss
-collected-all ss ts items f f1 f2 f3 f4 f5 has are again missing has-is are-is same again-is named-is missing-is e1 e2 e3 e4 e5 =
+-- step by step
+pub collected-all : (ss : List TextSection) (items : List ListingOfCode) (f f1 f2 f3 : List SheetFault) (has are : Bool)
+    → has ≡ not (is_none (section_at MandatoryObjects ss)) → are ≡ list_any is_list_at_fault ss → map listing_view items ≡ listings ss
+    → f1 ≡ f ++ fault_if (not has) MissingSection 0 → f2 ≡ f1 ++ flat_map section_collected ss → f3 ≡ f2 ++ collected_after has are items ss
+    → f3 ≡ f ++ collected ss
+collected-all ss items f f1 f2 f3 has are has-is are-is named-is e1 e2 e3 =
     let none = is_none (section_at MandatoryObjects ss) in
     let lists = list_any is_list_at_fault ss in
     let twice = list_any (is_listing_at_fault ss) (listings ss) in
     let lacks = lacks_mandatory items in
-    let again-here : again ≡ twice = again-is ∙ ap (λ t. list_any (is_listing_at_fault t) (listings t)) same in
-    let named-here : map listing_view items ≡ listings ss = named-is ∙ ap listings same in
-    let missing-here : missing ≡ (not none && not lists && not twice && lacks) =
-    missing-is ∙ ap (λ b. b && not are && not again && lacks) has-is ∙ ap (λ b. not none && not b && not again && lacks) are-is ∙ ap (λ b. not none && not lists && not b && lacks) again-here in
+    let objects = flat_map (listing_collected ss) (listings ss) in
+    let missing : (has && not are && not twice && lacks) ≡ (not none && not lists && not twice && lacks) =
+    ap (λ b. b && not are && not twice && lacks) has-is ∙ ap (λ b. not none && not b && not twice && lacks) are-is in
     let first : fault_if (not has) MissingSection 0 ≡ missing_lists ss = ap (λ b. fault_if (not b) MissingSection 0) has-is ∙ ap (λ b. fault_if b MissingSection 0) (not-not none) in
-    let last : fault_if missing MissingMandatory 0 ≡ all_missing_mandatory ss = ap (λ b. fault_if b MissingMandatory 0) missing-here ∙ sym (mandatory-found ss items named-here) in
-    let listed : flat_map (listing_collected ts) (listings ts) ≡ flat_map (listing_collected ss) (listings ss) = ap (λ t. flat_map (listing_collected t) (listings t)) same in
-    e5 ∙ ap (λ l. l ++ fault_if missing MissingMandatory 0) (e4 ∙ ap (λ l. l ++ flat_map (listing_collected ts) (listings ts)) (e3 ∙ ap (λ l. l ++ compact_pdo ss) (e2 ∙ ap (λ l. l ++ flat_map section_collected ss) e1)))
-    ∙ ap (λ l. ((((f ++ l) ++ flat_map section_collected ss) ++ compact_pdo ss) ++ flat_map (listing_collected ts) (listings ts)) ++ fault_if missing MissingMandatory 0) first
-    ∙ ap (λ l. ((((f ++ missing_lists ss) ++ flat_map section_collected ss) ++ compact_pdo ss) ++ l) ++ fault_if missing MissingMandatory 0) listed
-    ∙ ap (λ l. ((((f ++ missing_lists ss) ++ flat_map section_collected ss) ++ compact_pdo ss) ++ flat_map (listing_collected ss) (listings ss)) ++ l) last
-    ∙ five-append f (missing_lists ss) (flat_map section_collected ss) (compact_pdo ss) (flat_map (listing_collected ss) (listings ss)) (all_missing_mandatory ss)
+    let last : fault_if (has && not are && not twice && lacks) MissingMandatory 0 ≡ all_missing_mandatory ss =
+    ap (λ b. fault_if b MissingMandatory 0) missing ∙ sym (mandatory-found ss items named-is) in
+    e3 ∙ ap (λ l. l ++ collected_after has are items ss) (e2 ∙ ap (λ l. l ++ flat_map section_collected ss) e1)
+    ∙ ap (λ l. ((f ++ l) ++ flat_map section_collected ss) ++ collected_after has are items ss) first
+    ∙ ap (λ l. ((f ++ missing_lists ss) ++ flat_map section_collected ss) ++ (compact_pdo ss ++ (objects ++ l))) last
+    ∙ three-append f (missing_lists ss) (flat_map section_collected ss) (compact_pdo ss ++ (objects ++ all_missing_mandatory ss))

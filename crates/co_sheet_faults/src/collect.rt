@@ -5,12 +5,14 @@ ghost use Rattle.co_sheet_text.specs.declared.section_kind.SectionKind.TheVarian
 ghost use Rattle.co_sheet_text.specs.Sections.{section_at};
 ghost use Rattle.co_sheet_text.specs.Views.{section_view};
 ghost use Rattle.co_sheet_text.specs.SectionLaws.{IsParsed};
-ghost use Rattle.co_sheet_faults.specs.private.Collected.{compact_pdo, collected};
+ghost use Rattle.co_sheet.specs.ObjectLists.{listings};
+ghost use Rattle.co_sheet.specs.Listings.{listing_view};
+ghost use Rattle.co_sheet_faults.specs.private.Collected.{compact_pdo, collected, collected_after};
 ghost use Rattle.co_sheet_faults.specs.private.ListParts.{is_named, lacks_mandatory};
 
 use crate::faults::{add_compact_form, add_if};
 use crate::lists::{add_listings, add_sections};
-use co_sheet::{FaultKind, Listing, SheetFault, Tables, section_at};
+use co_sheet::{FaultKind, Listing, SheetFault, section_at};
 use co_sheet_text::{SectionKind, TextSection};
 use std::alloc::{AllocError, Global};
 
@@ -60,6 +62,27 @@ fn is_mandatory_missing(
     has_lists && !are_lists_bad && !is_listing_bad && lacks_mandatory(named)
 }
 
+// adds what the checks find after the lists on their own: a compact form of PDOs, what is at fault
+// in what the lists name, and what they lack
+fn add_after_lists(
+    alloc: Global,
+    faults: &mut Vec<SheetFault>,
+    sections: &[TextSection],
+    named: &[Listing],
+    has_lists: bool,
+    are_lists_bad: bool,
+) -> Result<(), AllocError>
+    requires named { map listing_view named.now ≡ listings (map section_view sections.now) }
+    requires parsed { IsParsed (map section_view sections.now) }
+    ensures { OnOk result (faults.new.items ≡ faults.old.items
+        ++ collected_after has_lists are_lists_bad named.now (map section_view sections.now)) }
+{
+    add_compact_pdo(faults, sections)?;
+    let is_listing_bad = add_listings(alloc, faults, sections, named)?;
+    let is_missing = is_mandatory_missing(has_lists, are_lists_bad, is_listing_bad, named);
+    add_if(faults, is_missing, FaultKind::MissingMandatory, 0)
+}
+
 /// Adds what the checks find, section by section and listing by listing (CiA 306, object lists,
 /// object description).
 pub(crate) fn collect(
@@ -75,10 +98,6 @@ pub(crate) fn collect(
     add_if(faults, !has_lists, FaultKind::MissingSection, 0)?;
     let mut named = Vec::new(alloc);
     let are_lists_bad = add_sections(faults, &mut named, sections)?;
-    add_compact_pdo(faults, sections)?;
-    let tables = Tables::new(alloc, sections)?;
-    let is_listing_bad = add_listings(alloc, faults, &tables, named.as_slice())?;
     let named = named.as_slice();
-    let is_missing = is_mandatory_missing(has_lists, are_lists_bad, is_listing_bad, named);
-    add_if(faults, is_missing, FaultKind::MissingMandatory, 0)
+    add_after_lists(alloc, faults, sections, named, has_lists, are_lists_bad)
 }

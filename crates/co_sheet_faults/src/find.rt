@@ -53,14 +53,22 @@ fn add_found(
     collect(alloc, faults, sections.as_slice())
 }
 
-// the faults of a text in the order in which one pass finds them
+// adds the faults of a text in the order in which one pass finds them
+fn add_collected(alloc: Global, faults: &mut Vec<SheetFault>, text: &[u8]) -> Result<(), AllocError>
+    requires { length text.now ≤ 1048576 }
+    ensures { OnOk result
+        (faults.new.items ≡ faults.old.items ++ text_collected (lines_of text.now)) }
+{
+    let (parsed, lines) = all_sections_in(alloc, text)?;
+    add_found(alloc, faults, &parsed, lines.as_slice())
+}
+
 fn collected_in(alloc: Global, text: &[u8]) -> Result<Vec<SheetFault>, AllocError>
     requires { length text.now ≤ 1048576 }
     ensures { IfOk result (λ found. found.items ≡ text_collected (lines_of text.now)) }
 {
-    let (parsed, lines) = all_sections_in(alloc, text)?;
     let mut faults = Vec::new(alloc);
-    add_found(alloc, &mut faults, &parsed, lines.as_slice())?;
+    add_collected(alloc, &mut faults, text)?;
     Ok(faults)
 }
 

@@ -1,6 +1,6 @@
 //! What is at fault in the object lists and in what they name.
 
-ghost use Rattle.std.specs.Prelude.{◌≡◌, ◌++◌, codes, map, flat_map, not, is_none, OnOk, IfOk};
+ghost use Rattle.std.specs.Prelude.{◌≡◌, ◌++◌, [], codes, map, flat_map, not, is_none, OnOk, IfOk};
 ghost use Rattle.std.specs.List.{list_any};
 ghost use Rattle.co_sheet_text.specs.Views.{property_view, section_view};
 ghost use Rattle.co_sheet_text.specs.Properties.{property_number};
@@ -164,14 +164,14 @@ fn add_listing(
     Ok(is_bad)
 }
 
-/// Adds the faults of what the object lists name, those of an object at the first line that names
-/// it. Returns whether a line names an index again, or one without a section.
-pub(crate) fn add_listings(
-    alloc: Global,
+// adds the faults of each listing, and of its object at the first; `seen` has the indices so far
+fn add_each_listing(
     faults: &mut Vec<SheetFault>,
+    seen: &mut IndexSet<u64>,
     tables: &Tables,
     named: &[Listing],
 ) -> Result<bool, AllocError>
+    requires none { seen.old.keys ≡ [] }
     requires named { map listing_view named.now ≡ listings tables.now }
     requires parsed { IsParsed tables.now }
     ensures found { OnOk result (faults.new.items ≡ faults.old.items
@@ -179,11 +179,32 @@ pub(crate) fn add_listings(
     ensures bad { IfOk result (λ bad. bad
         ≡ list_any (is_listing_at_fault tables.now) (listings tables.now)) }
 {
-    let mut seen: IndexSet<u64> = IndexSet::new(alloc);
     let mut is_bad = false;
     for listing in named {
         let is_first = seen.insert(listing.index)?;
         is_bad |= add_listing(faults, tables, listing, is_first)?;
     }
     Ok(is_bad)
+}
+
+/// Adds the faults of what the object lists of these sections name, those of an object at the first
+/// line that names it. Returns whether a line names an index again, or one without a section.
+pub(crate) fn add_listings(
+    alloc: Global,
+    faults: &mut Vec<SheetFault>,
+    sections: &[TextSection],
+    named: &[Listing],
+) -> Result<bool, AllocError>
+    requires named { map listing_view named.now ≡ listings (map section_view sections.now) }
+    requires parsed { IsParsed (map section_view sections.now) }
+    ensures found { OnOk result (faults.new.items ≡ faults.old.items
+        ++ flat_map (listing_collected (map section_view sections.now))
+        (listings (map section_view sections.now))) }
+    ensures bad { IfOk result (λ bad. bad
+        ≡ list_any (is_listing_at_fault (map section_view sections.now))
+        (listings (map section_view sections.now))) }
+{
+    let tables = Tables::new(alloc, sections)?;
+    let mut seen = IndexSet::new(alloc);
+    add_each_listing(faults, &mut seen, &tables, named)
 }

@@ -75,7 +75,7 @@ abbrev pub warning_at : WarningKind → ℕ → Warning
 warning_at kind line = record { kind = kind; line = line }
 
 -- the lines of a section where a kind applies, of the kinds that are about a section
-abbrev pub places_in : ReadText → WarningKind → TextSection → List ℕ
+unfoldable pub places_in : ReadText → WarningKind → TextSection → List ℕ
 places_in t SubNumber s = sub_number t.sections s s.kind
 places_in t SubIndex0 s = sub_index_0 t.sections s s.kind
 places_in t Unlisted s = unlisted t.sections s s.kind
@@ -88,7 +88,7 @@ places_in t MissingName s = missing_name s
 places_in t kind s = []
 
 -- the lines of a text where a kind applies
-abbrev pub places_of : ReadText → WarningKind → List ℕ
+unfoldable pub places_of : ReadText → WarningKind → List ℕ
 places_of t WrongList = wrong_lists t.sections
 places_of t ListOrder = list_orders t.sections
 places_of t NoErrorControl = no_error_control t.sections
@@ -139,7 +139,7 @@ abbrev pub asked_kinds : Bool → List WarningKind
 asked_kinds all = if all then quiet_kinds else []
 
 -- all warnings, kind by kind
-abbrev pub all_warnings : Bool → ReadText → List Warning
+unfoldable pub all_warnings : Bool → ReadText → List Warning
 all_warnings all t =
     warnings_of_kinds t first_kinds ++ filter_map misspelt t.keys ++ warnings_of_kinds t last_kinds
     ++ warnings_of_kinds t (asked_kinds all)

@@ -1,6 +1,6 @@
 //! The kinds of warnings that are about a section.
 
-ghost use Rattle.std.specs.Prelude.{◌≡◌, flat_map, option_to_list, IfOk};
+ghost use Rattle.std.specs.Prelude.{◌≡◌, ◌++◌, flat_map, option_to_list, OnOk};
 ghost use Rattle.co_sheet_text.specs.Views.{section_view};
 ghost use Rattle.co_sheet_warnings.specs.Warnings.{places_in};
 
@@ -10,9 +10,10 @@ use crate::read_text::ReadText;
 use crate::sub_indices::{missing_name, sub_index_0, sub_number, unlisted};
 use crate::warning::WarningKind;
 use co_sheet_text::TextSection;
-use std::alloc::{AllocError, Global};
+use std::alloc::AllocError;
 
 // the line of a section where a kind applies
+#[tactic(auto, unfolding(crate::specs::Warnings::places_in))]
 fn place_in(text: &ReadText, kind: WarningKind, section: &TextSection) -> Option<usize>
     ensures { option_to_list result ≡ places_in text.now kind (section_view section.now) }
 {
@@ -30,20 +31,19 @@ fn place_in(text: &ReadText, kind: WarningKind, section: &TextSection) -> Option
     }
 }
 
-/// The lines of all sections where a kind applies.
-pub(crate) fn places_in(
-    alloc: Global,
+/// Adds the lines of all sections where a kind applies.
+pub(crate) fn add_places_in(
+    places: &mut Vec<usize>,
     text: &ReadText,
     kind: WarningKind,
-) -> Result<Vec<usize>, AllocError>
-    ensures { IfOk result
-        (λ places. places.items ≡ flat_map (places_in text.now kind) text.now.sections) }
+) -> Result<(), AllocError>
+    ensures { OnOk result (places.new.items
+        ≡ places.old.items ++ flat_map (places_in text.now kind) text.now.sections) }
 {
-    let mut places = Vec::new(alloc);
     for section in text.sections() {
         if let Some(place) = place_in(text, kind, section) {
             places.push(place)?;
         }
     }
-    Ok(places)
+    Ok(())
 }

@@ -1,6 +1,6 @@
 //! The lines of a text.
 
-ghost use Rattle.std.specs.Prelude.{◌≡◌, true, false, map, option_to_list, IfOk};
+ghost use Rattle.std.specs.Prelude.{◌≡◌, ◌++◌, true, false, map, option_to_list, IfOk, OnOk};
 ghost use Rattle.std.specs.List.{list_any};
 ghost use Rattle.std.specs.Str.{is_utf8};
 ghost use Rattle.co_sheet_warnings.specs.Lines.{
@@ -39,12 +39,11 @@ const LONGEST: usize = 255;
 
 const LONGEST_READ: usize = 512;
 
-/// The lines of 256 to 512 bytes; longer ones aren't read.
-pub(crate) fn long_lines(alloc: Global, lines: &[&[u8]]) -> Result<Vec<usize>, AllocError>
-    ensures { IfOk result
-        (λ places. places.items ≡ long_lines (numbered 1 (map (λ line. line.now) lines.now))) }
+/// Adds the lines of 256 to 512 bytes; longer ones aren't read.
+pub(crate) fn add_long_lines(places: &mut Vec<usize>, lines: &[&[u8]]) -> Result<(), AllocError>
+    ensures { OnOk result (places.new.items
+        ≡ places.old.items ++ long_lines (numbered 1 (map (λ line. line.now) lines.now))) }
 {
-    let mut places = Vec::new(alloc);
     let mut number = 1;
     for line in lines {
         if LONGEST < line.len() && line.len() <= LONGEST_READ {
@@ -52,7 +51,7 @@ pub(crate) fn long_lines(alloc: Global, lines: &[&[u8]]) -> Result<Vec<usize>, A
         }
         number += 1;
     }
-    Ok(places)
+    Ok(())
 }
 
 fn has_other_byte(line: &[u8]) -> bool

@@ -6,7 +6,7 @@ ghost use Rattle.co_sheet_text.specs.Views.{section_view};
 ghost use Rattle.co_sheet.specs.ObjectLists.{is_listed};
 ghost use Rattle.co_sheet.specs.Listings.{listing_view, named_by};
 ghost use Rattle.co_sheet_warnings.specs.Lists.{first_fall, is_right_list, wrong_listing};
-ghost use Rattle.co_sheet_warnings.specs.private.Views.{list_places, names};
+ghost use Rattle.co_sheet_warnings.specs.private.Views.{failing, list_places, names};
 
 use co_sheet::{Listing, read_list};
 use co_sheet_text::{SectionKind, TextSection};
@@ -77,8 +77,29 @@ pub(crate) enum ListCheck {
     Order,
 }
 
+// adds the lines of a list's listings that fail a check
+fn add_failing(
+    places: &mut Vec<usize>,
+    check: ListCheck,
+    list: SectionKind,
+    listings: &[Listing],
+) -> Result<(), AllocError>
+    ensures { OnOk result (places.new.items
+        ≡ places.old.items ++ failing check list (map listing_view listings.now)) }
+{
+    match check {
+        ListCheck::Objects => add_wrong_listings(places, list, listings),
+        ListCheck::Order => {
+            if let Some(place) = first_fall(listings) {
+                places.push(place)?;
+            }
+            Ok(())
+        }
+    }
+}
+
 // adds the lines of a section that fail a check
-fn add_list_places(
+fn add_places_of_list(
     alloc: Global,
     places: &mut Vec<usize>,
     check: ListCheck,
@@ -89,31 +110,23 @@ fn add_list_places(
 {
     let mut listings = Vec::new(alloc);
     add_named(&mut listings, section)?;
-    match check {
-        ListCheck::Objects => add_wrong_listings(places, section.kind, listings.as_slice()),
-        ListCheck::Order => {
-            if let Some(place) = first_fall(listings.as_slice()) {
-                places.push(place)?;
-            }
-            Ok(())
-        }
-    }
+    add_failing(places, check, section.kind, listings.as_slice())
 }
 
-/// The lines of all lists that fail a check.
-pub(crate) fn list_places(
+/// Adds the lines of all lists that fail a check.
+pub(crate) fn add_places_of_lists(
     alloc: Global,
+    places: &mut Vec<usize>,
     check: ListCheck,
     sections: &[TextSection],
-) -> Result<Vec<usize>, AllocError>
-    ensures { IfOk result
-        (λ places. places.items ≡ flat_map (list_places check) (map section_view sections.now)) }
+) -> Result<(), AllocError>
+    ensures { OnOk result (places.new.items
+        ≡ places.old.items ++ flat_map (list_places check) (map section_view sections.now)) }
 {
-    let mut places = Vec::new(alloc);
     for section in sections {
-        add_list_places(alloc, &mut places, check, section)?;
+        add_places_of_list(alloc, places, check, section)?;
     }
-    Ok(places)
+    Ok(())
 }
 
 // what the lists name

@@ -1,12 +1,13 @@
 //! What comes twice where it should come once: an identifier, and a name.
 
-ghost use Rattle.std.specs.Prelude.{◌≡◌, [], ◌∷◌, ◌++◌, if◌then◌else◌, map, option_map, IfOk};
+ghost use Rattle.std.specs.Prelude.{◌≡◌, [], ◌∷◌, ◌++◌, if◌then◌else◌, filter_map, map, option_map, IfOk, OnOk};
 ghost use Rattle.std.specs.List.{list_any};
 ghost use Rattle.co_sheet_text.specs.Views.{section_view};
 ghost use Rattle.co_sheet_warnings.specs.Repeats.{
   has_cob_id,
   identifier_in,
   enabled_cob_id,
+  repeats,
   same_scoped,
   scope_of,
 };
@@ -143,23 +144,37 @@ fn is_repeated<'a>(
     Ok(!is_new)
 }
 
-/// The lines of identifiers or names that an earlier one equals.
-pub(crate) fn repeats_of(
-    alloc: Global,
+// adds the lines of what earlier sections have too; `before` has what they have
+fn add_repeats<'a>(
+    places: &mut Vec<usize>,
+    before: &mut IndexSet<ScopedName<'a>>,
     once: Once,
-    sections: &[TextSection],
-) -> Result<Vec<usize>, AllocError>
-    ensures { IfOk result (λ places.
-        places.items ≡ repeats_of once (map section_view sections.now)) }
+    sections: &[TextSection<'_, 'a>],
+) -> Result<(), AllocError>
+    ensures { OnOk result (places.new.items ≡ places.old.items
+        ++ repeats same_scoped (map scoped_view before.old.keys)
+        (filter_map (placed_in once) (map section_view sections.now))) }
 {
-    let mut places = Vec::new(alloc);
-    let mut before = IndexSet::new(alloc);
     for section in sections {
         if let Some(name) = placed_in(once, section) {
-            if is_repeated(&mut before, name.name)? {
+            if is_repeated(before, name.name)? {
                 places.push(name.line)?;
             }
         }
     }
-    Ok(places)
+    Ok(())
+}
+
+/// Adds the lines of identifiers or names that an earlier one equals.
+pub(crate) fn add_repeats_of(
+    alloc: Global,
+    places: &mut Vec<usize>,
+    once: Once,
+    sections: &[TextSection],
+) -> Result<(), AllocError>
+    ensures { OnOk result
+        (places.new.items ≡ places.old.items ++ repeats_of once (map section_view sections.now)) }
+{
+    let mut before = IndexSet::new(alloc);
+    add_repeats(places, &mut before, once, sections)
 }

@@ -1,45 +1,44 @@
 //! The places of each kind in a text.
 
-ghost use Rattle.std.specs.Prelude.{◌≡◌, ℕ, List, flat_map, option_to_list, IfOk};
+ghost use Rattle.std.specs.Prelude.{◌≡◌, ◌++◌, ℕ, List, flat_map, option_to_list, OnOk};
 ghost use Rattle.co_sheet_warnings.specs.Lists.{no_error_control};
 ghost use Rattle.co_sheet_warnings.specs.Warnings.{places_of};
 
-use crate::in_sections::places_in;
+use crate::in_sections::add_places_in;
 use crate::infos::{
     DEVICE_KEYS, FILE_KEYS, date_formats, identity_numbers, missing_keys, pdo_counts,
 };
 use crate::keys::Topic;
 use crate::known_key::unknown_key;
-use crate::lines::{long_lines, mixed_line_ends, other_bytes};
-use crate::lists::{ListCheck, list_places};
+use crate::lines::{add_long_lines, mixed_line_ends, other_bytes};
+use crate::lists::{ListCheck, add_places_of_lists};
 use crate::read_text::ReadText;
-use crate::repeats::{Once, repeats_of};
+use crate::repeats::{Once, add_repeats_of};
 use crate::warning::WarningKind;
 use std::alloc::{AllocError, Global};
 
-// a place that may be there, as a list
-fn one(alloc: Global, found: Option<usize>) -> Result<Vec<usize>, AllocError>
+// adds a place that may be there
+fn add_one(places: &mut Vec<usize>, found: Option<usize>) -> Result<(), AllocError>
     ensures { (wanted : List ℕ) → option_to_list found ≡ wanted →
-        IfOk result (λ places. places.items ≡ wanted) }
+        OnOk result (places.new.items ≡ places.old.items ++ wanted) }
 {
-    let mut places = Vec::new(alloc);
     if let Some(place) = found {
         places.push(place)?;
     }
-    Ok(places)
+    Ok(())
 }
 
-// the places that are there, as a list
-fn listed(alloc: Global, found: &[Option<usize>]) -> Result<Vec<usize>, AllocError>
-    ensures { IfOk result (λ places. places.items ≡ flat_map option_to_list found.now) }
+// adds the places that are there
+fn add_each(places: &mut Vec<usize>, found: &[Option<usize>]) -> Result<(), AllocError>
+    ensures { OnOk result
+        (places.new.items ≡ places.old.items ++ flat_map option_to_list found.now) }
 {
-    let mut places = Vec::new(alloc);
     for place in found {
         if let Some(place) = place {
             places.push(*place)?;
         }
     }
-    Ok(places)
+    Ok(())
 }
 
 // no line is to blame for what isn't there
@@ -54,35 +53,42 @@ fn no_error_control(text: &ReadText) -> Option<usize>
     }
 }
 
-/// The lines of a text where a kind applies.
-pub(crate) fn places_of(
+/// Adds the lines of a text where a kind applies.
+#[tactic(auto, unfolding(crate::specs::Warnings::places_of))]
+pub(crate) fn add_places_of(
     alloc: Global,
+    places: &mut Vec<usize>,
     text: &ReadText,
     kind: WarningKind,
-) -> Result<Vec<usize>, AllocError>
-    ensures { IfOk result (λ places. places.items ≡ places_of text.now kind) }
+) -> Result<(), AllocError>
+    ensures { OnOk result (places.new.items ≡ places.old.items ++ places_of text.now kind) }
 {
+    let sections = text.sections();
     match kind {
-        WarningKind::FileInfoKeys => one(alloc, missing_keys(Topic::FileInfo, text, &FILE_KEYS)),
-        WarningKind::DeviceInfoKeys => {
-            one(alloc, missing_keys(Topic::DeviceInfo, text, &DEVICE_KEYS))
+        WarningKind::FileInfoKeys => {
+            add_one(places, missing_keys(Topic::FileInfo, text, &FILE_KEYS))
         }
-        WarningKind::PdoCount => listed(alloc, &pdo_counts(text)),
-        WarningKind::WrongList => list_places(alloc, ListCheck::Objects, text.sections()),
-        WarningKind::IdentityNumber => listed(alloc, &identity_numbers(text)),
+        WarningKind::DeviceInfoKeys => {
+            add_one(places, missing_keys(Topic::DeviceInfo, text, &DEVICE_KEYS))
+        }
+        WarningKind::PdoCount => add_each(places, &pdo_counts(text)),
+        WarningKind::WrongList => {
+            add_places_of_lists(alloc, places, ListCheck::Objects, sections)
+        }
+        WarningKind::IdentityNumber => add_each(places, &identity_numbers(text)),
         WarningKind::SharedCobId => match text.node {
-            Some(node) => repeats_of(alloc, Once::Identifiers(node), text.sections()),
-            None => Ok(Vec::new(alloc)),
+            Some(node) => add_repeats_of(alloc, places, Once::Identifiers(node), sections),
+            None => Ok(()),
         },
-        WarningKind::NoErrorControl => one(alloc, no_error_control(text)),
-        WarningKind::LongLine => long_lines(alloc, text.lines),
-        WarningKind::Utf8 => one(alloc, other_bytes(text, true)),
-        WarningKind::NotAscii => one(alloc, other_bytes(text, false)),
-        WarningKind::ListOrder => list_places(alloc, ListCheck::Order, text.sections()),
-        WarningKind::EqualNames => repeats_of(alloc, Once::Names, text.sections()),
-        WarningKind::UnknownKey => one(alloc, unknown_key(text.keys)),
-        WarningKind::DateFormat => listed(alloc, &date_formats(text)),
-        WarningKind::LineEnds => one(alloc, mixed_line_ends(text.bytes)),
-        other => places_in(alloc, text, other),
+        WarningKind::NoErrorControl => add_one(places, no_error_control(text)),
+        WarningKind::LongLine => add_long_lines(places, text.lines),
+        WarningKind::Utf8 => add_one(places, other_bytes(text, true)),
+        WarningKind::NotAscii => add_one(places, other_bytes(text, false)),
+        WarningKind::ListOrder => add_places_of_lists(alloc, places, ListCheck::Order, sections),
+        WarningKind::EqualNames => add_repeats_of(alloc, places, Once::Names, sections),
+        WarningKind::UnknownKey => add_one(places, unknown_key(text.keys)),
+        WarningKind::DateFormat => add_each(places, &date_formats(text)),
+        WarningKind::LineEnds => add_one(places, mixed_line_ends(text.bytes)),
+        other => add_places_in(places, text, other),
     }
 }

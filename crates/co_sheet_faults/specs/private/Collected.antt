@@ -1,21 +1,25 @@
 -- The faults in the order in which the code finds them: section by section, listing by listing.
-use Rattle.std.specs.Prelude.{ℕ, Bool, not, if◌then◌else◌, List, [], ◌++◌, map, flat_map, codes}
+use Rattle.std.specs.Prelude.{ℕ, Bool, not, ◌&&◌, if◌then◌else◌, List, [], ◌++◌, map, flat_map, codes}
+use Rattle.std.specs.List.{list_any}
 use Rattle.std.specs.Option.{option_map_or}
 use Rattle.co_value.specs.declared.data_type.DataType.{DataType}
 use Rattle.co_sheet_text.specs.declared.section_kind.SectionKind.TheVariants.{DeviceInfo}
+use Rattle.co_sheet_rows.specs.declared.fault.FaultKind.TheVariants.{MissingMandatory}
 use Rattle.co_sheet_rows.specs.declared.fault.SheetFault.{SheetFault}
 use Rattle.co_sheet_text.specs.Names.{is_list}
 use Rattle.co_sheet_text.specs.Text.{Line}
 use Rattle.co_sheet_text.specs.LinesAtFault.{own_faults, sections_read}
 use Rattle.co_sheet_text.specs.Sections.{TextSection, section_at}
+use Rattle.co_sheet.specs.declared.checks.lists.Listing.{Listing as ListingOfCode}
 use Rattle.co_sheet.specs.Faults.{sheet_fault}
 use Rattle.co_sheet.specs.ObjectLists.{is_one_of, Listing, listings}
 use Rattle.co_sheet.specs.Entries.{single_codes, compound_codes, object_code, ListedObject, Entry, sub_indices, data_type_of}
 use Rattle.co_sheet.specs.Limits.{is_numeric}
 use Rattle.co_sheet.specs.SectionViews.{object_at}
-use Rattle.co_sheet.specs.Checks.{at_key, unread_number, missing_lists, has_numbers, listed_twice, missing_section, compact_form, bad_type, left_out_type, bad_access, unread_limit, unread_default}
+use Rattle.co_sheet.specs.Checks.{fault_if, at_key, unread_number, missing_lists, has_numbers, listed_twice, missing_section, compact_form, bad_type, left_out_type, bad_access, unread_limit, unread_default}
 use Rattle.co_sheet_faults.specs.Soundness.{unless, is_unread_at, is_index, is_sound}
 use Rattle.co_sheet_faults.specs.AllChecks.{bad_list, object_type_found, sub_index_0_found, key_found, of_sound_type, limits_found, default_found_at, default_found, all_missing_mandatory}
+use Rattle.co_sheet_faults.specs.private.ListParts.{is_listing_at_fault, lacks_mandatory}
 
 -- ---- an entry
 
@@ -109,6 +113,18 @@ compact_pdo sections =
     option_map_or (at_key compact_form (codes "CompactPDO")) (section_at DeviceInfo sections) []
 
 -- ---- all of them
+
+-- what is found after the lists on their own: whether there are lists, whether one is at fault, and
+-- what the code reads of them
+abbrev pub collected_after :
+    Bool → Bool → List ListingOfCode → List TextSection → List SheetFault
+collected_after has_lists are_at_fault named sections =
+    compact_pdo sections
+    ++ (flat_map (listing_collected sections) (listings sections)
+    ++ fault_if
+    (has_lists && not are_at_fault
+    && not (list_any (is_listing_at_fault sections) (listings sections)) && lacks_mandatory named)
+    MissingMandatory 0)
 
 abbrev pub collected : List TextSection → List SheetFault
 collected sections =

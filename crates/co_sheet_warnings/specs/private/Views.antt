@@ -1,5 +1,5 @@
 -- What the tables of a text say, without where its bytes lie in memory.
-use Rattle.std.specs.Prelude.{◌≡◌, ◌==◌, ℕ, Bool, false, nat_eq, List, [], map, codes, Option, Some, option_map}
+use Rattle.std.specs.Prelude.{◌≡◌, ◌==◌, ℕ, Bool, false, nat_eq, List, [], map, filter_map, codes, Option, Some, option_map}
 use Rattle.std.specs.List.{list_any}
 use Rattle.std.specs.Option.{option_map_or}
 use Rattle.std.specs.HashSet.{HashSet, contains}
@@ -12,20 +12,25 @@ use Rattle.co_sheet_warnings.specs.declared.repeats.Once.{Once}
 use Rattle.co_sheet_warnings.specs.declared.repeats.Once.TheVariants.{Identifiers, Names}
 use Rattle.co_sheet_warnings.specs.declared.repeats.PlacedName.{PlacedName}
 use Rattle.co_sheet_warnings.specs.declared.repeats.ScopedName.{ScopedName as CodeName}
+use Rattle.co_sheet_text.specs.declared.section_kind.SectionKind.{SectionKind}
 use Rattle.co_sheet_text.specs.Sections.{TextSection, property_at}
+use Rattle.co_sheet.specs.Listings.{named_by}
 use Rattle.co_sheet.specs.ObjectLists.{Listing, is_listed}
 use Rattle.co_sheet_warnings.specs.Infos.{is_date, is_time}
 use Rattle.co_sheet_warnings.specs.Keys.{WrittenKey}
 use Rattle.co_sheet_warnings.specs.Lines.{first_other, numbered}
-use Rattle.co_sheet_warnings.specs.Lists.{wrong_listings, list_order}
+use Rattle.co_sheet_warnings.specs.Lists.{first_fall, wrong_listing}
 use Rattle.co_sheet_warnings.specs.ReadTexts.{ReadText}
 use Rattle.co_sheet_warnings.specs.Repeats.{Placed, ScopedName, equal_names, identifier_in, name_in, shared_cob_ids}
 use Rattle.co_sheet_warnings.specs.SubIndices.{is_constant_word}
 
--- the lines of a section that fail a check of lists
+-- the lines of a list's listings that fail a check, and of a section
+abbrev pub failing : ListCheck → SectionKind → List Listing → List ℕ
+failing Objects list listings = filter_map (wrong_listing list) listings
+failing Order list listings = first_fall 0 listings
+
 abbrev pub list_places : ListCheck → TextSection → List ℕ
-list_places Objects = wrong_listings
-list_places Order = list_order
+list_places check s = failing check s.kind (named_by s)
 
 -- an entry that nobody writes, by its section
 abbrev pub is_constant_section : TextSection → Bool

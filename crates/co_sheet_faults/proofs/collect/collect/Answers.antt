@@ -1,21 +1,19 @@
 use Rattle.std.proofs.Common.{◌∙◌, ◌++◌, ap, sym, map}
 use Rattle.std.specs.List.{flat_map}
 use Rattle.co_sheet_text.specs.Views.{section_view}
-use Rattle.co_sheet.specs.ObjectLists.{listings}
 use Rattle.co_sheet.specs.Listings.{listing_view, named_by}
 use Rattle.co_sheet.proofs.ListingLemmas.{named-all}
 use Rattle.co_sheet_faults.proofs.EntryCodeLemmas.{on-ok}
 use Rattle.co_sheet_faults.proofs.ListCodeLemmas.{collected-all}
 use Rattle.co_sheet_faults.proofs.collect.collect.Goals as goal
 
-pub add_listings-requires-clause-named : goal.add_listings-requires-clause-named
-add_listings-requires-clause-named c =
+pub add_after_lists-requires-clause-named : goal.add_after_lists-requires-clause-named
+add_after_lists-requires-clause-named c =
     let sections = map section_view c.args.sections.now in
-    ap (map listing_view) c.as_slice.ensures.value
+    ap (map listing_view) c.as_slice-named.ensures.value
     ∙ c.in_ok-are_lists_bad.ensures.named
     ∙ ap (λ l. map listing_view l ++ flat_map named_by sections) c.new-named.ensures.items
     ∙ sym (named-all sections)
-    ∙ ap listings (sym c.in_ok-tables.ensures)
 
 pub returns : goal.returns
 returns c =
@@ -23,12 +21,9 @@ returns c =
     let named = ap (map listing_view) c.as_slice-named.ensures.value
     ∙ c.in_ok-are_lists_bad.ensures.named
     ∙ ap (λ l. map listing_view l ++ flat_map named_by sections) c.new-named.ensures.items
-    ∙ sym (named-all sections)
-    ∙ ap listings (sym c.in_ok-tables.ensures) in
-    on-ok c.add_if-2.result
-    (λ last. collected-all sections c.in_ok-tables.tables c.as_slice-named.result.now c.args.faults.now.items c.add_if.new.faults.items
-    c.add_sections.new.faults.items c.add_compact_pdo.new.faults.items c.add_listings.new.faults.items c.add_if-2.new.faults.items
-    c.has_mandatory_list-has_lists.result c.in_ok-are_lists_bad.are_lists_bad c.in_ok-is_listing_bad.is_listing_bad c.is_mandatory_missing-is_missing.result
-    c.has_mandatory_list-has_lists.ensures c.in_ok-are_lists_bad.ensures.bad c.in_ok-tables.ensures c.in_ok-is_listing_bad.ensures.bad
-    named c.is_mandatory_missing-is_missing.ensures c.in_ok-add_if.ensures c.in_ok-are_lists_bad.ensures.found
-    c.in_ok-add_compact_pdo.ensures c.in_ok-is_listing_bad.ensures.found last) c.add_if-2.ensures
+    ∙ sym (named-all sections) in
+    on-ok c.add_after_lists.result
+    (λ last. collected-all sections c.as_slice-named.result.now c.args.faults.now.items c.add_if.new.faults.items
+    c.add_sections.new.faults.items c.add_after_lists.new.faults.items c.has_mandatory_list-has_lists.result c.in_ok-are_lists_bad.are_lists_bad
+    c.has_mandatory_list-has_lists.ensures c.in_ok-are_lists_bad.ensures.bad named
+    c.in_ok-add_if.ensures c.in_ok-are_lists_bad.ensures.found last) c.add_after_lists.ensures

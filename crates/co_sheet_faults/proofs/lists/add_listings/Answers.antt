@@ -1,35 +1,28 @@
-use Rattle.std.proofs.Common.{◌∙◌, ◌||◌, not, sym, ap, get_or}
-use Rattle.std.specs.List.{list_any}
-use Rattle.co_sheet.specs.declared.checks.lists.Listing.{Listing}
-use Rattle.co_sheet.specs.Listings.{listing_view}
+use Rattle.std.proofs.Common.{◌∙◌, ◌++◌, List, ap, subst, sym}
+use Rattle.std.proofs.lemmas.Result.{IfOk-weaker}
+use Rattle.std.specs.List.{flat_map, list_any}
+use Rattle.co_sheet_text.specs.Sections.{TextSection}
+use Rattle.co_sheet_text.specs.SectionLaws.{IsParsed}
+use Rattle.co_sheet.specs.ObjectLists.{listings}
 use Rattle.co_sheet_faults.specs.private.Collected.{listing_collected}
 use Rattle.co_sheet_faults.specs.private.ListParts.{is_listing_at_fault}
-use Rattle.co_sheet_faults.proofs.ListCodeLemmas.{named-before, added-turn, any-turn, any-end, seen-turn}
+use Rattle.co_sheet_faults.proofs.EntryCodeLemmas.{on-ok}
 use Rattle.co_sheet_faults.proofs.lists.add_listings.Goals as goal
 
-abbrev none_named : Listing
-none_named = record { index = 0; line = 0 }
+pub add_each_listing-requires-clause-named : goal.add_each_listing-requires-clause-named
+add_each_listing-requires-clause-named c = c.requires.named ∙ ap listings (sym c.in_ok-tables.ensures)
 
-pub add_listing-requires : goal.add_listing-requires
-add_listing-requires c =
-    let items = c.args.named.now in
-    let i = c.loop-listing.listing-index in
-    c.in_ok-is_first.ensures.added
-    ∙ ap not (c.loop-listing.invariant.seen (get_or items i none_named).index
-    ∙ sym (named-before c.args.tables.now items i none_named c.requires.named c.requires.parsed c.loop-listing-test.true))
+pub add_each_listing-requires-clause-parsed : goal.add_each_listing-requires-clause-parsed
+add_each_listing-requires-clause-parsed c = subst IsParsed (sym c.in_ok-tables.ensures) c.requires.parsed
 
-pub loop-listing-preserved : goal.loop-listing-preserved
-loop-listing-preserved c =
-    let items = c.args.named.now in
-    let i = c.loop-listing.listing-index in
-    let sections = c.args.tables.now in
-    record {
-      found = added-turn listing_view (listing_collected sections) items i none_named _ _ _ c.loop-listing-test.true c.in_ok-is_bad.ensures.found c.loop-listing.invariant.found;
-      bad = any-turn listing_view (is_listing_at_fault sections) items i none_named c.loop-listing.is_bad _ _ c.loop-listing-test.true (ap (λ b. c.loop-listing.is_bad || b) c.in_ok-is_bad.ensures.bad) c.loop-listing.invariant.bad;
-      seen = seen-turn items i none_named c.loop-listing.seen.keys c.insert.new.self.keys c.loop-listing-test.true c.in_ok-is_first.ensures.keys c.loop-listing.invariant.seen;
-    }
+pub returns-clause-found : goal.returns-clause-found
+returns-clause-found c =
+    on-ok c.add_each_listing.result
+    (λ found. found ∙ ap (λ (ss : List TextSection). c.args.faults.now.items ++ flat_map (listing_collected ss) (listings ss)) c.in_ok-tables.ensures)
+    c.add_each_listing.ensures.found
 
 pub returns-clause-bad : goal.returns-clause-bad
 returns-clause-bad c =
-    any-end listing_view (is_listing_at_fault c.args.tables.now) c.args.named.now c.loop-listing.listing-index c.loop-listing.is_bad _ c.loop-listing-test.false c.loop-listing.invariant.bad
-    ∙ ap (list_any (is_listing_at_fault c.args.tables.now)) c.requires.named
+    IfOk-weaker c.add_each_listing.result _ _
+    (λ bad is. is ∙ ap (λ (ss : List TextSection). list_any (is_listing_at_fault ss) (listings ss)) c.in_ok-tables.ensures)
+    c.add_each_listing.ensures.bad

@@ -1,11 +1,11 @@
 use Rattle.std.proofs.Common.{◌≡◌, ◌+◌, ◌++◌, drop, map}
 use Rattle.co_sheet_warnings.specs.Lines.{long_lines, numbered}
-use Rattle.co_sheet_warnings.proofs.lines.long_lines.Given as goal
+use Rattle.co_sheet_warnings.proofs.lines.add_long_lines.Given as goal
 
 -- those so far, and after them those of the rest
 abbrev pub invariant-loop-line : goal.invariant-loop-line
 invariant-loop-line l = record {
   found : l.places.items ++ long_lines (numbered l.number (map (λ line. line.now) (drop l.line-index l.lines)))
-      ≡ long_lines (numbered 1 (map (λ line. line.now) l.lines));
+      ≡ l.initial.places.items ++ long_lines (numbered 1 (map (λ line. line.now) l.lines));
   next : l.number ≡ l.line-index + 1;
 }

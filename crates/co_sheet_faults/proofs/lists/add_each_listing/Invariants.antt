@@ -3,7 +3,7 @@ use Rattle.std.specs.List.{flat_map, list_any}
 use Rattle.co_sheet.specs.Listings.{listing_view}
 use Rattle.co_sheet_faults.specs.private.Collected.{listing_collected}
 use Rattle.co_sheet_faults.specs.private.ListParts.{is_listing_at_fault}
-use Rattle.co_sheet_faults.proofs.lists.add_listings.Given as goal
+use Rattle.co_sheet_faults.proofs.lists.add_each_listing.Given as goal
 
 -- those so far, and after them those of the rest; the indices of the lines so far
 abbrev pub invariant-loop-listing : goal.invariant-loop-listing
