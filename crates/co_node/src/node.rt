@@ -127,9 +127,11 @@ impl Node {
     }
 
     /// Takes a received frame. The outbox then holds the frames that the definitions prescribe at
-    /// it, and nothing else.
+    /// it, and nothing else. Returns what an application may want to know of it, as `last_seen` does.
+    /// The frames that come most are compiled into its caller: a program that calls it in several
+    /// places calls `step`.
     #[inline(always)]
-    pub fn take_frame(&mut self, frame: &Frame, outbox: &mut Outbox)
+    pub fn take_frame(&mut self, frame: &Frame, outbox: &mut Outbox) -> Seen
         ensures frames { (k : Constants) (before : Inputs) → Stands k self.old before →
             outbox.new.items ≡ prescribed k before (Framed frame.now) }
         ensures stands { (k : Constants) (before : Inputs) → Stands k self.old before →
@@ -140,8 +142,10 @@ impl Node {
             HoldsWithin k (Framed frame.now ∷ before) }
         ensures memory { (k : Constants) (before : Inputs) → Stands k self.old before →
             memory_of self.new ≡ memory_of self.old }
+        ensures seen { (k : Constants) (before : Inputs) → Stands k self.old before →
+            result ≡ last_seen k (Framed frame.now ∷ before) }
     {
-        self.device.take_frame(frame, outbox);
+        self.device.take_frame_inlined(frame, outbox)
     }
 
     /// 1 ms elapsed. The outbox then holds the frames that the definitions prescribe at it, and
@@ -185,7 +189,24 @@ impl Node {
         self.device.take_event(event, outbox);
     }
 
-    // 1 ms elapsed, out of line: `step` is small in each of its callers.
+    // Takes a received frame, out of line: `step` is small in each of its callers.
+    #[inline(always)]
+    fn step_frame(&mut self, frame: &Frame, outbox: &mut Outbox)
+        ensures frames { (k : Constants) (before : Inputs) → Stands k self.old before →
+            outbox.new.items ≡ prescribed k before (Framed frame.now) }
+        ensures stands { (k : Constants) (before : Inputs) → Stands k self.old before →
+            Stands k self.new (Framed frame.now ∷ before) }
+        ensures few { (k : Constants) (before : Inputs) → Stands k self.old before →
+            length outbox.new.items ≤ frame_bound k before (Framed frame.now) }
+        ensures held { (k : Constants) (before : Inputs) → Stands k self.old before →
+            HoldsWithin k (Framed frame.now ∷ before) }
+        ensures memory { (k : Constants) (before : Inputs) → Stands k self.old before →
+            memory_of self.new ≡ memory_of self.old }
+    {
+        self.device.take_frame(frame, outbox);
+    }
+
+    // The same of 1 ms.
     #[inline(never)]
     fn step_tick(&mut self, outbox: &mut Outbox)
         ensures frames { (k : Constants) (before : Inputs) → Stands k self.old before →
@@ -222,7 +243,7 @@ impl Node {
             _ => Frame::default(),
         };
         match input {
-            Input::Frame(_) => self.take_frame(&frame, outbox),
+            Input::Frame(_) => self.step_frame(&frame, outbox),
             Input::Tick => self.step_tick(outbox),
             // matched and built again: a caller's event can't be passed on as a whole
             Input::App(AppEvent::Write(key, bytes)) => {

@@ -12,3 +12,4 @@ mod Steps
 mod LastExamples
 pub mod Idles
 mod Slots
+mod Found

@@ -9,6 +9,7 @@ ghost use Rattle.co_frame.specs.SegmentSizes.{segments_per_sub_block};
 ghost use Rattle.co_node_model.specs.Inputs.{Applied, Framed, Inputs, InputView, Ticked, app_view};
 ghost use Rattle.co_node_model.specs.Moments.{Constants};
 ghost use Rattle.co_node_model.specs.Device.{prescribed, frame_bound, moment, moments};
+ghost use Rattle.co_node_device.specs.Lasts.{last_seen};
 ghost use Rattle.co_node_device.specs.MappingTables.{HaveParts};
 ghost use Rattle.co_node_model.specs.Marks.{marked_rpdo, marked_time_out};
 
@@ -48,15 +49,17 @@ impl<S: ObjectStore> Device<S> {
     ghost use Rattle.co_node_device.specs.Standing.{HasReceived, HasTakenEffect, Stands};
 
     /// Takes a received frame. The outbox then holds the frames that the definitions prescribe at
-    /// it, and nothing else.
-    #[inline(always)]
-    pub fn take_frame(&mut self, frame: &Frame, outbox: &mut Outbox)
+    /// it, and nothing else. Returns what is seen of it.
+    #[inline(never)]
+    pub fn take_frame(&mut self, frame: &Frame, outbox: &mut Outbox) -> Seen
         ensures frames { (k : Constants) (inputs : Inputs) → Stands k self.old inputs →
             outbox.new.items ≡ prescribed k inputs (Framed frame.now) }
         ensures few { (k : Constants) (inputs : Inputs) → Stands k self.old inputs →
             length outbox.new.items ≤ frame_bound k inputs (Framed frame.now) }
         ensures stands { (k : Constants) (inputs : Inputs) → Stands k self.old inputs →
             Stands k self.new (Framed frame.now ∷ inputs) }
+        ensures seen { (k : Constants) (inputs : Inputs) → Stands k self.old inputs →
+            result ≡ last_seen k (Framed frame.now ∷ inputs) }
     {
         let address = find_address(&self.parts.bank, &self.parts.addresses, frame);
         match address {
@@ -70,6 +73,39 @@ impl<S: ObjectStore> Device<S> {
                 self.take(Given::Frame, Address::ErrorControl(node), frame, outbox)
             }
             Address::Nobody => self.take(Given::Frame, Address::Nobody, frame, outbox),
+        }
+    }
+
+    /// The same, compiled into its caller for those that come most to a device: a SYNC, the requests
+    /// to SDO channels and the frames of RPDOs.
+    #[inline(always)]
+    pub fn take_frame_inlined(&mut self, frame: &Frame, outbox: &mut Outbox) -> Seen
+        ensures frames { (k : Constants) (inputs : Inputs) → Stands k self.old inputs →
+            outbox.new.items ≡ prescribed k inputs (Framed frame.now) }
+        ensures few { (k : Constants) (inputs : Inputs) → Stands k self.old inputs →
+            length outbox.new.items ≤ frame_bound k inputs (Framed frame.now) }
+        ensures stands { (k : Constants) (inputs : Inputs) → Stands k self.old inputs →
+            Stands k self.new (Framed frame.now ∷ inputs) }
+        ensures seen { (k : Constants) (inputs : Inputs) → Stands k self.old inputs →
+            result ≡ last_seen k (Framed frame.now ∷ inputs) }
+    {
+        let address = find_address(&self.parts.bank, &self.parts.addresses, frame);
+        match address {
+            Address::Sync => self.take(Given::Frame, Address::Sync, frame, outbox),
+            // the others hand the frame to a call, in memory: a copy, so that a SYNC stays in
+            // registers
+            Address::Channel(number) => {
+                let request = *frame;
+                self.take(Given::Frame, Address::Channel(number), &request, outbox)
+            }
+            Address::Rpdo(number) => {
+                let data = *frame;
+                self.take(Given::Frame, Address::Rpdo(number), &data, outbox)
+            }
+            _ => {
+                let other = *frame;
+                self.take_frame(&other, outbox)
+            }
         }
     }
 
@@ -108,10 +144,16 @@ impl<S: ObjectStore> Device<S> {
         self.take(given, Address::Nobody, &Frame::default(), outbox);
     }
 
-    // Takes one input; its frame and the addressee of that are arguments of their own. Inlined in
-    // each caller, where the kind of the mark is mostly known.
+    // Takes one input; its frame and the addressee of that are arguments of their own. Returns what
+    // is seen of it. Inlined in each caller, where the kind of the mark is mostly known.
     #[inline(always)]
-    fn take(&mut self, given: Given<'_>, address: Address, frame: &Frame, outbox: &mut Outbox)
+    fn take(
+        &mut self,
+        given: Given<'_>,
+        address: Address,
+        frame: &Frame,
+        outbox: &mut Outbox,
+    ) -> Seen
         ensures frames { (k : Constants) (inputs : Inputs) → Stands k self.old inputs →
             IsAddressed k (moments k inputs) given.entry address frame.now →
             outbox.new.items ≡ prescribed k inputs (given_view given.entry frame.now) }
@@ -121,6 +163,9 @@ impl<S: ObjectStore> Device<S> {
         ensures stands { (k : Constants) (inputs : Inputs) → Stands k self.old inputs →
             IsAddressed k (moments k inputs) given.entry address frame.now →
             Stands k self.new (given_view given.entry frame.now ∷ inputs) }
+        ensures seen { (k : Constants) (inputs : Inputs) → Stands k self.old inputs →
+            IsAddressed k (moments k inputs) given.entry address frame.now →
+            result ≡ last_seen k (given_view given.entry frame.now ∷ inputs) }
     {
         outbox.clear();
         let before = self.parts.state.get();
@@ -134,13 +179,15 @@ impl<S: ObjectStore> Device<S> {
             frame,
             outbox,
         );
+        let seen = Seen::of(&received.mark);
         self.parts.last_app = received.app;
-        self.parts.last_seen = Seen::of(&received.mark);
+        self.parts.last_seen = seen;
         let transition = self.take_effect(&received.mark);
         self.send(&received.mark, transition, outbox);
         // laws: calls of them change nothing
         few();
         store_laws(&self.store);
+        seen
     }
 
     // The effects of a received input: lost heartbeats, the NMT state, dropped SDO transfers, SYNC

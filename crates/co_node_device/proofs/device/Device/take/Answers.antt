@@ -21,9 +21,9 @@ use Rattle.co_node_device.specs.Phases.{with_sent}
 use Rattle.co_node_device.specs.Standing.{HasTakenEffect, Stands}
 use Rattle.co_node_device.proofs.device.Device.take.Given as given
 use Rattle.co_node_device.proofs.device.Device.take.Goals as goal
-use Rattle.co_node_device.proofs.device.Device.take.Goals.{After-self-4-1}
+use Rattle.co_node_device.proofs.device.Device.take.Goals.{After-self-3-1}
 
-module _ (g : given.Over) (c : After-self-4-1 g) (k : Constants) (inputs : Inputs) (ns : Stands k c.args.self.now inputs)
+module _ (g : given.Over) (c : After-self-3-1 g) (k : Constants) (inputs : Inputs) (ns : Stands k c.args.self.now inputs)
     (addressed : IsAddressed k (moments k inputs) c.args.given c.args.address c.args.frame.now) where
   abbrev h : History
   h = moments k inputs
@@ -53,7 +53,7 @@ module _ (g : given.Over) (c : After-self-4-1 g) (k : Constants) (inputs : Input
     producer = ns.producer;
     schedule = subst (λ (d : Description). IsScheduleAfter d c.args.self.now.parts.schedule (schedule_log k h)) same ns.schedule;
     app = c.receive-received.ensures.app k h before addressed;
-    seen = c.of-self.ensures ∙ ap seen_of (c.receive-received.ensures.mark k h before addressed);
+    seen = c.of-seen.ensures ∙ ap seen_of (c.receive-received.ensures.mark k h before addressed);
   })
 
   stands : Stands k c.send.new.self (given_view c.args.given c.args.frame.now ∷ inputs)
@@ -80,3 +80,7 @@ returns-clause-frames g c = λ k inputs ns who. sent g c k inputs ns who
 pub returns-clause-few : goal.returns-clause-few
 returns-clause-few g c = λ k inputs ns who.
     subst (λ os. length os ≤ frame_bound k inputs (given_view c.args.given c.args.frame.now)) (sym (sent g c k inputs ns who)) (c.few.ensures k inputs (given_view c.args.given c.args.frame.now) (parts g c k inputs ns who))
+
+pub returns-clause-seen : goal.returns-clause-seen
+returns-clause-seen g c = λ k inputs ns who.
+    c.of-seen.ensures ∙ ap seen_of (c.receive-received.ensures.mark k (h g c k inputs ns who) (before g c k inputs ns who) who)

@@ -1,25 +1,6 @@
-use Rattle.std.proofs.Common.{◌≡◌, ℕ, sym, ◌∙◌, subst}
-use Rattle.co_dict.specs.Rows.{Contents}
-use Rattle.co_dict.specs.Stores.{Description}
-use Rattle.co_sdo_bank.specs.Banks.{BankStands}
-use Rattle.co_node_device.specs.AddressTables.{IsTableOf}
-use Rattle.co_node_model.specs.Inputs.{Inputs}
-use Rattle.co_node_model.specs.declared.address.Address.{Address}
-use Rattle.co_node_model.specs.Moments.{Constants, History, channels, contents_at}
-use Rattle.co_node_model.specs.Sdo.{channel_logs}
-use Rattle.co_node_model.specs.Addresses.{address_at}
-use Rattle.co_node_model.specs.Device.{moments}
-use Rattle.co_node_device.specs.declared.parts.Parts.{Parts}
-use Rattle.co_node_device.specs.NodeStanding.{NodeStands}
+use Rattle.std.proofs.Common.{sym, ◌∙◌}
+use Rattle.co_node_device.proofs.Found.{found}
 use Rattle.co_node_device.proofs.device.Device.take_frame.Goals as goal
-
--- who takes a frame is found
-found : {d : Description} {entries : Contents} {parts : Parts} (id : ℕ) (address : Address)
-    → ((k : Constants) (history : History) (d : Description) → BankStands d (channels k) parts.bank (channel_logs history)
-    → IsTableOf (contents_at k history) parts.addresses → address ≡ address_at k history id)
-    → (k : Constants) (inputs : Inputs) → NodeStands k d entries parts inputs → address ≡ address_at k (moments k inputs) id
-found {d} {entries} {parts} id address is k inputs ns = is k (moments k inputs) d ns.channels
-    (subst (λ (e : Contents). IsTableOf e parts.addresses) ns.contents ns.addresses)
 
 pub returns-in-Nmt-clause-frames : goal.returns-in-Nmt-clause-frames
 returns-in-Nmt-clause-frames g c = λ k inputs ns.
@@ -33,6 +14,10 @@ pub returns-in-Nmt-clause-stands : goal.returns-in-Nmt-clause-stands
 returns-in-Nmt-clause-stands g c = λ k inputs ns.
     c.take.ensures.stands k inputs ns (sym c.in-Nmt.is ∙ found _ _ c.find_address-address.ensures k inputs ns)
 
+pub returns-in-Nmt-clause-seen : goal.returns-in-Nmt-clause-seen
+returns-in-Nmt-clause-seen g c = λ k inputs ns.
+    c.take.ensures.seen k inputs ns (sym c.in-Nmt.is ∙ found _ _ c.find_address-address.ensures k inputs ns)
+
 pub returns-in-Sync-clause-frames : goal.returns-in-Sync-clause-frames
 returns-in-Sync-clause-frames g c = λ k inputs ns.
     c.take-in-Sync.ensures.frames k inputs ns (sym c.in-Sync.is ∙ found _ _ c.find_address-address.ensures k inputs ns)
@@ -44,6 +29,10 @@ returns-in-Sync-clause-few g c = λ k inputs ns.
 pub returns-in-Sync-clause-stands : goal.returns-in-Sync-clause-stands
 returns-in-Sync-clause-stands g c = λ k inputs ns.
     c.take-in-Sync.ensures.stands k inputs ns (sym c.in-Sync.is ∙ found _ _ c.find_address-address.ensures k inputs ns)
+
+pub returns-in-Sync-clause-seen : goal.returns-in-Sync-clause-seen
+returns-in-Sync-clause-seen g c = λ k inputs ns.
+    c.take-in-Sync.ensures.seen k inputs ns (sym c.in-Sync.is ∙ found _ _ c.find_address-address.ensures k inputs ns)
 
 pub returns-in-Channel-clause-frames : goal.returns-in-Channel-clause-frames
 returns-in-Channel-clause-frames g c = λ k inputs ns.
@@ -57,6 +46,10 @@ pub returns-in-Channel-clause-stands : goal.returns-in-Channel-clause-stands
 returns-in-Channel-clause-stands g c = λ k inputs ns.
     c.take-in-Channel.ensures.stands k inputs ns (sym c.in-Channel.is ∙ found _ _ c.find_address-address.ensures k inputs ns)
 
+pub returns-in-Channel-clause-seen : goal.returns-in-Channel-clause-seen
+returns-in-Channel-clause-seen g c = λ k inputs ns.
+    c.take-in-Channel.ensures.seen k inputs ns (sym c.in-Channel.is ∙ found _ _ c.find_address-address.ensures k inputs ns)
+
 pub returns-in-Rpdo-clause-frames : goal.returns-in-Rpdo-clause-frames
 returns-in-Rpdo-clause-frames g c = λ k inputs ns.
     c.take-in-Rpdo.ensures.frames k inputs ns (sym c.in-Rpdo.is ∙ found _ _ c.find_address-address.ensures k inputs ns)
@@ -68,6 +61,10 @@ returns-in-Rpdo-clause-few g c = λ k inputs ns.
 pub returns-in-Rpdo-clause-stands : goal.returns-in-Rpdo-clause-stands
 returns-in-Rpdo-clause-stands g c = λ k inputs ns.
     c.take-in-Rpdo.ensures.stands k inputs ns (sym c.in-Rpdo.is ∙ found _ _ c.find_address-address.ensures k inputs ns)
+
+pub returns-in-Rpdo-clause-seen : goal.returns-in-Rpdo-clause-seen
+returns-in-Rpdo-clause-seen g c = λ k inputs ns.
+    c.take-in-Rpdo.ensures.seen k inputs ns (sym c.in-Rpdo.is ∙ found _ _ c.find_address-address.ensures k inputs ns)
 
 pub returns-in-ErrorControl-clause-frames : goal.returns-in-ErrorControl-clause-frames
 returns-in-ErrorControl-clause-frames g c = λ k inputs ns.
@@ -81,6 +78,10 @@ pub returns-in-ErrorControl-clause-stands : goal.returns-in-ErrorControl-clause-
 returns-in-ErrorControl-clause-stands g c = λ k inputs ns.
     c.take-in-ErrorControl.ensures.stands k inputs ns (sym c.in-ErrorControl.is ∙ found _ _ c.find_address-address.ensures k inputs ns)
 
+pub returns-in-ErrorControl-clause-seen : goal.returns-in-ErrorControl-clause-seen
+returns-in-ErrorControl-clause-seen g c = λ k inputs ns.
+    c.take-in-ErrorControl.ensures.seen k inputs ns (sym c.in-ErrorControl.is ∙ found _ _ c.find_address-address.ensures k inputs ns)
+
 pub returns-in-Nobody-clause-frames : goal.returns-in-Nobody-clause-frames
 returns-in-Nobody-clause-frames g c = λ k inputs ns.
     c.take-in-Nobody.ensures.frames k inputs ns (sym c.in-Nobody.is ∙ found _ _ c.find_address-address.ensures k inputs ns)
@@ -92,3 +93,7 @@ returns-in-Nobody-clause-few g c = λ k inputs ns.
 pub returns-in-Nobody-clause-stands : goal.returns-in-Nobody-clause-stands
 returns-in-Nobody-clause-stands g c = λ k inputs ns.
     c.take-in-Nobody.ensures.stands k inputs ns (sym c.in-Nobody.is ∙ found _ _ c.find_address-address.ensures k inputs ns)
+
+pub returns-in-Nobody-clause-seen : goal.returns-in-Nobody-clause-seen
+returns-in-Nobody-clause-seen g c = λ k inputs ns.
+    c.take-in-Nobody.ensures.seen k inputs ns (sym c.in-Nobody.is ∙ found _ _ c.find_address-address.ensures k inputs ns)
