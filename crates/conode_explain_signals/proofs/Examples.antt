@@ -33,7 +33,7 @@ use Rattle.conode_explain_values.specs.Numbers.{number_text}
 use Rattle.conode_explain_values.specs.Values.{value_text}
 use Rattle.conode_explain_signals.specs.declared.signal.Signal.{Signal}
 use Rattle.conode_explain_signals.specs.Fields.{entry_field, field_of, pdo_bits, sdo_value, value_field}
-use Rattle.conode_explain_signals.specs.Lines.{column_name, csv_field, first_missing, first_row, header, row_of, signal_line}
+use Rattle.conode_explain_signals.specs.Lines.{column, column_name, csv_field, first_missing, first_row, header, quoted_byte, row_of, signal_line}
 use Rattle.conode_explain_signals.specs.Stamps.{seconds_text, stamp_field}
 use Rattle.conode_explain_signals.specs.Words.{signal_word, signals_in, signals_of, words_in}
 
@@ -277,12 +277,12 @@ plain_field : csv_field (codes "node 5 2001:01 T; 1") ≡ codes "node 5 2001:01 
 plain_field = refl
 
 quoted_fields : map csv_field (codes "a,b" ∷ codes "a\"b" ∷ codes "a\nb" ∷ (0x7F ∷ []) ∷ []) ≡ codes "\"a,b\"" ∷ codes "\"a\"\"b\"" ∷ codes "\"a\\x0Ab\"" ∷ codes "\"\\x7F\"" ∷ []
-unfolding digits_text
+unfolding quoted_byte digits_text
 quoted_fields = refl
 
 names_of_columns : header (sheet (Some 5) (codes "T, inside") ∷ sheet None (codes "T") ∷ []) (signal ∷ of_node 6 0x2001 1 ∷ [])
     ≡ codes "time,\"node 5 2001:01 T, inside\",node 6 2001:01 T\n"
-unfolding header column_name first_row names_for entry_of digits digits_text is_utf8 chars encode
+unfolding header column quoted_byte column_name first_row names_for entry_of digits digits_text is_utf8 chars encode
 names_of_columns = refl
 
 missing : first_missing (sheet (Some 5) (codes "T") ∷ []) (signal ∷ of_node 6 0x2001 1 ∷ of_node 5 0x2003 0 ∷ []) ≡ Some (of_node 6 0x2001 1)

@@ -29,7 +29,7 @@ has_one value signals = list_any (λ signal. is_some (value signal)) signals
 -- ---- the first line
 
 -- a byte within quotes: a quote is doubled, and a control character shown as in the other lines
-abbrev pub quoted_byte : ℕ → List ℕ
+unfoldable pub quoted_byte : ℕ → List ℕ
 quoted_byte byte = if byte == 0x22 then 0x22 ∷ 0x22 ∷ [] else shown_byte byte
 
 -- a quote, a comma or a control character
@@ -72,7 +72,7 @@ name_of row = option_map_or (λ r. option_map_or (λ name. codes " " ++ name) (s
 unfoldable pub column_name : Option Row → Signal → List ℕ
 column_name row signal = codes "node " ++ decimal signal.node ++ codes " " ++ key_text signal.key ++ name_of row
 
-abbrev pub column : List KnownSheet → Signal → List ℕ
+unfoldable pub column : List KnownSheet → Signal → List ℕ
 column sheets signal = codes "," ++ csv_field (column_name (row_of sheets signal) signal)
 
 -- `time`, the name of each column, and a line feed

@@ -46,13 +46,14 @@ fn add_shown(line: &mut Vec<u8>, byte: u8) -> Result<(), AllocError>
     ensures { OnOk result (line.new.items ≡ line.old.items ++ shown_byte byte) }
 {
     if is_control(byte) {
-        line.extend_from_slice(b"\\x")?;
+        attempt!(line.extend_from_slice(b"\\x"));
         line.extend_from_slice(byte_digits(byte).as_str().as_bytes())
     } else {
         line.extend_from_slice(&[byte])
     }
 }
 
+#[tactic(auto, unfolding(crate::specs::Lines::quoted_byte))]
 fn add_quoted(line: &mut Vec<u8>, byte: u8) -> Result<(), AllocError>
     ensures { OnOk result (line.new.items ≡ line.old.items ++ quoted_byte byte) }
 {
@@ -66,7 +67,7 @@ fn add_all_quoted(line: &mut Vec<u8>, field: &[u8]) -> Result<(), AllocError>
     ensures { OnOk result (line.new.items ≡ line.old.items ++ flat_map quoted_byte field.now) }
 {
     for byte in field {
-        add_quoted(line, *byte)?;
+        attempt!(add_quoted(line, *byte));
     }
     Ok(())
 }
@@ -76,8 +77,8 @@ fn add_in_quotes(line: &mut Vec<u8>, field: &[u8]) -> Result<(), AllocError>
     ensures { OnOk result (line.new.items
         ≡ line.old.items ++ codes ",\"" ++ flat_map quoted_byte field.now ++ codes "\"") }
 {
-    line.extend_from_slice(b",\"")?;
-    add_all_quoted(line, field)?;
+    attempt!(line.extend_from_slice(b",\""));
+    attempt!(add_all_quoted(line, field));
     line.extend_from_slice(b"\"")
 }
 
@@ -88,7 +89,7 @@ fn add_csv_field(line: &mut Vec<u8>, field: &[u8]) -> Result<(), AllocError>
     if needs_quotes(field) {
         return add_in_quotes(line, field);
     }
-    line.extend_from_slice(b",")?;
+    attempt!(line.extend_from_slice(b","));
     line.extend_from_slice(field)
 }
 
@@ -182,10 +183,11 @@ fn set_column_name(
     let node = decimal_digits(u64::from(signal.node));
     let key = signal.key.text();
     text.clear();
-    push_words(text, &["node ", node.as_str(), " ", key.as_str()])?;
+    attempt!(push_words(text, &["node ", node.as_str(), " ", key.as_str()]));
     push_name(text, row)
 }
 
+#[tactic(auto, unfolding(crate::specs::Lines::column))]
 fn add_column(
     line: &mut Vec<u8>,
     text: &mut String,
@@ -195,7 +197,7 @@ fn add_column(
     ensures { OnOk result
         (line.new.items ≡ line.old.items ++ column (map known_view sheets.now) signal) }
 {
-    set_column_name(text, row_of(sheets, signal), signal)?;
+    attempt!(set_column_name(text, row_of(sheets, signal), signal));
     add_csv_field(line, text.as_bytes())
 }
 
@@ -209,7 +211,7 @@ fn add_columns(
         ++ flat_map (column (map known_view sheets.now)) signals.now) }
 {
     for signal in signals {
-        add_column(line, text, sheets, *signal)?;
+        attempt!(add_column(line, text, sheets, *signal));
     }
     Ok(())
 }
@@ -225,8 +227,8 @@ fn add_header_in(
     ensures { OnOk result
         (line.new.items ≡ line.old.items ++ header (map known_view sheets.now) signals.now) }
 {
-    line.extend_from_slice(b"time")?;
-    add_columns(line, text, sheets, signals)?;
+    attempt!(line.extend_from_slice(b"time"));
+    attempt!(add_columns(line, text, sheets, signals));
     line.extend_from_slice(b"\n")
 }
 
@@ -257,6 +259,6 @@ pub fn header(
         line.items ≡ header (map known_view sheets.now) signals.now) }
 {
     let mut line = Vec::new(alloc);
-    add_header(alloc, &mut line, sheets, signals)?;
+    attempt!(add_header(alloc, &mut line, sheets, signals));
     Ok(line)
 }

@@ -213,13 +213,13 @@ fn push_entry_field<'b>(
         claims.now bytes.now told.now signal value_type data_type) []) }
 {
     if let Some(value) = sdo_value(signal, data_type, bytes, told) {
-        push_value_field(text, value_type, 8 * value.len(), value)?;
+        attempt!(push_value_field(text, value_type, 8 * value.len(), value));
         return Ok(true);
     }
     let Some(part) = pdo_bits(bus, signal, bytes, claims) else {
         return Ok(false);
     };
-    push_value_field(text, value_type, part.bits, part.bytes.as_slice())?;
+    attempt!(push_value_field(text, value_type, part.bits, part.bytes.as_slice()));
     Ok(true)
 }
 

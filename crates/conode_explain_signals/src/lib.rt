@@ -1,6 +1,16 @@
 //! The values of entries that a recording shows, as a table of comma-separated values.
 #![tactic(auto)]
 
+// As `?`, without a conversion of the error: a `match` is one step of a proof where `?` is three.
+macro_rules! attempt {
+    ($result:expr) => {
+        match $result {
+            Ok(value) => value,
+            Err(fault) => return Err(fault),
+        }
+    };
+}
+
 mod columns;
 mod fields;
 mod lines;

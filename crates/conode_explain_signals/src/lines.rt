@@ -28,7 +28,7 @@ fn push_after_comma<'b>(
     ensures text { OnOk result (string_bytes text.new ≡ string_bytes text.old
         ++ after_comma (field_of (bus_view bus.entry) claims.now bytes.now told.now) signal) }
 {
-    text.push_str(",")?;
+    attempt!(text.push_str(","));
     push_field(text, bus, claims, bytes, told, signal)
 }
 
@@ -50,7 +50,7 @@ fn push_fields<'b>(
 {
     let mut has = false;
     for signal in signals {
-        let here = push_after_comma(text, bus, claims, bytes, told, *signal)?;
+        let here = attempt!(push_after_comma(text, bus, claims, bytes, told, *signal));
         has = has || here;
     }
     Ok(has)
@@ -81,8 +81,8 @@ pub fn set_signal_line<'b>(
         (field_of (bus_view bus.entry) claims.now bytes.now told.now) signals.now) }
 {
     text.clear();
-    push_stamp(text, form, times)?;
-    let has = push_fields(text, bus, claims, bytes, told, signals)?;
-    text.push_str("\n")?;
+    attempt!(push_stamp(text, form, times));
+    let has = attempt!(push_fields(text, bus, claims, bytes, told, signals));
+    attempt!(text.push_str("\n"));
     Ok(has)
 }

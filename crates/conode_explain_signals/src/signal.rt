@@ -58,9 +58,15 @@ impl Signal {
     fn read(word: &[u8]) -> Option<Signal>
         ensures { result ≡ signal_word word.now }
     {
-        let (node, key) = split_at_first(word, b':')?;
-        let node = decimal_in(node, 1, 127)?;
-        let key = Key::parse(key)?;
+        let Some((node, key)) = split_at_first(word, b':') else {
+            return None;
+        };
+        let Some(node) = decimal_in(node, 1, 127) else {
+            return None;
+        };
+        let Some(key) = Key::parse(key) else {
+            return None;
+        };
         Some(Signal {
             node: node as u8,
             key,

@@ -14,7 +14,7 @@ fn push_seconds(text: &mut String, micros: u64) -> Result<(), AllocError>
     ensures { OnOk result (string_bytes text.new ≡ string_bytes text.old ++ seconds_text micros) }
 {
     let seconds = decimal_digits(micros / 1_000_000);
-    push_words(text, &[seconds.as_str(), "."])?;
+    attempt!(push_words(text, &[seconds.as_str(), "."]));
     push_micros(text, (micros % 1_000_000) as u32)
 }
 
@@ -25,7 +25,7 @@ fn push_between(text: &mut String, from: u64, to: u64) -> Result<(), AllocError>
     if from <= to {
         return push_seconds(text, to - from);
     }
-    text.push_str("-")?;
+    attempt!(text.push_str("-"));
     push_seconds(text, from - to)
 }
 

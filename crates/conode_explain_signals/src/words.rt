@@ -11,7 +11,7 @@ pub(crate) fn push_words(text: &mut String, words: &[&str]) -> Result<(), AllocE
         ≡ string_bytes text.old ++ flat_map (λ word. word.now) words.now) }
 {
     for word in words {
-        text.push_str(*word)?;
+        attempt!(text.push_str(*word));
     }
     Ok(())
 }

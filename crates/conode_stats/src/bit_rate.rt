@@ -12,7 +12,12 @@ const GREATEST: u32 = 1_000_000;
 fn rate_in(digits: &[u8], scale: u32) -> Option<u32>
     ensures { IfSome result (λ rate. rate ≤ 1000000) }
 {
-    let rate = decimal_in(digits, 1, GREATEST)?.checked_mul(scale)?;
+    let Some(number) = decimal_in(digits, 1, GREATEST) else {
+        return None;
+    };
+    let Some(rate) = number.checked_mul(scale) else {
+        return None;
+    };
     if 1000 <= rate && rate <= GREATEST {
         Some(rate)
     } else {
@@ -48,7 +53,9 @@ fn is_commissioning(name: &[u8]) -> bool {
 fn bit_rate_at(line: &[u8]) -> Option<u32>
     ensures { IfSome result (λ rate. rate ≤ 1000000) }
 {
-    let place = line.iter().position(|byte| *byte == b'=')?;
+    let Some(place) = line.iter().position(|byte| *byte == b'=') else {
+        return None;
+    };
     if !same_name(trim(&line[..place]), b"Baudrate") {
         return None;
     }

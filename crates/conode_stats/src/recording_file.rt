@@ -44,13 +44,15 @@ struct Settings<'a> {
     log: Form,
 }
 
-// the page as a text
-fn page_text(alloc: Global, page: &Page<'_>) -> Result<Vec<u8>, AllocError>
+// writes the page as a text
+fn write_text<O: Write>(alloc: Global, page: &Page<'_>, out: &mut O) -> Result<(), CmdFault>
     requires { IfSome page.now.bit_rate (λ rate. rate ≤ 1000000) }
 {
     let mut text = String::new(alloc);
-    set_page(alloc, &mut text, page)?;
-    text.as_bytes().to_vec(alloc)
+    match set_page(alloc, &mut text, page) {
+        Ok(()) => hand_over(text.as_bytes(), out),
+        Err(_) => Err(CmdFault::Memory),
+    }
 }
 
 // the page as JSON
@@ -58,6 +60,14 @@ fn page_json(alloc: Global, page: &Page<'_>) -> Result<Vec<u8>, AllocError> {
     let mut writer = JsonWriter::new(alloc);
     put_page(alloc, &mut writer, page)?;
     writer.into_text()
+}
+
+// writes the page as JSON
+fn write_json<O: Write>(alloc: Global, page: &Page<'_>, out: &mut O) -> Result<(), CmdFault> {
+    match page_json(alloc, page) {
+        Ok(text) => hand_over(text.as_slice(), out),
+        Err(_) => Err(CmdFault::Memory),
+    }
 }
 
 // writes the page
@@ -75,12 +85,11 @@ fn write_page<O: Write>(
         bad: recording.bad,
         bit_rate: settings.bit_rate,
     };
-    let text = if settings.json {
-        page_json(alloc, &page)?
+    if settings.json {
+        write_json(alloc, &page, out)
     } else {
-        page_text(alloc, &page)?
-    };
-    hand_over(text.as_slice(), out)
+        write_text(alloc, &page, out)
+    }
 }
 
 // counts an input, writes its page, and returns the number of bad lines
@@ -94,8 +103,10 @@ fn stats<R: Read, O: Write, E: Write>(
     requires { IfSome settings.now.bit_rate (λ rate. rate ≤ 1000000) }
 {
     let recording = count(alloc, input, settings.log, err)?;
-    write_page(alloc, &recording, settings, out)?;
-    Ok(recording.bad)
+    match write_page(alloc, &recording, settings, out) {
+        Ok(()) => Ok(recording.bad),
+        Err(fault) => Err(fault),
+    }
 }
 
 // the same, with the status

@@ -29,7 +29,9 @@ fn time_in(sheet: &Sheet<'_>) -> Option<u16> {
 /// is for the node and the interface that a word names; without a node for that of the sheet, a
 /// device configuration file; else for each.
 pub(crate) fn sheet_time<'a>(sheet: &Sheet<'_>, word: &SheetWord<'a>) -> Option<SheetTime<'a>> {
-    let time = time_in(sheet)?;
+    let Some(time) = time_in(sheet) else {
+        return None;
+    };
     let node = match word.node {
         Some(node) => Some(node),
         None => sheet.node_id(),

@@ -12,8 +12,8 @@ ghost use Rattle.conode_stats_counts.specs.Buses.{counts_of};
 ghost use Rattle.conode_stats.specs.Frames.{counts_after, faults_in, good, line_at};
 ghost use Rattle.conode_stats.specs.Taking.{Takes};
 
-use co_bounded_lines::{BoundedLines, Found, ReadFault};
-use conode_convert::add_frame;
+use co_bounded_lines::{BoundedLines, Found};
+use conode_convert::{TOO_LONG, add_frame, name_bad_line, read_fault};
 use conode_io::CmdFault;
 use conode_log_parts::{BadLogLine, LogLine};
 use conode_logs::{Form, Log};
@@ -22,9 +22,6 @@ use conode_stats_counts::Counts;
 use std::alloc::Global;
 use std::io::{Read, Write};
 
-/// What is wrong with a line that has more than 512 bytes.
-const TOO_LONG: &str = "it has more than 512 bytes";
-
 /// Progress through a recording.
 #[derive(Drop)]
 pub(crate) struct Counting {
@@ -32,19 +29,6 @@ pub(crate) struct Counting {
     log: Log,
     counts: Counts,
     text: Vec<u8>,
-}
-
-// Names a bad line. If even this can't be written, only the status shows it.
-fn name_bad_line<E: Write>(number: u64, words: &str, err: &mut E) {
-    let _ = writeln!(err, "line {number}: {words}");
-}
-
-// why the next line can't be read
-fn read_fault(fault: ReadFault) -> CmdFault {
-    match fault {
-        ReadFault::Read => CmdFault::Read,
-        ReadFault::NeverEnds => CmdFault::NeverEnds,
-    }
 }
 
 // Counts the frame of a line as `candump -L` writes it, if it has one. Returns 1 and names the line
@@ -63,8 +47,10 @@ fn count_record<E: Write>(
     match RecordLine::read(line) {
         Ok(RecordLine::Skipped) => Ok(0),
         Ok(RecordLine::Frame(frame)) => {
-            counts.take(alloc, &frame)?;
-            Ok(0)
+            match counts.take(alloc, &frame) {
+                Ok(()) => Ok(0),
+                Err(_) => Err(CmdFault::Memory),
+            }
         }
         Err(bad) => {
             name_bad_line(number, BadLogLine::of_record(bad).words(), err);
@@ -97,8 +83,10 @@ fn count_line<E: Write>(
         Ok(LogLine::AsItIs) => count_record(alloc, counts, number, line, err),
         Ok(LogLine::Frame(frame)) => {
             text.clear();
-            add_frame(text, &frame)?;
-            count_record(alloc, counts, number, text.as_slice(), err)
+            match add_frame(text, &frame) {
+                Ok(()) => count_record(alloc, counts, number, text.as_slice(), err),
+                Err(_) => Err(CmdFault::Memory),
+            }
         }
         Err(bad) => {
             name_bad_line(number, bad.words(), err);
