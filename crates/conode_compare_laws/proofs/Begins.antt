@@ -17,7 +17,7 @@ use Rattle.co_dict.specs.Stores.{Description}
 use Rattle.co_dict_build.specs.declared.build_fault.BuildFault.{BuildFault}
 use Rattle.co_dict_build.specs.declared.build_fault.BuildFault.TheVariants.{BadCobId, NodeId}
 use Rattle.co_dict_build.specs.Built.{Plan, built, built_contents, built_description}
-use Rattle.co_dict_build.specs.BuildFaults.{bad_cob_id, build_fault, fault_if, is_bad_channel_word, is_bad_cob_id, is_bad_sync_word, is_bad_word, is_channel_key, is_node, is_sync_key, is_used_before, is_word_key}
+use Rattle.co_dict_build.specs.BuildFaults.{bad_cob_id, build_fault, fault_if, is_bad_channel_word, is_bad_cob_id, is_bad_word, is_channel_key, is_node, is_sync_key, is_used_before, is_word_key}
 use Rattle.co_dict_build.specs.ListedEntries.{ListedEntry, entry_at, keys_in}
 use Rattle.co_dict_build.proofs.Plans.{begins_initially}
 use Rattle.co_sdo_bank.specs.Channels.{ChannelSettings, channels_below, channels_of, settings_for}

@@ -1,12 +1,10 @@
 -- The EMCY of a device in its recording.
-use Rattle.std.proofs.Common.{◌≡◌, ◌≢◌, ℕ, ◌+◌, ◌%◌, Bool, true, false, List, [], ◌∷◌, ◌++◌, length, map, take, Option, Some, None, refl, sym, ap, ◌∙◌, subst, arith}
+use Rattle.std.proofs.Common.{◌≡◌, ℕ, ◌+◌, ◌%◌, Bool, true, false, List, [], ◌∷◌, ◌++◌, length, map, take, Option, Some, None, refl, sym, ap, ◌∙◌, subst, arith}
 use Rattle.std.specs.Prelude.{if◌then◌else◌, ◌==◌, ◌&&◌, ◌||◌, not, nat_lt, slice_get, slice_index, IfSome}
 use Rattle.std.specs.List.{AllByRecursion}
-use Rattle.std.specs.Option.{option_map_or}
 use Rattle.std.proofs.lemmas.Bool.{ne_eqb}
-use Rattle.std.proofs.lemmas.Bool.Decides.{nat_tests}
 use Rattle.co_frame.specs.FrameContent.{FrameContent}
-use Rattle.co_frame.specs.Emergencies.{emergency_bytes, emergency_in}
+use Rattle.co_frame.specs.Emergencies.{emergency_bytes}
 use Rattle.co_frame.specs.Nmt.{nmt_command_in}
 use Rattle.co_frame.specs.declared.emergency.Emergency.{Emergency}
 use Rattle.co_frame.specs.declared.heartbeat.Heartbeat.{Heartbeat}
@@ -24,16 +22,15 @@ use Rattle.co_node_parts.specs.Producers.{is_heartbeat_due}
 use Rattle.co_node_parts.specs.declared.nmt_state.NodeState.{NodeState}
 use Rattle.co_node_parts.specs.declared.nmt_state.NodeState.TheVariants as node
 use Rattle.co_node_model.specs.Device.{moment, moments, prescribed, state_of}
-use Rattle.co_node_model.specs.Emergencies.{emergency_frames, emergency_log, may_send, no_manufacturer, unsent_log}
+use Rattle.co_node_model.specs.Emergencies.{emergency_frames, emergency_log, no_manufacturer, unsent_log}
 use Rattle.co_node_model.specs.Heartbeats.{boot_up, life_frames, producer_event, producer_log}
 use Rattle.co_node_model.specs.Inputs.{Applied, Framed, Inputs, InputView, Ticked}
 use Rattle.co_node_model.specs.Marks.{marked_command, marked_time_out}
 use Rattle.co_node_model.specs.Moments.{Constants, Moment}
-use Rattle.co_node_model.specs.Nmt.{is_reset_by, state_at}
+use Rattle.co_node_model.specs.Nmt.{is_reset_by}
 use Rattle.co_node_model.specs.Tpdos.{tpdo_frame}
 use Rattle.conode_explain_transfers.specs.declared.kinds.Side.TheVariants.{Client, Server}
 use Rattle.conode_compare_rules.specs.declared.entries.Entries.{Entries}
-use Rattle.conode_compare_rules.specs.declared.finding.Finding.{Finding}
 use Rattle.conode_compare_rules.specs.declared.finding.Finding.TheVariants.{EmergencyInhibit, EmergencyRegister, EmergencyStopped}
 use Rattle.conode_compare_rules.specs.declared.finding.NmtState.{NmtState}
 use Rattle.conode_compare_rules.specs.declared.finding.NmtState.TheVariants.{Unknown, Initialising, PreOperational, Operational, Stopped}

@@ -1,12 +1,11 @@
 -- A recording of a small device, and that the conditions of the laws are needed: what compare finds where another sender, or the
 -- device itself, uses an identifier a second time.
-use Rattle.std.proofs.Common.{◌≡◌, ℕ, Bool, true, false, List, [], ◌∷◌, Some, None, refl}
-use Rattle.std.specs.Option.{option_to_list}
+use Rattle.std.proofs.Common.{◌≡◌, ℕ, true, false, List, [], ◌∷◌, Some, None, refl}
 use Rattle.co_frame.specs.FrameContent.{FrameContent}
 use Rattle.co_profile.specs.declared.access.Access.TheVariants.{Rw}
 use Rattle.co_dict.specs.FreeIds.{is_good_word}
 use Rattle.co_node_model.specs.Inputs.{InputView, Ticked}
-use Rattle.co_node_model.proofs.ExampleNode.{came, device, device_with, frame, reset_node, searches, start, u16, u32}
+use Rattle.co_node_model.proofs.ExampleNode.{device, device_with, frame, reset_node, searches, start, u16, u32}
 use Rattle.conode_record.specs.declared.content.Content.TheVariants.{Data}
 use Rattle.conode_record.specs.declared.fields.Identifier.TheVariants.{Base}
 use Rattle.conode_compare_pdos.specs.Followed.{unknown_pdos}
@@ -16,8 +15,7 @@ use Rattle.conode_compare_rules.specs.declared.finding.Finding.TheVariants.{Emer
 use Rattle.conode_compare_rules.specs.declared.finding.NmtState.TheVariants.{Operational, PreOperational}
 use Rattle.conode_compare_rules.specs.declared.limits.Subject.{Subject}
 use Rattle.conode_compare_rules.specs.FrameKinds.{data_kind, kind_of}
-use Rattle.conode_compare_rules.specs.Progresses as progresses
-use Rattle.conode_compare_rules.specs.Progresses.{after_command, after_odd_control, begun, booted, control_findings, findings_at, heartbeat_findings, progress_with, with_gap}
+use Rattle.conode_compare_rules.specs.Progresses.{after_command, begun, booted, control_findings, findings_at, heartbeat_findings, progress_with}
 use Rattle.conode_compare_rules.specs.States as states
 use Rattle.conode_compare_rules.specs.States.{after_boot_up, after_other, awaits_boot_up, boot_finding, control_finding, is_settled, second_boot_up, state_finding}
 use Rattle.conode_compare_rules.specs.Verdicts.{found}

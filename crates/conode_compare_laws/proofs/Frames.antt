@@ -1,8 +1,7 @@
 -- What compare finds at one frame, and what it knows of the NMT state after it.
-use Rattle.std.proofs.Common.{◌≡◌, ◌≢◌, ℕ, ◌+◌, Bool, true, false, List, [], ◌∷◌, ◌++◌, length, Option, Some, None, refl, sym, ap, ◌∙◌, subst, arith}
-use Rattle.std.specs.Prelude.{if◌then◌else◌, ◌==◌, ◌||◌, not, is_some, option_map, slice_index}
+use Rattle.std.proofs.Common.{◌≡◌, ℕ, ◌+◌, Bool, true, false, List, [], ◌++◌, length, Option, Some, None, refl, ap, ◌∙◌, arith}
+use Rattle.std.specs.Prelude.{if◌then◌else◌, ◌==◌, ◌||◌, not, is_some, option_map}
 use Rattle.std.specs.Option.{option_to_list}
-use Rattle.std.proofs.lemmas.Bool.{ne_eqb}
 use Rattle.std.proofs.lemmas.Bool.Decides.{nat_tests}
 use Rattle.co_frame.specs.FrameContent.{FrameContent}
 use Rattle.co_frame.specs.Emergencies.{emergency_in}
@@ -10,7 +9,6 @@ use Rattle.co_frame.specs.Heartbeats.{state_byte, heartbeat_bytes}
 use Rattle.co_frame.specs.Nmt.{nmt_command_in}
 use Rattle.co_frame.specs.declared.emergency.Emergency.{Emergency}
 use Rattle.co_frame.specs.declared.heartbeat.Heartbeat.{Heartbeat}
-use Rattle.co_frame.specs.declared.heartbeat.Heartbeat.TheVariants.{BootUp}
 use Rattle.co_frame.specs.declared.nmt.NmtCommand.{NmtCommand}
 use Rattle.co_frame.specs.declared.nmt.NmtService.{NmtService}
 use Rattle.co_frame.specs.declared.nmt.NmtService.TheVariants.{Start, Stop, EnterPreOperational, ResetNode, ResetCommunication}
@@ -23,7 +21,6 @@ use Rattle.conode_explain_transfers.specs.declared.kinds.Side.TheVariants.{Clien
 use Rattle.conode_compare_pdos.specs.declared.pdos.Sighting.{Sighting}
 use Rattle.conode_compare_rules.specs.declared.finding.Finding.{Finding}
 use Rattle.conode_compare_rules.specs.declared.finding.Finding.TheVariants.{BootMissing}
-use Rattle.conode_compare_rules.specs.declared.finding.NmtState.{NmtState}
 use Rattle.conode_compare_rules.specs.declared.finding.NmtState.TheVariants.{Unknown, PreOperational}
 use Rattle.conode_compare_rules.specs.declared.kind.FrameKind.{FrameKind}
 use Rattle.conode_compare_rules.specs.declared.kind.FrameKind.TheVariants.{Command, CommandToAll, Control, Emergency as Emcy, OddEmergency, Sdo, Process, Other}
@@ -64,8 +61,7 @@ use Rattle.conode_compare_rules.specs.States.{after_boot_up, after_other, awaits
 use Rattle.conode_compare_rules.specs.Verdicts.{found}
 use Rattle.conode_compare_pdos.specs.Followed as tpdos
 use Rattle.conode_compare_laws.specs.Differences.{state_differences}
-use Rattle.conode_compare_laws.specs.Identifiers.{IsAside}
-use Rattle.conode_compare_laws.proofs.Shown.{Stage, boots, runs, Fits, fits_nothing, unbooted, or_unknown, none_overdue, none_wrong, is_shown, itself, stage_after, command_fits}
+use Rattle.conode_compare_laws.proofs.Shown.{Stage, boots, runs, Fits, fits_nothing, unbooted, or_unknown, none_overdue, none_wrong, is_shown, stage_after, command_fits}
 
 -- what compare knows of the NMT state fits
 abbrev pub FitsAt : ℕ → Stage → Progress → Type 0

@@ -1,11 +1,10 @@
 -- The frames of an input one after another, and all inputs.
-use Rattle.std.proofs.Common.{◌≡◌, ◌≢◌, ℕ, ◌+◌, Bool, true, false, List, [], ◌∷◌, ◌++◌, map, Option, Some, None, refl, sym, ap, ◌∙◌, subst}
+use Rattle.std.proofs.Common.{◌≡◌, ℕ, ◌+◌, Bool, true, false, List, [], ◌∷◌, ◌++◌, map, Option, Some, None, refl, sym, subst}
 use Rattle.std.specs.Prelude.{if◌then◌else◌, ◌==◌}
 use Rattle.std.proofs.lemmas.Bool.{ne_eqb}
 use Rattle.co_frame.specs.FrameContent.{FrameContent}
 use Rattle.co_frame.specs.Heartbeats.{heartbeat_bytes, state_byte}
 use Rattle.co_frame.specs.Nmt.{nmt_command_in}
-use Rattle.co_frame.specs.declared.heartbeat.Heartbeat.{Heartbeat}
 use Rattle.co_frame.specs.declared.heartbeat.Heartbeat.TheVariants.{BootUp}
 use Rattle.co_frame.specs.declared.nmt.NmtService.{NmtService}
 use Rattle.co_frame.specs.declared.nmt.NmtService.TheVariants.{Start, Stop, EnterPreOperational, ResetNode, ResetCommunication}
@@ -17,22 +16,22 @@ use Rattle.co_node_parts.specs.NmtStates.{heartbeat_of}
 use Rattle.co_node_parts.specs.Producers.{is_heartbeat_due}
 use Rattle.co_node_model.specs.Device.{moment, moments, prescribed, state_of}
 use Rattle.co_node_model.specs.Emergencies.{emergency_frames}
-use Rattle.co_node_model.specs.Heartbeats.{boot_up, life_frames, life_of, producer_event, producer_log}
+use Rattle.co_node_model.specs.Heartbeats.{boot_up, life_frames, producer_event, producer_log}
 use Rattle.co_node_model.specs.Inputs.{Applied, Framed, Inputs, InputView, Ticked}
 use Rattle.co_node_model.specs.Marks.{marked_command}
 use Rattle.co_node_model.specs.Moments.{Constants, Moment}
-use Rattle.co_node_model.specs.Nmt.{is_reset_by, service_for, state_at}
+use Rattle.co_node_model.specs.Nmt.{is_reset_by, service_for}
 use Rattle.co_node_model.specs.Tpdos.{tpdo_frame}
 use Rattle.conode_compare_rules.specs.declared.finding.NmtState.{NmtState}
 use Rattle.conode_compare_rules.specs.declared.kind.FrameKind.{FrameKind}
 use Rattle.conode_compare_rules.specs.declared.kind.FrameKind.TheVariants.{Control}
 use Rattle.conode_compare_rules.specs.declared.limits.Subject.{Subject}
 use Rattle.conode_compare_rules.specs.declared.progress.Progress.{Progress}
-use Rattle.conode_compare_rules.specs.FrameKinds.{command_kind, command_to, data_kind}
+use Rattle.conode_compare_rules.specs.FrameKinds.{command_to, data_kind}
 use Rattle.conode_compare_rules.specs.Progresses.{before_recording, begun, findings_at, progress_with}
 use Rattle.conode_compare_laws.specs.Differences.{differences_from, differences_in, state_differences}
-use Rattle.conode_compare_laws.specs.Identifiers.{AllSendAside, AreAside, AreElsewhere, IsAside, IsElsewhere, SendsAside}
-use Rattle.conode_compare_laws.specs.Recordings.{Recorded, Stamped, frame_of, heard_from, recording, stamped, with_stamp}
+use Rattle.conode_compare_laws.specs.Identifiers.{AllSendAside, AreAside, AreElsewhere, IsElsewhere, SendsAside}
+use Rattle.conode_compare_laws.specs.Recordings.{Stamped, frame_of, heard_from, recording}
 use Rattle.conode_compare_laws.proofs.Shown.{Stage, boots, runs, fits_nothing, is_shown, stage_after}
 use Rattle.conode_compare_laws.proofs.Along.{AllGo, Goes, joined, one, then_none}
 use Rattle.conode_compare_laws.proofs.Frames.{FitsAt, Passes, aside_kind, aside_passes, begun_fits, boot_passes, command_passes, heartbeat_passes, life_kind, nmt_kind}

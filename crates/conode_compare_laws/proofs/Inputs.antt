@@ -1,6 +1,6 @@
 -- What an input is to the NMT state of a device: the command that it is, and the state after it.
 use Rattle.std.proofs.Common.{◌≡◌, ℕ, Bool, true, false, List, [], ◌∷◌, Option, Some, None, refl, ap, ◌∙◌}
-use Rattle.std.specs.Prelude.{if◌then◌else◌, ◌==◌, is_some}
+use Rattle.std.specs.Prelude.{if◌then◌else◌, ◌==◌}
 use Rattle.co_value.specs.declared.key.Key.{Key}
 use Rattle.co_frame.specs.FrameContent.{FrameContent}
 use Rattle.co_frame.specs.Heartbeats.{heartbeat_in}
@@ -16,7 +16,7 @@ use Rattle.co_node_parts.specs.declared.nmt_state.NodeState.TheVariants.{Operati
 use Rattle.co_node_parts.specs.NmtStates.{StateLog, commanded, is_state, reaction_with, state_after}
 use Rattle.co_node_model.specs.declared.address.Address.{Address}
 use Rattle.co_node_model.specs.declared.address.Address.TheVariants.{ErrorControl, Nobody, Rpdo, Channel, Nmt, Sync}
-use Rattle.co_node_model.specs.Addresses.{address_at, address_last, address_unless_channel, address_unless_rpdo, is_error_control}
+use Rattle.co_node_model.specs.Addresses.{address_unless_channel, address_unless_rpdo, is_error_control}
 use Rattle.co_node_model.specs.AppEvents.{event_refusal, with_app_event}
 use Rattle.co_node_model.specs.Device.{moment, with_frame}
 use Rattle.co_node_model.specs.Heartbeats.{is_heartbeat, loss_event}

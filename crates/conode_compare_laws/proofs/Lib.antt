@@ -8,4 +8,6 @@ pub mod Sending
 pub mod Queues
 pub mod EmergencyFrames
 pub mod Begins
+pub mod Beats
+pub mod Heartbeats
 mod Examples

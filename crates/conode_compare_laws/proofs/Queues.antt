@@ -1,20 +1,18 @@
 -- The emergencies that a device queues without events of its application: bit 0 of the register is set, and there are eight bytes.
-use Rattle.std.proofs.Common.{◌≡◌, ℕ, zero, suc, ◌%◌, ◌-◌, Bool, true, false, List, [], ◌∷◌, ◌++◌, length, drop, map, Option, Some, None, refl, sym, ap, ◌∙◌, subst, arith}
+use Rattle.std.proofs.Common.{◌≡◌, ℕ, zero, suc, ◌%◌, ◌-◌, Bool, true, false, List, [], ◌∷◌, ◌++◌, length, drop, Option, Some, None, refl, sym, ap, ◌∙◌, subst, arith}
 use Rattle.std.specs.Prelude.{if◌then◌else◌, ◌==◌, bit_or, slice_get, IfSome, nat_lt, max}
 use Rattle.std.specs.List.{AllByRecursion}
-use Rattle.std.proofs.lemmas.Nat.Bits.{bit_at_or, bit_at_lowest, bit_at-lt}
+use Rattle.std.proofs.lemmas.Nat.Bits.{bit_at_or, bit_at_lowest}
 use Rattle.co_frame.specs.FrameContent.{FrameContent}
 use Rattle.co_frame.specs.Heartbeats.{heartbeat_in}
-use Rattle.co_frame.specs.Nmt.{nmt_command_in}
 use Rattle.co_frame.specs.declared.emergency.Emergency.{Emergency}
-use Rattle.co_frame.specs.declared.nmt.NmtService.{NmtService}
 use Rattle.co_profile.specs.Keys.{emergency_inhibit_key}
 use Rattle.co_dict.specs.Rows.{Contents, Rows, number_at}
 use Rattle.co_dict.specs.Stores.{Description}
 use Rattle.co_pdo.specs.Images.{fault_of}
 use Rattle.co_pdo.specs.declared.data.PdoFault.{PdoFault}
 use Rattle.co_pdo.specs.declared.data.PdoFault.TheVariants.{Short, OutOfLimits, Long}
-use Rattle.co_node_parts.specs.EmergencyQueues.{EmergencyLog, Noted, Sent, queue_of, with_queued, with_sending}
+use Rattle.co_node_parts.specs.EmergencyQueues.{EmergencyLog, Noted, queue_of, with_queued, with_sending}
 use Rattle.co_node_parts.specs.NmtStates.{is_state}
 use Rattle.co_node_parts.specs.declared.emergencies.EmergencyEvent.TheVariants.{Queue, Empty, Tick, Quiet}
 use Rattle.co_node_parts.specs.declared.nmt_state.NodeState.TheVariants.{Operational, Stopped}
@@ -22,10 +20,9 @@ use Rattle.co_node_parts.specs.declared.rpdo_slots.KeptFrame.{KeptFrame}
 use Rattle.co_node_model.specs.declared.address.Address.{Address}
 use Rattle.co_node_model.specs.declared.address.Address.TheVariants.{ErrorControl, Nobody, Rpdo, Channel, Nmt, Sync}
 use Rattle.co_node_model.specs.declared.device_error.DeviceError.{DeviceError}
-use Rattle.co_node_model.specs.declared.mark.Mark.{Mark}
 use Rattle.co_node_model.specs.Addresses.{address_at}
-use Rattle.co_node_model.specs.Device.{moment, moments, with_frame}
-use Rattle.co_node_model.specs.Emergencies.{all_raised, communication_bits, emergencies_of, emergency_event, emergency_log, error_register, heartbeat_lost, no_manufacturer, raised, unsent_log}
+use Rattle.co_node_model.specs.Device.{moment, with_frame}
+use Rattle.co_node_model.specs.Emergencies.{all_raised, communication_bits, emergencies_of, emergency_log, error_register, no_manufacturer, raised, unsent_log}
 use Rattle.co_node_model.specs.Heartbeats.{is_heartbeat, loss_errors}
 use Rattle.co_node_model.specs.Inputs.{Applied, Framed, InputView, Ticked}
 use Rattle.co_node_model.specs.Marks.{marked_rpdo, marked_sync, marked_tick}

@@ -1,20 +1,18 @@
 -- What a device sends besides its boot-up and heartbeats, by its channels and its COB-IDs.
-use Rattle.std.proofs.Common.{◌≡◌, ℕ, zero, suc, ◌+◌, ◌<◌, ◌≤◌, Bool, true, false, [], ◌∷◌, List, map, Option, Some, None, refl, ap, sym, subst, ◌∙◌, arith}
+use Rattle.std.proofs.Common.{◌≡◌, ℕ, zero, suc, ◌+◌, ◌<◌, ◌≤◌, Bool, true, false, [], ◌∷◌, List, map, Option, Some, None, refl, arith}
 use Rattle.std.specs.Prelude.{◌==◌, ◌&&◌, not, if◌then◌else◌, find, filter, length, option_map, slice_get, IfSome}
-use Rattle.std.specs.List.{AllByRecursion, list_all, range_with_len}
+use Rattle.std.specs.List.{AllByRecursion, range_with_len}
 use Rattle.co_frame.specs.FrameContent.{FrameContent}
 use Rattle.co_frame.specs.Heartbeats.{heartbeat_in}
-use Rattle.co_frame.specs.Nmt.{nmt_command_in}
 use Rattle.co_frame.specs.declared.emergency.Emergency.{Emergency}
 use Rattle.co_profile.specs.Keys.{emergency_key}
 use Rattle.co_dict.specs.CobIds.{identifier_of, is_valid}
 use Rattle.co_dict.specs.Rows.{Contents, number_at}
 use Rattle.co_dict.specs.Stores.{Description}
-use Rattle.co_dict.specs.declared.side.Side.TheVariants.{Tpdo}
 use Rattle.co_sdo.specs.Log.{Answer, Log, Ticked as Elapsed, frames_on}
 use Rattle.co_sdo.specs.Opened.{is_time_over}
 use Rattle.co_sdo_bank.specs.Channels.{ChannelSettings}
-use Rattle.co_sdo_bank.specs.Events.{ChannelEvent, exchange_at, exchange_on, expired_in, frames_at, receiver, time_out_on, with_each}
+use Rattle.co_sdo_bank.specs.Events.{exchange_at, exchange_on, expired_in, frames_at, receiver, time_out_on, with_each}
 use Rattle.co_pdo.specs.declared.settings.Settings.{Settings}
 use Rattle.co_pdo.specs.declared.tpdo.Occasion.{Occasion}
 use Rattle.co_pdo.specs.declared.tpdo.Occasion.TheVariants as occasion
@@ -24,11 +22,9 @@ use Rattle.co_pdo.specs.Schedules.{History as Schedule, is_among, is_tpdo_due, l
 use Rattle.co_pdo.specs.Tpdos.{is_active, settings_of, tpdo_key, tpdo_numbers}
 use Rattle.co_node_parts.specs.EmergencyQueues.{EmergencyLog, emergency_due, is_inhibit_over, queue_of}
 use Rattle.co_node_parts.specs.NmtStates.{is_state}
-use Rattle.co_node_parts.specs.declared.nmt_state.NodeState.{NodeState}
 use Rattle.co_node_parts.specs.declared.nmt_state.NodeState.TheVariants.{Operational, Stopped}
 use Rattle.co_node_model.specs.declared.address.Address.{Address}
 use Rattle.co_node_model.specs.declared.address.Address.TheVariants.{ErrorControl, Nobody, Rpdo, Channel, Nmt, Sync}
-use Rattle.co_node_model.specs.declared.mark.Mark.{Mark}
 use Rattle.co_node_model.specs.declared.turn.Turn.{Turn}
 use Rattle.co_node_model.specs.declared.turn.Turn.TheVariants as turn
 use Rattle.co_node_model.specs.Addresses.{address_at}
@@ -39,10 +35,10 @@ use Rattle.co_node_model.specs.Heartbeats.{is_heartbeat}
 use Rattle.co_node_model.specs.Inputs.{AppView, Applied, ChangedAt, Cleared, EventOn, Framed, Inputs, InputView, Raised, Ticked, Written}
 use Rattle.co_node_model.specs.Marks.{marked_time_out}
 use Rattle.co_node_model.specs.Moments.{Constants, History, Moment, channels, contents_at, nothing_of}
-use Rattle.co_node_model.specs.Nmt.{service_for, state_at}
-use Rattle.co_node_model.specs.Sdo.{channel_logs, timed_out_at}
+use Rattle.co_node_model.specs.Nmt.{state_at}
+use Rattle.co_node_model.specs.Sdo.{channel_logs}
 use Rattle.co_node_model.specs.Tpdos.{due_at, numbers_asked, schedule_log, tpdo_frame, turn_at}
-use Rattle.conode_compare_laws.specs.Identifiers.{AllSendAside, AreAside, BeginsAside, HasAsideWords, IsAside, IsAsideWord, SendsAside}
+use Rattle.conode_compare_laws.specs.Identifiers.{AllSendAside, AreAside, HasAsideWords, IsAside, IsAsideWord, SendsAside}
 use Rattle.conode_compare_laws.specs.Recordings.{Stamped}
 
 -- ---- SDO

@@ -1,6 +1,6 @@
 -- What compare knows of a device's NMT state, and the state that the device is in.
-use Rattle.std.proofs.Common.{◌≡◌, ℕ, ◌-◌, Bool, true, false, Option, Some, None, refl, sym, ap, ◌∙◌, subst, arith}
-use Rattle.std.specs.Prelude.{if◌then◌else◌, nat_lt, ◌*◌, is_some, option_map}
+use Rattle.std.proofs.Common.{◌≡◌, ℕ, ◌-◌, Bool, true, false, Option, Some, None, refl, ap, ◌∙◌, arith}
+use Rattle.std.specs.Prelude.{if◌then◌else◌}
 use Rattle.std.proofs.lemmas.Bool.Decides.{nat_tests}
 use Rattle.co_frame.specs.declared.nmt.NmtService.{NmtService}
 use Rattle.co_frame.specs.declared.nmt.NmtService.TheVariants.{Start, Stop, EnterPreOperational, ResetNode, ResetCommunication}
@@ -9,11 +9,11 @@ use Rattle.co_node_parts.specs.declared.nmt_state.LossReaction.{LossReaction}
 use Rattle.co_node_parts.specs.declared.nmt_state.LossReaction.TheVariants.{LeaveOperational, NoChange, EnterStopped}
 use Rattle.co_node_parts.specs.declared.nmt_state.NodeState.{NodeState}
 use Rattle.co_node_parts.specs.declared.nmt_state.NodeState.TheVariants as node
-use Rattle.co_node_parts.specs.NmtStates.{after_loss, commanded, heartbeat_of}
+use Rattle.co_node_parts.specs.NmtStates.{after_loss, heartbeat_of}
 use Rattle.conode_compare_rules.specs.declared.finding.NmtState.{NmtState}
 use Rattle.conode_compare_rules.specs.declared.finding.NmtState.TheVariants.{Unknown, Initialising, PreOperational, Operational, Stopped}
 use Rattle.conode_compare_rules.specs.declared.limits.Limits.{Limits}
-use Rattle.conode_compare_rules.specs.States.{is_reset, is_wrong, overdue_in, state_after, state_finding, state_of}
+use Rattle.conode_compare_rules.specs.States.{is_reset, is_wrong, overdue_in, state_after, state_finding}
 use Rattle.conode_compare_transfers.specs.Times.{is_past}
 
 -- compare may have this state for a device that is in that one: nothing, the same, or one from which it has fallen back without a

@@ -1,8 +1,7 @@
 -- The COB-IDs of a device stay aside from the identifiers of NMT and of its error control: the dictionary refuses those (CiA 301,
 -- 7.3.5).
-use Rattle.std.proofs.Common.{◌≡◌, ◌≢◌, ℕ, ◌+◌, ◌<◌, ◌≤◌, Bool, true, false, [], ◌∷◌, List, Option, Some, None, refl, ap, sym, subst, ◌∙◌, arith}
+use Rattle.std.proofs.Common.{◌≡◌, ℕ, ◌+◌, ◌<◌, ◌≤◌, Bool, true, false, [], ◌∷◌, List, Option, Some, None, refl, ap, sym, subst, ◌∙◌, arith}
 use Rattle.std.specs.Prelude.{◌==◌, ◌&&◌, ◌||◌, not, if◌then◌else◌, option_and_then, unwrap_or}
-use Rattle.std.proofs.lemmas.Bool.{eqb-true}
 use Rattle.std.proofs.lemmas.Bool.Decides.{nat_tests}
 use Rattle.co_value.specs.declared.key.Key.{Key}
 use Rattle.co_value.specs.Keys.{same_key, same_key-is, same_key-refl}
@@ -13,7 +12,7 @@ use Rattle.co_frame.specs.Nmt.{nmt_command_in}
 use Rattle.co_frame.specs.declared.nmt.NmtService.{NmtService}
 use Rattle.co_frame.specs.declared.nmt.NmtService.TheVariants.{Start, Stop, EnterPreOperational, ResetNode, ResetCommunication}
 use Rattle.co_profile.specs.Keys.{emergency_key}
-use Rattle.co_dict.specs.CobIds.{has_11_bits, has_bit_31, identifier_of, is_default_sdo, is_restricted, is_valid}
+use Rattle.co_dict.specs.CobIds.{has_11_bits, has_bit_31, identifier_of, is_default_sdo, is_restricted}
 use Rattle.co_dict.specs.CobIdRules.{changes_while_valid}
 use Rattle.co_dict.specs.FreeIds.{is_free, is_good_word}
 use Rattle.co_dict.specs.OwnRules.{own_refusal, own_rule_of, rule_refusal}
@@ -28,7 +27,7 @@ use Rattle.co_node_model.specs.Device.{contents_of, moment, moments}
 use Rattle.co_node_model.specs.Inputs.{Applied, Framed, Inputs, InputView, Ticked}
 use Rattle.co_node_model.specs.Marks.{marked_key}
 use Rattle.co_node_model.specs.Moments.{Constants}
-use Rattle.co_node_model.specs.Nmt.{after_service, is_reset, is_reset_by, service_for}
+use Rattle.co_node_model.specs.Nmt.{after_service, is_reset_by, service_for}
 use Rattle.co_node_laws.specs.Settings.{HasSameSettings}
 use Rattle.co_node_laws.proofs.Below.{Below}
 use Rattle.co_node_laws.proofs.Changed.{by_address}

@@ -54,3 +54,9 @@ abbrev pub emergency_differences : FrameKind → Findings → List Finding
 emergency_differences (Emergency code register) found = besides_inhibit found.frame
 emergency_differences (OddEmergency length) found = besides_inhibit found.frame
 emergency_differences kind found = []
+
+-- ---- heartbeats (CiA 301, 7.2.8.3.2)
+
+-- `heartbeat-late`, at whatever frame it is found
+abbrev pub late_differences : FrameKind → Findings → List Finding
+late_differences kind found = option_to_list found.heartbeat

@@ -12,7 +12,7 @@ use Rattle.co_node_model.specs.Moments.{Constants, Moment, channels}
 use Rattle.co_node_model.specs.Device.{moment, moments}
 use Rattle.co_node_model.specs.Emergencies.{emergency_frames}
 use Rattle.co_node_model.specs.Tpdos.{tpdo_frame}
-use Rattle.conode_compare_laws.specs.Recordings.{Stamped}
+use Rattle.conode_compare_laws.specs.Recordings.{Recorded, Stamped}
 
 -- ---- what comes to a device
 
@@ -34,6 +34,13 @@ IsNoEvent (Applied event) = ⊥
 
 abbrev pub AreNoEvents : List Stamped → Type 0
 AreNoEvents inputs = AllByRecursion (λ s. IsNoEvent s.input) inputs
+
+-- a frame of a recording isn't one of the device's default SDO channel
+abbrev pub IsNoSdo : ℕ → Recorded → Type 0
+IsNoSdo node r = (r.frame.id ≢ 0x580 + node) × (r.frame.id ≢ 0x600 + node)
+
+abbrev pub AreNoSdo : ℕ → List Recorded → Type 0
+AreNoSdo node recorded = AllByRecursion (IsNoSdo node) recorded
 
 -- ---- frames of the device
 

@@ -1,3 +1,4 @@
 pub mod Recordings
 pub mod Differences
 pub mod Identifiers
+pub mod Periods

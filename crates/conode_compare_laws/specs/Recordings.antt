@@ -1,5 +1,5 @@
 -- The recording of a device: what a recorder hears of it, over all that may come to it.
-use Rattle.std.specs.Prelude.{ℕ, List, [], ◌∷◌, ◌++◌, map}
+use Rattle.std.specs.Prelude.{ℕ, ◌+◌, ◌≤◌, List, [], ◌∷◌, ◌++◌, map}
 use Rattle.co_frame.specs.FrameContent.{FrameContent}
 use Rattle.co_node_model.specs.Inputs.{InputView, Inputs, Framed, Ticked, Applied}
 use Rattle.co_node_model.specs.Moments.{Constants}
@@ -44,3 +44,21 @@ heard_from k before (s ∷ later) = heard_at k before s ++ heard_from k (s.input
 abbrev pub recording : Constants → List Stamped → List Recorded
 recording k [] = []
 recording k (s ∷ later) = with_stamp s.micros (boot_up k) ∷ heard_from k [] (s ∷ later)
+
+-- ---- stamps that ticks allow
+
+-- how many microseconds an input takes: a tick is 1 ms
+abbrev pub elapsed : InputView → ℕ
+elapsed (Framed frame) = 0
+elapsed Ticked = 1000
+elapsed (Applied event) = 0
+
+-- after a stamp none comes later than the ticks since have it
+abbrev pub AreInTime : ℕ → List Stamped → Type 0
+AreInTime last [] = Unit {0}
+AreInTime last (s ∷ later) = (s.micros ≤ last + elapsed s.input) × AreInTime s.micros later
+
+-- from the first input on
+abbrev pub AreTimed : List Stamped → Type 0
+AreTimed [] = Unit {0}
+AreTimed (s ∷ later) = AreInTime s.micros later

@@ -1,0 +1,26 @@
+-- Heartbeats of one period: what the laws about them ask of a device, of its data sheet, and of the stamps.
+use Rattle.std.specs.Prelude.{◌≡◌, ℕ, false, List, [], ◌∷◌, IfSome}
+use Rattle.co_profile.specs.Keys.{producer_key}
+use Rattle.co_dict.specs.Rows.{number_at}
+use Rattle.co_node_model.specs.Inputs.{Inputs}
+use Rattle.co_node_model.specs.Keys.{is_set}
+use Rattle.co_node_model.specs.Marks.{marked_key}
+use Rattle.co_node_model.specs.Moments.{Constants, Moment}
+use Rattle.co_node_model.specs.Device.{moment, moments}
+use Rattle.conode_compare_rules.specs.declared.limits.Subject.{Subject}
+use Rattle.conode_compare_laws.specs.Recordings.{Stamped}
+
+-- 1017:00 isn't written at an input, and has this number after it
+pub record KeepsPeriod (period : ℕ) (m : Moment) : Type 0 where
+  pub unwritten : is_set (marked_key m.mark) producer_key ≡ false
+  pub number : number_at m.contents producer_key ≡ period
+
+-- at each of these inputs, which come after those before
+abbrev pub AllKeepPeriod : ℕ → Constants → Inputs → List Stamped → Type 0
+AllKeepPeriod period k before [] = Unit {0}
+AllKeepPeriod period k before (s ∷ later) = KeepsPeriod period (moment k (moments k before) s.input) × AllKeepPeriod period k (s.input ∷ before) later
+
+-- what is known of 1017:00 by the data sheet, before a boot-up and after one, is nothing or this
+pub record KnowsPeriod (period : ℕ) (subject : Subject) : Type 0 where
+  pub before : IfSome subject.facts.before.period (λ known. known ≡ period)
+  pub booted : IfSome subject.facts.booted.period (λ known. known ≡ period)
