@@ -83,15 +83,17 @@ marked_large text checks faults sheet marks is_sheet small large is =
       are = is ∙ sym (append-nil (map fault_mark faults)) ∙ ap (λ (l : List Mark). map fault_mark faults ++ l) (sym (ap (λ (l : List Mark). l ++ []) none));
     }
 
+-- what is left of what is found, made into findings
+pub made_from : (lines : List (List ℕ)) (checks : Checks) (found marks marks_made : List Mark) (made : Linted)
+    → marks ≡ left lines checks found → marks_made ≡ marks → IsMadeOf lines marks_made made → IsMadeOf lines (left lines checks found) made
+made_from lines checks found marks marks_made made is_marks is_marks_made is_made = subst (λ (l : List Mark). IsMadeOf lines l made) (is_marks_made ∙ is_marks) is_made
+
 -- a text linted
-pub linted_from : (text : List ℕ) (checks : Checks) (lines lines_made : List (List ℕ)) (found found_left marks marks_made : List Mark) (made : Linted) → IsFound text checks found
-    → lines ≡ text_lines text → lines_made ≡ text_lines text → found_left ≡ found → marks ≡ left lines checks found_left → marks_made ≡ marks
-    → IsMadeOf lines_made marks_made made → IsLinted text checks made
-linted_from text checks lines lines_made found found_left marks marks_made made is_found is_lines is_lines_made is_found_left is_marks is_marks_made is_made =
-    let all : marks_made ≡ left (text_lines text) checks found =
-    is_marks_made ∙ is_marks ∙ ap (λ (l : List (List ℕ)). left l checks found_left) is_lines ∙ ap (left (text_lines text) checks) is_found_left in
+pub linted_from : (text : List ℕ) (checks : Checks) (lines : List (List ℕ)) (found found_left : List Mark) (made : Linted) → IsFound text checks found
+    → lines ≡ text_lines text → found_left ≡ found → IsMadeOf lines (left lines checks found_left) made → IsLinted text checks made
+linted_from text checks lines found found_left made is_found is_lines is_found_left is_made =
     record {
       found = found;
       is_found = is_found;
-      made = subst (λ (l : List (List ℕ)). IsMadeOf l (left (text_lines text) checks found) made) is_lines_made (subst (λ (l : List Mark). IsMadeOf lines_made l made) all is_made);
+      made = subst (λ (l : List (List ℕ)). IsMadeOf l (left l checks found) made) is_lines (subst (λ (l : List Mark). IsMadeOf lines (left lines checks l) made) is_found_left is_made);
     }

@@ -66,6 +66,12 @@ pub record IsFaultList (text : List ℕ) (faults : List SheetFault) : Type 0 whe
   pub only : (fault : SheetFault) → Contains faults fault → Contains (faults_of text) fault
   pub increase : IsStrictlySortedBy fault_cmp faults
 
+-- marks, and after them those of a text's warnings
+pub record AddsWarnings (text : List ℕ) (checks : Checks) (before after : List Mark) : Type 0 where
+  pub warnings : List SheetWarning
+  pub by_line : IsWarningsByLine (warnings_of text checks.node checks.all) warnings
+  pub are : after ≡ before ++ map warning_mark warnings
+
 -- the marks of a text: its faults, its build and its warnings
 pub record IsMarked (text : List ℕ) (checks : Checks) (faults : List SheetFault) (marks : List Mark)
     : Type 0 where

@@ -82,17 +82,19 @@ impl Session {
         Ok(())
     }
 
-    fn take_file<R: Files + AllocGlobal, O: Write, E: Write>(
+    // lints a text that was read, or names what can't be read
+    fn take_read<O: Write, E: Write>(
         &mut self,
-        rt: &R,
-        path: &str,
+        alloc: Global,
+        name: &str,
+        text: Result<Vec<u8>, CmdFault>,
         options: &LintOptions<'_>,
         out: &mut O,
         err: &mut E,
     ) -> Result<(), CmdFault> {
-        match file_text(rt, path) {
-            Ok(text) => self.take_text(rt.alloc(), path, text.as_slice(), options, out),
-            Err(fault) => self.take_fault(rt.alloc(), path, fault, err),
+        match text {
+            Ok(text) => self.take_text(alloc, name, text.as_slice(), options, out),
+            Err(fault) => self.take_fault(alloc, name, fault, err),
         }
     }
 
@@ -107,26 +109,12 @@ impl Session {
         match sheets_in(rt, path) {
             Ok(sheets) => {
                 for sheet in &sheets {
-                    self.take_file(rt, sheet.as_str(), options, out, err)?;
+                    let path = sheet.as_str();
+                    self.take_read(rt.alloc(), path, file_text(rt, path), options, out, err)?;
                 }
                 Ok(())
             }
             Err(fault) => self.take_fault(rt.alloc(), path, fault, err),
-        }
-    }
-
-    fn take_input<R: AllocGlobal + Input, O: Write, E: Write>(
-        &mut self,
-        rt: &R,
-        options: &LintOptions<'_>,
-        out: &mut O,
-        err: &mut E,
-    ) -> Result<(), CmdFault> {
-        let mut text = Vec::new(rt.alloc());
-        match read_text(&mut rt.reader(), &mut text) {
-            Ok(()) => self.take_text(rt.alloc(), "-", text.as_slice(), options, out),
-            Err(StreamFault::Memory) => Err(CmdFault::Memory),
-            Err(_) => self.take_fault(rt.alloc(), "-", CmdFault::Read, err),
         }
     }
 
@@ -140,34 +128,48 @@ impl Session {
         err: &mut E,
     ) -> Result<(), CmdFault> {
         if path == "-" {
-            self.take_input(rt, options, out, err)
+            self.take_read(rt.alloc(), path, input_text(rt), options, out, err)
         } else if is_folder(rt, path) {
             self.take_folder(rt, path, options, out, err)
         } else {
-            self.take_file(rt, path, options, out, err)
+            self.take_read(rt.alloc(), path, file_text(rt, path), options, out, err)
         }
     }
 
+    // the whole report but for what is still to be handed over
     fn take_paths<R: Files + AllocGlobal + Input + Clone + Drop, O: Write, E: Write>(
         &mut self,
         rt: &R,
+        rules: &[Rule<'_>],
         paths: &[&str],
         options: &LintOptions<'_>,
         out: &mut O,
         err: &mut E,
     ) -> Result<(), CmdFault> {
+        self.report.begin(rt.alloc(), options.version, rules)?;
         for path in paths {
             self.take_path(rt, path, options, out, err)?;
         }
+        self.report.end(&self.counts)?;
         Ok(())
     }
 
-    // ends the report, and returns how much was found
-    fn end<O: Write>(self, out: &mut O) -> Result<Counts, CmdFault> {
+    // hands the last bytes over, and returns how much was found
+    fn finish<O: Write>(self, out: &mut O) -> Result<Counts, CmdFault> {
         let Session { report, counts } = self;
-        let last = report.end(&counts)?;
+        let last = report.into_bytes()?;
         hand_over(last.as_slice(), out)?;
         Ok(counts)
+    }
+}
+
+// standard input
+fn input_text<R: AllocGlobal + Input>(rt: &R) -> Result<Vec<u8>, CmdFault> {
+    let mut text = Vec::new(rt.alloc());
+    match read_text(&mut rt.reader(), &mut text) {
+        Ok(()) => Ok(text),
+        Err(StreamFault::Memory) => Err(CmdFault::Memory),
+        Err(_) => Err(CmdFault::Read),
     }
 }
 
@@ -180,13 +182,12 @@ fn lint_paths<R: Files + AllocGlobal + Input + Clone + Drop, O: Write, E: Write>
     out: &mut O,
     err: &mut E,
 ) -> Result<Counts, CmdFault> {
-    let report = Report::new(rt.alloc(), options.form, options.version, rules)?;
     let mut session = Session {
-        report,
+        report: Report::new(rt.alloc(), options.form),
         counts: Counts::NONE,
     };
-    session.take_paths(rt, paths, options, out, err)?;
-    session.end(out)
+    session.take_paths(rt, rules, paths, options, out, err)?;
+    session.finish(out)
 }
 
 fn is_any(count: usize) -> bool

@@ -37,21 +37,30 @@ fn add_path(alloc: Global, paths: &mut Vec<String>, path: &str) -> Result<(), Al
     Ok(())
 }
 
+// adds the paths of a folder's data sheets
+fn add_sheets<R: Files + AllocGlobal + Clone + Drop>(
+    rt: &R,
+    paths: &mut Vec<String>,
+    folder: &str,
+) -> Result<(), CmdFault> {
+    let entries = fs::read_dir(rt, folder).map_err(fault_of)?;
+    for entry in entries {
+        let entry = entry.map_err(fault_of)?;
+        if is_sheet_name(entry.file_name()) {
+            add_path(rt.alloc(), paths, entry.path().to_string_lossy())?;
+        }
+    }
+    Ok(())
+}
+
 /// The paths of a folder's data sheets, in the order of their bytes. `Read` if the folder can't be
 /// read, `Memory` if memory ran out.
 pub(crate) fn sheets_in<R: Files + AllocGlobal + Clone + Drop>(
     rt: &R,
     folder: &str,
 ) -> Result<Vec<String>, CmdFault> {
-    let alloc = rt.alloc();
-    let mut paths = Vec::new(alloc);
-    let entries = fs::read_dir(rt, folder).map_err(fault_of)?;
-    for entry in entries {
-        let entry = entry.map_err(fault_of)?;
-        if is_sheet_name(entry.file_name()) {
-            add_path(alloc, &mut paths, entry.path().to_string_lossy())?;
-        }
-    }
+    let mut paths = Vec::new(rt.alloc());
+    add_sheets(rt, &mut paths, folder)?;
     paths.sort_unstable();
     Ok(paths)
 }

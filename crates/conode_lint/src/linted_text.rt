@@ -1,6 +1,7 @@
 //! Linting a text.
 
 ghost use Rattle.std.specs.Prelude.{◌≡◌, map, take, IfOk};
+ghost use Rattle.co_sheet_warnings.specs.Lines.{text_lines};
 ghost use Rattle.conode_lint.specs.Allowed.{error_count, is_error};
 ghost use Rattle.conode_lint.specs.Found.{finding_of, seen};
 ghost use Rattle.conode_lint.specs.Linted.{IsLinted, IsMadeOf, left};
@@ -122,6 +123,34 @@ fn made_of<'a>(alloc: Global, lines: &[&'a [u8]], marks: &[Mark]) -> Result<Lint
     })
 }
 
+// the findings of what is found in these lines, but for what is allowed
+fn linted_of<'a>(
+    alloc: Global,
+    lines: &[&'a [u8]],
+    checks: &Checks<'_>,
+    found: &[Mark],
+) -> Result<Linted<'a>, AllocError>
+    ensures { IfOk result (IsMadeOf (map (λ line. line.now) lines.now)
+        (left (map (λ line. line.now) lines.now) checks.now found.now)) }
+{
+    let marks = left(alloc, lines, checks, found)?;
+    made_of(alloc, lines, marks.as_slice())
+}
+
+// what is found in a text with these lines
+fn linted_in<'a>(
+    alloc: Global,
+    text: &'a [u8],
+    lines: &[&'a [u8]],
+    checks: &Checks<'_>,
+) -> Result<Linted<'a>, AllocError>
+    requires { map (λ line. line.now) lines.now ≡ text_lines text.now }
+    ensures { IfOk result (IsLinted text.now checks.now) }
+{
+    let found = marks_of(alloc, text, lines, checks)?;
+    linted_of(alloc, lines, checks, found.as_slice())
+}
+
 /// Everything that is found in a text: each fault of the sheet, else each reason why no dictionary
 /// can be built, and what is suspicious; without what the command line or a comment allows. `Err`:
 /// out of memory.
@@ -133,7 +162,5 @@ pub fn lint_text<'a>(
     ensures { IfOk result (IsLinted text.now checks.now) }
 {
     let lines = text_lines(alloc, text)?;
-    let found = marks_of(alloc, text, lines.as_slice(), checks)?;
-    let marks = left(alloc, lines.as_slice(), checks, found.as_slice())?;
-    made_of(alloc, lines.as_slice(), marks.as_slice())
+    linted_in(alloc, text, lines.as_slice(), checks)
 }

@@ -7,6 +7,7 @@ ghost use Rattle.co_sheet_text.specs.Views.{section_view};
 ghost use Rattle.co_dict_build.specs.Capacities.{limits_view};
 ghost use Rattle.co_sheet_warnings.specs.Lines.{text_lines};
 ghost use Rattle.conode_lint.specs.Marks.{
+  AddsWarnings,
   IsByLine,
   IsFaultList,
   IsFound,
@@ -27,7 +28,7 @@ use crate::other_format::other_format;
 use co_dict_build::Limits;
 use co_sheet::{FaultKind, GREATEST_SIZE, Sheet, SheetFault, read};
 use co_sheet_faults::{all_faults, find_faults, read_sections};
-use co_sheet_text::TextSection;
+use co_sheet_text::{ParsedText, TextSection};
 use co_sheet_warnings::{Warning, find_warnings};
 use std::alloc::{AllocError, Global};
 
@@ -135,6 +136,24 @@ fn add_built(
     }
 }
 
+// adds the warnings of a text with these lines and sections
+fn add_suspicious<'s, 'a>(
+    alloc: Global,
+    marks: &mut Vec<Mark>,
+    text: &'a [u8],
+    lines: &'s [&'a [u8]],
+    sections: &'s [TextSection<'s, 'a>],
+    checks: &Checks<'_>,
+) -> Result<(), AllocError>
+    requires size { length text.now ≤ 1048576 }
+    requires lines { map (λ line. line.now) lines.now ≡ text_lines text.now }
+    requires sections { map section_view sections.now ≡ sections_read (lines_of text.now) }
+    ensures { OnOk result (AddsWarnings text.now checks.now marks.old.items marks.new.items) }
+{
+    let warnings = find_warnings(alloc, text, lines, sections, checks.node, checks.all)?;
+    add_warnings(marks, warnings.as_slice())
+}
+
 // the marks of a text with these lines and sections: its faults, its build and its warnings
 fn marked_in<'s, 'a>(
     alloc: Global,
@@ -151,12 +170,39 @@ fn marked_in<'s, 'a>(
     requires sheet { sheet.now ≡ sheet_of text.now }
     ensures { IfOk result (λ marks. IsMarked text.now checks.now faults.now marks.items) }
 {
-    let warnings = find_warnings(alloc, text, lines, sections, checks.node, checks.all)?;
     let mut marks = fault_marks(alloc, faults)?;
     let node = node_for(checks.node, sheet);
     add_built(alloc, &mut marks, sections, sheet, node, &checks.limits)?;
-    add_warnings(&mut marks, warnings.as_slice())?;
+    add_suspicious(alloc, &mut marks, text, lines, sections, checks)?;
     Ok(marks)
+}
+
+// the marks of a text with these lines, parsed
+fn marked_parsed<'a>(
+    alloc: Global,
+    text: &'a [u8],
+    lines: &[&'a [u8]],
+    parsed: &ParsedText<'a>,
+    sheet: &Option<Sheet<'_>>,
+    faults: &[SheetFault],
+    checks: &Checks<'_>,
+) -> Result<Vec<Mark>, AllocError>
+    requires size { length text.now ≤ 1048576 }
+    requires lines { map (λ line. line.now) lines.now ≡ text_lines text.now }
+    requires parsed { parsed.now ≡ sections_read (lines_of text.now) }
+    requires sheet { sheet.now ≡ sheet_of text.now }
+    ensures { IfOk result (λ marks. IsMarked text.now checks.now faults.now marks.items) }
+{
+    let sections = parsed.sections(alloc)?;
+    marked_in(
+        alloc,
+        text,
+        lines,
+        sections.as_slice(),
+        sheet,
+        faults,
+        checks,
+    )
 }
 
 // the marks of a text with these lines
@@ -174,16 +220,7 @@ fn marked<'a>(
     ensures { IfOk result (λ marks. IsMarked text.now checks.now faults.now marks.items) }
 {
     let parsed = read_sections(alloc, text)?;
-    let sections = parsed.sections(alloc)?;
-    marked_in(
-        alloc,
-        text,
-        lines,
-        sections.as_slice(),
-        sheet,
-        faults,
-        checks,
-    )
+    marked_parsed(alloc, text, lines, &parsed, sheet, faults, checks)
 }
 
 // the marks of a text that is too large to be read: only that fault

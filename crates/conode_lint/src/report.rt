@@ -67,6 +67,23 @@ fn push_uri(uri: &mut String, path: &str) -> Result<(), AllocError> {
     percent_encode(path.as_bytes(), kept_out()).append_to(uri)
 }
 
+// appends the lines of findings in a file of this name, in characters
+fn push_findings(
+    alloc: Global,
+    text: &mut String,
+    colours: bool,
+    file: &[char],
+    linted: &Linted<'_>,
+) -> Result<(), AllocError> {
+    for finding in &linted.findings {
+        push_finding(alloc, text, colours, file, finding)?;
+    }
+    if linted.more > 0 {
+        return push_more(text, file, linted.more);
+    }
+    Ok(())
+}
+
 // appends the lines of a file's findings
 fn push_file(
     alloc: Global,
@@ -76,13 +93,7 @@ fn push_file(
     linted: &Linted<'_>,
 ) -> Result<(), AllocError> {
     let file = characters_of(alloc, name.as_bytes())?;
-    for finding in &linted.findings {
-        push_finding(alloc, text, colours, file.as_slice(), finding)?;
-    }
-    if linted.more > 0 {
-        push_more(text, file.as_slice(), linted.more)?;
-    }
-    Ok(())
+    push_findings(alloc, text, colours, file.as_slice(), linted)
 }
 
 /// The report so far: the lines that weren't handed over yet, or the tokens of JSON.
@@ -94,23 +105,17 @@ pub struct Report {
 }
 
 impl Report {
-    /// A report of no file yet. `Err`: out of memory, here as for the other calls.
-    pub fn new(
-        alloc: Global,
-        form: Form,
-        version: &str,
-        rules: &[Rule<'_>],
-    ) -> Result<Report, AllocError> {
-        let mut report = Report {
+    /// A report that isn't begun.
+    pub fn new(alloc: Global, form: Form) -> Report {
+        Report {
             form,
             text: String::new(alloc),
             writer: Writer::new(Vec::new(alloc)),
-        };
-        report.begin(alloc, version, rules)?;
-        Ok(report)
+        }
     }
 
-    fn begin(
+    /// Begins the report: no file yet. `Err`: out of memory, here as for the other calls.
+    pub fn begin(
         &mut self,
         alloc: Global,
         version: &str,
@@ -164,7 +169,8 @@ impl Report {
         self.text.clear();
     }
 
-    fn put_end(&mut self, counts: &Counts) -> Result<(), AllocError> {
+    /// Ends the report.
+    pub fn end(&mut self, counts: &Counts) -> Result<(), AllocError> {
         let Counts {
             errors,
             warnings,
@@ -178,9 +184,8 @@ impl Report {
         }
     }
 
-    /// Ends the report, and returns the last bytes to hand over.
-    pub fn end(mut self, counts: &Counts) -> Result<Vec<u8>, AllocError> {
-        self.put_end(counts)?;
+    /// The last bytes to hand over, once it is ended.
+    pub fn into_bytes(self) -> Result<Vec<u8>, AllocError> {
         let Report { form, text, writer } = self;
         match form {
             Form::Text { .. } => Ok(text.into_bytes()),

@@ -8,6 +8,7 @@ ghost use Rattle.conode_show_text.specs.Document.{
   chapter_text,
   document,
   head_of,
+  with_head,
 };
 
 use crate::entries::{entries_head, push_section};
@@ -83,6 +84,17 @@ fn push_lines<'p>(
     Ok(())
 }
 
+// lines after their head, nothing if there is none
+fn push_body(text: &mut Vec<u8>, head: &str, body: &[u8]) -> Result<(), AllocError>
+    ensures { OnOk result (text.new.items ≡ text.old.items ++ with_head head.now body.now) }
+{
+    if body.is_empty() {
+        return Ok(());
+    }
+    text.extend_from_slice(head.as_bytes())?;
+    text.extend_from_slice(body)
+}
+
 // a chapter with its head, nothing if it has no line
 fn push_chapter<'p>(
     alloc: Global,
@@ -99,11 +111,7 @@ fn push_chapter<'p>(
 {
     let mut body = Vec::new(alloc);
     push_lines(&mut body, line, part, chapter, format, node, sections)?;
-    if body.is_empty() {
-        return Ok(());
-    }
-    text.extend_from_slice(head_of(chapter, format).as_bytes())?;
-    text.extend_from_slice(body.as_slice())
+    push_body(text, head_of(chapter, format), body.as_slice())
 }
 
 // all chapters
@@ -144,6 +152,22 @@ fn push_chapters<'p>(
     )
 }
 
+// appends all chapters
+fn push_document(
+    alloc: Global,
+    text: &mut Vec<u8>,
+    format: Format,
+    node: Option<u8>,
+    sections: &[TextSection],
+) -> Result<(), AllocError>
+    ensures { OnOk result (text.new.items
+        ≡ text.old.items ++ document format node (map section_view sections.now)) }
+{
+    let mut line = Vec::new(alloc);
+    let mut part = String::new(alloc);
+    push_chapters(alloc, text, &mut line, &mut part, format, node, sections)
+}
+
 /// The object dictionary of sections in order: its entries, its PDOs, and its services. `Err`: out
 /// of memory.
 pub fn document(
@@ -156,10 +180,6 @@ pub fn document(
         (λ text. text.items ≡ document format node (map section_view sections.now)) }
 {
     let mut text = Vec::new(alloc);
-    let mut line = Vec::new(alloc);
-    let mut part = String::new(alloc);
-    push_chapters(
-        alloc, &mut text, &mut line, &mut part, format, node, sections,
-    )?;
+    push_document(alloc, &mut text, format, node, sections)?;
     Ok(text)
 }

@@ -1,0 +1,9 @@
+use Rattle.std.proofs.lemmas.Result.{IfOk-weaker}
+use Rattle.conode_lint.proofs.MarkLemmas.{linted_from}
+use Rattle.conode_lint.proofs.linted_text.linted_in.Goals as goal
+
+pub returns : goal.returns
+returns c =
+    IfOk-weaker c.linted_of.result _ _
+    (λ made h. linted_from c.args.text.now c.args.checks.now _ c.in_ok-found.found.items _ made c.in_ok-found.ensures c.requires c.as_slice.ensures.value h)
+    c.linted_of.ensures

@@ -1,0 +1,9 @@
+use Rattle.std.proofs.lemmas.Result.{IfOk-weaker}
+use Rattle.conode_lint.proofs.MarkLemmas.{made_from}
+use Rattle.conode_lint.proofs.linted_text.linted_of.Goals as goal
+
+pub returns : goal.returns
+returns c =
+    IfOk-weaker c.made_of.result _ _
+    (λ made h. made_from _ c.args.checks.now c.args.found.now _ _ made c.in_ok-marks.ensures c.as_slice.ensures.value h)
+    c.made_of.ensures
