@@ -56,17 +56,6 @@ stated k past input old noted after s from to es ef et en ea =
     ∙ ap (λ (t : NodeState). with_state (state_of k past) t noted) et
     ∙ ap (with_state (state_of k past) (state_of k (input ∷ past))) (en ∙ ap (λ (u : Seen). with_seen u old) es)
 
--- the same of a received frame: no heartbeat is lost at it
-pub framed : (k : Constants) (past : Inputs) (frame : FrameContent) (old noted after : Events) (s : Seen) (from to : NodeState)
-    → s ≡ last_seen k (Framed frame ∷ past) → from ≡ state_of k past → to ≡ state_of k (Framed frame ∷ past)
-    → noted ≡ with_seen s old → after ≡ with_state from to noted
-    → after ≡ and_input k past (Framed frame) old
-framed k past frame old noted after s from to es ef et en ea =
-    let contents = contents_of k (Framed frame ∷ past) in
-    let lost : [] ≡ last_losses k (Framed frame ∷ past) = sym (elsewhere k past (Framed frame) refl) in
-    ap (λ (subs : List ℕ). with_losses contents subs after) lost
-    ∙ ap (with_losses contents (last_losses k (Framed frame ∷ past))) (stated k past (Framed frame) old noted after s from to es ef et en ea)
-
 -- no other state is entered
 same_state : (s : NodeState) (e : Events) → with_state s s e ≡ e
 same_state PreOperational e = refl
@@ -82,6 +71,18 @@ quiet_tick k past e none =
     let same : state_of k (Ticked ∷ past) ≡ state_of k past = ap (λ event. state_after (event ∷ state.Quiet ∷ state_log history)) loss in
     ap (λ (subs : List ℕ). with_losses (contents_of k (Ticked ∷ past)) subs (with_state (state_of k past) (state_of k (Ticked ∷ past)) e)) none
     ∙ ap (λ (t : NodeState). with_state (state_of k past) t e) same ∙ same_state (state_of k past) e
+
+-- a received frame that leaves the NMT state as it is: no heartbeat is lost at it
+pub framed : (k : Constants) (past : Inputs) (frame : FrameContent) (old noted : Events) (s : Seen)
+    → state_of k (Framed frame ∷ past) ≡ state_of k past → s ≡ last_seen k (Framed frame ∷ past) → noted ≡ with_seen s old
+    → noted ≡ and_input k past (Framed frame) old
+framed k past frame old noted s same es en =
+    let contents = contents_of k (Framed frame ∷ past) in
+    let lost : [] ≡ last_losses k (Framed frame ∷ past) = sym (elsewhere k past (Framed frame) refl) in
+    let seen : Events = with_seen (last_seen k (Framed frame ∷ past)) old in
+    en ∙ ap (λ (u : Seen). with_seen u old) es ∙ sym (same_state (state_of k past) seen)
+    ∙ ap (λ (t : NodeState). with_state (state_of k past) t seen) (sym same)
+    ∙ ap (λ (subs : List ℕ). with_losses contents subs (with_state (state_of k past) (state_of k (Framed frame ∷ past)) seen)) lost
 
 -- what happened to a held device that is put back
 pub events_given : (o : Option Held) (there after : Held) (place : Handle) (f : Events → Events)

@@ -5,5 +5,6 @@ pub mod GivenBus
 pub mod KnownSoFar
 pub mod Put
 pub mod Refused
+pub mod StateKept
 pub mod Terminated
 pub mod Ticks

@@ -1,6 +1,6 @@
 //! The place of a device in a C program.
 
-ghost use Rattle.std.specs.Prelude.{◌≡◌, Some, None, length, option_map};
+ghost use Rattle.std.specs.Prelude.{◌≡◌, Some, None, false, length, option_map, true};
 ghost use Rattle.bafokun.specs.Seals.{alone};
 
 use crate::frames::{CanFrame, put};

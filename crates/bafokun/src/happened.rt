@@ -5,6 +5,7 @@ ghost use Rattle.co_frame.specs.FrameContent.{FrameContent};
 ghost use Rattle.co_node_model.specs.Inputs.{Framed, InputView, Inputs, Ticked};
 ghost use Rattle.co_node_model.specs.Moments.{Constants};
 ghost use Rattle.co_node_model.specs.Device.{contents_of, state_of};
+ghost use Rattle.co_node_device.specs.Lasts.{last_seen};
 ghost use Rattle.co_node.specs.Nodes.{Stands};
 ghost use Rattle.bafokun.specs.Answers.{state_code};
 ghost use Rattle.bafokun.specs.Happened.{
@@ -21,6 +22,7 @@ ghost use Rattle.bafokun.specs.Happened.{
 };
 
 use co_node::{Node, NodeState, Seen};
+use co_node_laws::{device_by_kind, state_by_kind};
 use co_profile::CONSUMER_HEARTBEAT;
 use co_value::Key;
 
@@ -228,15 +230,18 @@ impl Events {
         }
     }
 
-    /// The same, where the input was a frame: no heartbeat is lost at one.
+    /// The same, where the input was a frame with another identifier than 0, by what was seen of it:
+    /// only NMT commands change the NMT state, and no heartbeat is lost at a frame.
     #[inline(always)]
-    pub(crate) fn note_frame(&mut self, node: &Node, before: NodeState)
-        ensures { (k : Constants) (past : Inputs) (frame : FrameContent) →
-            Stands k node.now (Framed frame ∷ past) → before ≡ state_of k past →
+    pub(crate) fn note_frame(&mut self, seen: Seen)
+        ensures { (k : Constants) (past : Inputs) (frame : FrameContent) → (frame.id ≡ 0 → ⊥) →
+            seen ≡ last_seen k (Framed frame ∷ past) →
             self.new ≡ and_input k past (Framed frame) self.old }
     {
-        self.note_seen(node.last_seen());
-        self.note_state(before, node.state());
+        self.note_seen(seen);
+        // laws: calls of them change nothing
+        device_by_kind();
+        state_by_kind();
     }
 
     /// The same, where 1 ms elapsed: something happened only if a heartbeat was lost.

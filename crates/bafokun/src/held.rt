@@ -43,8 +43,12 @@ impl Held {
             self.new.events ≡ and_input k before (Framed frame.now) self.old.events }
     {
         let state = self.node.state();
-        self.node.take_frame(frame, &mut self.sent);
-        self.events.note_frame(&self.node, state);
+        let seen = self.node.take_frame(frame, &mut self.sent);
+        if frame.id() == 0 {
+            self.events.note(&self.node, state);
+        } else {
+            self.events.note_frame(seen);
+        }
     }
 
     /// 1 ms elapsed.
