@@ -243,7 +243,8 @@ static void enter(enum state state, micros now)
     changes = NEVER;
     for (size_t at = 0; at < 2; at++) {
         tpdos[at].wanted = false;
-        tpdos[at].syncs = 0;
+        uint32_t type = type_of(tpdos[at].index);
+        tpdos[at].syncs = state == OPERATIONAL && type > 0 ? choices.syncs_ahead % type : 0;
         tpdos[at].event = NEVER;
         rpdos[at].waits = false;
         if (state != OPERATIONAL || !has_pdos()) continue;

@@ -83,6 +83,8 @@ struct choices {
     uint8_t block_size;
     unsigned boot_millis;
     bool heartbeat_at_change, sends_at_start, keeps_errors, refuses_short_pdo;
+    /* how many SYNCs earlier it sends a TPDO of type 2 to 240 first, than one that counts from the start */
+    unsigned syncs_ahead;
 };
 
 extern struct choices choices;

@@ -1,6 +1,7 @@
-/* foreign-device module|sensor NODE SEED [--seconds N] [--from N] [--mistake NAME]: an hour's session of the device and
-   its master, as `candump -L` writes it. The same words give the same lines. --from leaves out the first seconds. How
-   often it made the mistake is said on standard error. */
+/* foreign-device module|sensor NODE SEED [--seconds N] [--from N] [--ahead N] [--mistake NAME]: an hour's session of the
+   device and its master, as `candump -L` writes it. The same words give the same lines. --from leaves out the first
+   seconds. With --ahead it sends TPDOs of type 2 to 240 first so many SYNCs earlier. How often it made the mistake is
+   said on standard error. */
 #include "foreign.h"
 
 #include <stdio.h>
@@ -152,7 +153,7 @@ static void choose(void)
 
 static int usage(void)
 {
-    fputs("usage: foreign-device module|sensor NODE SEED [--seconds N] [--from N] [--mistake NAME]\n", stderr);
+    fputs("usage: foreign-device module|sensor NODE SEED [--seconds N] [--from N] [--ahead N] [--mistake NAME]\n", stderr);
     return 2;
 }
 
@@ -164,6 +165,7 @@ int main(int count, char **words)
     for (int at = 4; at + 1 < count; at += 2) {
         if (strcmp(words[at], "--seconds") == 0) seconds = strtoull(words[at + 1], NULL, 10);
         else if (strcmp(words[at], "--from") == 0) from = strtoull(words[at + 1], NULL, 10);
+        else if (strcmp(words[at], "--ahead") == 0) choices.syncs_ahead = (unsigned)strtoul(words[at + 1], NULL, 10);
         else if (strcmp(words[at], "--mistake") == 0) {
             unsigned name = 0;
             while (name < MISTAKES && strcmp(mistake_names[name], words[at + 1]) != 0) name++;

@@ -1,6 +1,6 @@
 -- What is written of a recording that is compared: a line for each difference, in order; and what
 -- is known of it at its end.
-use Rattle.std.specs.Prelude.{ℕ, ◌+◌, ◌==◌, Bool, true, false, nat_lt, ◌&&◌, ◌||◌, if◌then◌else◌, List, [], ◌∷◌, ◌++◌, length, Option, Some, None, is_none, is_some, option_map}
+use Rattle.std.specs.Prelude.{ℕ, ◌+◌, ◌==◌, Bool, false, nat_lt, ◌&&◌, ◌||◌, if◌then◌else◌, List, [], ◌∷◌, ◌++◌, length, Option, Some, None, is_none, option_map}
 use Rattle.std.specs.Option.{option_map_or}
 use Rattle.std.specs.Str.{bytes_eq}
 use Rattle.std.specs.Str.Lines.{lines}
@@ -27,7 +27,7 @@ use Rattle.conode_compare_values.specs.declared.mismatch.Mismatch.TheVariants.{V
 use Rattle.conode_compare_rules.specs.declared.limits.Subject.{Subject}
 use Rattle.conode_compare_rules.specs.declared.verdict.Findings.{Findings}
 use Rattle.conode_compare_notes.specs.declared.warning.Warning.{Warning}
-use Rattle.conode_compare_notes.specs.declared.warning.Warning.TheVariants.{Restarted, Stored, Changed}
+use Rattle.conode_compare_notes.specs.declared.warning.Warning.TheVariants.{Restarted, Stored, Changed, SteppedBack}
 use Rattle.conode_compare_rules.specs.declared.kind.FrameKind.{FrameKind}
 use Rattle.conode_compare_rules.specs.declared.progress.Progress.{Progress}
 use Rattle.conode_compare_rules.specs.FrameKinds.{kind_of}
@@ -41,6 +41,7 @@ use Rattle.conode_compare_report.specs.Reports.{with_bad_line, with_finding, wit
 use Rattle.conode_compare_report.specs.Views.{Kept}
 use Rattle.conode_compare.specs.declared.comparing.Comparing.{Comparing}
 use Rattle.conode_compare.specs.declared.notes.Noted.{Noted}
+use Rattle.conode_compare.specs.NodesSeen.{no_nodes, nodes_with}
 use Rattle.conode_compare.specs.Noted.{choice_lines, noted_at, nothing_noted, notes_with}
 
 -- what is compared: a device, the entries of its data sheet, the codes of their original data types
@@ -82,6 +83,7 @@ abbrev pub warned_type : Comparison → Warning → ValueType
 warned_type c Restarted = Plain Unsigned32
 warned_type c (Stored key shown sheet) = type_at c key
 warned_type c (Changed mismatch) = type_at c mismatch.key
+warned_type c (SteppedBack micros) = Plain Unsigned32
 
 abbrev pub warning_lines : Comparison → ℕ → Option Warning → List (List ℕ)
 warning_lines c number None = []
@@ -128,6 +130,7 @@ nothing_compared subject report = record {
   tally = no_frames;
   first = record { items = [] };
   several = false;
+  nodes = no_nodes;
   notes = nothing_noted;
   report = report;
 }
@@ -174,6 +177,7 @@ frame_taken c so_far frame kind = record {
   tally = tally_with so_far.tally (found_at c so_far frame kind).verdict;
   first = first_with so_far.first frame.interface;
   several = so_far.several;
+  nodes = nodes_with so_far.nodes frame;
   notes = notes_with c.choices c.learned c.subject c.rows so_far.notes kind (progress_at c so_far frame kind);
   report = option_map (kind_noted c so_far.progress frame.micros kind) so_far.report;
 }

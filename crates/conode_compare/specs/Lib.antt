@@ -1,6 +1,7 @@
 pub mod Compared
 pub mod Documents
 pub mod LastLines
+pub mod NodesSeen
 pub mod Noted
 pub mod Taking
 pub mod Verdicts

@@ -13,6 +13,7 @@ use crate::compared::compare;
 use crate::comparing::Comparing;
 use crate::document::{Format, Wanted, about_of, new_report, write_document};
 use crate::last_lines::write_last_lines;
+use crate::nodes_seen::NodesSeen;
 use crate::writes::Settings;
 use co_sheet::{EntryRow, Sheet, read};
 use co_sheet_changes::Originals;
@@ -90,11 +91,12 @@ fn verdict_status(tally: Tally, several: bool) -> u8
 }
 
 // says on `err` why the status is 2, if it is
-fn say_why<E: Write>(node: u8, tally: Tally, several: bool, err: &mut E) {
+fn say_why<E: Write>(node: u8, tally: Tally, several: bool, nodes: &NodesSeen, err: &mut E) {
     if several {
         let _ = writeln!(err, "several interfaces: name one with --interface");
     } else if no_frame(tally) {
         let _ = writeln!(err, "no frame of node {node}");
+        nodes.name(err);
     }
 }
 
@@ -130,7 +132,7 @@ fn compare_and_write<R: Read, O: Write, E: Write>(
     form: Form,
     out: &mut O,
     err: &mut E,
-) -> Result<(Tally, bool), CmdFault>
+) -> Result<(Tally, bool, NodesSeen), CmdFault>
     requires { AllPairs (λ e f. is_key_before e.key f.key ≡ true) settings.now.rows.now }
     ensures written { OnOk result (IfSome (R.remaining input.old) (λ text.
         WritesLines (O.contents out.old) (O.contents out.new)
@@ -140,7 +142,8 @@ fn compare_and_write<R: Read, O: Write, E: Write>(
     let report = new_report(alloc, settings, wanted.format)?;
     let comparing = compare(alloc, input, settings, form, report, out, err)?;
     write_end(alloc, settings, wanted, &comparing, out)?;
-    Ok(comparing.ends())
+    let (tally, several) = comparing.ends();
+    Ok((tally, several, comparing.nodes()))
 }
 
 // compares an input
@@ -158,8 +161,8 @@ fn compare_input<R: Read, O: Write, E: Write>(
 {
     let outcome = compare_and_write(alloc, input, settings, wanted, form, out, err);
     match flushed(out, outcome) {
-        Ok((tally, several)) => {
-            say_why(settings.subject.node, tally, several, err);
+        Ok((tally, several, nodes)) => {
+            say_why(settings.subject.node, tally, several, &nodes, err);
             ExitCode::from(verdict_status(tally, several))
         }
         Err(fault) => {

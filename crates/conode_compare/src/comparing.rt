@@ -24,6 +24,7 @@ ghost use Rattle.conode_compare.specs.Compared.{
 ghost use Rattle.conode_compare.specs.Views.{comparison_view};
 
 use crate::kept::note_findings;
+use crate::nodes_seen::NodesSeen;
 use crate::notes::{Noted, Notes};
 use crate::writes::{Settings, write_shown};
 use arrayvec::ArrayVec;
@@ -44,6 +45,8 @@ pub struct Comparing {
     pub(crate) first: ArrayVec<u8, 15>,
     /// Whether frames came on another one, where none is named.
     pub(crate) several: bool,
+    /// The nodes that were seen.
+    pub(crate) nodes: NodesSeen,
     /// What is noted beside differences.
     pub(crate) notes: Notes,
     /// What is kept for a document, if one is wanted.
@@ -103,6 +106,7 @@ impl Comparing {
             tally: Tally::new(),
             first: ArrayVec::new(),
             several: false,
+            nodes: NodesSeen::new(),
             notes: Notes::new(alloc),
             report,
         }
@@ -140,6 +144,13 @@ impl Comparing {
         ensures { result ≡ (self.now.tally, self.now.several) }
     {
         (self.tally, self.several)
+    }
+
+    /// The nodes that were seen.
+    pub fn nodes(&self) -> NodesSeen
+        ensures { result ≡ self.now.nodes }
+    {
+        self.nodes
     }
 
     /// What is noted of the device beside differences.
@@ -195,6 +206,7 @@ impl Comparing {
         )?;
         self.tally.count(found.verdict);
         self.note_first(frame.interface.bytes());
+        self.nodes.note(frame);
         let noted = self.notes.take(settings, kind, &self.progress)?;
         Ok((found, noted))
     }

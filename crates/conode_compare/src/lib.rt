@@ -8,6 +8,7 @@ mod document;
 mod kept;
 mod last_lines;
 mod line;
+mod nodes_seen;
 mod notes;
 mod writes;
 
@@ -15,5 +16,6 @@ pub use compare_file::{Asked, compare_files};
 pub use compared::compare;
 pub use comparing::Comparing;
 pub use document::Format;
+pub use nodes_seen::NodesSeen;
 pub use notes::Notes;
 pub use writes::Settings;

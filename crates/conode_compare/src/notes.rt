@@ -8,6 +8,7 @@ ghost use Rattle.co_value.specs.Keys.{is_key_before};
 ghost use Rattle.conode_io.specs.Written.{WritesLines};
 ghost use Rattle.conode_compare.specs.Noted.{
   choice_lines,
+  choosing_by,
   counted,
   learned_by,
   noted_at,
@@ -19,8 +20,8 @@ ghost use Rattle.conode_compare.specs.Views.{comparison_view};
 
 use crate::writes::Settings;
 use co_sheet::EntryRow;
-use conode_compare_notes::{Choice, Learned, Warning, Watched, choice_at};
-use conode_compare_rules::{FrameKind, Progress};
+use conode_compare_notes::{Choice, Choosing, Learned, Warning, Watched, stepped_back};
+use conode_compare_rules::{FrameKind, Progress, Subject};
 use conode_compare_text::set_choice_line;
 use conode_compare_transfers::Exchange;
 use conode_io::{CmdFault, hand_over};
@@ -30,8 +31,12 @@ use std::io::Write;
 /// What is noted of a device beside differences, as far as it is asked for.
 #[derive(Drop)]
 pub struct Notes {
+    /// The stamp of the newest frame.
+    pub newest: Option<u64>,
     /// What warnings rest on.
     pub watched: Watched,
+    /// What choices rest on, if they are asked for.
+    pub choosing: Choosing,
     /// How many frames show a choice, up to 2^64 - 1.
     pub choices: u64,
     /// The values of its entries.
@@ -48,17 +53,22 @@ pub(crate) struct Noted {
 }
 
 // what the device chose with a frame, if that is asked for
-fn noted_choice(
+fn take_choice(
     wanted: bool,
+    choosing: &mut Choosing,
+    subject: &Subject,
     rows: &[EntryRow<'_>],
     kind: &FrameKind,
     progress: &Progress,
 ) -> Option<Choice>
     requires { AllPairs (λ e f. is_key_before e.key f.key ≡ true) rows.now }
-    ensures { result ≡ noted_choice wanted (map row_view rows.now) kind.now progress.now }
+    ensures choice { result ≡ noted_choice
+        wanted subject.now (map row_view rows.now) choosing.old kind.now progress.now }
+    ensures next { choosing.new ≡ choosing_by
+        wanted subject.now (map row_view rows.now) choosing.old kind.now progress.now }
 {
     if wanted {
-        choice_at(rows, kind, &progress.exchange, progress.remark)
+        choosing.take(subject, rows, kind, progress)
     } else {
         None
     }
@@ -92,7 +102,9 @@ impl Notes {
         ensures { result ≡ nothing_noted }
     {
         Notes {
+            newest: None,
             watched: Watched::new(alloc),
+            choosing: Choosing::new(),
             choices: 0,
             learned: Learned::new(alloc),
         }
@@ -140,12 +152,24 @@ impl Notes {
             (comparison_view settings.now).learned (comparison_view settings.now).subject
             (comparison_view settings.now).rows self.old kind.now progress.now) }
     {
+        let stepped = stepped_back(self.newest, progress.newest);
         let warning = self
             .watched
             .take(&settings.subject, settings.rows, kind, progress)?;
-        let choice = noted_choice(settings.choices, settings.rows, kind, progress);
+        self.newest = progress.newest;
+        let choice = take_choice(
+            settings.choices,
+            &mut self.choosing,
+            &settings.subject,
+            settings.rows,
+            kind,
+            progress,
+        );
         self.count(choice);
         self.learn(settings, &progress.exchange)?;
-        Ok(Noted { warning, choice })
+        Ok(Noted {
+            warning: stepped.or(warning),
+            choice,
+        })
     }
 }

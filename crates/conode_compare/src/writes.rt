@@ -125,6 +125,7 @@ fn warned_type(settings: &Settings<'_, '_>, warning: Warning) -> ValueType
 {
     match warning {
         Warning::Restarted => ValueType::Plain(DataType::Unsigned32),
+        Warning::SteppedBack(_) => ValueType::Plain(DataType::Unsigned32),
         Warning::Stored(key, _, _) => type_at(settings, key),
         Warning::Changed(mismatch) => type_at(settings, mismatch.key),
     }

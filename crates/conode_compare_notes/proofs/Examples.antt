@@ -29,13 +29,14 @@ use Rattle.conode_compare_notes.specs.declared.choice.Choice.{Choice}
 use Rattle.conode_compare_notes.specs.declared.choice.Choice.TheVariants.{Segments, NoSize, ShortSegment, NoCrc, BlockSize, Switched, Code, Timeout, Heartbeat}
 use Rattle.conode_compare_notes.specs.declared.learned.Shown.{Shown}
 use Rattle.conode_compare_notes.specs.declared.warning.Warning.{Warning}
-use Rattle.conode_compare_notes.specs.declared.warning.Warning.TheVariants.{Changed, Restarted, Stored}
+use Rattle.conode_compare_notes.specs.declared.warning.Warning.TheVariants.{Changed, Restarted, SteppedBack, Stored}
 use Rattle.conode_compare_notes.specs.declared.watched.Watched.{Watched}
 use Rattle.conode_compare_notes.specs.declared.writes.Wrote.{Wrote}
 use Rattle.conode_compare_notes.specs.Choices.{choice_at}
 use Rattle.conode_compare_notes.specs.LearnedValues.{learned_with, number_of, shown_in}
 use Rattle.conode_compare_notes.specs.RefusalCodes.{code_choice, sheet_code}
-use Rattle.conode_compare_notes.specs.Warnings.{after_end, after_other, after_request, ended_warning, is_setting, remark_warning}
+use Rattle.conode_compare_notes.specs.Requests.{nothing_requested, request_code}
+use Rattle.conode_compare_notes.specs.Warnings.{after_end, after_other, after_request, ended_warning, is_setting, remark_warning, stepped_back}
 
 abbrev key : Key
 key = record { index = 0x2000; sub = 1 }
@@ -70,7 +71,7 @@ answer first bytes = Sdo Server (record { id = 0x585; bytes = first ∷ 0x00 ∷
 -- ---- the end of a transfer
 
 abbrev ends : ℕ → Direction → Protocol → Ending → ℕ → Option Choice
-ends first direction protocol ending count = choice_at [] (answer first (0 ∷ [])) (exchange true Part None (transfer direction protocol ending count [])) None
+ends first direction protocol ending count = choice_at [] nothing_requested (answer first (0 ∷ [])) (exchange true Part None (transfer direction protocol ending count [])) None
 
 segments : map (ends 1 Upload Segmented (Done false)) (0 ∷ 1 ∷ 4 ∷ 5 ∷ []) ≡ None ∷ Some (Segments key 1) ∷ Some (Segments key 4) ∷ None ∷ []
 unfolding choice_at
@@ -118,22 +119,22 @@ unfolding choice_at
 by_client = refl
 
 -- where an earlier request may be answered, and a frame of the client
-uncertain : choice_at [] (answer 0x42 (0 ∷ [])) (exchange false Part None (transfer Upload Expedited (Done false) 4 [])) None ≡ None
+uncertain : choice_at [] nothing_requested (answer 0x42 (0 ∷ [])) (exchange false Part None (transfer Upload Expedited (Done false) 4 [])) None ≡ None
 unfolding choice_at
 uncertain = refl
 
-of_client : choice_at [] (Sdo Client (record { id = 0x605; bytes = 0x40 ∷ 0 ∷ 0x20 ∷ 1 ∷ [] })) (exchange true Part None (transfer Upload Segmented (Done false) 4 [])) None ≡ None
+of_client : choice_at [] nothing_requested (Sdo Client (record { id = 0x605; bytes = 0x40 ∷ 0 ∷ 0x20 ∷ 1 ∷ [] })) (exchange true Part None (transfer Upload Segmented (Done false) 4 [])) None ≡ None
 unfolding choice_at
 of_client = refl
 
-no_exchange : choice_at [] Other None None ≡ None
+no_exchange : choice_at [] nothing_requested Other None None ≡ None
 unfolding choice_at
 no_exchange = refl
 
 -- ---- an answer after which the transfer goes on
 
 abbrev goes_on : ℕ → List ℕ → Option Choice
-goes_on first bytes = choice_at [] (answer first bytes) (exchange true Part (Some key) None) None
+goes_on first bytes = choice_at [] nothing_requested (answer first bytes) (exchange true Part (Some key) None) None
 
 -- toggle, n and c
 short : map (λ first. goes_on first []) (0x00 ∷ 0x02 ∷ 0x1E ∷ 0x03 ∷ 0x10 ∷ []) ≡ None ∷ Some (ShortSegment key 6) ∷ Some (ShortSegment key 0) ∷ None ∷ None ∷ []
@@ -159,7 +160,7 @@ smaller_blocks = refl
 
 -- the acknowledge of a sub-block has the size of the next one
 abbrev acknowledged : ℕ → Option Choice
-acknowledged size = choice_at [] (Sdo Server (record { id = 0x585; bytes = 0xA2 ∷ 21 ∷ size ∷ [] })) (exchange true Part (Some key) None) None
+acknowledged size = choice_at [] nothing_requested (Sdo Server (record { id = 0x585; bytes = 0xA2 ∷ 21 ∷ size ∷ [] })) (exchange true Part (Some key) None) None
 
 next_blocks : map acknowledged (127 ∷ 126 ∷ 1 ∷ 0 ∷ []) ≡ None ∷ Some (BlockSize key 126) ∷ Some (BlockSize key 1) ∷ None ∷ []
 unfolding choice_at
@@ -178,7 +179,7 @@ block_end = refl
 
 -- the answer to initiate of a block upload; one in one frame ends the transfer
 abbrev switched : Bool → ℕ → Option Ended → Option Choice
-switched switches first ended = choice_at [] (answer first []) (Some (record {
+switched switches first ended = choice_at [] nothing_requested (answer first []) (Some (record {
   heard = record { what = Part; of = Some key; ended = ended };
   asked = Some (record { key = key; micros = 1; writes = false; switches = switches });
   owed = true;
@@ -204,25 +205,25 @@ without_threshold = refl
 
 -- ---- heartbeats
 
-early : choice_at [] (Control 5) None (Some (EarlyHeartbeat 300 1000)) ≡ Some (Heartbeat 300 1000)
+early : choice_at [] nothing_requested (Control 5) None (Some (EarlyHeartbeat 300 1000)) ≡ Some (Heartbeat 300 1000)
 unfolding choice_at
 early = refl
 
-restarted : choice_at [] (Control 0) None (Some RestartedRemark) ≡ None
+restarted : choice_at [] nothing_requested (Control 0) None (Some RestartedRemark) ≡ None
 unfolding choice_at
 restarted = refl
 
 -- ---- without an open transfer
 
-stray : choice_at [] (answer 0x80 (0 ∷ 0 ∷ 4 ∷ 5 ∷ [])) (exchange true Stray None None) None ≡ Some (Timeout key)
+stray : choice_at [] nothing_requested (answer 0x80 (0 ∷ 0 ∷ 4 ∷ 5 ∷ [])) (exchange true Stray None None) None ≡ Some (Timeout key)
 unfolding choice_at
 stray = refl
 
-other_stray : choice_at [] (answer 0x80 (1 ∷ 0 ∷ 4 ∷ 5 ∷ [])) (exchange true Stray None None) None ≡ None
+other_stray : choice_at [] nothing_requested (answer 0x80 (1 ∷ 0 ∷ 4 ∷ 5 ∷ [])) (exchange true Stray None None) None ≡ None
 unfolding choice_at
 other_stray = refl
 
-unexpected : choice_at [] (answer 0x80 (0 ∷ 0 ∷ 4 ∷ 5 ∷ [])) (exchange true Unexpected None None) None ≡ None
+unexpected : choice_at [] nothing_requested (answer 0x80 (0 ∷ 0 ∷ 4 ∷ 5 ∷ [])) (exchange true Unexpected None None) None ≡ None
 unfolding choice_at
 unexpected = refl
 
@@ -343,7 +344,7 @@ accesses = refl
 -- the other code that fits, in an abort of 2000h or 2002h
 abbrev code_for : ℕ → ℕ → Direction → List ℕ → ℕ → Option Choice
 code_for low sub direction bytes came =
-    code_choice sheet (record { id = 0x585; bytes = 0x80 ∷ low ∷ 0x20 ∷ sub ∷ [] }) (refused_of (0x2000 + low) sub direction Expedited bytes) came
+    code_choice sheet nothing_requested None (record { id = 0x585; bytes = 0x80 ∷ low ∷ 0x20 ∷ sub ∷ [] }) (refused_of (0x2000 + low) sub direction Expedited bytes) came
 
 abbrev entry_key : ℕ → ℕ → Key
 entry_key low sub = record { index = 0x2000 + low; sub = sub }
@@ -362,8 +363,34 @@ not_there : code_for 0 3 Upload [] 0x06020000 ∷ code_for 2 3 Upload [] 0x06090
 unfolding code_choice sheet_code
 not_there = refl
 
+-- the answer to the request of a download: one byte of two, and a number above the limit of 20
+abbrev download_code : Bool → ℕ → List ℕ → ℕ → Option Choice
+download_code writes first rest came =
+    code_choice sheet (record { first = first; rest = rest }) (Some (record { key = entry_key 0 1; micros = 1; writes = writes; switches = false }))
+    (record { id = 0x585; bytes = 0x80 ∷ 0 ∷ 0x20 ∷ 1 ∷ [] }) (refused_of 0x2000 1 Download Expedited []) came
+
+one_byte_of_two : map (download_code true 0x2F (15 ∷ 0 ∷ 0 ∷ 0 ∷ [])) (0x06070010 ∷ 0x06070013 ∷ 0x06090030 ∷ []) ≡ Some (Code (entry_key 0 1) 0x06070010 0x06070013) ∷ None ∷ None ∷ []
+unfolding code_choice sheet_code request_code
+one_byte_of_two = refl
+
+too_high : download_code true 0x2B (21 ∷ 0 ∷ 0 ∷ 0 ∷ []) 0x06090030 ≡ Some (Code (entry_key 0 1) 0x06090030 0x06090031)
+unfolding code_choice sheet_code request_code
+too_high = refl
+
+-- where it isn't the answer to one
+of_no_download : download_code false 0x2F (15 ∷ 0 ∷ 0 ∷ 0 ∷ []) 0x06070010 ∷ code_choice sheet (record { first = 0x2F; rest = 15 ∷ 0 ∷ 0 ∷ 0 ∷ [] }) None
+    (record { id = 0x585; bytes = 0x80 ∷ 0 ∷ 0x20 ∷ 1 ∷ [] }) (refused_of 0x2000 1 Download Expedited []) 0x06070010 ∷ [] ≡ None ∷ None ∷ []
+unfolding code_choice sheet_code request_code
+of_no_download = refl
+
+-- a read-only entry has another code first
+of_read_only : code_choice sheet (record { first = 0x2B; rest = 15 ∷ 0 ∷ 0 ∷ 0 ∷ [] }) (Some (record { key = entry_key 0 0; micros = 1; writes = true; switches = false }))
+    (record { id = 0x585; bytes = 0x80 ∷ 0 ∷ 0x20 ∷ 0 ∷ [] }) (refused_of 0x2000 0 Download Expedited []) 0x06070010 ≡ None
+unfolding code_choice sheet_code request_code
+of_read_only = refl
+
 -- an abort of another entry answers an earlier request
-of_another_entry : code_choice sheet (record { id = 0x585; bytes = 0x80 ∷ 1 ∷ 0x20 ∷ 0 ∷ [] }) (refused_of 0x2000 0 Download Expedited (5 ∷ [])) 0x06010000 ≡ None
+of_another_entry : code_choice sheet nothing_requested None (record { id = 0x585; bytes = 0x80 ∷ 1 ∷ 0x20 ∷ 0 ∷ [] }) (refused_of 0x2000 0 Download Expedited (5 ∷ [])) 0x06010000 ≡ None
 unfolding code_choice sheet_code
 of_another_entry = refl
 
@@ -475,3 +502,10 @@ after_heartbeat = refl
 
 restart : map remark_warning (Some RestartedRemark ∷ Some (EarlyHeartbeat 1 2) ∷ None ∷ []) ≡ Some Restarted ∷ None ∷ None ∷ []
 restart = refl
+
+-- a stamp before the last one
+stamps : map (stepped_back (Some 5000)) (Some 5000 ∷ Some 4999 ∷ None ∷ []) ≡ None ∷ Some (SteppedBack 1) ∷ None ∷ []
+stamps = refl
+
+first_stamp : stepped_back None (Some 5) ≡ None
+first_stamp = refl

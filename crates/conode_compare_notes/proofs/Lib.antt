@@ -1,1 +1,2 @@
+mod ChoosingExamples
 mod Examples

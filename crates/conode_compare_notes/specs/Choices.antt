@@ -25,14 +25,15 @@ use Rattle.conode_compare_rules.specs.declared.kind.FrameKind.{FrameKind}
 use Rattle.conode_compare_rules.specs.declared.kind.FrameKind.TheVariants.{Sdo}
 use Rattle.conode_compare_notes.specs.declared.choice.Choice.{Choice}
 use Rattle.conode_compare_notes.specs.declared.choice.Choice.TheVariants.{Segments, NoSize, ShortSegment, NoCrc, BlockSize, Switched, Timeout, Heartbeat}
+use Rattle.conode_compare_notes.specs.declared.request.Request.{Request}
 use Rattle.conode_compare_notes.specs.RefusalCodes.{code_choice}
 
 -- ---- the end of a transfer
 
 -- `choice-timeout`: a server may abort a transfer that timed out, or leave it
-abbrev pub aborted_choice : List Row → FrameContent → Ended → AbortCode → Option Choice
-aborted_choice rows frame ended code =
-    if code.0 == timed_out then Some (Timeout ended.key) else code_choice rows frame ended code.0
+abbrev pub aborted_choice : List Row → Request → Option Asked → FrameContent → Ended → AbortCode → Option Choice
+aborted_choice rows request asked frame ended code =
+    if code.0 == timed_out then Some (Timeout ended.key) else code_choice rows request asked frame ended code.0
 
 -- `choice-segments`: up to four bytes could go in one frame
 abbrev pub segments_choice : Ended → Option Choice
@@ -42,15 +43,16 @@ segments_choice ended = if nat_le 1 ended.bytes && nat_le ended.bytes 4 then Som
 abbrev pub expedited_choice : ℕ → Ended → Option Choice
 expedited_choice first ended = if first % 2 == 0 then Some (NoSize ended.key) else None
 
-abbrev pub ending_choice : List Row → FrameContent → Ended → Direction → Protocol → Ending → Option Choice
-ending_choice rows frame ended direction protocol (Aborted Server code) = aborted_choice rows frame ended code
-ending_choice rows frame ended Upload Segmented (Done crc) = segments_choice ended
-ending_choice rows frame ended Upload Expedited (Done crc) = expedited_choice (byte_at frame 0) ended
-ending_choice rows frame ended direction protocol ending = None
+abbrev pub ending_choice : List Row → Request → Option Asked → FrameContent → Ended → Direction → Protocol → Ending → Option Choice
+ending_choice rows request asked frame ended direction protocol (Aborted Server code) = aborted_choice rows request asked frame ended code
+ending_choice rows request asked frame ended Upload Segmented (Done crc) = segments_choice ended
+ending_choice rows request asked frame ended Upload Expedited (Done crc) = expedited_choice (byte_at frame 0) ended
+ending_choice rows request asked frame ended direction protocol ending = None
 
 -- by the frame that ends it
-abbrev pub ended_choice : List Row → FrameContent → Ended → Option Choice
-ended_choice rows frame ended = ending_choice rows frame ended ended.direction ended.protocol ended.ending
+abbrev pub ended_choice : List Row → Request → Option Asked → FrameContent → Ended → Option Choice
+ended_choice rows request asked frame ended =
+    ending_choice rows request asked frame ended ended.direction ended.protocol ended.ending
 
 -- ---- an answer after which the transfer goes on
 
@@ -119,22 +121,22 @@ stray_choice frame = if is_abort frame then Some (Timeout (key_in frame)) else N
 -- ---- every frame
 
 -- in the open transfer, which ends with the frame or goes on
-abbrev pub in_transfer : List Row → Exchange → FrameContent → Option Ended → Option Choice
-in_transfer rows exchange frame (Some ended) = ended_choice rows frame ended
-in_transfer rows exchange frame None = part_choice exchange.heard.of frame
+abbrev pub in_transfer : List Row → Request → Exchange → FrameContent → Option Ended → Option Choice
+in_transfer rows request exchange frame (Some ended) = ended_choice rows request exchange.asked frame ended
+in_transfer rows request exchange frame None = part_choice exchange.heard.of frame
 
-abbrev pub server_choice : List Row → Exchange → FrameContent → Option Choice
-server_choice rows exchange frame =
-    option_or (switched_choice exchange.asked frame) (in_transfer rows exchange frame exchange.heard.ended)
+abbrev pub server_choice : List Row → Request → Exchange → FrameContent → Option Choice
+server_choice rows request exchange frame =
+    option_or (switched_choice exchange.asked frame) (in_transfer rows request exchange frame exchange.heard.ended)
 
-abbrev pub heard_choice : List Row → Exchange → FrameContent → What → Option Ended → Option Choice
-heard_choice rows exchange frame Part ended = server_choice rows exchange frame
-heard_choice rows exchange frame Stray None = stray_choice frame
-heard_choice rows exchange frame what ended = None
+abbrev pub heard_choice : List Row → Request → Exchange → FrameContent → What → Option Ended → Option Choice
+heard_choice rows request exchange frame Part ended = server_choice rows request exchange frame
+heard_choice rows request exchange frame Stray None = stray_choice frame
+heard_choice rows request exchange frame what ended = None
 
-abbrev pub exchange_choice : List Row → Exchange → FrameContent → Option Choice
-exchange_choice rows exchange frame =
-    if exchange.certain then heard_choice rows exchange frame exchange.heard.what exchange.heard.ended else None
+abbrev pub exchange_choice : List Row → Request → Exchange → FrameContent → Option Choice
+exchange_choice rows request exchange frame =
+    if exchange.certain then heard_choice rows request exchange frame exchange.heard.what exchange.heard.ended else None
 
 -- `choice-heartbeat`: a heartbeat comes early
 abbrev pub remark_choice : Option Remark → Option Choice
@@ -142,8 +144,8 @@ remark_choice None = None
 remark_choice (Some Restarted) = None
 remark_choice (Some (EarlyHeartbeat passed period)) = Some (Heartbeat passed period)
 
--- what the device chose with a frame, by what that is to it, and on its SDO channel, and what else it
--- shows
-unfoldable pub choice_at : List Row → FrameKind → Option Exchange → Option Remark → Option Choice
-choice_at rows (Sdo Server frame) (Some exchange) remark = exchange_choice rows exchange frame
-choice_at rows kind exchange remark = remark_choice remark
+-- What the device chose with a frame, by what that is to it, and on its SDO channel, and what else it
+-- shows; `request` is the newest one there.
+unfoldable pub choice_at : List Row → Request → FrameKind → Option Exchange → Option Remark → Option Choice
+choice_at rows request (Sdo Server frame) (Some exchange) remark = exchange_choice rows request exchange frame
+choice_at rows request kind exchange remark = remark_choice remark

@@ -1,5 +1,9 @@
 pub mod Choices
+pub mod Choosings
 pub mod LearnedValues
+pub mod LengthErrors
+pub mod Phases
 pub mod RefusalCodes
+pub mod Requests
 pub mod Warnings
 pub mod WrittenNumbers

@@ -1,6 +1,6 @@
 -- What a user may want to know of a device, though it is no difference: that it restarted by itself,
 -- that it may have stored values, that a value changed after it was written.
-use Rattle.std.specs.Prelude.{ℕ, ◌==◌, nat_le, nat_lt, Bool, true, false, not, ◌&&◌, ◌||◌, if◌then◌else◌, List, [], Option, Some, None, is_some, option_map, option_and_then}
+use Rattle.std.specs.Prelude.{ℕ, ◌-◌, ◌==◌, nat_le, nat_lt, Bool, true, false, not, ◌&&◌, ◌||◌, if◌then◌else◌, List, [], Option, Some, None, is_some, option_map, option_and_then}
 use Rattle.std.specs.Option.{option_map_or}
 use Rattle.co_frame.specs.FrameContent.{FrameContent}
 use Rattle.co_sheet.specs.Content.{Row}
@@ -28,7 +28,7 @@ use Rattle.conode_compare_rules.specs.declared.limits.Subject.{Subject}
 use Rattle.conode_compare_rules.specs.declared.progress.Progress.{Progress}
 use Rattle.conode_compare_rules.specs.States.{is_reset}
 use Rattle.conode_compare_notes.specs.declared.warning.Warning.{Warning}
-use Rattle.conode_compare_notes.specs.declared.warning.Warning.TheVariants.{Restarted, Stored, Changed}
+use Rattle.conode_compare_notes.specs.declared.warning.Warning.TheVariants.{Restarted, Stored, Changed, SteppedBack}
 use Rattle.conode_compare_notes.specs.declared.watched.Watched.{Watched}
 use Rattle.conode_compare_notes.specs.declared.writes.Wrote.{Wrote}
 use Rattle.conode_compare_notes.specs.WrittenNumbers.{number_of, with_number}
@@ -212,3 +212,10 @@ warning_in subject rows watched kind exchange remark = remark_warning remark
 unfoldable pub warning_at : Subject → List Row → Watched → FrameKind → Progress → Option Warning
 warning_at subject rows watched kind progress =
     warning_in subject rows (watched_before watched progress) kind progress.exchange progress.remark
+
+-- ---- the clock of the recording
+
+-- `stepped-back`: the stamp of a frame is before that of the last one
+abbrev pub stepped_back : Option ℕ → Option ℕ → Option Warning
+stepped_back (Some last) (Some micros) = if nat_lt micros last then Some (SteppedBack (last - micros)) else None
+stepped_back last micros = None

@@ -1,8 +1,9 @@
 //! The kinds of choices.
 
+use crate::length_error::LengthError;
 use co_value::Key;
 
-/// What a device chose where CiA 301 leaves a choice (7.2.4.3, 7.2.8.3.2).
+/// What a device chose where CiA 301 leaves a choice (7.2.2, 7.2.4.3, 7.2.7.1, 7.2.8.3.2).
 #[derive(Clone, Copy)]
 pub enum Choice {
     /// `choice-segments`: an upload of so many bytes, one to four, goes in segments.
@@ -26,4 +27,11 @@ pub enum Choice {
     /// `choice-heartbeat`: a heartbeat comes so many microseconds after the last one, and 1017:00
     /// has so many ms.
     Heartbeat(u64, u16),
+    /// `choice-phase`: the TPDO with this number, from 1 on, is sent first at this SYNC since the
+    /// device entered operational, and has this type.
+    Phase(u8, u8, u8),
+    /// `choice-emcy`: no EMCY came for a frame of another length, for so many microseconds.
+    NoEmergency(LengthError, u64),
+    /// `choice-emcy`: EMCY 8200h came for one.
+    OtherEmergency(LengthError),
 }

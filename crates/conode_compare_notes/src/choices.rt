@@ -24,6 +24,7 @@ ghost use Rattle.conode_compare_notes.specs.Choices.{
 
 use crate::choice::Choice;
 use crate::codes::code_choice;
+use crate::request::Request;
 use co_frame::{AbortCode, Frame};
 use co_sheet::EntryRow;
 use co_value::Key;
@@ -34,24 +35,34 @@ use conode_explain_transfers::{Direction, Ended, Ending, Protocol, Side, What};
 // an abort with this code
 fn aborted_choice(
     rows: &[EntryRow<'_>],
+    request: &Request,
+    asked: Option<Asked>,
     frame: &Frame,
     ended: &Ended,
     code: AbortCode,
 ) -> Option<Choice>
     requires { AllPairs (λ e f. is_key_before e.key f.key ≡ true) rows.now }
-    ensures { result ≡ aborted_choice (map row_view rows.now) frame.now ended.now code }
+    ensures { result
+        ≡ aborted_choice (map row_view rows.now) request.now asked frame.now ended.now code }
 {
     if code == AbortCode::TIMED_OUT {
         Some(Choice::Timeout(ended.key))
     } else {
-        code_choice(rows, frame, ended, code)
+        code_choice(rows, request, asked, frame, ended, code)
     }
 }
 
 // by how a transfer ends with a frame
-fn ended_choice(rows: &[EntryRow<'_>], frame: &Frame, ended: &Ended) -> Option<Choice>
+fn ended_choice(
+    rows: &[EntryRow<'_>],
+    request: &Request,
+    asked: Option<Asked>,
+    frame: &Frame,
+    ended: &Ended,
+) -> Option<Choice>
     requires { AllPairs (λ e f. is_key_before e.key f.key ≡ true) rows.now }
-    ensures { result ≡ ended_choice (map row_view rows.now) frame.now ended.now }
+    ensures { result
+        ≡ ended_choice (map row_view rows.now) request.now asked frame.now ended.now }
 {
     match (ended.direction, ended.protocol, ended.ending) {
         (
@@ -61,7 +72,7 @@ fn ended_choice(rows: &[EntryRow<'_>], frame: &Frame, ended: &Ended) -> Option<C
                 by: Side::Server,
                 code,
             },
-        ) => aborted_choice(rows, frame, ended, code),
+        ) => aborted_choice(rows, request, asked, frame, ended, code),
         (Direction::Upload, Protocol::Segmented, Ending::Done { crc: _ })
             if 1 <= ended.bytes && ended.bytes <= 4 => {
             Some(Choice::Segments(ended.key, ended.bytes))
@@ -185,30 +196,40 @@ fn switched_choice(asked: Option<Asked>, frame: &Frame) -> Option<Choice>
 }
 
 // by an answer that goes on with the open transfer, or ends it
-fn server_choice(rows: &[EntryRow<'_>], exchange: &Exchange, frame: &Frame) -> Option<Choice>
+fn server_choice(
+    rows: &[EntryRow<'_>],
+    request: &Request,
+    exchange: &Exchange,
+    frame: &Frame,
+) -> Option<Choice>
     requires { AllPairs (λ e f. is_key_before e.key f.key ≡ true) rows.now }
-    ensures { result ≡ server_choice (map row_view rows.now) exchange.now frame.now }
+    ensures { result ≡ server_choice (map row_view rows.now) request.now exchange.now frame.now }
 {
     match (
         switched_choice(exchange.asked, frame),
         &exchange.heard.ended,
     ) {
         (Some(choice), _) => Some(choice),
-        (None, Some(ended)) => ended_choice(rows, frame, ended),
+        (None, Some(ended)) => ended_choice(rows, request, exchange.asked, frame, ended),
         (None, None) => part_choice(exchange.heard.of, frame),
     }
 }
 
 // by an answer, where no earlier request can be answered
-fn exchange_choice(rows: &[EntryRow<'_>], exchange: &Exchange, frame: &Frame) -> Option<Choice>
+fn exchange_choice(
+    rows: &[EntryRow<'_>],
+    request: &Request,
+    exchange: &Exchange,
+    frame: &Frame,
+) -> Option<Choice>
     requires { AllPairs (λ e f. is_key_before e.key f.key ≡ true) rows.now }
-    ensures { result ≡ exchange_choice (map row_view rows.now) exchange.now frame.now }
+    ensures { result ≡ exchange_choice (map row_view rows.now) request.now exchange.now frame.now }
 {
     if !exchange.certain {
         return None;
     }
     match (exchange.heard.what, &exchange.heard.ended) {
-        (What::Part, _) => server_choice(rows, exchange, frame),
+        (What::Part, _) => server_choice(rows, request, exchange, frame),
         (What::Stray, None) => stray_choice(frame),
         _ => None,
     }
@@ -225,20 +246,23 @@ fn remark_choice(remark: Option<Remark>) -> Option<Choice>
 }
 
 /// What the device chose with a frame, by what that is to it, and on its SDO channel, and what else
-/// it shows; `rows` are the data sheet's entries, in increasing key.
+/// it shows; `rows` are the data sheet's entries, in increasing key, `request` is the newest one of
+/// the channel.
 #[tactic(auto, unfolding(crate::specs::Choices::choice_at))]
-pub fn choice_at(
+pub(crate) fn choice_at(
     rows: &[EntryRow<'_>],
+    request: &Request,
     kind: &FrameKind,
     exchange: &Option<Exchange>,
     remark: Option<Remark>,
 ) -> Option<Choice>
     requires { AllPairs (λ e f. is_key_before e.key f.key ≡ true) rows.now }
-    ensures { result ≡ choice_at (map row_view rows.now) kind.now exchange.now remark }
+    ensures { result
+        ≡ choice_at (map row_view rows.now) request.now kind.now exchange.now remark }
 {
     match (kind, exchange) {
         (FrameKind::Sdo(Side::Server, frame), Some(exchange)) => {
-            exchange_choice(rows, exchange, frame)
+            exchange_choice(rows, request, exchange, frame)
         }
         _ => remark_choice(remark),
     }

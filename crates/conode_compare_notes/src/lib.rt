@@ -4,15 +4,24 @@
 
 mod choice;
 mod choices;
+mod choosing;
 mod codes;
 mod learned;
+mod length_error;
+mod length_errors;
+mod phases;
+mod request;
 mod warning;
 mod watched;
 mod writes;
 
 pub use choice::Choice;
-pub use choices::choice_at;
+pub use choosing::Choosing;
 pub use learned::{Learned, Shown};
+pub use length_error::LengthError;
+pub use length_errors::{Awaited, LengthErrors, Rpdo};
+pub use phases::{Phase, Phases};
+pub use request::Request;
 pub use warning::Warning;
-pub use watched::Watched;
+pub use watched::{Watched, stepped_back};
 pub use writes::{Writes, Wrote};

@@ -3,7 +3,7 @@
 use co_value::Key;
 use conode_compare_held::HeldMismatch;
 
-/// What a user may want to know of a device, though it is no difference.
+/// What a user may want to know of a device or a recording, though it is no difference.
 #[derive(Clone, Copy)]
 pub enum Warning {
     /// `restarted`: a boot-up, and no reset was commanded since the device was seen.
@@ -12,4 +12,6 @@ pub enum Warning {
     Stored(Key, u64, u64),
     /// `changed-after-write`: an upload shows another number than the last download wrote.
     Changed(HeldMismatch),
+    /// `stepped-back`: the stamp of a frame is so many microseconds before that of the last one.
+    SteppedBack(u64),
 }

@@ -23,6 +23,7 @@ ghost use Rattle.conode_compare_notes.specs.Warnings.{
   number_warning,
   remark_warning,
   row_warning,
+  stepped_back,
   stored_warning,
   upload_warning,
   warning_at,
@@ -130,8 +131,18 @@ fn remark_warning(remark: Option<Remark>) -> Option<Warning>
     }
 }
 
-// whether the recording begins with the newest frame, or begins anew; or that is an error frame
-fn is_begun(progress: &Progress) -> bool
+/// Whether the stamp of a frame is before that of the last one.
+pub fn stepped_back(last: Option<u64>, micros: Option<u64>) -> Option<Warning>
+    ensures { result ≡ stepped_back last micros }
+{
+    match (last, micros) {
+        (Some(last), Some(micros)) if micros < last => Some(Warning::SteppedBack(last - micros)),
+        _ => None,
+    }
+}
+
+/// Whether the recording begins with the newest frame, or begins anew; or that is an error frame.
+pub(crate) fn is_begun(progress: &Progress) -> bool
     ensures { result ≡ is_begun progress.now }
 {
     match progress.newest {

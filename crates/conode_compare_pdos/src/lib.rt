@@ -11,6 +11,6 @@ mod tpdo;
 
 pub use deviation::{Deviation, Moment};
 pub use numbers::{first_word, number_of, preset_at, small};
-pub use parameters::{Parameters, identifier_of};
+pub use parameters::{Parameters, identifier_of, length_of};
 pub use pdos::{Pdos, Sighting, pdos_of};
 pub use tpdo::{Sent, Tpdo, is_id};

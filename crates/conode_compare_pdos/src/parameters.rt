@@ -135,8 +135,10 @@ fn counted_bytes(rows: &[EntryRow<'_>], node: u8, index: u16, count: u64) -> Opt
     with_object(rows, node, index, count, 8, seven)
 }
 
+/// How many bytes a mapping parameter of the data sheet, whose entries are in increasing key, maps;
+/// `None` where it maps nothing, more than eight bytes, or parts of a byte.
 #[tactic(auto, unfolding(crate::specs::PdoParameters::length_of))]
-fn length_of(rows: &[EntryRow<'_>], node: u8, index: u16) -> Option<u8>
+pub fn length_of(rows: &[EntryRow<'_>], node: u8, index: u16) -> Option<u8>
     requires { AllPairs (λ e f. is_key_before e.key f.key ≡ true) rows.now }
     ensures { result ≡ length_of (map row_view rows.now) node index }
 {

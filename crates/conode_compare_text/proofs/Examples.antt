@@ -1,5 +1,5 @@
 -- Lines of differences, computed from the definitions.
-use Rattle.std.proofs.Common.{◌≡◌, [], ◌∷◌, ◌++◌, Some, None, refl, codes}
+use Rattle.std.proofs.Common.{◌≡◌, [], ◌∷◌, ◌++◌, map, Some, None, refl, codes}
 use Rattle.std.specs.Fmt.{digits}
 use Rattle.co_text.specs.Printed.{digits_text}
 use Rattle.co_value.specs.declared.data_type.DataType.TheVariants.{Integer16, Unsigned8, Unsigned16, Unsigned32}
@@ -13,8 +13,9 @@ use Rattle.conode_compare_transfers.specs.declared.breach.Breach.TheVariants.{To
 use Rattle.conode_compare_values.specs.declared.mismatch.Mismatch.TheVariants.{ValueLength, ValueConst, ReadRefused, Written, AboveLimit, BelowLimit}
 use Rattle.conode_compare_rules.specs.declared.finding.Finding.TheVariants.{BootMissing, SecondBootUp, HeartbeatLength, NoState, WrongState, HeartbeatLate, EmergencyLength, EmergencyRegister, EmergencyInhibit, NoAnswer, AnswerKey, AnswerForm, AnswerStopped, Transfer, Value, Held, Pdo}
 use Rattle.conode_compare_rules.specs.declared.finding.NmtState.TheVariants.{PreOperational, Operational}
-use Rattle.conode_compare_notes.specs.declared.choice.Choice.TheVariants.{Segments, NoSize, ShortSegment, NoCrc, BlockSize, Switched, Code, Timeout, Heartbeat}
-use Rattle.conode_compare_notes.specs.declared.warning.Warning.TheVariants.{Changed, Restarted, Stored}
+use Rattle.conode_compare_notes.specs.declared.choice.Choice.TheVariants.{Segments, NoSize, ShortSegment, NoCrc, BlockSize, Switched, Code, Timeout, Heartbeat, Phase, NoEmergency, OtherEmergency}
+use Rattle.conode_compare_notes.specs.declared.length_error.LengthError.TheVariants.{ShortRpdo, LongRpdo, OddSync}
+use Rattle.conode_compare_notes.specs.declared.warning.Warning.TheVariants.{Changed, Restarted, SteppedBack, Stored}
 use Rattle.conode_compare_text.specs.ChoiceTexts.{choice_line, choice_text, choices_summary}
 use Rattle.conode_compare_text.specs.FindingTexts.{coded, finding_line, finding_text, hexadecimal, keyed, keyed_code, keyed_codes, keyed_number, keyed_numbers, keyed_time, keyed_values, millis_text, mismatch_text, named, numbered, numbered_time, numbered_times, pdo_text, shown_value, three_numbers, timed, timed_number, transfer_text, two_codes, two_times}
 use Rattle.conode_compare_text.specs.LearnedTexts.{learned_line, other_text, typed_text}
@@ -200,6 +201,24 @@ choice_heartbeat : choice_text (Heartbeat 300001 1000) ≡ codes "choice-heartbe
 unfolding choice_text timed_number millis_text digits_text digits
 choice_heartbeat = refl
 
+choice_phase : choice_text (Phase 1 2 4) ≡ codes "choice-phase: TPDO 1 is sent at SYNC 2 since the start, its type is 4"
+unfolding choice_text three_numbers digits_text digits
+choice_phase = refl
+
+no_emcy : map (λ error. choice_text (NoEmergency error 1020001)) (ShortRpdo ∷ LongRpdo ∷ OddSync ∷ []) ≡
+    codes "choice-emcy: an RPDO is too short, and EMCY 8210h didn't come for 1020.001 ms"
+    ∷ codes "choice-emcy: an RPDO is too long, and EMCY 8220h didn't come for 1020.001 ms"
+    ∷ codes "choice-emcy: a SYNC has another length, and EMCY 8240h didn't come for 1020.001 ms" ∷ []
+unfolding choice_text timed millis_text digits_text digits
+no_emcy = refl
+
+other_emcy : map (λ error. choice_text (OtherEmergency error)) (ShortRpdo ∷ LongRpdo ∷ OddSync ∷ []) ≡
+    codes "choice-emcy: an RPDO is too short, and EMCY 8200h came, not 8210h"
+    ∷ codes "choice-emcy: an RPDO is too long, and EMCY 8200h came, not 8220h"
+    ∷ codes "choice-emcy: a SYNC has another length, and EMCY 8200h came, not 8240h" ∷ []
+unfolding choice_text
+other_emcy = refl
+
 choice_timeout : choice_text (Timeout key) ≡ codes "choice-timeout: the transfer of 1018:01 is aborted since it timed out"
 unfolding choice_text keyed digits_text
 choice_timeout = refl
@@ -222,6 +241,10 @@ restarted = refl
 stored : warning_text plain (Stored key 0x1F4 0x3E8) ≡ codes "warning: stored: 1018:01 has 000001F4h after the boot-up, the sheet 000003E8h"
 unfolding warning_text keyed_values shown_value hexadecimal digits_text
 stored = refl
+
+stepped_back : warning_text plain (SteppedBack 3000001) ≡ codes "warning: stepped-back: the stamp is 3000.001 ms before the last one"
+unfolding warning_text timed millis_text digits_text digits
+stepped_back = refl
 
 changed : warning_text plain (Changed (record { key = key; shown = 0x5; written = 0x12345678 })) ≡ codes "warning: changed-after-write: 1018:01 has 00000005h, written was 12345678h"
 unfolding warning_text keyed_values shown_value hexadecimal digits_text

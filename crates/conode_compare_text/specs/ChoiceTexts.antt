@@ -1,10 +1,23 @@
 -- The line of a choice, and the last line with their number.
 use Rattle.std.specs.Prelude.{ℕ, List, [], ◌∷◌, ◌++◌, codes}
 use Rattle.conode_compare_notes.specs.declared.choice.Choice.{Choice}
-use Rattle.conode_compare_notes.specs.declared.choice.Choice.TheVariants.{Segments, NoSize, ShortSegment, NoCrc, BlockSize, Switched, Code, Timeout, Heartbeat}
+use Rattle.conode_compare_notes.specs.declared.choice.Choice.TheVariants.{Segments, NoSize, ShortSegment, NoCrc, BlockSize, Switched, Code, Timeout, Heartbeat, Phase, NoEmergency, OtherEmergency}
+use Rattle.conode_compare_notes.specs.declared.length_error.LengthError.{LengthError}
+use Rattle.conode_compare_notes.specs.declared.length_error.LengthError.TheVariants.{ShortRpdo, LongRpdo, OddSync}
 use Rattle.conode_compare_text.specs.declared.tally.Tally.{Tally}
-use Rattle.conode_compare_text.specs.FindingTexts.{keyed, keyed_codes, keyed_number, numbered, timed_number}
+use Rattle.conode_compare_text.specs.FindingTexts.{keyed, keyed_codes, keyed_number, numbered, three_numbers, timed, timed_number}
 use Rattle.conode_compare_text.specs.Tallies.{tally_text}
+
+-- what came, and that its EMCY didn't
+abbrev pub missing_words : LengthError → List ℕ
+missing_words ShortRpdo = codes "choice-emcy: an RPDO is too short, and EMCY 8210h didn't come for "
+missing_words LongRpdo = codes "choice-emcy: an RPDO is too long, and EMCY 8220h didn't come for "
+missing_words OddSync = codes "choice-emcy: a SYNC has another length, and EMCY 8240h didn't come for "
+
+abbrev pub other_words : LengthError → List ℕ
+other_words ShortRpdo = codes "choice-emcy: an RPDO is too short, and EMCY 8200h came, not 8210h"
+other_words LongRpdo = codes "choice-emcy: an RPDO is too long, and EMCY 8200h came, not 8220h"
+other_words OddSync = codes "choice-emcy: a SYNC has another length, and EMCY 8200h came, not 8240h"
 
 -- the name of the kind, and what was chosen
 unfoldable pub choice_text : Choice → List ℕ
@@ -22,6 +35,10 @@ choice_text (Code key came fitting) =
 choice_text (Timeout key) = keyed (codes "choice-timeout: the transfer of ") key (codes " is aborted since it timed out")
 choice_text (Heartbeat passed period) =
     timed_number (codes "choice-heartbeat: ") passed (codes " since the last one, 1017:00 has ") period (codes " ms")
+choice_text (Phase number syncs kind) =
+    three_numbers (codes "choice-phase: TPDO ") number (codes " is sent at SYNC ") syncs (codes " since the start, its type is ") kind
+choice_text (NoEmergency error passed) = timed (missing_words error) passed []
+choice_text (OtherEmergency error) = other_words error
 
 -- `recording.log:123: choice-size: ..`
 unfoldable pub choice_line : List ℕ → ℕ → Choice → List ℕ

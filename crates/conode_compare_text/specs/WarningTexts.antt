@@ -2,8 +2,8 @@
 use Rattle.std.specs.Prelude.{ℕ, List, [], ◌∷◌, ◌++◌, codes}
 use Rattle.conode_explain_values.specs.declared.value_type.ValueType.{ValueType}
 use Rattle.conode_compare_notes.specs.declared.warning.Warning.{Warning}
-use Rattle.conode_compare_notes.specs.declared.warning.Warning.TheVariants.{Restarted, Stored, Changed}
-use Rattle.conode_compare_text.specs.FindingTexts.{keyed_values, numbered}
+use Rattle.conode_compare_notes.specs.declared.warning.Warning.TheVariants.{Restarted, Stored, Changed, SteppedBack}
+use Rattle.conode_compare_text.specs.FindingTexts.{keyed_values, numbered, timed}
 
 -- the name of the kind, and what was seen, where the values of the entry have this type
 unfoldable pub warning_text : ValueType → Warning → List ℕ
@@ -13,6 +13,7 @@ warning_text t (Stored key shown sheet) =
 warning_text t (Changed mismatch) =
     keyed_values (codes "warning: changed-after-write: ") mismatch.key (codes " has ") t mismatch.shown (codes ", written was ")
     mismatch.written
+warning_text t (SteppedBack micros) = timed (codes "warning: stepped-back: the stamp is ") micros (codes " before the last one")
 
 -- `recording.log:123: warning: restarted: ..`
 unfoldable pub warning_line : List ℕ → ℕ → ValueType → Warning → List ℕ

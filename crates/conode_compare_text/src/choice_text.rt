@@ -1,14 +1,53 @@
 //! The line of a choice, and the last line with their number.
 
 ghost use Rattle.std.specs.Prelude.{◌≡◌, ◌++◌, OnOk, string_bytes};
-ghost use Rattle.conode_compare_text.specs.ChoiceTexts.{choice_line, choice_text, choices_summary};
+ghost use Rattle.conode_compare_text.specs.ChoiceTexts.{
+  choice_line,
+  choice_text,
+  choices_summary,
+  missing_words,
+  other_words,
+};
 
 use crate::parts::{
-    push_key, push_key_codes, push_key_number, push_number, push_time_number, push_words,
+    push_key, push_key_codes, push_key_number, push_number, push_numbers, push_time,
+    push_time_number, push_words,
 };
 use crate::tally::{Tally, push_tally};
-use conode_compare_notes::Choice;
+use conode_compare_notes::{Choice, LengthError};
 use std::alloc::AllocError;
+
+// what came, and that its EMCY didn't
+fn missing_words(error: LengthError) -> &'static str
+    ensures { result.now ≡ missing_words error }
+{
+    match error {
+        LengthError::ShortRpdo => {
+            "choice-emcy: an RPDO is too short, and EMCY 8210h didn't come for "
+        }
+        LengthError::LongRpdo => {
+            "choice-emcy: an RPDO is too long, and EMCY 8220h didn't come for "
+        }
+        LengthError::OddSync => {
+            "choice-emcy: a SYNC has another length, and EMCY 8240h didn't come for "
+        }
+    }
+}
+
+// what came, and that another EMCY did
+fn other_words(error: LengthError) -> &'static str
+    ensures { result.now ≡ other_words error }
+{
+    match error {
+        LengthError::ShortRpdo => {
+            "choice-emcy: an RPDO is too short, and EMCY 8200h came, not 8210h"
+        }
+        LengthError::LongRpdo => "choice-emcy: an RPDO is too long, and EMCY 8200h came, not 8220h",
+        LengthError::OddSync => {
+            "choice-emcy: a SYNC has another length, and EMCY 8200h came, not 8240h"
+        }
+    }
+}
 
 // the name of the kind, and what was chosen
 #[tactic(auto, unfolding(crate::specs::ChoiceTexts::choice_text))]
@@ -78,6 +117,17 @@ fn push_choice(text: &mut String, choice: Choice) -> Result<(), AllocError>
             u64::from(period),
             " ms",
         ),
+        Choice::Phase(number, syncs, kind) => push_numbers(
+            text,
+            "choice-phase: TPDO ",
+            u64::from(number),
+            " is sent at SYNC ",
+            u64::from(syncs),
+            " since the start, its type is ",
+            u64::from(kind),
+        ),
+        Choice::NoEmergency(error, passed) => push_time(text, missing_words(error), passed, ""),
+        Choice::OtherEmergency(error) => push_words(text, other_words(error)),
     }
 }
 

@@ -3,7 +3,7 @@
 ghost use Rattle.std.specs.Prelude.{◌≡◌, ◌++◌, OnOk, string_bytes};
 ghost use Rattle.conode_compare_text.specs.WarningTexts.{warning_line, warning_text};
 
-use crate::parts::{push_key_values, push_number, push_words};
+use crate::parts::{push_key_values, push_number, push_time, push_words};
 use conode_compare_notes::Warning;
 use conode_explain_values::ValueType;
 use std::alloc::AllocError;
@@ -42,6 +42,12 @@ fn push_warning(
             mismatch.shown,
             ", written was ",
             mismatch.written,
+        ),
+        Warning::SteppedBack(micros) => push_time(
+            text,
+            "warning: stepped-back: the stamp is ",
+            micros,
+            " before the last one",
         ),
     }
 }
