@@ -92,20 +92,11 @@ impl<S: ObjectStore> Device<S> {
         let address = find_address(&self.parts.bank, &self.parts.addresses, frame);
         match address {
             Address::Sync => self.take(Given::Frame, Address::Sync, frame, outbox),
-            // the others hand the frame to a call, in memory: a copy, so that a SYNC stays in
-            // registers
             Address::Channel(number) => {
-                let request = *frame;
-                self.take(Given::Frame, Address::Channel(number), &request, outbox)
+                self.take(Given::Frame, Address::Channel(number), frame, outbox)
             }
-            Address::Rpdo(number) => {
-                let data = *frame;
-                self.take(Given::Frame, Address::Rpdo(number), &data, outbox)
-            }
-            _ => {
-                let other = *frame;
-                self.take_frame(&other, outbox)
-            }
+            Address::Rpdo(number) => self.take(Given::Frame, Address::Rpdo(number), frame, outbox),
+            _ => self.take_frame(frame, outbox),
         }
     }
 
