@@ -1,6 +1,6 @@
 //! The outcome of adapting a text, before it is written.
 
-ghost use Rattle.std.specs.Prelude.{◌≡◌, ◌++◌, ◌&&◌, not, true, None, is_none, map, IfOk, OnOk};
+ghost use Rattle.std.specs.Prelude.{◌≡◌, ◌++◌, ◌&&◌, not, true, None, is_none, map, IfOk};
 ghost use Rattle.co_sheet.specs.Accepted.{first_fault};
 ghost use Rattle.co_sheet_adapt.specs.Adapted.{adapted_text, pieces_in};
 ghost use Rattle.co_sheet_changes.specs.Pieces.{piece_view};
@@ -52,27 +52,27 @@ struct Steps<'p, 'a, 'b, 'c> {
     stays: bool,
 }
 
-// appends a line for each change of a text
+// a line for each change of a text
 #[tactic(auto, unfolding(crate::specs::Written::changes_in))]
-fn push_listed(
+fn listed(
     alloc: Global,
-    changes: &mut Vec<u8>,
     text: &[u8],
     name: &str,
     steps: &Steps<'_, '_, '_, '_>,
-) -> Result<(), AllocError>
-    ensures { OnOk result (changes.new.items
-        ≡ changes.old.items ++ changes_in name.now text.now steps.now.stays
+) -> Result<Vec<u8>, AllocError>
+    ensures { IfOk result (λ made. made.items ≡ changes_in name.now text.now steps.now.stays
         (map piece_view steps.now.read.now) (map piece_view steps.now.forced.now)
         (map piece_view steps.now.adapted.now)) }
 {
     let name = name.as_bytes();
-    push_mark(alloc, changes, name, text)?;
-    push_line_ends(alloc, changes, name, text, steps.stays)?;
-    push_last_line(alloc, changes, name, text, steps.stays)?;
-    push_changes(alloc, changes, name, steps.read)?;
-    push_changes(alloc, changes, name, steps.forced)?;
-    push_changes(alloc, changes, name, steps.adapted)
+    let mut changes = Vec::new(alloc);
+    push_mark(alloc, &mut changes, name, text)?;
+    push_line_ends(alloc, &mut changes, name, text, steps.stays)?;
+    push_last_line(alloc, &mut changes, name, text, steps.stays)?;
+    push_changes(alloc, &mut changes, name, steps.read)?;
+    push_changes(alloc, &mut changes, name, steps.forced)?;
+    push_changes(alloc, &mut changes, name, steps.adapted)?;
+    Ok(changes)
 }
 
 // what remains of a text that isn't accepted, as `lint` prints it
@@ -118,8 +118,7 @@ fn outcome_with(
         adapted: adapted.pieces.as_slice(),
         stays: stays_with(adapted.stays, read.has_changes, forced.has_changes),
     };
-    let mut changes = Vec::new(alloc);
-    push_listed(alloc, &mut changes, text, name, &steps)?;
+    let changes = listed(alloc, text, name, &steps)?;
     let remaining = remaining_of(alloc, text, name, &adapted)?;
     Ok(Outcome {
         sheet: adapted.text,

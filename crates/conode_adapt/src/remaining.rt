@@ -23,9 +23,9 @@ fn push_lines(sources: &mut Vec<usize>, text: &[u8], number: usize) -> Result<()
     Ok(())
 }
 
-// appends for each line of the rewritten text the number of its source line; the first line is a
-// comment
-fn push_sources(sources: &mut Vec<usize>, pieces: &[Piece<'_>]) -> Result<(), AllocError> {
+// for each line of the rewritten text, the number of its source line; the first line is a comment
+fn sources_of(alloc: Global, pieces: &[Piece<'_>]) -> Result<Vec<usize>, AllocError> {
+    let mut sources = Vec::new(alloc);
     sources.push(0)?;
     let mut number: usize = 0;
     for piece in pieces {
@@ -36,12 +36,12 @@ fn push_sources(sources: &mut Vec<usize>, pieces: &[Piece<'_>]) -> Result<(), Al
             }
             Piece::Changed(change) => {
                 number = number.saturating_add(1);
-                push_lines(sources, change.new.as_slice(), number)?;
+                push_lines(&mut sources, change.new.as_slice(), number)?;
             }
-            Piece::Added { line, text } => push_lines(sources, text.as_slice(), *line)?,
+            Piece::Added { line, text } => push_lines(&mut sources, text.as_slice(), *line)?,
         }
     }
-    Ok(())
+    Ok(sources)
 }
 
 fn lines_of(alloc: Global, text: &[u8]) -> Result<Vec<&[u8]>, AllocError> {
@@ -203,8 +203,7 @@ pub(crate) fn remaining(
     pieces: &[Piece<'_>],
 ) -> Result<String, AllocError> {
     let faults = find_faults(alloc, rewritten)?;
-    let mut sources = Vec::new(alloc);
-    push_sources(&mut sources, pieces)?;
+    let sources = sources_of(alloc, pieces)?;
     let mut report = String::new(alloc);
     push_faults(
         alloc,
