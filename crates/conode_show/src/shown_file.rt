@@ -65,8 +65,8 @@ fn retyped_in<'a>(
     requires parsed { parsed.now ≡ sections_read (lines_of text.now) }
     ensures { IfOk result (λ made. map retyped_view made.items ≡ sections_of text.now) }
 {
-    let originals = Originals::in_text(alloc, text)?;
     let given = parsed.sections(alloc)?;
+    let originals = Originals::in_text(alloc, text)?;
     all_retyped(alloc, &originals, given.as_slice())
 }
 
@@ -155,6 +155,22 @@ pub fn show<W: Write>(
     Ok(text.len() <= GREATEST_SIZE)
 }
 
+// the status of what was shown; if not all of it could be written, `out` has why, or `err`
+fn status_of<O: Write, E: Write>(
+    outcome: Result<bool, CmdFault>,
+    out: &mut O,
+    err: &mut E,
+) -> ExitCode
+    ensures { (exit_status result ≡ 0) ⊎ (exit_status result ≡ 1) }
+{
+    match flushed(out, outcome) {
+        Ok(true) => ExitCode::SUCCESS,
+        Ok(false) => ExitCode::FAILURE,
+        Err(CmdFault::Memory) => out_of_memory(out),
+        Err(fault) => stopped(fault, out, err).status(),
+    }
+}
+
 /// Shows the data sheet of a path, as `show` does. If not all of it could be written, `out` has
 /// why, or `err` if `out` can't be written. A file that can't be read is named on `err`. The status
 /// is 0 if the dictionary is shown, else 1.
@@ -168,15 +184,11 @@ pub fn show_file<R: Files + AllocGlobal, O: Write, E: Write>(
 ) -> ExitCode
     ensures { (exit_status result ≡ 0) ⊎ (exit_status result ≡ 1) }
 {
-    let text = match file_text(rt, path) {
-        Ok(text) => text,
-        Err(fault) => return no_text(fault, path, out, err),
-    };
-    let outcome = show(rt.alloc(), text.as_slice(), form, node, out);
-    match flushed(out, outcome) {
-        Ok(true) => ExitCode::SUCCESS,
-        Ok(false) => ExitCode::FAILURE,
-        Err(CmdFault::Memory) => out_of_memory(out),
-        Err(fault) => stopped(fault, out, err).status(),
+    match file_text(rt, path) {
+        Ok(text) => {
+            let outcome = show(rt.alloc(), text.as_slice(), form, node, out);
+            status_of(outcome, out, err)
+        }
+        Err(fault) => no_text(fault, path, out, err),
     }
 }
