@@ -29,7 +29,8 @@ use Rattle.conode_explain_laws.proofs.AllExact.{all_same, kept_of, is_eight}
 use Rattle.conode_explain_laws.proofs.Views.{Closes}
 use Rattle.conode_explain_laws.proofs.UploadViews.{view_of, holds, read_as, hears_answers, hears_frame, hears_all, IsAside, KnowsAside, aside_turn, aborted_closes}
 use Rattle.conode_explain_laws.proofs.UploadSteps.{acknowledged_next, answered_next, completes, ticked_whole, dropped_whole}
-use Rattle.conode_explain_laws.proofs.UploadExchanges.{aside, asked, gone, segmented, begun, blocks, at_end, FollowsIn, Ends, IsPlain, exchange}
+use Rattle.conode_explain_laws.proofs.UploadStanding.{aside, asked, gone, segmented, begun, blocks, at_end, FollowsIn, Ends}
+use Rattle.conode_explain_laws.proofs.UploadExchanges.{IsPlain, exchange}
 
 -- ---- lists
 

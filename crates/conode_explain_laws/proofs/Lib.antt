@@ -12,6 +12,7 @@ pub mod AllExact
 pub mod UploadViews
 pub mod UploadSteps
 pub mod UploadBlocks
+pub mod UploadStanding
 pub mod UploadExchanges
 pub mod AllUploads
 pub mod Examples
