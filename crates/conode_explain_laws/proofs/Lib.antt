@@ -17,3 +17,4 @@ pub mod AllUploads
 pub mod Examples
 mod UploadExamples
 mod ClientExamples
+pub mod ClientUploads

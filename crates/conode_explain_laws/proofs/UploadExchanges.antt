@@ -205,7 +205,7 @@ size_is size count bytes s c few =
     not_above : (n most : ℕ) → n ≤ most → min n most ≡ n
     not_above n most h = omega arith
 
-regular_done : (u : Transfer) (write : List Complete) → u.irregular ≡ false → size_fault u.size u.taken.count ≡ None → is_upload u.direction ≡ true
+pub regular_done : (u : Transfer) (write : List Complete) → u.irregular ≡ false → size_fault u.size u.taken.count ≡ None → is_upload u.direction ≡ true
     → (if is_upload u.direction then if_done (verdict u None) write else []) ≡ write
 regular_done u write r s p = rw (p, r, s) refl
 
@@ -449,7 +449,7 @@ quiet micros frame heard t got done count Nothing u n m late = late_turn micros 
 -- ---- uploads in segments
 
 -- explain after the request of one
-abbrev asks_next : Transfer → Bool → ℕ → Transfer
+abbrev pub asks_next : Transfer → Bool → ℕ → Transfer
 asks_next t toggle micros = with_frame Part (after t (part (record t { stage = UploadAsked toggle }))) micros Client
 
 -- and after the last one
@@ -457,7 +457,7 @@ abbrev confirmed : Transfer → Bool → ℕ → ℕ → List ℕ → Transfer
 confirmed t toggle micros sent bytes =
     after (asks_next t toggle micros) (record { what = Part; transfer = record (asks_next t toggle micros) { stage = Confirmed None; pending = record { items = [] } }; takes = Some (part_after sent bytes) })
 
-asks_segment : (micros : ℕ) (frame : List ℕ) (heard : Bool) (t : Transfer) (got : List ℕ) (done : List Complete) (count : ℕ) (toggle : Bool) → t.stage ≡ UploadTaken toggle
+pub asks_segment : (micros : ℕ) (frame : List ℕ) (heard : Bool) (t : Transfer) (got : List ℕ) (done : List Complete) (count : ℕ) (toggle : Bool) → t.stage ≡ UploadTaken toggle
     → read_as micros Client frame (holds heard (Some t) got done count) (Request (NextSegment toggle)) ≡ holds heard (Some (asks_next t toggle micros)) got done (suc count)
 asks_segment micros frame heard t got done count toggle e = rw (e, same_toggle toggle) refl
 

@@ -1,11 +1,12 @@
 -- What a recorder hears of the client of co_sdo_client, over every answer of the other end, and the
 -- uploads that the client reports.
-use Rattle.std.specs.Prelude.{ℕ, List, [], ◌∷◌, ◌++◌, length}
+use Rattle.std.specs.Prelude.{◌≡◌, ℕ, ◌<◌, ◌≤◌, ◌-◌, ◌^◌, List, [], ◌∷◌, ◌++◌, length}
 use Rattle.co_sdo_client.specs.declared.state.ClientState.{ClientState}
 use Rattle.co_sdo_client.specs.declared.state.ClientState.TheVariants.{Waiting, Done}
+use Rattle.co_sdo_client.specs.declared.transfer.Transfer.TheVariants.{SegmentedUpload}
 use Rattle.co_sdo_client.specs.Calls.{Call, Message, message_bytes, Event, Answered, Ticked}
 use Rattle.co_sdo_client.specs.Outcomes.{outcome, asked_by, result}
-use Rattle.co_sdo_client.specs.Segments.{initiate_messages}
+use Rattle.co_sdo_client.specs.Segments.{cap_of, transfer_of, initiate_messages}
 use Rattle.conode_explain_transfers.specs.declared.kinds.Side.TheVariants.{Client, Server}
 use Rattle.conode_explain_transfers.specs.Followed.{Event as Recorded}
 use Rattle.conode_explain_laws.specs.Recordings.{and_frame}
@@ -39,3 +40,12 @@ uploads_reported stamp call (event ∷ older) =
     reported (outcome call older) (outcome call (event ∷ older))
     (record { frame = length (heard stamp call (event ∷ older)); key = call.key; bytes = result call (event ∷ older) })
     ++ uploads_reported stamp call older
+
+-- ---- which calls
+
+-- an upload that isn't in blocks, of an entry with an index of 16 bits, into a room that a length
+-- of 64 bits counts
+pub record IsPlainUpload (call : Call) : Type 0 where
+  pub transfer : transfer_of call ≡ SegmentedUpload
+  pub index : call.key.index < 65536
+  pub room : cap_of call.job ≤ 2 ^ 64 - 1
