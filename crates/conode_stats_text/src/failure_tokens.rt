@@ -57,7 +57,7 @@ fn put_failure(
         None => put_counted(alloc, writer, row, Part::Nothing),
         Some(code) => {
             shown.clear();
-            push_u32(shown, code)?;
+            attempt!(push_u32(shown, code));
             put_counted(alloc, writer, row, Part::Text("abortCode", shown.as_str()))
         }
     }
@@ -73,7 +73,7 @@ fn put_failures_of(
 ) -> Result<(), AllocError> {
     for row in bus.transfers().rows() {
         if row.cause.node == node {
-            put_failure(alloc, writer, shown, row)?;
+            attempt!(put_failure(alloc, writer, shown, row));
         }
     }
     Ok(())
@@ -87,16 +87,16 @@ pub(crate) fn put_failures(
     shown: &mut String,
     bus: &Bus,
 ) -> Result<(), AllocError> {
-    put_parts(
+    attempt!(put_parts(
         alloc,
         writer,
         &[
             Part::Number("framesLeftOut", bus.left_out()),
             Part::Array("failedTransfers"),
         ],
-    )?;
+    ));
     for node in 1..128u8 {
-        put_failures_of(alloc, writer, shown, bus, node)?;
+        attempt!(put_failures_of(alloc, writer, shown, bus, node));
     }
     let left_out = bus.transfers().left_out();
     put_parts(
@@ -131,7 +131,7 @@ fn put_emergencies_of(
 ) -> Result<(), AllocError> {
     for row in bus.emergencies().rows() {
         if row.cause.node == node {
-            put_emergency(alloc, writer, row)?;
+            attempt!(put_emergency(alloc, writer, row));
         }
     }
     Ok(())
@@ -143,9 +143,9 @@ pub(crate) fn put_emergencies(
     writer: &mut JsonWriter,
     bus: &Bus,
 ) -> Result<(), AllocError> {
-    writer.begin_array_of("emergencies")?;
+    attempt!(writer.begin_array_of("emergencies"));
     for node in 1..128u8 {
-        put_emergencies_of(alloc, writer, bus, node)?;
+        attempt!(put_emergencies_of(alloc, writer, bus, node));
     }
     let left_out = bus.emergencies().left_out();
     put_parts(
@@ -190,11 +190,11 @@ pub(crate) fn put_all_open(
     writer: &mut JsonWriter,
     bus: &Bus,
 ) -> Result<(), AllocError> {
-    writer.begin_array_of("openTransfers")?;
+    attempt!(writer.begin_array_of("openTransfers"));
     let end = bus.all().last;
     for track in bus.transfers().channels() {
         let transfer = track.channel.unfinished(end);
-        put_open_in(alloc, writer, track.node, end, &transfer)?;
+        attempt!(put_open_in(alloc, writer, track.node, end, &transfer));
     }
     writer.end_array()
 }

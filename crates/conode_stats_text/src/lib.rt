@@ -1,6 +1,16 @@
 //! The statistics of buses, as a page of text and as JSON.
 #![tactic(auto)]
 
+// As `?`, without a conversion of the error: a `match` is one step of a proof where `?` is three.
+macro_rules! attempt {
+    ($result:expr) => {
+        match $result {
+            Ok(value) => value,
+            Err(fault) => return Err(fault),
+        }
+    };
+}
+
 mod cells;
 mod failure_tokens;
 mod failures;

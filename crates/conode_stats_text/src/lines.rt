@@ -97,7 +97,7 @@ pub(crate) fn push_load(
         ≡ string_bytes text.old ++ load_line bit_rate all.now load.entry.now) }
 {
     let room = room_in(bit_rate, all.total);
-    push_load_front(text, load_word(load), room, load)?;
+    attempt!(push_load_front(text, load_word(load), room, load));
     push_busiest(text, u64::from(bit_rate), load)
 }
 

@@ -153,7 +153,7 @@ fn put_heartbeats(
     ensures { OnOk result (writer.new
         ≡ writer.old ++ heartbeat_members end sheet heartbeats.now) }
 {
-    put_waits(alloc, writer, heartbeats)?;
+    attempt!(put_waits(alloc, writer, heartbeats));
     put_verdicts(alloc, writer, end, sheet, heartbeats)
 }
 
@@ -208,10 +208,10 @@ fn put_node_in(
     if !is_shown(node) {
         return Ok(());
     }
-    put_counts(alloc, writer, number, node)?;
-    put_shown(alloc, writer, node.last)?;
-    put_times(alloc, writer, &node.times)?;
-    put_heartbeats(alloc, writer, end, sheet, &node.heartbeats)?;
+    attempt!(put_counts(alloc, writer, number, node));
+    attempt!(put_shown(alloc, writer, node.last));
+    attempt!(put_times(alloc, writer, &node.times));
+    attempt!(put_heartbeats(alloc, writer, end, sheet, &node.heartbeats));
     put_answer(alloc, writer, node)
 }
 
@@ -222,12 +222,12 @@ pub(crate) fn put_nodes(
     sheets: &[SheetTime<'_>],
     bus: &Bus,
 ) -> Result<(), AllocError> {
-    writer.begin_array_of("nodes")?;
+    attempt!(writer.begin_array_of("nodes"));
     let end = bus.all().last;
     for number in 1..128u8 {
         if let Some(node) = bus.nodes().get(usize::from(number)) {
             let sheet = sheet_time(sheets, bus.interface(), number);
-            put_node_in(alloc, writer, end, sheet, u32::from(number), node)?;
+            attempt!(put_node_in(alloc, writer, end, sheet, u32::from(number), node));
         }
     }
     writer.end_array()

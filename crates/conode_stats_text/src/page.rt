@@ -67,8 +67,8 @@ fn error_frames(bus: &Bus) -> u64 {
 
 /// The identifiers of a bus, the smallest first.
 pub(crate) fn sorted_rows(alloc: Global, bus: &Bus) -> Result<Vec<Row>, AllocError> {
-    let mut rows = bus.rows().to_vec(alloc)?;
-    rows.sort_by_key(|row| row.can_id)?;
+    let mut rows = attempt!(bus.rows().to_vec(alloc));
+    attempt!(rows.sort_by_key(|row| row.can_id));
     Ok(rows)
 }
 
@@ -76,7 +76,7 @@ pub(crate) fn sorted_rows(alloc: Global, bus: &Bus) -> Result<Vec<Row>, AllocErr
 fn push_restarts_on(text: &mut String, bus: &Bus) -> Result<(), AllocError> {
     for number in 1..128u32 {
         if let Some(node) = bus.nodes().get(number as usize) {
-            push_restarts(text, bus.interface(), number, node)?;
+            attempt!(push_restarts(text, bus.interface(), number, node));
         }
     }
     Ok(())
@@ -86,7 +86,7 @@ fn push_restarts_on(text: &mut String, bus: &Bus) -> Result<(), AllocError> {
 fn push_failures_of(text: &mut String, bus: &Bus, node: u8) -> Result<(), AllocError> {
     for row in bus.transfers().rows() {
         if row.cause.node == node {
-            push_failure(text, bus.interface(), row)?;
+            attempt!(push_failure(text, bus.interface(), row));
         }
     }
     Ok(())
@@ -95,7 +95,7 @@ fn push_failures_of(text: &mut String, bus: &Bus, node: u8) -> Result<(), AllocE
 // the SDO transfers that failed on a bus, by node
 fn push_failures_on(text: &mut String, bus: &Bus) -> Result<(), AllocError> {
     for node in 1..128u8 {
-        push_failures_of(text, bus, node)?;
+        attempt!(push_failures_of(text, bus, node));
     }
     Ok(())
 }
@@ -105,7 +105,7 @@ fn push_open_on(text: &mut String, bus: &Bus) -> Result<(), AllocError> {
     let end = bus.all().last;
     for track in bus.transfers().channels() {
         let transfer = track.channel.unfinished(end);
-        push_open(text, bus.interface(), u32::from(track.node), end, &transfer)?;
+        attempt!(push_open(text, bus.interface(), u32::from(track.node), end, &transfer));
     }
     Ok(())
 }
@@ -114,7 +114,7 @@ fn push_open_on(text: &mut String, bus: &Bus) -> Result<(), AllocError> {
 fn push_emergencies_of(text: &mut String, bus: &Bus, node: u8) -> Result<(), AllocError> {
     for row in bus.emergencies().rows() {
         if row.cause.node == node {
-            push_emergency(text, bus.interface(), row)?;
+            attempt!(push_emergency(text, bus.interface(), row));
         }
     }
     Ok(())
@@ -123,7 +123,7 @@ fn push_emergencies_of(text: &mut String, bus: &Bus, node: u8) -> Result<(), All
 // the EMCY messages on a bus, by node
 fn push_emergencies_on(text: &mut String, bus: &Bus) -> Result<(), AllocError> {
     for node in 1..128u8 {
-        push_emergencies_of(text, bus, node)?;
+        attempt!(push_emergencies_of(text, bus, node));
     }
     Ok(())
 }
@@ -139,14 +139,14 @@ fn push_heartbeats_on(
         if let Some(node) = bus.nodes().get(usize::from(number)) {
             let time = sheet_time(sheets, bus.interface(), number);
             let heartbeats = &node.heartbeats;
-            push_wrong_in(
+            attempt!(push_wrong_in(
                 text,
                 bus.interface(),
                 end,
                 time,
                 u32::from(number),
                 heartbeats,
-            )?;
+            ));
         }
     }
     Ok(())
@@ -155,7 +155,7 @@ fn push_heartbeats_on(
 // how many there are of each of these, if there are any
 fn push_counts(text: &mut String, front: &str, counts: &[(&str, u64)]) -> Result<(), AllocError> {
     for (what, count) in counts {
-        push_count(text, front, *what, *count)?;
+        attempt!(push_count(text, front, *what, *count));
     }
     Ok(())
 }
@@ -163,7 +163,7 @@ fn push_counts(text: &mut String, front: &str, counts: &[(&str, u64)]) -> Result
 // what else looks wrong on a bus
 fn push_counts_on(text: &mut String, cell: &mut String, bus: &Bus) -> Result<(), AllocError> {
     cell.clear();
-    push_pieces(cell, &[Piece::Name(bus.interface()), Piece::Words(": ")])?;
+    attempt!(push_pieces(cell, &[Piece::Name(bus.interface()), Piece::Words(": ")]));
     push_counts(
         text,
         cell.as_str(),
@@ -184,29 +184,29 @@ fn push_wrong_on(
     sheets: &[SheetTime<'_>],
     bus: &Bus,
 ) -> Result<(), AllocError> {
-    push_restarts_on(text, bus)?;
-    push_failures_on(text, bus)?;
-    push_open_on(text, bus)?;
-    push_emergencies_on(text, bus)?;
-    push_heartbeats_on(text, sheets, bus)?;
+    attempt!(push_restarts_on(text, bus));
+    attempt!(push_failures_on(text, bus));
+    attempt!(push_open_on(text, bus));
+    attempt!(push_emergencies_on(text, bus));
+    attempt!(push_heartbeats_on(text, sheets, bus));
     push_counts_on(text, cell, bus)
 }
 
 // all that looks wrong
 fn push_all_wrong(text: &mut String, cell: &mut String, page: &Page<'_>) -> Result<(), AllocError> {
-    text.push_str("What looks wrong\n")?;
+    attempt!(text.push_str("What looks wrong\n"));
     let before = text.len();
     for bus in page.counts.buses() {
-        push_wrong_on(text, cell, page.sheets, bus)?;
+        attempt!(push_wrong_on(text, cell, page.sheets, bus));
     }
-    push_counts(
+    attempt!(push_counts(
         text,
         "",
         &[
             ("bad lines", page.bad),
             (MORE_INTERFACES, page.counts.left_out()),
         ],
-    )?;
+    ));
     if text.len() == before {
         return text.push_str("  nothing\n");
     }
@@ -218,7 +218,7 @@ fn push_front(text: &mut String, bus: &Bus, bit_rate: Option<u32>) -> Result<(),
     requires { IfSome bit_rate (λ rate. rate ≤ 1000000) }
 {
     let all = bus.all();
-    push_bus(text, bus.interface(), &all)?;
+    attempt!(push_bus(text, bus.interface(), &all));
     if all.last == 0 {
         return text.push_str("    no stamps, so no gaps, rates and load\n");
     }
@@ -226,7 +226,7 @@ fn push_front(text: &mut String, bus: &Bus, bit_rate: Option<u32>) -> Result<(),
         return Ok(());
     };
     let load = bus.load();
-    push_load(text, rate, &all, &load)?;
+    attempt!(push_load(text, rate, &all, &load));
     if load.unknown == 0 {
         return Ok(());
     }
@@ -250,7 +250,7 @@ fn push_nodes(text: &mut String, cell: &mut String, bus: &Bus) -> Result<(), All
     let end = bus.all().last;
     for number in 1..128u32 {
         if let Some(node) = bus.nodes().get(number as usize) {
-            push_node_in(text, cell, bus.interface(), end, number, node)?;
+            attempt!(push_node_in(text, cell, bus.interface(), end, number, node));
         }
     }
     Ok(())
@@ -261,9 +261,9 @@ fn push_all_nodes(text: &mut String, cell: &mut String, page: &Page<'_>) -> Resu
     if !page.counts.buses().iter().any(|bus| has_nodes(bus)) {
         return Ok(());
     }
-    text.push_str(NODE_HEAD)?;
+    attempt!(text.push_str(NODE_HEAD));
     for bus in page.counts.buses() {
-        push_nodes(text, cell, bus)?;
+        attempt!(push_nodes(text, cell, bus));
     }
     Ok(())
 }
@@ -276,7 +276,7 @@ fn push_rows(
     rows: &[Row],
 ) -> Result<(), AllocError> {
     for row in rows {
-        push_row(text, cell, interface, row)?;
+        attempt!(push_row(text, cell, interface, row));
     }
     Ok(())
 }
@@ -288,7 +288,7 @@ fn push_rows_on(
     cell: &mut String,
     bus: &Bus,
 ) -> Result<(), AllocError> {
-    let rows = sorted_rows(alloc, bus)?;
+    let rows = attempt!(sorted_rows(alloc, bus));
     push_rows(text, cell, bus.interface(), rows.as_slice())
 }
 
@@ -299,9 +299,9 @@ fn push_all_rows(
     cell: &mut String,
     page: &Page<'_>,
 ) -> Result<(), AllocError> {
-    text.push_str(HEAD)?;
+    attempt!(text.push_str(HEAD));
     for bus in page.counts.buses() {
-        push_rows_on(alloc, text, cell, bus)?;
+        attempt!(push_rows_on(alloc, text, cell, bus));
     }
     Ok(())
 }
@@ -310,9 +310,9 @@ fn push_all_rows(
 fn push_buses(text: &mut String, page: &Page<'_>) -> Result<(), AllocError>
     requires { IfSome page.now.bit_rate (λ rate. rate ≤ 1000000) }
 {
-    text.push_str("Buses\n")?;
+    attempt!(text.push_str("Buses\n"));
     for bus in page.counts.buses() {
-        push_front(text, bus, page.bit_rate)?;
+        attempt!(push_front(text, bus, page.bit_rate));
     }
     Ok(())
 }
@@ -326,9 +326,9 @@ fn push_page(
 ) -> Result<(), AllocError>
     requires { IfSome page.now.bit_rate (λ rate. rate ≤ 1000000) }
 {
-    push_all_wrong(text, cell, page)?;
-    push_buses(text, page)?;
-    push_all_nodes(text, cell, page)?;
+    attempt!(push_all_wrong(text, cell, page));
+    attempt!(push_buses(text, page));
+    attempt!(push_all_nodes(text, cell, page));
     push_all_rows(alloc, text, cell, page)
 }
 

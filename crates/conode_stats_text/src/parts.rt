@@ -65,7 +65,7 @@ pub(crate) fn put_parts(
     ensures { OnOk result (writer.new ≡ writer.old ++ flat_map part_tokens parts.now) }
 {
     for part in parts {
-        put_part(alloc, writer, part)?;
+        attempt!(put_part(alloc, writer, part));
     }
     Ok(())
 }

@@ -64,8 +64,8 @@ fn put_row(
     ensures { OnOk result (writer.new ≡ writer.old ++ row_tokens row.now) }
 {
     shown.clear();
-    push_id(shown, row.can_id)?;
-    put_tally(alloc, writer, "id", shown.as_str(), &row.tally)?;
+    attempt!(push_id(shown, row.can_id));
+    attempt!(put_tally(alloc, writer, "id", shown.as_str(), &row.tally));
     writer.end_object()
 }
 
@@ -94,9 +94,9 @@ fn put_rows(
     shown: &mut String,
     rows: &[Row],
 ) -> Result<(), AllocError> {
-    writer.begin_array_of("identifiers")?;
+    attempt!(writer.begin_array_of("identifiers"));
     for row in rows {
-        put_row(alloc, writer, shown, row)?;
+        attempt!(put_row(alloc, writer, shown, row));
     }
     put_parts(alloc, writer, &[Part::EndArray, Part::EndObject])
 }
@@ -108,7 +108,7 @@ fn put_rows_on(
     shown: &mut String,
     bus: &Bus,
 ) -> Result<(), AllocError> {
-    let rows = sorted_rows(alloc, bus)?;
+    let rows = attempt!(sorted_rows(alloc, bus));
     put_rows(alloc, writer, shown, rows.as_slice())
 }
 
@@ -121,13 +121,13 @@ fn put_bus(
     bus: &Bus,
 ) -> Result<(), AllocError> {
     shown.clear();
-    push_name(shown, bus.interface())?;
-    put_tally(alloc, writer, "interface", shown.as_str(), &bus.all())?;
-    put_load(alloc, writer, &bus.load())?;
-    put_failures(alloc, writer, shown, bus)?;
-    put_all_open(alloc, writer, bus)?;
-    put_emergencies(alloc, writer, bus)?;
-    put_nodes(alloc, writer, sheets, bus)?;
+    attempt!(push_name(shown, bus.interface()));
+    attempt!(put_tally(alloc, writer, "interface", shown.as_str(), &bus.all()));
+    attempt!(put_load(alloc, writer, &bus.load()));
+    attempt!(put_failures(alloc, writer, shown, bus));
+    attempt!(put_all_open(alloc, writer, bus));
+    attempt!(put_emergencies(alloc, writer, bus));
+    attempt!(put_nodes(alloc, writer, sheets, bus));
     put_rows_on(alloc, writer, shown, bus)
 }
 
@@ -146,7 +146,7 @@ fn put_whole(
     shown: &mut String,
     page: &Page<'_>,
 ) -> Result<(), AllocError> {
-    put_parts(
+    attempt!(put_parts(
         alloc,
         writer,
         &[
@@ -157,9 +157,9 @@ fn put_whole(
             Part::NumberIf("bitRate", rate_of(page)),
             Part::Array("buses"),
         ],
-    )?;
+    ));
     for bus in page.counts.buses() {
-        put_bus(alloc, writer, shown, page.sheets, bus)?;
+        attempt!(put_bus(alloc, writer, shown, page.sheets, bus));
     }
     put_parts(alloc, writer, &[Part::EndArray, Part::EndObject])
 }

@@ -109,8 +109,8 @@ pub(crate) fn push_wrong_in(
         ≡ string_bytes text.old ++ wrong_in interface.now end sheet node heartbeats.now) }
 {
     let pace = Pace::of(sheet, heartbeats);
-    push_silent_in(text, interface, end, node, pace, heartbeats.since)?;
-    push_late_in(text, interface, node, heartbeats)?;
+    attempt!(push_silent_in(text, interface, end, node, pace, heartbeats.since));
+    attempt!(push_late_in(text, interface, node, heartbeats));
     let usual = Pace::usual(sheet, heartbeats);
     push_lost_in(text, interface, node, usual, heartbeats.longest)
 }
