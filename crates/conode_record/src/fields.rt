@@ -19,7 +19,7 @@ use crate::interface::Interface;
 use co_text::{hex_digit, is_blank, is_digit};
 
 /// The identifier of a frame.
-#[derive(Clone, Copy, Debug, PartialEq, Eq)]
+#[derive(Clone, Copy)]
 pub enum Identifier {
     /// One of 11 bits, in three digits.
     Base(u16),
@@ -74,11 +74,21 @@ fn number_at(text: &[u8], least: usize, most: usize) -> Option<(u64, &[u8])>
 pub(crate) fn stamp_at(text: &[u8]) -> Option<(u64, &[u8])>
     ensures { option_map (λ found. (found.0, found.1.now)) result ≡ stamp_at text.now }
 {
-    let text = past_byte(text, b'(')?;
-    let (seconds, text) = number_at(text, 1, 12)?;
-    let text = past_byte(text, b'.')?;
-    let (micros, text) = number_at(text, 6, 6)?;
-    let text = past_byte(text, b')')?;
+    let Some(text) = past_byte(text, b'(') else {
+        return None;
+    };
+    let Some((seconds, text)) = number_at(text, 1, 12) else {
+        return None;
+    };
+    let Some(text) = past_byte(text, b'.') else {
+        return None;
+    };
+    let Some((micros, text)) = number_at(text, 6, 6) else {
+        return None;
+    };
+    let Some(text) = past_byte(text, b')') else {
+        return None;
+    };
     Some((1_000_000 * seconds + micros, text))
 }
 
@@ -140,9 +150,15 @@ fn name_at(text: &[u8]) -> Option<(&[u8], &[u8])>
 pub(crate) fn interface_at(text: &[u8]) -> Option<(Interface<'_>, &[u8])>
     ensures { option_map (λ found. (found.0, found.1.now)) result ≡ interface_at text.now }
 {
-    let name = past_blanks(text)?;
-    let (name, blanks) = name_at(name)?;
-    let rest = past_blanks(blanks)?;
+    let Some(name) = past_blanks(text) else {
+        return None;
+    };
+    let Some((name, blanks)) = name_at(name) else {
+        return None;
+    };
+    let Some(rest) = past_blanks(blanks) else {
+        return None;
+    };
     Some((Interface::new(name), rest))
 }
 
@@ -154,7 +170,10 @@ fn hex_number(digits: &[u8]) -> Option<u32>
 {
     let mut number: u64 = 0;
     for byte in digits {
-        number = 16 * number + u64::from(hex_digit(*byte)?);
+        let Some(digit) = hex_digit(*byte) else {
+            return None;
+        };
+        number = 16 * number + u64::from(digit);
     }
     Some(number as u32)
 }
@@ -189,7 +208,9 @@ pub(crate) fn identifier_at(text: &[u8]) -> Option<(Identifier, &[u8])>
     ensures { option_map (λ found. (found.0, found.1.now)) result ≡ identifier_at text.now }
 {
     if has_sign(text, 3) {
-        let id = hex_number(&text[..3])?;
+        let Some(id) = hex_number(&text[..3]) else {
+            return None;
+        };
         return if id <= 0x7FF {
             Some((Identifier::Base(id as u16), &text[4..]))
         } else {
@@ -197,8 +218,13 @@ pub(crate) fn identifier_at(text: &[u8]) -> Option<(Identifier, &[u8])>
         };
     }
     if has_sign(text, 8) {
-        let id = eight_digits(hex_number(&text[..8])?)?;
-        return Some((id, &text[9..]));
+        let Some(number) = hex_number(&text[..8]) else {
+            return None;
+        };
+        return match eight_digits(number) {
+            Some(id) => Some((id, &text[9..])),
+            None => None,
+        };
     }
     None
 }
