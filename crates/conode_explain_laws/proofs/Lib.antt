@@ -13,6 +13,7 @@ pub mod UploadViews
 pub mod UploadSteps
 pub mod UploadBlocks
 pub mod UploadStanding
+pub mod NoUploads
 pub mod UploadExchanges
 pub mod AllUploads
 pub mod Examples

@@ -8,7 +8,7 @@ use Rattle.co_frame.specs.Segments.{is_odd}
 use Rattle.co_frame.specs.SdoRequests.{request_in}
 use Rattle.co_frame.specs.SdoResponses.{response_in, response_bytes}
 use Rattle.co_frame.specs.declared.sdo_request.SdoRequest.{SdoRequest}
-use Rattle.co_frame.specs.declared.sdo_request.SdoRequest.TheVariants.{DownloadExpedited, DownloadInitiate, DownloadSegment, Upload as UploadInitiate, UploadSegment as NextSegment, Abort as Abandon, BlockUploadInitiate, BlockUploadStart, BlockUploadAcknowledge, BlockUploadEnd as UploadEnd, BlockDownloadInitiate, BlockDownloadEnd}
+use Rattle.co_frame.specs.declared.sdo_request.SdoRequest.TheVariants.{DownloadExpedited, DownloadInitiate, Upload as UploadInitiate, UploadSegment as NextSegment, Abort as Abandon, BlockUploadInitiate, BlockUploadStart, BlockUploadAcknowledge, BlockUploadEnd as UploadEnd, BlockDownloadInitiate}
 use Rattle.co_frame.specs.declared.sdo_response.SdoResponse.TheVariants.{UploadSegment, BlockUploadEnd as EndSent}
 use Rattle.co_dict.specs.Rows.{Contents}
 use Rattle.co_dict.specs.Stores.{Description, IsDictionary}
@@ -18,10 +18,10 @@ use Rattle.co_sdo.specs.declared.stage.Stage.TheVariants.{Download as Receiving,
 use Rattle.co_sdo.specs.Log.{Response as Replied}
 use Rattle.co_sdo.specs.Uploads.{part_after, is_last_after, segment_count, sub_block_length, sub_block_sent, block_upload_end}
 use Rattle.co_sdo.specs.Opened.{OpenTransfer}
-use Rattle.co_sdo.specs.Replies.{unless_refused, block_size_refusal, segment_refusal, request_answers, is_in_sub_block, is_sub_block, answers_to}
+use Rattle.co_sdo.specs.Replies.{unless_refused, block_size_refusal, request_answers, is_in_sub_block, is_sub_block, answers_to}
 use Rattle.co_sdo.specs.Completed.{unless}
-use Rattle.co_sdo.specs.Steps.{opened_at, after_request, after_segment, opened_next, after_upload_segment, after_start, after_acknowledge}
-use Rattle.co_sdo.specs.OpenTransfers.{is_initiate, is_upload_end}
+use Rattle.co_sdo.specs.Steps.{opened_at, after_request, opened_next}
+use Rattle.co_sdo.specs.OpenTransfers.{is_initiate}
 use Rattle.co_sdo.proofs.Continuations.{not_odd}
 use Rattle.co_sdo_laws.proofs.Frames.{segment_sent_read, upload_end_read}
 use Rattle.co_sdo_laws.proofs.Segments.{joined, taken_all, part_small}
@@ -48,9 +48,10 @@ use Rattle.conode_explain_laws.proofs.Follows.{begun_by, client_no_response, is_
 use Rattle.conode_explain_laws.proofs.Begins.{outside_answers, outside_opens, awaits, write_of}
 use Rattle.conode_explain_laws.proofs.Exchanges.{same_toggle}
 use Rattle.conode_explain_laws.proofs.UploadViews.{holds, read_as, hears, hears_answers, begin_writes, abort_closes, turned, IsAside, KnowsAside, aside_turn, aside_reads, aside_answers}
-use Rattle.conode_explain_laws.proofs.UploadSteps.{all_of, with_segment, with_acknowledge, answered_by, acknowledged_by, answered_next, acknowledged_next}
+use Rattle.conode_explain_laws.proofs.UploadSteps.{all_of, answered_by, acknowledged_by, answered_next, acknowledged_next}
 use Rattle.conode_explain_laws.proofs.UploadBlocks.{InBlocks, InSubBlock, acknowledged_data, all_data, first_data, more_heard}
-use Rattle.conode_explain_laws.proofs.UploadStanding.{InUpload, InBegun, AtEnd, is_ended, IsWaiting, is_segmented, no_upload, NoUpload, FollowsIn, Ends, ends_closed, closed, ends_aside, ends_loose, answered, size_is, regular_done, inside, uploads, few, block_size_small, download, unless_no_upload, outside, outside_answered, outside_acknowledged, begins, late_reading, quiet, aside, asked, gone, segmented, begun, blocks, at_end}
+use Rattle.conode_explain_laws.proofs.UploadStanding.{InUpload, InBegun, AtEnd, is_ended, IsWaiting, is_segmented, no_upload, NoUpload, FollowsIn, Ends, ends_closed, closed, ends_aside, ends_loose, answered, size_is, regular_done, inside, uploads, few, block_size_small, download, outside, outside_answered, outside_acknowledged, begins, late_reading, quiet, aside, asked, gone, segmented, begun, blocks, at_end}
+use Rattle.conode_explain_laws.proofs.NoUploads.{OpensNone, opens_none, begins_nothing, none_ended}
 
 -- ---- uploads in segments
 
@@ -417,62 +418,6 @@ module _ (Loose : Type 0) (d : Description) (contents : Contents) (stamp : ℕ �
       (quiet (stamp count) frame heard t got done count (request_reading r (stamp count) frame) (ap confirmed_with h.stage) refl refl (late_reading t r (stamp count) frame (inr refl)))
 
 -- ---- the channel has no upload open
-
-no_segment : (d : Description) (contents : Contents) (o : OpenTransfer) (stage : Stage) (toggle : Bool) (segment : List ℕ) (last : Bool) → is_segmented stage ≡ true → no_upload (after_segment d contents o stage toggle segment last) ≡ true
-no_segment d contents o (Receiving size expected) toggle segment last h = unless_no_upload (segment_refusal d contents o size expected toggle segment last) _ (by last)
-  where
-    by : (last : Bool) → no_upload (if last then None else opened_at o.key (Receiving size (not expected)) (o.bytes ++ segment)) ≡ true
-    by true = refl
-    by false = refl
-no_segment d contents o _ toggle segment last h = absurd (false≢true h)
-
-no_next : (o : OpenTransfer) (stage : Stage) (toggle : Bool) → is_segmented stage ≡ true → (no_upload (after_upload_segment o stage toggle) ≡ true) × (with_segment o stage toggle ≡ None)
-no_next o (Receiving size expected) toggle h = (refl, refl)
-no_next o _ toggle h = absurd (false≢true h)
-
-no_start : (o : OpenTransfer) (stage : Stage) → is_segmented stage ≡ true → no_upload (after_start o stage) ≡ true
-no_start o (Receiving size expected) h = refl
-no_start o _ h = absurd (false≢true h)
-
-no_acknowledge : (o : OpenTransfer) (stage : Stage) (sequence size : ℕ) → is_segmented stage ≡ true → (no_upload (after_acknowledge o stage sequence size) ≡ true) × (with_acknowledge o stage sequence ≡ None)
-no_acknowledge o (Receiving size expected) sequence block_size h = (refl, refl)
-no_acknowledge o _ sequence block_size h = absurd (false≢true h)
-
--- a request that begins nothing makes none of it
-record OpensNone (d : Description) (contents : Contents) (current : Option OpenTransfer) (r : Option SdoRequest) : Type 0 where
-  next : no_upload (after_request d contents current r) ≡ true
-  answers : answered_by d contents current r ≡ None
-  acknowledges : acknowledged_by current r ≡ None
-
-opens_none : (d : Description) (contents : Contents) (current : Option OpenTransfer) (r : Option SdoRequest) → no_upload current ≡ true → is_initiate r ≡ false → OpensNone d contents current r
-opens_none d contents None (Some (DownloadSegment toggle segment last)) h n = record { next = refl; answers = refl; acknowledges = refl }
-opens_none d contents (Some o) (Some (DownloadSegment toggle segment last)) h n = record { next = no_segment d contents o o.stage toggle segment.items last h; answers = refl; acknowledges = refl }
-opens_none d contents None (Some (NextSegment toggle)) h n = record { next = refl; answers = refl; acknowledges = refl }
-opens_none d contents (Some o) (Some (NextSegment toggle)) h n = let one = no_next o o.stage toggle h in record { next = one.0; answers = one.1; acknowledges = refl }
-opens_none d contents None (Some BlockUploadStart) h n = record { next = refl; answers = refl; acknowledges = refl }
-opens_none d contents (Some o) (Some BlockUploadStart) h n = record { next = no_start o o.stage h; answers = refl; acknowledges = refl }
-opens_none d contents None (Some (BlockUploadAcknowledge sequence size)) h n = record { next = refl; answers = refl; acknowledges = refl }
-opens_none d contents (Some o) (Some (BlockUploadAcknowledge sequence size)) h n = let one = no_acknowledge o o.stage sequence size h in record { next = one.0; answers = refl; acknowledges = one.1 }
-opens_none d contents current None h n = record { next = refl; answers = refl; acknowledges = refl }
-opens_none d contents current (Some (Abandon key code)) h n = record { next = refl; answers = refl; acknowledges = refl }
-opens_none d contents current (Some UploadEnd) h n = record { next = refl; answers = refl; acknowledges = refl }
-opens_none d contents current (Some (BlockDownloadEnd unused)) h n = record { next = refl; answers = refl; acknowledges = refl }
-opens_none d contents current (Some _) h n = absurd (false≢true (sym n))
-
-begins_nothing : (r : Option SdoRequest) (micros : ℕ) (frame : List ℕ) → is_begin (request_reading r micros frame) ≡ false → is_initiate r ≡ false
-begins_nothing (Some (DownloadExpedited key value)) micros frame n = absurd (false≢true (sym n))
-begins_nothing (Some (DownloadInitiate key size)) micros frame n = absurd (false≢true (sym n))
-begins_nothing (Some (UploadInitiate key)) micros frame n = absurd (false≢true (sym n))
-begins_nothing (Some (BlockUploadInitiate key size threshold)) micros frame n = absurd (false≢true (sym n))
-begins_nothing (Some (BlockDownloadInitiate key size)) micros frame n = absurd (false≢true (sym n))
-begins_nothing r micros frame n = refl
-
-none_ended : (r : Option SdoRequest) (ended : Option Read) → ended ≡ None → ended_by r ended ≡ None
-none_ended r ended e = by (is_upload_end r)
-  where
-    by : (b : Bool) → (if b then ended else None) ≡ None
-    by true = e
-    by false = refl
 
 to_none : (Loose : Type 0) (d : Description) (contents : Contents) (stamp : ℕ → ℕ) (current : Option OpenTransfer) (ended : Option Read) (r : Option SdoRequest) (n : ℕ) (done : List Complete) (v : View)
     → NoUpload current ended → is_initiate r ≡ false → KnowsAside Loose done v → Goes Loose d contents stamp current ended r n done v
