@@ -19,3 +19,9 @@ pub mod AllUploads
 pub mod Examples
 mod UploadExamples
 mod ClientExamples
+pub mod ClientViews
+pub mod ClientStanding
+pub mod ClientDownloads
+pub mod ClientUploads
+pub mod ClientBlockDownloads
+pub mod ClientLost

@@ -40,7 +40,7 @@ abbrev pub entry_bytes : Rows → Key → Option SdoRequest → List ℕ → Lis
 entry_bytes rows key (Some (DownloadExpedited k (NotIndicated four))) got = take (capacity_at rows key) got
 entry_bytes rows key _ got = got
 
-abbrev pub if_done : Ending → List Complete → List Complete
+abbrev pub if_done : {A : Type 0} → Ending → List A → List A
 if_done (Done crc) write = write
 if_done _ write = []
 
@@ -103,7 +103,7 @@ ArePlain inputs = AllByRecursion IsPlainInput inputs
 -- ---- the two
 
 -- these are some of those, in their order
-abbrev pub AreSome : List Complete → List Complete → Type 0
+abbrev pub AreSome : {A : Type 0} → List A → List A → Type 0
 AreSome [] all = Unit {0}
 AreSome (write ∷ others) [] = ⊥
 AreSome (write ∷ others) (set ∷ later) = ((write ≡ set) × AreSome others later) ⊎ AreSome (write ∷ others) later
