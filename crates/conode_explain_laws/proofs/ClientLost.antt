@@ -3,17 +3,18 @@ use Rattle.std.proofs.Common.{◌≡◌, ℕ, Bool, true, false, not, List, [], 
 use Rattle.std.specs.Prelude.{if◌then◌else◌, IfSome}
 use Rattle.std.proofs.lemmas.Bool.{false≢true}
 use Rattle.co_frame.specs.BlockSegments.{is_abort_in_sub_block}
+use Rattle.co_frame.specs.SdoParts.{code_in}
 use Rattle.co_frame.specs.SdoRequests.{request_row_in, request_in}
 use Rattle.co_frame.specs.SdoResponses.{response_in}
 use Rattle.co_frame.specs.declared.sdo_request.SdoRequest.TheVariants.{UploadSegment as NextSegment, Abort as Abandon, BlockUploadStart, BlockUploadAcknowledge, BlockUploadEnd as UploadEnd}
 use Rattle.co_frame.specs.declared.sdo_response.SdoResponse.{SdoResponse}
-use Rattle.co_frame.specs.declared.sdo_response.SdoResponse.TheVariants.{UploadExpedited, UploadInitiated, UploadSegment, Abort as Refuse, BlockUploadInitiated, BlockUploadEnd as EndSent}
+use Rattle.co_frame.specs.declared.sdo_response.SdoResponse.TheVariants.{DownloadDone, BlockDownloadInitiated, UploadExpedited, UploadInitiated, UploadSegment, Abort as Refuse, BlockUploadInitiated, BlockUploadEnd as EndSent}
 use Rattle.co_sdo_client.specs.declared.stage.Stage.{Stage}
 use Rattle.co_sdo_client.specs.declared.stage.Stage.TheVariants.{Begun, Upload as Taking, SubBlock as InSubBlockStage, LastTaken}
 use Rattle.co_sdo_client.specs.Calls.{Call, Message, Request as Asked, message_bytes}
 use Rattle.co_sdo_client.specs.Segments.{transfer_of, transfer_by}
-use Rattle.co_sdo_client.specs.SubBlocks.{ends_sub_block}
-use Rattle.co_sdo_client.specs.Verdicts.{Verdict, GoesOn, Ends, GivesUp, IsAborted, unless_fault, upload_complete, sub_block_end, response_verdict, answer_verdict}
+use Rattle.co_sdo_client.specs.SubBlocks.{ends_sub_block, is_last_taken}
+use Rattle.co_sdo_client.specs.Verdicts.{Verdict, GoesOn, Ends, GivesUp, IsAborted, unless_fault, other_key, other_toggle, no_room, no_room_indicated, above_indicated, below_indicated, expedited_value, upload_complete, sub_block_end, segment_next, taken_with, held_with, without, response_verdict, answer_verdict}
 use Rattle.co_sdo_client.specs.Outcomes.{messages_by}
 use Rattle.co_sdo_laws.proofs.Frames.{next_read, start_read, acknowledge_read, client_end_read}
 use Rattle.co_sdo_laws.proofs.Permits.{reads_in_segments, reads_in_blocks}
@@ -78,17 +79,13 @@ lost_says call stamp (message ∷ later) done w h l =
 
 
 module _ (call : Call) where
-  unless : (checks : List (Bool × ℕ)) (v : Verdict) → AllHarmless (messages_by call v) → AllHarmless (messages_by call (unless_fault checks v))
-  unless [] v h = h
-  unless (check ∷ checks) v h = by check.0
-    where
-      by : (b : Bool) → AllHarmless (messages_by call (if b then GivesUp check.1 else unless_fault checks v))
-      by true = (refl, tt)
-      by false = unless checks v h
-
   either : (b : Bool) (v w : Verdict) → AllHarmless (messages_by call v) → AllHarmless (messages_by call w) → AllHarmless (messages_by call (if b then v else w))
   either true v w hv hw = hv
   either false v w hv hw = hw
+
+  pub unless : (checks : List (Bool × ℕ)) (v : Verdict) → AllHarmless (messages_by call v) → AllHarmless (messages_by call (unless_fault checks v))
+  unless [] v h = h
+  unless (check ∷ checks) v h = either check.0 (GivesUp check.1) (unless_fault checks v) (refl, tt) (unless checks v h)
 
   -- by how far an upload is
   abbrev pub is_upload_stage : Stage → Bool
@@ -104,35 +101,50 @@ module _ (call : Call) where
   begun_sends : (held : List ℕ) (r : Option SdoResponse) → IsUploadCall → AllHarmless (messages_by call (response_verdict call Begun held r))
   begun_sends held None u = (refl, tt)
   begun_sends held (Some (Refuse key code)) u = tt
-  begun_sends held (Some (UploadExpedited key value)) (inl u) = rw u (unless (_ ∷ _ ∷ []) (Ends [] _) tt)
+  begun_sends held (Some (UploadExpedited key value)) (inl u) =
+      rw u (unless (other_key call key ∷ no_room call (length (expedited_value value)) ∷ []) (Ends [] (expedited_value value)) tt)
   begun_sends held (Some (UploadExpedited key value)) (inr u) = rw u (refl, tt)
-  begun_sends held (Some (UploadInitiated key size)) (inl u) = rw u (unless (_ ∷ _ ∷ []) (GoesOn (Asked (NextSegment false) ∷ [])) (refl, tt))
+  begun_sends held (Some (UploadInitiated key size)) (inl u) =
+      rw u (unless (other_key call key ∷ no_room_indicated call size ∷ []) (GoesOn (Asked (NextSegment false) ∷ [])) (refl, tt))
   begun_sends held (Some (UploadInitiated key size)) (inr u) = rw u (refl, tt)
   begun_sends held (Some (BlockUploadInitiated key size)) (inl u) = rw u (refl, tt)
-  begun_sends held (Some (BlockUploadInitiated key size)) (inr u) = rw u (unless (_ ∷ _ ∷ []) (GoesOn (Asked BlockUploadStart ∷ [])) (refl, tt))
-  begun_sends held (Some response) (inl u) = rw u (refl, tt)
-  begun_sends held (Some response) (inr u) = rw u (refl, tt)
+  begun_sends held (Some (BlockUploadInitiated key size)) (inr u) =
+      rw u (unless (other_key call key ∷ no_room_indicated call size ∷ []) (GoesOn (Asked BlockUploadStart ∷ [])) (refl, tt))
+  begun_sends held (Some (DownloadDone key)) (inl u) = rw u (refl, tt)
+  begun_sends held (Some (DownloadDone key)) (inr u) = rw u (refl, tt)
+  begun_sends held (Some (BlockDownloadInitiated key size)) (inl u) = rw u (refl, tt)
+  begun_sends held (Some (BlockDownloadInitiated key size)) (inr u) = rw u (refl, tt)
+  begun_sends held (Some response) u = (refl, tt)
 
   taking_sends : (size : Option ℕ) (toggle : Bool) (held : List ℕ) (r : Option SdoResponse) → AllHarmless (messages_by call (response_verdict call (Taking size toggle) held r))
   taking_sends size toggle held None = (refl, tt)
   taking_sends size toggle held (Some (Refuse key code)) = tt
   taking_sends size toggle held (Some (UploadSegment toggled segment last)) =
-      unless (_ ∷ _ ∷ []) (if last then upload_complete size (held ++ segment.items) else GoesOn (Asked (NextSegment (not toggle)) ∷ []))
-      (either last (upload_complete size (held ++ segment.items)) (GoesOn (Asked (NextSegment (not toggle)) ∷ [])) (unless (_ ∷ _ ∷ []) (Ends [] (held ++ segment.items)) tt) (refl, tt))
+      let value = held ++ segment.items in
+      unless (other_toggle toggled toggle ∷ no_room call (length value) ∷ []) (if last then upload_complete size value else GoesOn (Asked (NextSegment (not toggle)) ∷ []))
+      (either last (upload_complete size value) (GoesOn (Asked (NextSegment (not toggle)) ∷ []))
+      (unless (above_indicated size (length value) ∷ below_indicated size (length value) ∷ []) (Ends [] value) tt) (refl, tt))
   taking_sends size toggle held (Some _) = (refl, tt)
 
   last_sends : (size : Option ℕ) (held : List ℕ) (r : Option SdoResponse) → AllHarmless (messages_by call (response_verdict call (LastTaken size) held r))
   last_sends size held None = (refl, tt)
   last_sends size held (Some (Refuse key code)) = tt
-  last_sends size held (Some (EndSent unused)) = unless (_ ∷ _ ∷ _ ∷ []) (Ends (Asked UploadEnd ∷ []) _) (refl, tt)
+  last_sends size held (Some (EndSent unused)) =
+      let value = without unused held in
+      unless (above_indicated size (length value) ∷ below_indicated size (length value) ∷ no_room call (length value) ∷ []) (Ends (Asked UploadEnd ∷ []) value) (refl, tt)
   last_sends size held (Some _) = (refl, tt)
+
+  sub_block_sends : (taken : ℕ) (held frame : List ℕ) → AllHarmless (messages_by call (sub_block_end call taken held frame))
+  sub_block_sends taken held frame =
+      unless ((if is_last_taken (segment_next taken frame) then (false, 0) else no_room call (length (held_with held taken frame))) ∷ [])
+      (GoesOn (Asked (BlockUploadAcknowledge (taken_with taken frame) 127) ∷ [])) (refl, tt)
 
   pub upload_sends : (stage : Stage) (held frame : List ℕ) → IsUploadCall → is_upload_stage stage ≡ true → AllHarmless (messages_by call (answer_verdict call stage held frame))
   upload_sends Begun held frame u s = begun_sends held (response_in frame) u
   upload_sends (Taking size toggle) held frame u s = taking_sends size toggle held (response_in frame)
   upload_sends (InSubBlockStage size taken) held frame u s =
-      either (is_abort_in_sub_block frame) (IsAborted _) _ tt
-      (either (ends_sub_block frame) (sub_block_end call taken held frame) (GoesOn []) (unless (_ ∷ []) (GoesOn (Asked (BlockUploadAcknowledge _ 127) ∷ [])) (refl, tt)) tt)
+      either (is_abort_in_sub_block frame) (IsAborted (code_in frame).0) (if ends_sub_block frame then sub_block_end call taken held frame else GoesOn []) tt
+      (either (ends_sub_block frame) (sub_block_end call taken held frame) (GoesOn []) (sub_block_sends taken held frame) tt)
   upload_sends (LastTaken size) held frame u s = last_sends size held (response_in frame)
   upload_sends _ held frame u s = absurd (false≢true s)
 

@@ -89,17 +89,17 @@ values : (value : ExpeditedData) → expedited_value value ≡ data_of value
 values (Indicated counted) = refl
 values (NotIndicated four) = refl
 
-few_read : (job : Job) → IsJob job → cap_of job ≤ 65535
+pub few_read : (job : Job) → IsJob job → cap_of job ≤ 65535
 few_read (Write bytes tells) h = omega arith
 few_read (Read cap) h = h
 
-within : (n cap : ℕ) → nat_lt cap n ≡ false → cap ≤ 65535 → n ≤ 65535
+pub within : (n cap : ℕ) → nat_lt cap n ≡ false → cap ≤ 65535 → n ≤ 65535
 within n cap e room = grind (arith, nat_tests)
 
 not_counted : (n : ℕ) → n ≤ 65535 → counted n ≡ n
 not_counted n h = omega arith
 
-equal : (s n : ℕ) → nat_lt s n ≡ false → nat_lt n s ≡ false → s ≡ n
+pub equal : (s n : ℕ) → nat_lt s n ≡ false → nat_lt n s ≡ false → s ≡ n
 equal s n a b = grind (arith, nat_tests)
 
 module _ (Loose : Type 0) (call : Call) (job : IsJob call.job) (stamp : ℕ → ℕ) (frame : List ℕ) (heard : Bool) (t : Transfer) (count newest : ℕ) where

@@ -25,3 +25,4 @@ pub mod ClientDownloads
 pub mod ClientUploads
 pub mod ClientBlockDownloads
 pub mod ClientLost
+pub mod ClientBlockUploads
