@@ -100,11 +100,11 @@ is_segment frame segment e = by (length frame == 8) (nat_le 1 (command frame % 1
     by false numbered l n e = absurd (let f : None ≡ Some segment = e in cc)
 
 -- the server ends it: the number of unused bytes is small
-abbrev IsSmallEnd : SdoResponse → Type 0
+abbrev pub IsSmallEnd : SdoResponse → Type 0
 IsSmallEnd (EndSent unused) = unused ≤ 7
 IsSmallEnd _ = Unit {0}
 
-small_end : (frame : List ℕ) → IfSome (response_in frame) IsSmallEnd
+pub small_end : (frame : List ℕ) → IfSome (response_in frame) IsSmallEnd
 unfolding response_row_in
 small_end frame =
     let P : SdoResponse → Type 0 = λ response. IsSmallEnd response in

@@ -26,3 +26,6 @@ pub mod ClientUploads
 pub mod ClientBlockDownloads
 pub mod ClientLost
 pub mod ClientBlockUploads
+pub mod ClientAnswers
+pub mod ClientBegins
+pub mod AllClients
