@@ -1,17 +1,17 @@
 -- Both laws of a client, over all that may come to it: an induction whose step is one input, with what the client sends to it.
-use Rattle.std.proofs.Common.{◌≡◌, ℕ, suc, ◌+◌, Bool, true, false, List, [], ◌∷◌, ◌++◌, length, Option, Some, None, refl, sym, ap, ◌∙◌, ◌⊎◌, inl, inr, subst, arith}
+use Rattle.std.proofs.Common.{◌≡◌, ℕ, Bool, true, false, List, [], ◌∷◌, ◌++◌, length, Option, Some, None, refl, sym, ap, ◌∙◌, ◌⊎◌, inl, inr, subst, arith}
 use Rattle.std.specs.Prelude.{if◌then◌else◌, IfSome, ◌==◌}
-use Rattle.std.proofs.lemmas.Bool.{eqb-true, false≢true}
+use Rattle.std.proofs.lemmas.Bool.{false≢true}
 use Rattle.std.proofs.lemmas.Bool.Decides.{nat_tests}
 use Rattle.co_frame.specs.AbortCodes.{timed_out}
 use Rattle.co_sdo_client.specs.declared.stage.Stage.{Stage}
 use Rattle.co_sdo_client.specs.declared.state.ClientState.{ClientState}
 use Rattle.co_sdo_client.specs.declared.state.ClientState.TheVariants.{Waiting, Done, Failed}
-use Rattle.co_sdo_client.specs.Calls.{Call, Message, Event, Answered, Ticked, answers, Answers, since_first, is_time_over}
+use Rattle.co_sdo_client.specs.Calls.{Call, Event, Answered, Ticked, answers, Answers, since_first, is_time_over}
 use Rattle.co_sdo_client.specs.Segments.{initiate_messages}
 use Rattle.co_sdo_client.specs.Stages.{stage_after, held_after, stage_since, held_since}
 use Rattle.co_sdo_client.specs.Steps.{frame_stage, frame_held}
-use Rattle.co_sdo_client.specs.Verdicts.{Verdict, GoesOn, Ends, GivesUp, IsAborted, answer_verdict, verdict}
+use Rattle.co_sdo_client.specs.Verdicts.{Verdict, GoesOn, Ends, GivesUp, IsAborted, verdict}
 use Rattle.co_sdo_client.specs.Outcomes.{state_by, messages_by, value_by, outcome, asked_by, result}
 use Rattle.co_sdo_client.proofs.EventLemmas.{goes_on}
 use Rattle.co_sdo_client.proofs.StageLemmas.{next_is}
@@ -20,14 +20,13 @@ use Rattle.conode_explain_transfers.specs.declared.transfer.Transfer.{Transfer}
 use Rattle.conode_explain_transfers.specs.Data.{data_after}
 use Rattle.conode_explain_transfers.specs.Digests.{digest_of}
 use Rattle.conode_explain_transfers.specs.Followed.{Event as Recorded, following_after}
-use Rattle.conode_explain_transfers.specs.Stages.{confirmed_with}
 use Rattle.conode_explain_transfers.proofs.DataLemmas.{StaysOpen, open_after}
 use Rattle.conode_explain_laws.specs.Recordings.{and_frame}
 use Rattle.conode_explain_laws.specs.Downloads.{AreSome}
-use Rattle.conode_explain_laws.specs.Clients.{ClientInput, Came, Elapsed, IsCall, event_with, events_of, asked_to, and_messages, heard, Transferred, transfers_done, direction_of, bytes_transferred, reported, transfers_reported, goes_up, open_sub_block, AreRegular}
+use Rattle.conode_explain_laws.specs.Clients.{ClientInput, Came, Elapsed, IsCall, events_of, and_messages, heard, Transferred, transfers_done, direction_of, bytes_transferred, reported, transfers_reported, goes_up, open_sub_block, AreRegular}
 use Rattle.conode_explain_laws.proofs.AllExact.{kept_of}
-use Rattle.conode_explain_laws.proofs.ClientViews.{Seen, seen_of, holds, says, hears, hears_frame, says_all, IsLost, Loses, lost_answer, Closes, client_closes}
-use Rattle.conode_explain_laws.proofs.ClientStanding.{HasLost, SyncIn, FollowsBy, one, Steps}
+use Rattle.conode_explain_laws.proofs.ClientViews.{seen_of, holds, says, hears, hears_frame, says_all, IsLost, Loses, lost_answer, client_closes}
+use Rattle.conode_explain_laws.proofs.ClientStanding.{SyncIn, FollowsBy, one, Steps}
 use Rattle.conode_explain_laws.proofs.ClientAnswers.{newest_of, Made, lost_made, sync_made}
 use Rattle.conode_explain_laws.proofs.ClientBegins.{nothing, Begins, begins, Spoils, short_sync, short_lost}
 
@@ -338,7 +337,7 @@ module _ (Loose : Type 0) (R : List Transferred → List Transferred → Type 0)
   with_frame frame events recording all h r false e =
       let longer = and_frame stamp Server frame recording in
       subst (λ xs. Related events longer (xs ++ all)) (sym (same_state (outcome call events) (record { frame = length longer; direction = direction_of call.job; key = call.key; bytes = bytes_transferred call.job (result call events) })))
-      (with_short frame e events recording all (elim h [ | inl l ↦ inl l | inr w ↦ inr (λ o. (w o).0) ]) r (outcome call events) refl)
+      (with_short frame e events recording all (elim h [ inl l ↦ inl l | inr w ↦ inr (λ o. (w o).0) ]) r (outcome call events) refl)
 
   with_tick : (events : List Event) (recording : List Recorded) (all : List Transferred) → Related events recording all → (s : ClientState) → outcome call events ≡ s
       → Related (Ticked ∷ events) (and_messages stamp (asked_by call events Ticked) recording) (reports events Ticked (and_messages stamp (asked_by call events Ticked) recording) ++ all)

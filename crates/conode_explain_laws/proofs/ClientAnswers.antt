@@ -1,6 +1,6 @@
 -- Any frame that comes to a client that waits: by how far explain and the client are.
-use Rattle.std.proofs.Common.{◌≡◌, ℕ, suc, ◌+◌, Bool, true, false, List, [], ◌∷◌, ◌++◌, length, Option, Some, None, refl, sym, ap, ◌∙◌, ◌⊎◌, inl, inr, subst}
-use Rattle.std.specs.Prelude.{if◌then◌else◌, IfSome, ◌==◌, ◌&&◌, ◌||◌, nat_le, nat_lt}
+use Rattle.std.proofs.Common.{◌≡◌, ℕ, Bool, true, false, List, [], ◌∷◌, length, Option, Some, None, refl, sym, ap, ◌∙◌, ◌⊎◌, inl, inr, subst}
+use Rattle.std.specs.Prelude.{if◌then◌else◌, IfSome, ◌&&◌, ◌||◌, nat_le, nat_lt}
 use Rattle.std.proofs.lemmas.Bool.{false≢true}
 use Rattle.co_frame.specs.BlockSegments.{is_abort_in_sub_block}
 use Rattle.co_frame.specs.SdoResponses.{response_in}
@@ -13,7 +13,7 @@ use Rattle.co_sdo_client.specs.Segments.{transfer_of, transfer_by}
 use Rattle.co_sdo_client.specs.Stages.{stage_since, held_since, held_by, size_by, block_upload_stage}
 use Rattle.co_sdo_client.specs.Steps.{frame_stage, frame_held}
 use Rattle.co_sdo_client.specs.SubBlocks.{ends_sub_block, sub_block, taken_segments, has_last}
-use Rattle.co_sdo_client.specs.Verdicts.{Verdict, answer_verdict}
+use Rattle.co_sdo_client.specs.Verdicts.{answer_verdict}
 use Rattle.co_sdo_client.specs.Outcomes.{messages_by}
 use Rattle.co_sdo_laws.specs.Undisturbed.{IsJob}
 use Rattle.co_sdo_laws.proofs.Permits.{sends_at_once, sends_in_segments, reads_in_segments, reads_in_blocks}
@@ -213,7 +213,7 @@ module _ (Loose : Type 0) (call : Call) (job : IsJob call.job) (stamp : ℕ → 
   sync_made heard t got count stage held (in_sub_block size taken h g e) kept f i up =
       subst (λ x. Made (holds heard (Some t) got [] count) x held) (sym e)
       (inside_answer Loose call job stamp frame heard t count newest size taken (newest_of s) held got h g
-      (elim up [ | inl l ↦ inl l | inr u ↦ inr (up_so call s frame size taken h.is.is.job h.is.transfer (sym f ∙ e) u) ])
+      (elim up [ inl l ↦ inl l | inr u ↦ inr (up_so call s frame size taken h.is.is.job h.is.transfer (sym f ∙ e) u) ])
       (next_newest call s frame size taken (sym f ∙ e)))
   sync_made heard t got count stage held (all_taken size h g e) kept f i up =
       subst (λ x. Made (holds heard (Some t) got [] count) x held) (sym e)

@@ -1,7 +1,6 @@
 -- The client's initiate request, and a frame that hasn't eight bytes.
-use Rattle.std.proofs.Common.{◌≡◌, ℕ, suc, ◌+◌, ◌*◌, ◌<◌, ◌≤◌, Bool, true, false, List, [], ◌∷◌, ◌++◌, length, Option, Some, None, refl, sym, ap, ◌∙◌, ◌⊎◌, inl, inr, subst, arith}
-use Rattle.std.specs.Prelude.{if◌then◌else◌, IfSome, ◌==◌, ◌&&◌, nat_le}
-use Rattle.std.proofs.lemmas.Bool.{false≢true}
+use Rattle.std.proofs.Common.{◌≡◌, ℕ, suc, ◌<◌, Bool, true, false, List, [], ◌∷◌, length, Option, Some, None, refl, sym, ap, ◌∙◌, ◌⊎◌, inl, inr, subst, arith}
+use Rattle.std.specs.Prelude.{if◌then◌else◌, ◌==◌, ◌&&◌, nat_le}
 use Rattle.co_value.specs.declared.key.Key.{Key}
 use Rattle.co_frame.specs.SdoRequests.{request_in, request_bytes}
 use Rattle.co_frame.specs.declared.sdo_request.ExpeditedData.TheVariants.{Indicated}
@@ -11,25 +10,23 @@ use Rattle.co_sdo_client.specs.declared.mode.Mode.{Mode}
 use Rattle.co_sdo_client.specs.declared.mode.Mode.TheVariants.{Plain, Segmented as InSegments, Block as InBlocks}
 use Rattle.co_sdo_client.specs.declared.stage.Stage.{Stage}
 use Rattle.co_sdo_client.specs.declared.stage.Stage.TheVariants.{Begun}
-use Rattle.co_sdo_client.specs.Calls.{Job, Download as Write, Upload as Read, Call, Message, Request as Asked, message_bytes}
+use Rattle.co_sdo_client.specs.Calls.{Job, Download as Write, Upload as Read, Call, Request as Asked}
 use Rattle.co_sdo_client.specs.Segments.{size_sent, transfer_by, initiate_request, initiate_messages}
 use Rattle.co_sdo_laws.specs.Undisturbed.{IsJob}
 use Rattle.co_sdo_laws.proofs.Frames.{expedited_read, begin_read, size_read, small_size, block_begin_read, upload_read, block_upload_read}
 use Rattle.co_sdo_laws.proofs.Permits.{sends_at_once, sends_in_segments, short_bytes}
-use Rattle.conode_explain_transfers.specs.declared.kinds.Direction.{Direction}
-use Rattle.conode_explain_transfers.specs.declared.kinds.Direction.TheVariants.{Download, Upload}
 use Rattle.conode_explain_transfers.specs.declared.kinds.Side.TheVariants.{Client, Server}
 use Rattle.conode_explain_transfers.specs.declared.kinds.What.TheVariants.{Part}
 use Rattle.conode_explain_transfers.specs.declared.transfer.Transfer.{Transfer}
 use Rattle.conode_explain_transfers.specs.Followed.{with_frame}
 use Rattle.conode_explain_transfers.specs.Initiates.{has_crc}
 use Rattle.conode_explain_transfers.specs.Stages.{confirmed_with}
-use Rattle.conode_explain_transfers.specs.Readings.{is_in_sub_block, is_sender, awaits_segment}
+use Rattle.conode_explain_transfers.specs.Readings.{awaits_segment}
 use Rattle.conode_explain_transfers.specs.Transfers.{after, unexpected}
-use Rattle.conode_explain_laws.specs.Clients.{IsCall, direction_of}
-use Rattle.conode_explain_laws.proofs.Readings.{Begin, Nothing, begun_with, request_reading, reading_of}
-use Rattle.conode_explain_laws.proofs.ClientViews.{Seen, holds, says, hears, read_as, IsLost, Loses, lost_turn, lost_answer}
-use Rattle.conode_explain_laws.proofs.ClientStanding.{IsTrack, IsDownload, IsBlockDownload, Sync, at_once, begun, sent, block_begun, block_sent, block_ended, asked, taking, block_asked, in_sub_block, all_taken, HasLost, SyncIn}
+use Rattle.conode_explain_laws.specs.Clients.{IsCall}
+use Rattle.conode_explain_laws.proofs.Readings.{Begin, Nothing, request_reading, reading_of}
+use Rattle.conode_explain_laws.proofs.ClientViews.{Seen, holds, says, hears, read_as, lost_answer}
+use Rattle.conode_explain_laws.proofs.ClientStanding.{IsDownload, IsBlockDownload, Sync, at_once, begun, sent, block_begun, block_sent, block_ended, asked, taking, block_asked, in_sub_block, all_taken, HasLost, SyncIn}
 
 -- ---- the initiate request
 

@@ -1,13 +1,13 @@
 -- Downloads of a client in blocks: what explain and the client make of an answer.
 use Rattle.std.proofs.Common.{◌≡◌, ℕ, zero, suc, ◌+◌, ◌*◌, ◌/◌, ◌-◌, ◌<◌, ◌≤◌, Bool, true, false, not, List, [], ◌∷◌, ◌++◌, length, take, map, Option, Some, None, refl, sym, ap, ◌∙◌, inl, inr, subst, arith, length-append, append_assoc, append-nil}
-use Rattle.std.specs.Prelude.{if◌then◌else◌, nat_le, nat_lt, ◌==◌, ◌&&◌, IfSome}
+use Rattle.std.specs.Prelude.{if◌then◌else◌, nat_le, nat_lt, ◌==◌, ◌&&◌}
 use Rattle.std.specs.List.{range_with_len}
 use Rattle.std.proofs.lemmas.Bool.{eqb-true, false≢true}
 use Rattle.std.proofs.lemmas.Bool.Decides.{nat_tests}
 use Rattle.co_value.specs.declared.key.Key.{Key}
 use Rattle.co_value.specs.Keys.{same_key}
 use Rattle.co_frame.specs.AbortCodes.{invalid_block_size, invalid_sequence_number}
-use Rattle.co_frame.specs.BlockSegments.{block_segment_in, block_segment_bytes, is_abort_in_sub_block}
+use Rattle.co_frame.specs.BlockSegments.{block_segment_in, is_abort_in_sub_block}
 use Rattle.co_frame.specs.Segments.{segment_count, block_segment, sub_block_length}
 use Rattle.co_frame.specs.SdoRequests.{request_bytes}
 use Rattle.co_frame.specs.declared.block_segment.BlockSegment.{BlockSegment}
@@ -16,10 +16,10 @@ use Rattle.co_frame.specs.declared.sdo_response.SdoResponse.{SdoResponse}
 use Rattle.co_frame.specs.declared.sdo_response.SdoResponse.TheVariants.{DownloadDone, UploadExpedited, Abort as Refuse, BlockDownloadInitiated, BlockDownloadDone, BlockDownloadAcknowledge}
 use Rattle.co_sdo_client.specs.declared.stage.Stage.{Stage}
 use Rattle.co_sdo_client.specs.declared.stage.Stage.TheVariants.{Begun, BlockDownload as SendingBlock, BlockDownloadEnded as EndAsked}
-use Rattle.co_sdo_client.specs.Calls.{Call, Message, Request as Asked, Segment as Sent, message_bytes}
+use Rattle.co_sdo_client.specs.Calls.{Call, Segment as Sent}
 use Rattle.co_sdo_client.specs.Segments.{bytes_of, unused_after, sub_block_sent, block_download_end}
 use Rattle.co_sdo_client.specs.Stages.{block_download_stage}
-use Rattle.co_sdo_client.specs.Verdicts.{Verdict, GoesOn, Ends, unless_fault, bad_block_size, next_sub_block}
+use Rattle.co_sdo_client.specs.Verdicts.{GoesOn, Ends, unless_fault, bad_block_size, next_sub_block}
 use Rattle.co_sdo_client.specs.Outcomes.{messages_by}
 use Rattle.co_sdo_laws.specs.Undisturbed.{IsJob}
 use Rattle.co_sdo_laws.proofs.BlockSegments.{segment_at, data_at, data_long, frame_read}
@@ -30,19 +30,17 @@ use Rattle.conode_explain_transfers.specs.declared.kinds.Side.TheVariants.{Clien
 use Rattle.conode_explain_transfers.specs.declared.kinds.What.TheVariants.{Part}
 use Rattle.conode_explain_transfers.specs.declared.stage.Stage.TheVariants.{SubBlock, AllAcknowledged, BlockEnded, Confirmed}
 use Rattle.conode_explain_transfers.specs.declared.transfer.Transfer.{Transfer}
-use Rattle.conode_explain_transfers.specs.BlockTurns.{segment_added, acknowledged_in, crc_in, next_sub_block as explains_next}
+use Rattle.conode_explain_transfers.specs.BlockTurns.{segment_added, crc_in, next_sub_block as explains_next}
 use Rattle.conode_explain_transfers.specs.Digests.{counted, digest_of}
 use Rattle.conode_explain_transfers.specs.Followed.{with_frame}
 use Rattle.conode_explain_transfers.specs.Initiates.{has_crc}
-use Rattle.conode_explain_transfers.specs.SegmentedTurns.{answering}
 use Rattle.conode_explain_transfers.specs.Stages.{confirmed_with}
 use Rattle.conode_explain_transfers.specs.Transfers.{Turn, after, awaited_number, goes_on as part, takes_pending}
 use Rattle.conode_explain_transfers.specs.Turns.{response_turn}
 use Rattle.conode_explain_laws.proofs.Readings.{Segment, Request, request_reading, plain_reading, beginning, segment_reading, sub_block_reading, reading_of}
-use Rattle.conode_explain_laws.proofs.Follows.{IsLate}
-use Rattle.conode_explain_laws.proofs.UploadBlocks.{first_data, data_more, data_taken, data_all, no_abort}
-use Rattle.conode_explain_laws.proofs.ClientViews.{Seen, holds, says, hears, read_as, turned, late_turn, late_response, late_other_key, late_answering, late_acknowledged}
-use Rattle.conode_explain_laws.proofs.ClientStanding.{IsDownload, IsBlockDownload, IsBlockBegun, IsBlockSent, IsBlockEnded, block_sent, block_ended, Steps, gives_up, is_over, completes, size_right, few_sent, sent_size, sent_bytes, never_refused}
+use Rattle.conode_explain_laws.proofs.UploadBlocks.{data_more, data_taken, data_all, no_abort}
+use Rattle.conode_explain_laws.proofs.ClientViews.{Seen, holds, says, hears, read_as, turned, late_turn, late_response, late_other_key, late_answering}
+use Rattle.conode_explain_laws.proofs.ClientStanding.{IsBlockBegun, IsBlockSent, IsBlockEnded, block_sent, block_ended, Steps, gives_up, is_over, completes, size_right, few_sent, sent_size, sent_bytes, never_refused}
 use Rattle.conode_explain_laws.proofs.ClientDownloads.{Made, no_response, an_abort}
 
 -- ---- the client's segments

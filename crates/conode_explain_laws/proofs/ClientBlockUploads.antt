@@ -1,9 +1,9 @@
 -- Uploads of a client in blocks: what explain and the client make of an answer.
-use Rattle.std.proofs.Common.{◌≡◌, ℕ, suc, ◌+◌, ◌*◌, ◌/◌, ◌-◌, ◌%◌, ◌^◌, ◌<◌, ◌≤◌, Bool, true, false, not, List, [], ◌∷◌, ◌++◌, length, take, drop, Option, Some, None, refl, sym, ap, ◌∙◌, ◌⊎◌, inl, inr, subst, arith, eqb, length-append, length-drop, append_assoc, append-nil}
+use Rattle.std.proofs.Common.{◌≡◌, ℕ, suc, ◌+◌, ◌*◌, ◌/◌, ◌-◌, ◌%◌, ◌≤◌, Bool, true, false, not, List, [], ◌∷◌, ◌++◌, length, take, drop, Option, Some, None, refl, sym, ap, ◌∙◌, ◌⊎◌, inl, inr, subst, arith, eqb, length-append, length-drop, append_assoc, append-nil}
 use Rattle.std.specs.Prelude.{if◌then◌else◌, nat_le, nat_lt, ◌==◌, ◌&&◌, ◌||◌, IfSome}
 use Rattle.std.specs.Option.{option_map_or}
 use Rattle.std.proofs.Math.Seq.{take-append-add}
-use Rattle.std.proofs.lemmas.Bool.{eqb-true, false≢true}
+use Rattle.std.proofs.lemmas.Bool.{false≢true}
 use Rattle.std.proofs.lemmas.Bool.Decides.{nat_tests}
 use Rattle.std.proofs.lemmas.List.{take_all}
 use Rattle.co_value.specs.declared.key.Key.{Key}
@@ -11,7 +11,7 @@ use Rattle.co_value.specs.Keys.{same_key}
 use Rattle.co_frame.specs.BlockSegments.{block_segment_in, is_abort_in_sub_block}
 use Rattle.co_frame.specs.SdoFields.{command, specifier, subcommand, has_bit}
 use Rattle.co_frame.specs.SdoParts.{code_in}
-use Rattle.co_frame.specs.SdoRequests.{request_in, request_bytes}
+use Rattle.co_frame.specs.SdoRequests.{request_bytes}
 use Rattle.co_frame.specs.SdoResponses.{response_row_in, response_in}
 use Rattle.co_frame.specs.declared.block_segment.BlockSegment.{BlockSegment}
 use Rattle.co_frame.specs.declared.sdo_request.ExpeditedData.{ExpeditedData}
@@ -22,18 +22,17 @@ use Rattle.co_sdo_client.specs.declared.mode.Mode.{Mode}
 use Rattle.co_sdo_client.specs.declared.mode.Mode.TheVariants.{Plain, Segmented as InSegments, Block as InBlocks}
 use Rattle.co_sdo_client.specs.declared.stage.Stage.{Stage}
 use Rattle.co_sdo_client.specs.declared.stage.Stage.TheVariants.{Begun, SubBlock as InSubBlockStage, LastTaken}
-use Rattle.co_sdo_client.specs.Calls.{Job, Download as Write, Upload as Read, Call, Message, Request as Asked}
+use Rattle.co_sdo_client.specs.Calls.{Job, Download as Write, Upload as Read, Call, Request as Asked}
 use Rattle.co_sdo_client.specs.Segments.{cap_of, transfer_by}
 use Rattle.co_sdo_client.specs.Steps.{sub_block_stage}
 use Rattle.co_sdo_client.specs.SubBlocks.{ends_sub_block, segment_taken, is_last_taken, bytes_taken}
-use Rattle.co_sdo_client.specs.Verdicts.{Verdict, GoesOn, Ends, GivesUp, IsAborted, unless_fault, no_room, sub_block_end, sub_block_verdict, block_upload_complete, segment_next, taken_with, held_with, without}
+use Rattle.co_sdo_client.specs.Verdicts.{Verdict, GoesOn, Ends, IsAborted, unless_fault, no_room, sub_block_end, sub_block_verdict, block_upload_complete, held_with, without}
 use Rattle.co_sdo_client.specs.Outcomes.{messages_by}
 use Rattle.co_sdo_laws.specs.Undisturbed.{IsJob}
 use Rattle.co_sdo_laws.proofs.Frames.{start_read, acknowledge_read, client_end_read}
 use Rattle.co_sdo_laws.proofs.Permits.{reads_in_blocks}
 use Rattle.conode_explain_transfers.specs.declared.digest.Digest.{Digest}
 use Rattle.conode_explain_transfers.specs.declared.kinds.Direction.TheVariants.{Download, Upload}
-use Rattle.conode_explain_transfers.specs.declared.kinds.Protocol.{Protocol}
 use Rattle.conode_explain_transfers.specs.declared.kinds.Protocol.TheVariants.{Expedited, Block}
 use Rattle.conode_explain_transfers.specs.declared.kinds.Side.TheVariants.{Client, Server}
 use Rattle.conode_explain_transfers.specs.declared.kinds.What.TheVariants.{Part, Segment as SegmentOf, OutOfSequence}
@@ -49,11 +48,10 @@ use Rattle.conode_explain_transfers.specs.Transfers.{Turn, after, is_download, a
 use Rattle.conode_explain_transfers.specs.Turns.{response_turn}
 use Rattle.conode_explain_transfers.proofs.DataLemmas.{taking}
 use Rattle.conode_explain_laws.specs.Clients.{refuses, direction_of, number_in}
-use Rattle.conode_explain_laws.proofs.Readings.{Reading, Segment, Abort, Request, Nothing, request_reading, response_reading, plain_reading, beginning, segment_reading, sub_block_reading, reading_of, turn_of}
-use Rattle.conode_explain_laws.proofs.Follows.{IsLate}
+use Rattle.conode_explain_laws.proofs.Readings.{Reading, Segment, Abort, Request, Nothing, request_reading, response_reading, plain_reading, beginning, segment_reading, sub_block_reading, reading_of}
 use Rattle.conode_explain_laws.proofs.Begins.{both, some_both}
 use Rattle.conode_explain_laws.proofs.ClientViews.{Seen, holds, says, hears, read_as, turned, late_turn, late_response, late_other_key, late_answering, abort_closes, Loses, lost_turn}
-use Rattle.conode_explain_laws.proofs.ClientStanding.{IsUpload, IsBlockUpload, IsBlockAsked, IsInSubBlock, IsAllTaken, in_sub_block, all_taken, Steps, gives_up, is_over, completes, size_right, read_bytes, refused_turn}
+use Rattle.conode_explain_laws.proofs.ClientStanding.{IsBlockUpload, IsBlockAsked, IsInSubBlock, IsAllTaken, in_sub_block, all_taken, Steps, gives_up, is_over, completes, size_right, read_bytes, refused_turn}
 use Rattle.conode_explain_laws.proofs.ClientDownloads.{Made, no_response, an_abort}
 use Rattle.conode_explain_laws.proofs.ClientUploads.{few_read, within, equal}
 use Rattle.conode_explain_laws.proofs.ClientLost.{AllHarmless, client_reads, unless, lost_steps}

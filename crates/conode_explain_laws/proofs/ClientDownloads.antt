@@ -1,33 +1,29 @@
 -- Expedited and segmented downloads of a client: what explain and the client make of an answer.
-use Rattle.std.proofs.Common.{◌≡◌, ℕ, suc, ◌+◌, ◌*◌, ◌≤◌, Bool, true, false, not, List, [], ◌∷◌, ◌++◌, length, take, Option, Some, None, refl, sym, ap, ◌∙◌, ◌⊎◌, inl, inr, subst, arith}
+use Rattle.std.proofs.Common.{◌≡◌, ℕ, suc, ◌+◌, ◌*◌, Bool, true, false, not, List, [], ◌∷◌, ◌++◌, length, take, Option, Some, None, refl, sym, ap, ◌∙◌, inl, inr, subst, arith}
 use Rattle.std.specs.Prelude.{if◌then◌else◌}
 use Rattle.std.proofs.lemmas.List.{take_all}
-use Rattle.arrayvec.specs.ArrayVec.{ArrayVec}
 use Rattle.co_value.specs.declared.key.Key.{Key}
 use Rattle.co_value.specs.Keys.{same_key}
 use Rattle.co_frame.specs.Segments.{is_odd, same_bool, part_after}
-use Rattle.co_frame.specs.SdoRequests.{request_bytes}
 use Rattle.co_frame.specs.declared.sdo_request.SdoRequest.TheVariants.{DownloadSegment}
 use Rattle.co_frame.specs.declared.sdo_response.SdoResponse.{SdoResponse}
 use Rattle.co_frame.specs.declared.sdo_response.SdoResponse.TheVariants.{DownloadDone, DownloadSegmentDone, UploadExpedited, Abort as Refuse}
 use Rattle.co_sdo.proofs.Continuations.{not_odd}
 use Rattle.co_sdo_client.specs.declared.stage.Stage.{Stage}
 use Rattle.co_sdo_client.specs.declared.stage.Stage.TheVariants.{Begun, Download as Sending}
-use Rattle.co_sdo_client.specs.Calls.{Call, Message, message_bytes}
+use Rattle.co_sdo_client.specs.Calls.{Call, message_bytes}
 use Rattle.co_sdo_client.specs.Segments.{bytes_of, is_last_after, segment_after}
 use Rattle.co_sdo_client.specs.Steps.{stage_next, held_next}
-use Rattle.co_sdo_client.specs.Verdicts.{Verdict, GoesOn, Ends, unless_fault, response_verdict, segment_confirmed}
+use Rattle.co_sdo_client.specs.Verdicts.{GoesOn, Ends, unless_fault, response_verdict, segment_confirmed}
 use Rattle.co_sdo_client.specs.Outcomes.{messages_by}
 use Rattle.co_sdo_laws.specs.Undisturbed.{IsJob}
 use Rattle.co_sdo_laws.proofs.Frames.{segment_read}
 use Rattle.co_sdo_laws.proofs.Segments.{joined, taken_all, part_small}
 use Rattle.conode_explain_transfers.specs.declared.digest.Digest.{Digest}
-use Rattle.conode_explain_transfers.specs.declared.kinds.Direction.TheVariants.{Download}
 use Rattle.conode_explain_transfers.specs.declared.kinds.Side.TheVariants.{Client, Server}
 use Rattle.conode_explain_transfers.specs.declared.kinds.What.TheVariants.{Part}
-use Rattle.conode_explain_transfers.specs.declared.stage.Stage.TheVariants.{DownloadConfirmed, DownloadSent, Confirmed}
+use Rattle.conode_explain_transfers.specs.declared.stage.Stage.TheVariants.{DownloadConfirmed, Confirmed}
 use Rattle.conode_explain_transfers.specs.declared.transfer.Transfer.{Transfer}
-use Rattle.conode_explain_transfers.specs.Data.{data_with}
 use Rattle.conode_explain_transfers.specs.Digests.{counted, digest_of}
 use Rattle.conode_explain_transfers.specs.Followed.{with_frame}
 use Rattle.conode_explain_transfers.specs.SegmentedTurns.{answering, confirmed, segment_pending, download_stage}
@@ -35,10 +31,10 @@ use Rattle.conode_explain_transfers.specs.Stages.{confirmed_with}
 use Rattle.conode_explain_transfers.specs.Transfers.{Turn, after, goes_on as part, takes_pending}
 use Rattle.conode_explain_transfers.specs.Turns.{response_turn}
 use Rattle.conode_explain_transfers.proofs.DataLemmas.{taking}
-use Rattle.conode_explain_laws.proofs.Readings.{Request, Response, Abort, Nothing, request_reading, response_reading, reading_of, turn_of}
+use Rattle.conode_explain_laws.proofs.Readings.{Request, Abort, Nothing, request_reading, response_reading, reading_of, turn_of}
 use Rattle.conode_explain_laws.proofs.Follows.{IsLate}
-use Rattle.conode_explain_laws.proofs.ClientViews.{Seen, holds, says, hears, read_as, turned, late_turn, late_response, abort_closes, is_expected, late_other_key, late_answering}
-use Rattle.conode_explain_laws.proofs.ClientStanding.{IsDownload, IsAtOnce, IsBegun, IsSent, sent, Steps, gives_up, checked, is_over, one, completes, size_right, few_sent, sent_size, sent_bytes, never_refused}
+use Rattle.conode_explain_laws.proofs.ClientViews.{Seen, holds, says, read_as, turned, late_turn, late_response, abort_closes, is_expected, late_other_key, late_answering}
+use Rattle.conode_explain_laws.proofs.ClientStanding.{IsDownload, IsAtOnce, IsBegun, IsSent, sent, Steps, gives_up, is_over, completes, size_right, few_sent, sent_size, sent_bytes, never_refused}
 
 -- ---- the client's segments
 

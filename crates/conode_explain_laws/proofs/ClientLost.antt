@@ -1,5 +1,5 @@
 -- An upload of a client that explain has lost: whatever comes, and whatever the client sends, it will never be done.
-use Rattle.std.proofs.Common.{◌≡◌, ℕ, Bool, true, false, not, List, [], ◌∷◌, ◌++◌, length, Option, Some, None, refl, sym, ap, ◌∙◌, ◌⊎◌, inl, inr}
+use Rattle.std.proofs.Common.{◌≡◌, ℕ, Bool, true, false, not, List, [], ◌∷◌, ◌++◌, length, Option, Some, None, refl, ap, ◌∙◌, ◌⊎◌, inl, inr}
 use Rattle.std.specs.Prelude.{if◌then◌else◌, IfSome}
 use Rattle.std.proofs.lemmas.Bool.{false≢true}
 use Rattle.co_frame.specs.BlockSegments.{is_abort_in_sub_block}
@@ -16,7 +16,7 @@ use Rattle.co_sdo_client.specs.Segments.{transfer_of, transfer_by}
 use Rattle.co_sdo_client.specs.SubBlocks.{ends_sub_block, is_last_taken}
 use Rattle.co_sdo_client.specs.Verdicts.{Verdict, GoesOn, Ends, GivesUp, IsAborted, unless_fault, other_key, other_toggle, no_room, no_room_indicated, above_indicated, below_indicated, expedited_value, upload_complete, sub_block_end, segment_next, taken_with, held_with, without, response_verdict, answer_verdict}
 use Rattle.co_sdo_client.specs.Outcomes.{messages_by}
-use Rattle.co_sdo_laws.proofs.Frames.{next_read, start_read, acknowledge_read, client_end_read}
+use Rattle.co_sdo_laws.proofs.Frames.{next_read}
 use Rattle.co_sdo_laws.proofs.Permits.{reads_in_segments, reads_in_blocks}
 use Rattle.conode_explain_transfers.specs.declared.kinds.Direction.{Direction}
 use Rattle.conode_explain_transfers.specs.declared.kinds.Direction.TheVariants.{Upload}
@@ -76,7 +76,6 @@ lost_says call stamp (message ∷ later) done w h l =
     lost_says call stamp later done (hears call stamp Client frame w) h.1 (record { lost = step.lost; same = step.same ∙ l.same })
 
 -- ---- what the client of an upload sends
-
 
 module _ (call : Call) where
   either : (b : Bool) (v w : Verdict) → AllHarmless (messages_by call v) → AllHarmless (messages_by call w) → AllHarmless (messages_by call (if b then v else w))

@@ -3,21 +3,18 @@
 --
 -- `Loose` says which of the two laws it is for: where it holds, explain may lose what the client goes on with (a frame that hasn't
 -- eight bytes, a sub-block whose numbers don't go up), and such a transfer isn't done. Where it doesn't, both always are as far.
-use Rattle.std.proofs.Common.{◌≡◌, ℕ, suc, ◌+◌, ◌*◌, ◌-◌, ◌^◌, ◌<◌, ◌≤◌, Bool, true, false, not, List, [], ◌∷◌, ◌++◌, length, take, Option, Some, None, refl, sym, ap, ◌∙◌, ◌⊎◌, inl, inr, subst, arith}
+use Rattle.std.proofs.Common.{◌≡◌, ℕ, suc, ◌+◌, ◌*◌, ◌-◌, ◌^◌, ◌<◌, ◌≤◌, Bool, true, false, List, [], ◌∷◌, ◌++◌, length, take, Option, Some, None, refl, sym, ◌∙◌, ◌⊎◌, inl, inr, arith}
 use Rattle.std.specs.Prelude.{if◌then◌else◌, IfSome, min, ◌==◌}
-use Rattle.std.proofs.lemmas.Bool.{false≢true}
 use Rattle.std.proofs.lemmas.Bool.Decides.{nat_tests}
 use Rattle.co_frame.specs.Segments.{is_odd, part_after, segment_count}
-use Rattle.co_frame.specs.declared.sdo_request.SdoRequest.TheVariants.{Abort as Abandon}
-use Rattle.co_frame.specs.declared.sdo_response.SdoResponse.{SdoResponse}
 use Rattle.co_sdo_client.specs.declared.mode.Mode.{Mode}
 use Rattle.co_sdo_client.specs.declared.stage.Stage.{Stage}
 use Rattle.co_sdo_client.specs.declared.stage.Stage.TheVariants.{Begun, Download as Sending, Upload as Taking, BlockDownload as SendingBlock, BlockDownloadEnded as EndAsked, SubBlock as InSubBlockStage, LastTaken}
 use Rattle.co_sdo_client.specs.declared.state.ClientState.{ClientState}
-use Rattle.co_sdo_client.specs.declared.state.ClientState.TheVariants.{Waiting, Done, Failed}
-use Rattle.co_sdo_client.specs.Calls.{Job, Download as Write, Upload as Read, Call, Message, Request as Asked}
+use Rattle.co_sdo_client.specs.declared.state.ClientState.TheVariants.{Waiting}
+use Rattle.co_sdo_client.specs.Calls.{Job, Download as Write, Upload as Read, Call, Message}
 use Rattle.co_sdo_client.specs.Segments.{bytes_of, size_sent, transfer_of, transfer_by, is_last_after}
-use Rattle.co_sdo_client.specs.Verdicts.{Verdict, GoesOn, Ends, GivesUp, IsAborted, unless_fault}
+use Rattle.co_sdo_client.specs.Verdicts.{Verdict, Ends, GivesUp, unless_fault}
 use Rattle.co_sdo_client.specs.Outcomes.{state_by, messages_by}
 use Rattle.co_sdo_laws.specs.Undisturbed.{IsJob}
 use Rattle.co_sdo_laws.proofs.Permits.{sends_at_once, sends_in_segments, sends_in_blocks, reads_in_segments, reads_in_blocks}
@@ -26,20 +23,18 @@ use Rattle.conode_explain_transfers.specs.declared.kinds.Direction.TheVariants.{
 use Rattle.conode_explain_transfers.specs.declared.kinds.Protocol.{Protocol}
 use Rattle.conode_explain_transfers.specs.declared.kinds.Protocol.TheVariants.{Expedited, Segmented, Block}
 use Rattle.conode_explain_transfers.specs.declared.kinds.Side.{Side}
-use Rattle.conode_explain_transfers.specs.declared.kinds.Side.TheVariants.{Server}
-use Rattle.conode_explain_transfers.specs.declared.stage.Stage.TheVariants.{Initiated, DownloadSent, UploadAsked, SubBlock, AllAcknowledged, BlockEnded, Confirmed}
+use Rattle.conode_explain_transfers.specs.declared.stage.Stage.TheVariants.{Initiated, DownloadSent, UploadAsked, SubBlock, AllAcknowledged, BlockEnded}
 use Rattle.conode_explain_transfers.specs.declared.transfer.Transfer.{Transfer}
 use Rattle.conode_explain_transfers.specs.Digests.{counted}
-use Rattle.conode_explain_transfers.specs.Endings.{size_fault, verdict as ending}
+use Rattle.conode_explain_transfers.specs.Endings.{size_fault}
 use Rattle.conode_explain_transfers.specs.Followed.{turns_at}
 use Rattle.conode_explain_transfers.specs.Stages.{confirmed_with}
 use Rattle.conode_explain_transfers.specs.Data.{data_with}
 use Rattle.conode_explain_transfers.specs.Transfers.{Turn, after}
 use Rattle.conode_explain_laws.specs.Downloads.{if_done}
 use Rattle.conode_explain_laws.specs.Clients.{Transferred, refuses, transfer_said, direction_of, bytes_transferred}
-use Rattle.conode_explain_laws.proofs.Readings.{Abort}
 use Rattle.conode_explain_laws.proofs.UploadBlocks.{first_data}
-use Rattle.conode_explain_laws.proofs.ClientViews.{Seen, holds, says, Closes, client_closes, abort_closes, read_as, turned, IsLost, late_turn}
+use Rattle.conode_explain_laws.proofs.ClientViews.{Seen, says, client_closes, turned, IsLost}
 
 -- ---- both are as far
 

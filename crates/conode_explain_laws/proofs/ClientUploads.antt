@@ -1,6 +1,6 @@
 -- Uploads of a client that aren't in blocks: what explain and the client make of an answer.
-use Rattle.std.proofs.Common.{◌≡◌, ℕ, suc, ◌+◌, ◌≤◌, Bool, true, false, not, List, [], ◌∷◌, ◌++◌, length, Option, Some, None, refl, sym, ap, ◌∙◌, inl, inr, subst, arith}
-use Rattle.std.specs.Prelude.{if◌then◌else◌, nat_lt, ◌==◌, ◌||◌, ◌&&◌, IfSome}
+use Rattle.std.proofs.Common.{◌≡◌, ℕ, suc, ◌≤◌, Bool, true, false, not, List, [], ◌∷◌, ◌++◌, length, Option, Some, None, refl, sym, ap, ◌∙◌, inl, inr, subst, arith}
+use Rattle.std.specs.Prelude.{if◌then◌else◌, nat_lt, ◌==◌, ◌||◌, IfSome}
 use Rattle.std.specs.Option.{option_map_or}
 use Rattle.std.proofs.lemmas.Bool.{false≢true}
 use Rattle.std.proofs.lemmas.Bool.Decides.{nat_tests}
@@ -20,7 +20,7 @@ use Rattle.co_sdo_client.specs.declared.stage.Stage.{Stage}
 use Rattle.co_sdo_client.specs.declared.stage.Stage.TheVariants.{Begun, Upload as Taking}
 use Rattle.co_sdo_client.specs.Calls.{Job, Download as Write, Upload as Read, Call, Request as Asked}
 use Rattle.co_sdo_client.specs.Segments.{cap_of, transfer_by}
-use Rattle.co_sdo_client.specs.Verdicts.{Verdict, GoesOn, Ends, GivesUp, unless_fault, expedited_value, upload_complete, upload_segment_taken}
+use Rattle.co_sdo_client.specs.Verdicts.{GoesOn, Ends, GivesUp, unless_fault, expedited_value, upload_complete}
 use Rattle.co_sdo_client.specs.Outcomes.{messages_by}
 use Rattle.co_sdo_laws.specs.Undisturbed.{IsJob}
 use Rattle.co_sdo_laws.proofs.Frames.{next_read}
@@ -34,7 +34,6 @@ use Rattle.conode_explain_transfers.specs.declared.kinds.What.TheVariants.{Part}
 use Rattle.conode_explain_transfers.specs.declared.stage.Stage.TheVariants.{UploadTaken, UploadAsked, Confirmed}
 use Rattle.conode_explain_transfers.specs.declared.transfer.Transfer.{Transfer}
 use Rattle.conode_explain_transfers.specs.Digests.{counted, digest_of}
-use Rattle.conode_explain_transfers.specs.Endings.{size_fault}
 use Rattle.conode_explain_transfers.specs.Followed.{with_frame}
 use Rattle.conode_explain_transfers.specs.Initiates.{data_of}
 use Rattle.conode_explain_transfers.specs.SegmentedTurns.{answering, confirmed, upload_stage}
@@ -45,7 +44,7 @@ use Rattle.conode_explain_transfers.proofs.DataLemmas.{taking}
 use Rattle.conode_explain_laws.specs.Clients.{refuses, direction_of}
 use Rattle.conode_explain_laws.proofs.Readings.{Request, request_reading, reading_of}
 use Rattle.conode_explain_laws.proofs.Follows.{IsLate}
-use Rattle.conode_explain_laws.proofs.ClientViews.{Seen, holds, says, read_as, turned, late_turn, late_response, is_expected, late_other_key, late_answering}
+use Rattle.conode_explain_laws.proofs.ClientViews.{Seen, holds, says, read_as, turned, late_turn, late_response, late_other_key, late_answering}
 use Rattle.conode_explain_laws.proofs.ClientStanding.{IsUpload, IsAsked, IsTaking, taking as taking_sync, Steps, gives_up, is_over, completes, size_right, read_bytes, refused_turn, size_wrong}
 use Rattle.conode_explain_laws.proofs.ClientDownloads.{Made, no_response, an_abort}
 

@@ -10,8 +10,6 @@ use Rattle.co_frame.specs.declared.sdo_request.SdoRequest.TheVariants.{Abort as 
 use Rattle.co_frame.specs.declared.sdo_response.SdoResponse.{SdoResponse}
 use Rattle.co_frame.specs.declared.sdo_response.SdoResponse.TheVariants.{DownloadDone, DownloadSegmentDone, UploadExpedited, UploadInitiated, UploadSegment, Abort as Refuse, BlockDownloadInitiated, BlockDownloadDone, BlockDownloadAcknowledge, BlockUploadInitiated, BlockUploadEnd as EndSent}
 use Rattle.co_sdo_client.specs.Calls.{Call, Message, Request as Asked, message_bytes}
-use Rattle.conode_explain_transfers.specs.declared.ended.Ended.{Ended}
-use Rattle.conode_explain_transfers.specs.declared.ended.Ending.{Ending}
 use Rattle.conode_explain_transfers.specs.declared.kinds.Direction.TheVariants.{Upload}
 use Rattle.conode_explain_transfers.specs.declared.kinds.Side.{Side}
 use Rattle.conode_explain_transfers.specs.declared.kinds.Side.TheVariants.{Client, Server}
@@ -33,7 +31,7 @@ use Rattle.conode_explain_laws.specs.Recordings.{and_frame}
 use Rattle.conode_explain_laws.specs.Downloads.{if_done}
 use Rattle.conode_explain_laws.specs.Clients.{Transferred, refuses, transfer_said, transfers_done, and_messages}
 use Rattle.conode_explain_laws.proofs.Readings.{Reading, Segment, Begin, Abort, Request, Response, Nothing, plain_reading, sub_block_reading, reading_of, turn_of, follows_by, bytes_by, same as same_reading}
-use Rattle.conode_explain_laws.proofs.Kept.{Keeps, keeps}
+use Rattle.conode_explain_laws.proofs.Kept.{keeps}
 use Rattle.conode_explain_laws.proofs.Follows.{IsLate}
 use Rattle.conode_explain_laws.proofs.Views.{is_abort_reading, is_begin, server_no_begin}
 
