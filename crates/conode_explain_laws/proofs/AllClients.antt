@@ -22,8 +22,8 @@ use Rattle.conode_explain_transfers.specs.Digests.{digest_of}
 use Rattle.conode_explain_transfers.specs.Followed.{Event as Recorded, following_after}
 use Rattle.conode_explain_transfers.proofs.DataLemmas.{StaysOpen, open_after}
 use Rattle.conode_explain_laws.specs.Recordings.{and_frame}
-use Rattle.conode_explain_laws.specs.Downloads.{AreSome}
-use Rattle.conode_explain_laws.specs.Clients.{ClientInput, Came, Elapsed, IsCall, events_of, and_messages, heard, Transferred, transfers_done, direction_of, bytes_transferred, reported, transfers_reported, goes_up, open_sub_block, AreRegular}
+use Rattle.conode_explain_laws.specs.Downloads.{AreSome, goes_up}
+use Rattle.conode_explain_laws.specs.Clients.{ClientInput, Came, Elapsed, IsCall, events_of, and_messages, heard, Transferred, transfers_done, direction_of, bytes_transferred, reported, transfers_reported, open_sub_block, AreRegular, newest_number}
 use Rattle.conode_explain_laws.proofs.AllExact.{kept_of}
 use Rattle.conode_explain_laws.proofs.ClientViews.{seen_of, holds, says, hears, hears_frame, says_all, IsLost, Loses, lost_answer, client_closes}
 use Rattle.conode_explain_laws.proofs.ClientStanding.{SyncIn, FollowsBy, one, Steps}
@@ -208,14 +208,14 @@ module _ (Loose : Type 0) (R : List Transferred → List Transferred → Type 0)
 
   sync_any : (frame : List ℕ) (s : Option Answers) (heard_so : Bool) (current : Option Transfer) (got : List ℕ) (done : List Transferred) (count : ℕ) → done ≡ [] → IfSome current (λ t. t.taken ≡ digest_of got)
       → SyncIn Loose call current got (stage_since call s) (held_since call s) (newest_of s)
-      → Loose ⊎ IfSome (open_sub_block call.mode call.job s) (λ frames. goes_up frames frame ≡ true) → Made Loose call ok.job stamp frame s (holds heard_so current got done count) (stage_since call s) (held_since call s)
+      → Loose ⊎ IfSome (open_sub_block call.mode call.job s) (λ frames. goes_up (newest_number frames) frame ≡ true) → Made Loose call ok.job stamp frame s (holds heard_so current got done count) (stage_since call s) (held_since call s)
   sync_any frame s heard_so None got done count d kept h up = absurd h
   sync_any frame s heard_so (Some t) got done count d kept h up =
       subst (λ x. Made Loose call ok.job stamp frame s (holds heard_so (Some t) got x count) (stage_since call s) (held_since call s)) (sym d)
       (sync_made Loose call ok.job stamp frame s heard_so t got count (stage_since call s) (held_since call s) h kept refl refl up)
 
   waiting_frame : (frame : List ℕ) (events : List Event) (recording : List Recorded) (all : List Transferred) → outcome call events ≡ Waiting → Related events recording all
-      → Loose ⊎ IfSome (open_sub_block call.mode call.job (since_first (answers events))) (λ frames. goes_up frames frame ≡ true)
+      → Loose ⊎ IfSome (open_sub_block call.mode call.job (since_first (answers events))) (λ frames. goes_up (newest_number frames) frame ≡ true)
       → Related (Answered frame ∷ events) (and_messages stamp (asked_by call events (Answered frame)) (and_frame stamp Server frame recording))
       (reports events (Answered frame) (and_messages stamp (asked_by call events (Answered frame)) (and_frame stamp Server frame recording)) ++ all)
   waiting_frame frame events recording all o r up =
@@ -318,7 +318,7 @@ module _ (Loose : Type 0) (R : List Transferred → List Transferred → Type 0)
 
   -- whole frames, with numbers that go up
   abbrev IsWhole : List Event → List ℕ → Type 0
-  IsWhole events frame = outcome call events ≡ Waiting → (length frame ≡ 8) × IfSome (open_sub_block call.mode call.job (since_first (answers events))) (λ frames. goes_up frames frame ≡ true)
+  IsWhole events frame = outcome call events ≡ Waiting → (length frame ≡ 8) × IfSome (open_sub_block call.mode call.job (since_first (answers events))) (λ frames. goes_up (newest_number frames) frame ≡ true)
 
   with_long : (frame : List ℕ) (events : List Event) (recording : List Recorded) (all : List Transferred) → Loose ⊎ IsWhole events frame → Related events recording all → (s : ClientState) → outcome call events ≡ s
       → Related (Answered frame ∷ events) (and_messages stamp (asked_by call events (Answered frame)) (and_frame stamp Server frame recording))

@@ -98,7 +98,7 @@ with_abort stamp d log recording sets h =
       same = k.same ∙ h.same;
     }
 
-drops : (held : Option Transfer) (got : List ℕ) (current : Option OpenTransfer) → ExactIn held got current → ExactIn held got None
+pub drops : (held : Option Transfer) (got : List ℕ) (current : Option OpenTransfer) → ExactIn held got current → ExactIn held got None
 drops None got current h = refl
 drops (Some t) got current (exact_upload u n) = exact_upload u refl
 drops (Some t) got current (exact_segments toggle h c) = exact_dropped toggle h.in_turn refl

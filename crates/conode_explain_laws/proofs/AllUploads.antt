@@ -22,9 +22,8 @@ use Rattle.conode_explain_laws.specs.Recordings.{Input, Received, Elapsed, Expir
 use Rattle.conode_explain_laws.specs.Downloads.{Complete, AreSome, ArePlain}
 use Rattle.conode_explain_laws.specs.Uploads.{Read, answered_whole, acknowledged_whole, ended_by, read_served, uploads_done, uploads_served}
 use Rattle.conode_explain_laws.proofs.Readings.{Nothing, request_reading, reading_of}
-use Rattle.conode_explain_laws.proofs.Exchanges.{client_plain}
 use Rattle.conode_explain_laws.proofs.AllInputs.{short_reading, dropped_since}
-use Rattle.conode_explain_laws.proofs.Exact.{ExactIn, exact_upload, exact_segments, exact_dropped, upload_plain}
+use Rattle.conode_explain_laws.proofs.Exact.{client_reads}
 use Rattle.conode_explain_laws.proofs.AllExact.{all_same, kept_of, is_eight}
 use Rattle.conode_explain_laws.proofs.Views.{Closes}
 use Rattle.conode_explain_laws.proofs.UploadViews.{view_of, holds, read_as, hears_answers, hears_frame, hears_all, IsAside, KnowsAside, aside_turn, aborted_closes}
@@ -61,14 +60,6 @@ short_reads : (Loose : Type 0) (micros : ℕ) (frame : List ℕ) (heard : Bool) 
     → KnowsAside Loose done (read_as micros Client frame (holds heard held got done count) Nothing)
 short_reads Loose micros frame heard None got done count l = record { holds = tt; same = refl }
 short_reads Loose micros frame heard (Some t) got done count l = aside_turn Loose micros Client frame heard t got done count Nothing (inl (l, refl))
-
--- ---- how frames are read where none begins a download in blocks
-
-client_reads : (held : Option Transfer) (got : List ℕ) (current : Option OpenTransfer) (micros : ℕ) (frame : List ℕ) → ExactIn held got current → reading_of held Client micros frame ≡ request_reading (request_in frame) micros frame
-client_reads None got current micros frame h = refl
-client_reads (Some t) got current micros frame (exact_upload up n) = upload_plain t micros frame up
-client_reads (Some t) got current micros frame (exact_segments toggle h c) = client_plain t toggle micros frame h.in_turn.stage
-client_reads (Some t) got current micros frame (exact_dropped toggle h c) = client_plain t toggle micros frame h.stage
 
 -- ---- what holds after all inputs
 

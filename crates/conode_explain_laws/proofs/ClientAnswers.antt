@@ -23,7 +23,8 @@ use Rattle.conode_explain_transfers.specs.declared.kinds.Side.TheVariants.{Serve
 use Rattle.conode_explain_transfers.specs.declared.transfer.Transfer.{Transfer}
 use Rattle.conode_explain_transfers.specs.Digests.{digest_of}
 use Rattle.conode_explain_transfers.specs.Readings.{is_in_sub_block, is_sender}
-use Rattle.conode_explain_laws.specs.Clients.{direction_of, number_in, newest_number, goes_up, open_sub_block}
+use Rattle.conode_explain_laws.specs.Downloads.{number_in, goes_up}
+use Rattle.conode_explain_laws.specs.Clients.{direction_of, newest_number, open_sub_block}
 use Rattle.conode_explain_laws.proofs.Readings.{Reading, response_reading, plain_reading, sub_block_reading, reading_of}
 use Rattle.conode_explain_laws.proofs.ClientViews.{Seen, holds, says, hears, read_as, lost_answer}
 use Rattle.conode_explain_laws.proofs.ClientStanding.{Sync, at_once, begun, sent, block_begun, block_sent, block_ended, asked, taking, block_asked, in_sub_block, all_taken, HasLost, Steps}
@@ -105,10 +106,10 @@ next_newest call (Some a) frame size taken e = by (ends_sub_block frame)
     by false = refl
 
 goes_up_so : (mode : Mode) (job : Job) (a : Answers) (frame : List ℕ) → direction_of job ≡ Upload → transfer_by mode job ≡ transfer_by reads_in_blocks.0 reads_in_blocks.1 → has_last a.later ≡ false
-    → IfSome (open_sub_block mode job (Some a)) (λ frames. goes_up frames frame ≡ true) → goes_up (sub_block a.later) frame ≡ true
+    → IfSome (open_sub_block mode job (Some a)) (λ frames. goes_up (newest_number frames) frame ≡ true) → goes_up (newest_number (sub_block a.later)) frame ≡ true
 goes_up_so InBlocks (Read cap) a frame d u l h = by (has_last a.later) l h
   where
-    by : (last : Bool) → last ≡ false → IfSome (if last then None else Some (sub_block a.later)) (λ frames. goes_up frames frame ≡ true) → goes_up (sub_block a.later) frame ≡ true
+    by : (last : Bool) → last ≡ false → IfSome (if last then None else Some (sub_block a.later)) (λ frames. goes_up (newest_number frames) frame ≡ true) → goes_up (newest_number (sub_block a.later)) frame ≡ true
     by true l h = absurd (false≢true (sym l))
     by false l h = h
 goes_up_so Plain (Read cap) a frame d u l h = cc
@@ -123,7 +124,7 @@ no_last size later h = by (has_last later) h
     by false h = refl
 
 up_so : (call : Call) (s : Option Answers) (frame : List ℕ) (size : Option ℕ) (taken : ℕ) → direction_of call.job ≡ Upload → transfer_of call ≡ transfer_by reads_in_blocks.0 reads_in_blocks.1 → stage_since call s ≡ InSubBlockStage size taken
-    → IfSome (open_sub_block call.mode call.job s) (λ frames. goes_up frames frame ≡ true) → (is_abort_in_sub_block frame || nat_lt (newest_of s) (number_in frame)) ≡ true
+    → IfSome (open_sub_block call.mode call.job s) (λ frames. goes_up (newest_number frames) frame ≡ true) → (is_abort_in_sub_block frame || nat_lt (newest_of s) (number_in frame)) ≡ true
 up_so call None frame size taken d u e h = absurd (false≢true (ap is_inside e))
 up_so call (Some a) frame size taken d u e h =
     let inside : is_inside (stage_since call (Some a)) ≡ true = ap is_inside e in
@@ -167,7 +168,7 @@ module _ (Loose : Type 0) (call : Call) (job : IsJob call.job) (stamp : ℕ → 
       (upload_sends call stage held frame u (ap (is_upload_stage call) f ∙ upload_stage call s u))
 
   pub sync_made : (heard : Bool) (t : Transfer) (got : List ℕ) (count : ℕ) (stage : Stage) (held : List ℕ) → Sync Loose call t got stage held (newest_of s) → t.taken ≡ digest_of got → stage ≡ stage_since call s → held ≡ held_since call s
-      → Loose ⊎ IfSome (open_sub_block call.mode call.job s) (λ frames. goes_up frames frame ≡ true) → Made (holds heard (Some t) got [] count) stage held
+      → Loose ⊎ IfSome (open_sub_block call.mode call.job s) (λ frames. goes_up (newest_number frames) frame ≡ true) → Made (holds heard (Some t) got [] count) stage held
   sync_made heard t got count stage held (at_once h g e) kept f i up =
       subst (λ x. Made (holds heard (Some t) got [] count) x held) (sym e)
       (subst (λ x. Made (holds heard (Some t) x [] count) Begun held) (sym g)

@@ -47,7 +47,8 @@ use Rattle.conode_explain_transfers.specs.Stages.{confirmed_with}
 use Rattle.conode_explain_transfers.specs.Transfers.{Turn, after, is_download, awaited_number, unexpected, goes_on as part, takes_data, takes_pending}
 use Rattle.conode_explain_transfers.specs.Turns.{response_turn}
 use Rattle.conode_explain_transfers.proofs.DataLemmas.{taking}
-use Rattle.conode_explain_laws.specs.Clients.{refuses, direction_of, number_in}
+use Rattle.conode_explain_laws.specs.Clients.{refuses, direction_of}
+use Rattle.conode_explain_laws.specs.Downloads.{number_in}
 use Rattle.conode_explain_laws.proofs.Readings.{Reading, Segment, Abort, Request, Nothing, request_reading, response_reading, plain_reading, beginning, segment_reading, sub_block_reading, reading_of}
 use Rattle.conode_explain_laws.proofs.Begins.{both, some_both}
 use Rattle.conode_explain_laws.proofs.ClientViews.{Seen, holds, says, hears, read_as, turned, late_turn, late_response, late_other_key, late_answering, abort_closes, Loses, lost_turn}

@@ -136,3 +136,41 @@ blocks_dropped = all_come (codes "8237383900000000" ∷ codes "D100000000000000"
 blocks_dropped_done : done blocks_dropped ≡ []
 unfolding request_row_in response_row_in reading_refusal initiate_refusal completion_refusal has_object
 blocks_dropped_done = refl
+
+-- dropped there, a download that begins sets its entry: explain reads its request as a segment of the first one
+abbrev begun_inside : Scene
+begun_inside = all_come (codes "2B171000E8030000" ∷ []) (happens Abandoned (all_come (codes "C20021000A000000" ∷ codes "0130313233343536" ∷ []) start))
+
+begun_inside_done : done begun_inside ≡ []
+unfolding request_row_in response_row_in reading_refusal initiate_refusal completion_refusal has_object
+begun_inside_done = refl
+
+begun_inside_set : set begun_inside ≡ write 5 (at 0x1017 0) (codes "E803") ∷ []
+unfolding request_row_in response_row_in reading_refusal initiate_refusal completion_refusal has_object
+begun_inside_set = refl
+
+-- dropped after its last segment, which ends the sub-block: the next one is done too
+abbrev dropped_after : Scene
+dropped_after = all_come (codes "D100000000000000" ∷ codes "2B171000E8030000" ∷ [])
+    (happens Abandoned (all_come (codes "C20021000A000000" ∷ codes "0130313233343536" ∷ codes "8237383900000000" ∷ []) start))
+
+dropped_after_done : done dropped_after ≡ write 9 (at 0x1017 0) (codes "E803") ∷ []
+unfolding request_row_in response_row_in reading_refusal initiate_refusal completion_refusal has_object
+dropped_after_done = refl
+
+dropped_after_set : set dropped_after ≡ write 9 (at 0x1017 0) (codes "E803") ∷ []
+unfolding request_row_in response_row_in reading_refusal initiate_refusal completion_refusal has_object
+dropped_after_set = refl
+
+-- the first segment comes twice: the channel passes over it, and explain says that the transfer is irregular
+abbrev twice : Scene
+twice = all_come (codes "C20021000A000000" ∷ codes "0130313233343536" ∷ codes "0130313233343536" ∷ codes "8237383900000000" ∷ codes "D100000000000000" ∷ []) start
+
+twice_done : done twice ≡ []
+unfolding request_row_in response_row_in reading_refusal initiate_refusal completion_refusal has_object
+twice_done = refl
+
+twice_set : set twice ≡ write 8 (at 0x2100 0) (codes "30313233343536373839") ∷ []
+unfolding request_row_in response_row_in reading_refusal initiate_refusal completion_refusal has_object
+twice_set = refl
+

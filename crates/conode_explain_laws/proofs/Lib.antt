@@ -9,6 +9,8 @@ pub mod AllInputs
 pub mod NoDownloads
 pub mod Exact
 pub mod AllExact
+pub mod BlockExact
+pub mod AllOrderly
 pub mod UploadViews
 pub mod UploadSteps
 pub mod UploadBlocks

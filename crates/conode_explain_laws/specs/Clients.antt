@@ -1,9 +1,7 @@
 -- What a recorder hears of the client of co_sdo_client, over all that may come to it; the transfers
 -- that explain says are done, and those that the client reports.
 use Rattle.std.specs.Prelude.{◌≡◌, ℕ, ◌<◌, ◌==◌, ◌&&◌, ◌||◌, nat_lt, Bool, true, false, List, [], ◌∷◌, ◌++◌, length, Option, Some, None, IfSome, if◌then◌else◌}
-use Rattle.std.specs.Option.{option_map_or}
 use Rattle.co_value.specs.declared.key.Key.{Key}
-use Rattle.co_frame.specs.BlockSegments.{block_segment_in, is_abort_in_sub_block}
 use Rattle.co_sdo_client.specs.declared.mode.Mode.{Mode}
 use Rattle.co_sdo_client.specs.declared.mode.Mode.TheVariants.{Block}
 use Rattle.co_sdo_client.specs.declared.state.ClientState.{ClientState}
@@ -22,7 +20,7 @@ use Rattle.conode_explain_transfers.specs.declared.kinds.Side.TheVariants.{Clien
 use Rattle.conode_explain_transfers.specs.Data.{data_after}
 use Rattle.conode_explain_transfers.specs.Followed.{Event as Recorded, Framed, BootedUp, said}
 use Rattle.conode_explain_laws.specs.Recordings.{and_frame}
-use Rattle.conode_explain_laws.specs.Downloads.{if_done}
+use Rattle.conode_explain_laws.specs.Downloads.{if_done, number_in, goes_up}
 
 -- ---- the client
 
@@ -137,18 +135,10 @@ transfers_reported stamp call (input ∷ older) =
 
 -- ---- whole frames, with numbers that go up
 
--- the number of the segment in a frame; 0 where it has none
-abbrev pub number_in : List ℕ → ℕ
-number_in frame = option_map_or (λ segment. segment.sequence) (block_segment_in frame) 0
-
--- that of the newest frame
+-- the number of the newest frame's segment
 abbrev pub newest_number : List (List ℕ) → ℕ
 newest_number [] = 0
 newest_number (frame ∷ older) = number_in frame
-
--- inside a sub-block, after these frames of it: an abort, or a segment with a higher number
-abbrev pub goes_up : List (List ℕ) → List ℕ → Bool
-goes_up frames frame = is_abort_in_sub_block frame || nat_lt (newest_number frames) (number_in frame)
 
 -- the frames of the sub-block that a client is in, newest first: of an upload in blocks, after the
 -- answer to initiate, until its last segment is taken
@@ -160,7 +150,7 @@ open_sub_block _ _ _ = None
 abbrev pub IsRegularInput : Call → List ClientInput → ClientInput → Type 0
 IsRegularInput call older (Came frame) =
     outcome call (events_of older) ≡ Waiting
-    → (length frame ≡ 8) × IfSome (open_sub_block call.mode call.job (since_first (answers (events_of older)))) (λ frames. goes_up frames frame ≡ true)
+    → (length frame ≡ 8) × IfSome (open_sub_block call.mode call.job (since_first (answers (events_of older)))) (λ frames. goes_up (newest_number frames) frame ≡ true)
 IsRegularInput call older Elapsed = Unit {0}
 
 abbrev pub AreRegular : Call → List ClientInput → Type 0
