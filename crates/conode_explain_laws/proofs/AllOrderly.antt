@@ -13,7 +13,7 @@ use Rattle.co_sdo.specs.Opened.{OpenTransfer, opened_after}
 use Rattle.co_sdo.specs.Replies.{open_key, reply_to, time_out_reply, answers_to, is_in_sub_block}
 use Rattle.co_sdo.specs.Completed.{set_by}
 use Rattle.co_sdo.specs.Steps.{opened_next, set_next}
-use Rattle.co_sdo_laws.proofs.Channel.{Serves, serves_first, served, serves_ticked}
+use Rattle.co_sdo_laws.proofs.Channel.{Serves, serves_first, served, serves_ticked, ended}
 use Rattle.conode_explain_transfers.specs.declared.kinds.Side.TheVariants.{Client}
 use Rattle.conode_explain_transfers.specs.declared.transfer.Transfer.{Transfer}
 use Rattle.conode_explain_transfers.specs.Data.{data_after}
@@ -22,7 +22,7 @@ use Rattle.conode_explain_transfers.proofs.DataLemmas.{open_after}
 use Rattle.conode_explain_laws.specs.Recordings.{Input, Received, Elapsed, Expired, Abandoned, Started, AreInputs, log_of, recorded, and_frame, and_answers}
 use Rattle.conode_explain_laws.specs.Downloads.{Complete, downloads_done, downloads_set, write_set, is_inside, newest_in, number_in, goes_up, AreOrderly}
 use Rattle.conode_explain_laws.proofs.Views.{view_of, hears, hears_frame, hears_answers, hears_all, Closes, aborted_closes}
-use Rattle.conode_explain_laws.proofs.AllInputs.{ended, dropped_since}
+use Rattle.conode_explain_laws.proofs.AllInputs.{dropped_since}
 use Rattle.conode_explain_laws.proofs.AllExact.{kept_of, is_eight, drops}
 use Rattle.conode_explain_laws.proofs.BlockExact.{OrderlyIn, plain, inside, all_sent, gone, Orders, orderly_exchange}
 

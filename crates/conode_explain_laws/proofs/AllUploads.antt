@@ -34,10 +34,10 @@ use Rattle.conode_explain_laws.proofs.UploadExchanges.{IsPlain, exchange}
 -- ---- lists
 
 -- what explain says is done, and what is served: with one of each more, or where some may be left out, with one that is served
-record Compares (Loose : Type 0) (R : List Complete → List Complete → Type 0) : Type 0 where
-  none : R [] []
-  both : (more some all : List Complete) → R some all → R (more ++ some) (more ++ all)
-  served : Loose → (more some all : List Complete) → R some all → R some (more ++ all)
+pub record Compares (Loose : Type 0) (R : List Complete → List Complete → Type 0) : Type 0 where
+  pub none : R [] []
+  pub both : (more some all : List Complete) → R some all → R (more ++ some) (more ++ all)
+  pub served : Loose → (more some all : List Complete) → R some all → R some (more ++ all)
 
 some_more : (more some all : List Complete) → AreSome some all → AreSome some (more ++ all)
 some_more [] some all h = h
@@ -51,7 +51,7 @@ both_more (x ∷ more) some all h = inl (refl, both_more more some all h)
 are_some : Compares (Unit {0}) AreSome
 are_some = record { none = tt; both = both_more; served = λ l. some_more }
 
-are_same : Compares ⊥ (λ some all. some ≡ all)
+pub are_same : Compares ⊥ (λ some all. some ≡ all)
 are_same = record { none = refl; both = λ more some all h. ap (λ w. more ++ w) h; served = λ l. absurd l }
 
 -- ---- a frame that hasn't eight bytes
@@ -162,7 +162,7 @@ module _ (Loose : Type 0) (R : List Complete → List Complete → Type 0) (comp
       }
 
   -- a transfer that is dropped
-  drops : (held : Option Transfer) (got : List ℕ) (current : Option OpenTransfer) (ended : Option Read) → FollowsIn Loose held got current ended → FollowsIn Loose held got None ended
+  pub drops : (held : Option Transfer) (got : List ℕ) (current : Option OpenTransfer) (ended : Option Read) → FollowsIn Loose held got current ended → FollowsIn Loose held got None ended
   drops None got current ended (inl l) = inl l
   drops None got current ended (inr h) = inr (record { none = refl; no_end = h.no_end })
   drops (Some t) got current ended (aside a (inl l)) = aside a (inl l)

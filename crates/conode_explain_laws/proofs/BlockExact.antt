@@ -219,7 +219,7 @@ abbrev passed : Transfer → BlockSegment → ℕ → Transfer
 passed t segment micros = with_frame Part (after t (segment_ahead t segment)) micros Client
 
 -- a segment has a number up to 127; an abort is none
-small_number : (frame : List ℕ) (segment : BlockSegment) → block_segment_in frame ≡ Some segment → segment.sequence ≤ 127
+pub small_number : (frame : List ℕ) (segment : BlockSegment) → block_segment_in frame ≡ Some segment → segment.sequence ≤ 127
 small_number frame segment e = by (length frame == 8) (nat_le 1 (command frame % 128)) e
   where
     by : (long numbered : Bool) → (if long && numbered then Some (record { last = command frame / 128 == 1; sequence = command frame % 128; bytes = drop 1 frame }) else None) ≡ Some segment → segment.sequence ≤ 127
@@ -493,7 +493,7 @@ ends_so : (ends : Bool) (n : ℕ) → (if true && not ends then n else 0) ≡ (i
 ends_so true n = refl
 ends_so false n = refl
 
-exact_outside : (held : Option Transfer) (got : List ℕ) (current : Option OpenTransfer) → ExactIn held got current → is_in_sub_block current ≡ false
+pub exact_outside : (held : Option Transfer) (got : List ℕ) (current : Option OpenTransfer) → ExactIn held got current → is_in_sub_block current ≡ false
 exact_outside None got current h = upload_outside current h
 exact_outside (Some t) got current (exact_upload u h) = upload_outside current h
 exact_outside (Some t) got current (exact_segments toggle h c) = ap is_in_sub_block c

@@ -18,6 +18,7 @@ pub mod UploadStanding
 pub mod NoUploads
 pub mod UploadExchanges
 pub mod AllUploads
+pub mod OrderlyUploads
 pub mod Examples
 mod UploadExamples
 mod ClientExamples

@@ -437,7 +437,7 @@ no_upload_outside None h = refl
 no_upload_outside (Some o) h = segmented_outside o.stage h
 
 -- the channel isn't inside a sub-block of a download, or some uploads may be left out
-outside_or : (Loose : Type 0) (held : Option Transfer) (got : List ℕ) (current : Option OpenTransfer) (ended : Option Read) → FollowsIn Loose held got current ended → Loose ⊎ (is_in_sub_block current ≡ false)
+pub outside_or : (Loose : Type 0) (held : Option Transfer) (got : List ℕ) (current : Option OpenTransfer) (ended : Option Read) → FollowsIn Loose held got current ended → Loose ⊎ (is_in_sub_block current ≡ false)
 outside_or Loose None got current ended (inl l) = inl l
 outside_or Loose None got current ended (inr h) = inr (no_upload_outside current h.none)
 outside_or Loose (Some t) got current ended (aside a (inl l)) = inl l
