@@ -1,5 +1,5 @@
 -- What explain and the channel make of a request where both always read the client's frames alike, block downloads too: `Orderly`.
-use Rattle.std.proofs.Common.{◌≡◌, ℕ, suc, ◌+◌, ◌*◌, ◌/◌, ◌-◌, ◌%◌, ◌<◌, ◌≤◌, Bool, true, false, not, List, [], ◌∷◌, ◌++◌, length, take, drop, Option, Some, None, refl, sym, ap, ◌∙◌, ◌⊎◌, inl, inr, subst, arith, length-append, length-drop, append_assoc, append-nil}
+use Rattle.std.proofs.Common.{◌≡◌, ℕ, suc, ◌+◌, ◌*◌, ◌/◌, ◌%◌, ◌<◌, ◌≤◌, Bool, true, false, not, List, [], ◌∷◌, ◌++◌, length, take, drop, Option, Some, None, refl, sym, ap, ◌∙◌, subst, arith, length-append, append_assoc, append-nil}
 use Rattle.std.specs.Prelude.{if◌then◌else◌, IfSome, nat_le, nat_lt, ◌==◌, ◌&&◌, ◌||◌}
 use Rattle.std.specs.Option.{option_map_or}
 use Rattle.std.proofs.lemmas.Bool.{eqb-true, false≢true}
@@ -31,24 +31,23 @@ use Rattle.co_sdo.specs.Steps.{opened_at, after_request, opened_next, set_by_req
 use Rattle.co_sdo.proofs.RefusalLemmas.{allowed}
 use Rattle.co_sdo_laws.proofs.Frames.{block_initiated_read, block_done_read}
 use Rattle.conode_explain_transfers.specs.declared.digest.Digest.{Digest}
-use Rattle.conode_explain_transfers.specs.declared.kinds.Direction.TheVariants.{Download}
-use Rattle.conode_explain_transfers.specs.declared.kinds.Side.TheVariants.{Client, Server}
+use Rattle.conode_explain_transfers.specs.declared.kinds.Side.TheVariants.{Client}
 use Rattle.conode_explain_transfers.specs.declared.kinds.What.TheVariants.{Part, Segment as SegmentOf, OutOfSequence}
-use Rattle.conode_explain_transfers.specs.declared.stage.Stage.TheVariants.{SubBlock, AllAcknowledged, BlockEnded, Confirmed}
+use Rattle.conode_explain_transfers.specs.declared.stage.Stage.TheVariants.{SubBlock, AllAcknowledged, Confirmed}
 use Rattle.conode_explain_transfers.specs.declared.transfer.Transfer.{Transfer}
-use Rattle.conode_explain_transfers.specs.BlockTurns.{is_block, block_segment_at, segment_added, segment_ahead, segment_again, end_confirmed, crc_in, numbered_after}
+use Rattle.conode_explain_transfers.specs.BlockTurns.{is_block, segment_added, segment_ahead, end_confirmed, crc_in}
 use Rattle.conode_explain_transfers.specs.Digests.{counted, digest_of}
 use Rattle.conode_explain_transfers.specs.Endings.{size_fault}
 use Rattle.conode_explain_transfers.specs.Followed.{with_frame}
 use Rattle.conode_explain_transfers.specs.Initiates.{has_crc}
-use Rattle.conode_explain_transfers.specs.Transfers.{Turn, after, awaited_number, is_download, unexpected, goes_on, takes_pending}
+use Rattle.conode_explain_transfers.specs.Transfers.{after, awaited_number, is_download, unexpected, goes_on, takes_pending}
 use Rattle.conode_explain_transfers.proofs.DataLemmas.{taking}
 use Rattle.conode_explain_laws.specs.Downloads.{Complete, is_block_begin, entry_bytes, write_set, number_in, goes_up}
-use Rattle.conode_explain_laws.proofs.Readings.{Reading, Segment, Begin, Abort, Request, Response, Nothing, request_reading, response_reading, plain_reading, beginning, segment_reading, sub_block_reading, reading_of}
-use Rattle.conode_explain_laws.proofs.Views.{View, read_as, hears, hears_answers, begin_writes, no_write, aborted_closes, abort_closes, is_begin}
+use Rattle.conode_explain_laws.proofs.Readings.{Segment, Begin, Abort, Request, Response, request_reading, response_reading, plain_reading, beginning, segment_reading, sub_block_reading, reading_of}
+use Rattle.conode_explain_laws.proofs.Views.{View, read_as, hears, hears_answers, begin_writes, no_write, abort_closes}
 use Rattle.conode_explain_laws.proofs.Follows.{IsBlocks, AllSent, are_sent, response_read, answered_reads}
 use Rattle.conode_explain_laws.proofs.Begins.{HasKey, has_key, small_index, answered, asks, response_is, in_blocks, outside_answers, outside_opens, outside_sets, write_of}
-use Rattle.conode_explain_laws.proofs.Blocks.{IsSegment, is_segment, ends_with, answers_at, opens_at, taken_by, turned, acknowledges, last_turn, next_turn, number_is, small_end, IsSmallEnd, ended, left_of, without_is}
+use Rattle.conode_explain_laws.proofs.Blocks.{is_segment, ends_with, answers_at, opens_at, taken_by, turned, acknowledges, last_turn, next_turn, number_is, small_end, IsSmallEnd, ended, left_of, without_is}
 use Rattle.conode_explain_laws.proofs.Exact.{Exact, exact_upload, exact_segments, exact_dropped, ExactIn, Exactly, no_download, closed_exactly, begin_comes, exact_exchange, regular_done, size_right, capped, upload_outside, client_reads}
 
 -- ---- both

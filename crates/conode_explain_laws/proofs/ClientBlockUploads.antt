@@ -1,5 +1,5 @@
 -- Uploads of a client in blocks: what explain and the client make of an answer.
-use Rattle.std.proofs.Common.{◌≡◌, ℕ, suc, ◌+◌, ◌*◌, ◌/◌, ◌-◌, ◌%◌, ◌≤◌, Bool, true, false, not, List, [], ◌∷◌, ◌++◌, length, take, drop, Option, Some, None, refl, sym, ap, ◌∙◌, ◌⊎◌, inl, inr, subst, arith, eqb, length-append, length-drop, append_assoc, append-nil}
+use Rattle.std.proofs.Common.{◌≡◌, ℕ, suc, ◌+◌, ◌*◌, ◌-◌, ◌≤◌, Bool, true, false, not, List, [], ◌∷◌, ◌++◌, length, take, Option, Some, None, refl, sym, ap, ◌∙◌, ◌⊎◌, inl, inr, subst, arith, eqb, length-append, append_assoc, append-nil}
 use Rattle.std.specs.Prelude.{if◌then◌else◌, nat_le, nat_lt, ◌==◌, ◌&&◌, ◌||◌, IfSome}
 use Rattle.std.specs.Option.{option_map_or}
 use Rattle.std.proofs.Math.Seq.{take-append-add}
@@ -9,7 +9,7 @@ use Rattle.std.proofs.lemmas.List.{take_all}
 use Rattle.co_value.specs.declared.key.Key.{Key}
 use Rattle.co_value.specs.Keys.{same_key}
 use Rattle.co_frame.specs.BlockSegments.{block_segment_in, is_abort_in_sub_block}
-use Rattle.co_frame.specs.SdoFields.{command, specifier, subcommand, has_bit}
+use Rattle.co_frame.specs.SdoFields.{specifier, subcommand, has_bit}
 use Rattle.co_frame.specs.SdoParts.{code_in}
 use Rattle.co_frame.specs.SdoRequests.{request_bytes}
 use Rattle.co_frame.specs.SdoResponses.{response_row_in, response_in}
@@ -51,6 +51,8 @@ use Rattle.conode_explain_laws.specs.Clients.{refuses, direction_of}
 use Rattle.conode_explain_laws.specs.Downloads.{number_in}
 use Rattle.conode_explain_laws.proofs.Readings.{Reading, Segment, Abort, Request, Nothing, request_reading, response_reading, plain_reading, beginning, segment_reading, sub_block_reading, reading_of}
 use Rattle.conode_explain_laws.proofs.Begins.{both, some_both}
+use Rattle.conode_explain_laws.proofs.BlockExact.{small_number}
+use Rattle.conode_explain_laws.proofs.Blocks.{is_segment}
 use Rattle.conode_explain_laws.proofs.ClientViews.{Seen, holds, says, hears, read_as, turned, late_turn, late_response, late_other_key, late_answering, abort_closes, Loses, lost_turn}
 use Rattle.conode_explain_laws.proofs.ClientStanding.{IsBlockUpload, IsBlockAsked, IsInSubBlock, IsAllTaken, in_sub_block, all_taken, Steps, gives_up, is_over, completes, size_right, read_bytes, refused_turn}
 use Rattle.conode_explain_laws.proofs.ClientDownloads.{Made, no_response, an_abort}
@@ -79,24 +81,6 @@ refuses_none mode (Read cap) got d h = rw h (by mode)
 refuses_none mode (Write bytes tells) got d h = absurd (let e : Download ≡ Upload = d in cc)
 
 -- ---- segments
-
-record IsSegment (frame : List ℕ) (segment : BlockSegment) : Type 0 where
-  bytes : length segment.bytes ≡ 7
-  few : segment.sequence ≤ 127
-
-is_segment : (frame : List ℕ) (segment : BlockSegment) → block_segment_in frame ≡ Some segment → IsSegment frame segment
-is_segment frame segment e = by (length frame == 8) (nat_le 1 (command frame % 128)) refl refl e
-  where
-    by : (long numbered : Bool) → (length frame == 8) ≡ long → nat_le 1 (command frame % 128) ≡ numbered
-        → (if long && numbered then Some (record { last = command frame / 128 == 1; sequence = command frame % 128; bytes = drop 1 frame }) else None) ≡ Some segment
-        → IsSegment frame segment
-    by true true l n e =
-        let same : record { last = command frame / 128 == 1; sequence = command frame % 128; bytes = drop 1 frame } ≡ segment = cc in
-        let seven : length (drop 1 frame) ≡ 7 = (let d = length-drop 1 frame in grind (arith, nat_tests)) in
-        let few : command frame % 128 ≤ 127 = omega arith in
-        record { bytes = ap (λ (s : BlockSegment). length s.bytes) (sym same) ∙ seven; few = subst (λ (s : BlockSegment). s.sequence ≤ 127) same few }
-    by true false l n e = absurd (let f : None ≡ Some segment = e in cc)
-    by false numbered l n e = absurd (let f : None ≡ Some segment = e in cc)
 
 -- the server ends it: the number of unused bytes is small
 abbrev pub IsSmallEnd : SdoResponse → Type 0
@@ -444,7 +428,7 @@ module _ (Loose : Type 0) (call : Call) (job : IsJob call.job) (stamp : ℕ → 
   by_segment size taken old held got None h g e (inr u) n = absurd (grind (arith, nat_tests))
   by_segment size taken old held got (Some segment) h g e up n =
       let is = is_segment frame segment e in
-      let few = is.few in
+      let few = small_number frame segment e in
       let block_size = h.is.block_size in
       let p = h.pending in
       let within : nat_le segment.sequence t.block_size ≡ true = grind (arith, nat_tests) in

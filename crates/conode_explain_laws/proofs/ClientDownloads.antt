@@ -33,6 +33,7 @@ use Rattle.conode_explain_transfers.specs.Turns.{response_turn}
 use Rattle.conode_explain_transfers.proofs.DataLemmas.{taking}
 use Rattle.conode_explain_laws.proofs.Readings.{Request, Abort, Nothing, request_reading, response_reading, reading_of, turn_of}
 use Rattle.conode_explain_laws.proofs.Follows.{IsLate}
+use Rattle.conode_explain_laws.proofs.Exchanges.{same_toggle}
 use Rattle.conode_explain_laws.proofs.ClientViews.{Seen, holds, says, read_as, turned, late_turn, late_response, abort_closes, is_expected, late_other_key, late_answering}
 use Rattle.conode_explain_laws.proofs.ClientStanding.{IsDownload, IsAtOnce, IsBegun, IsSent, sent, Steps, gives_up, is_over, completes, size_right, few_sent, sent_size, sent_bytes, never_refused}
 
@@ -41,10 +42,6 @@ use Rattle.conode_explain_laws.proofs.ClientStanding.{IsDownload, IsAtOnce, IsBe
 -- explain after a segment
 abbrev sends : Transfer → ℕ → List ℕ → ℕ → Transfer
 sends u k bytes micros = with_frame Part (after u (part (segment_pending u (is_odd k) (is_last_after k bytes) (record { items = part_after k bytes })))) micros Client
-
-same_toggle : (b : Bool) → same_bool b b ≡ true
-same_toggle true = refl
-same_toggle false = refl
 
 segment_says : (call : Call) (stamp : ℕ → ℕ) (heard : Bool) (u : Transfer) (got : List ℕ) (count k : ℕ) (bytes : List ℕ) → u.stage ≡ DownloadConfirmed (is_odd k)
     → says call stamp (segment_after k bytes ∷ []) (holds heard (Some u) got [] count) ≡ holds heard (Some (sends u k bytes (stamp count))) got [] (suc count)

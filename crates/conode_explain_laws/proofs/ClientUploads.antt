@@ -44,6 +44,7 @@ use Rattle.conode_explain_transfers.proofs.DataLemmas.{taking}
 use Rattle.conode_explain_laws.specs.Clients.{refuses, direction_of}
 use Rattle.conode_explain_laws.proofs.Readings.{Request, request_reading, reading_of}
 use Rattle.conode_explain_laws.proofs.Follows.{IsLate}
+use Rattle.conode_explain_laws.proofs.Exchanges.{same_toggle}
 use Rattle.conode_explain_laws.proofs.ClientViews.{Seen, holds, says, read_as, turned, late_turn, late_response, late_other_key, late_answering}
 use Rattle.conode_explain_laws.proofs.ClientStanding.{IsUpload, IsAsked, IsTaking, taking as taking_sync, Steps, gives_up, is_over, completes, size_right, read_bytes, refused_turn, size_wrong}
 use Rattle.conode_explain_laws.proofs.ClientDownloads.{Made, no_response, an_abort}
@@ -66,10 +67,6 @@ plain_refuses mode (Write bytes tells) protocol got d h = absurd (let e : Downlo
 -- the client asks for the next segment
 abbrev asks : Transfer → Bool → ℕ → Transfer
 asks u toggle micros = with_frame Part (after u (part (record u { stage = UploadAsked toggle }))) micros Client
-
-same_toggle : (b : Bool) → same_bool b b ≡ true
-same_toggle true = refl
-same_toggle false = refl
 
 toggles_same : (a b : Bool) → same_bool a b ≡ true → a ≡ b
 toggles_same true true h = refl

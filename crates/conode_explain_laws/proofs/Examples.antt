@@ -105,7 +105,7 @@ unfolding request_row_in response_row_in reading_refusal initiate_refusal comple
 dropped_set = refl
 
 -- in blocks: ten bytes in two segments, done with the seventh frame
-abbrev in_blocks : Scene
+abbrev pub in_blocks : Scene
 in_blocks = all_come (codes "C20021000A000000" ∷ codes "0130313233343536" ∷ codes "8237383900000000" ∷ codes "D100000000000000" ∷ []) start
 
 blocks_done : done in_blocks ≡ write 7 (at 0x2100 0) (codes "30313233343536373839") ∷ []
@@ -173,4 +173,3 @@ twice_done = refl
 twice_set : set twice ≡ write 8 (at 0x2100 0) (codes "30313233343536373839") ∷ []
 unfolding request_row_in response_row_in reading_refusal initiate_refusal completion_refusal has_object
 twice_set = refl
-

@@ -1,6 +1,6 @@
 -- What explain and the channel make of an upload where both always read the client's frames alike, beside block downloads.
-use Rattle.std.proofs.Common.{◌≡◌, ℕ, suc, ◌+◌, Bool, true, false, not, List, [], ◌∷◌, ◌++◌, length, Option, Some, None, refl, sym, ap, ◌∙◌, ◌⊎◌, inl, inr, subst, arith}
-use Rattle.std.specs.Prelude.{if◌then◌else◌, IfSome, nat_le, nat_lt, ◌==◌, ◌&&◌, ◌||◌}
+use Rattle.std.proofs.Common.{◌≡◌, ℕ, suc, Bool, true, false, List, [], ◌++◌, Option, Some, None, refl, sym, ap, ◌∙◌, inl, inr, subst, arith}
+use Rattle.std.specs.Prelude.{if◌then◌else◌, IfSome, nat_le, nat_lt, ◌==◌, ◌||◌}
 use Rattle.std.specs.Option.{option_map_or}
 use Rattle.std.proofs.lemmas.Bool.{false≢true}
 use Rattle.std.proofs.lemmas.Bool.Decides.{nat_tests}
@@ -22,15 +22,14 @@ use Rattle.co_sdo.specs.SubBlocks.{ends_sub_block, is_last_taken}
 use Rattle.co_sdo.specs.Opened.{OpenTransfer}
 use Rattle.co_sdo.specs.Replies.{request_answers, is_in_sub_block, answers_to, segment_next, taken_with, held_with, sub_block_refusal}
 use Rattle.co_sdo.specs.Completed.{unless}
-use Rattle.co_sdo.specs.Steps.{opened_at, stage_after_frame, after_frame, after_request, opened_next}
+use Rattle.co_sdo.specs.Steps.{opened_at, after_frame, after_request, opened_next}
 use Rattle.co_sdo.specs.OpenTransfers.{is_initiate}
-use Rattle.conode_explain_transfers.specs.declared.kinds.Direction.TheVariants.{Download}
 use Rattle.conode_explain_transfers.specs.declared.kinds.Side.TheVariants.{Client}
 use Rattle.conode_explain_transfers.specs.declared.transfer.Transfer.{Transfer}
 use Rattle.conode_explain_transfers.specs.Digests.{digest_of}
-use Rattle.conode_explain_laws.specs.Downloads.{Complete, is_block_begin, number_in, goes_up}
+use Rattle.conode_explain_laws.specs.Downloads.{Complete, is_block_begin, goes_up}
 use Rattle.conode_explain_laws.specs.Uploads.{Read, ended_by, read_served}
-use Rattle.conode_explain_laws.proofs.Readings.{Reading, Segment, Begin, Abort, request_reading, plain_reading, beginning, segment_reading, sub_block_reading, reading_of}
+use Rattle.conode_explain_laws.proofs.Readings.{Reading, Begin, Abort, request_reading, plain_reading, beginning, segment_reading, sub_block_reading, reading_of}
 use Rattle.conode_explain_laws.proofs.Views.{View, is_begin}
 use Rattle.conode_explain_laws.proofs.Follows.{begun_by}
 use Rattle.conode_explain_laws.proofs.Begins.{in_blocks as blocks_asked, outside_answers, outside_opens}
@@ -38,7 +37,7 @@ use Rattle.conode_explain_laws.proofs.Exact.{client_reads}
 use Rattle.conode_explain_laws.proofs.BlockExact.{OrderlyIn, plain as orderly_plain, inside, all_sent, gone, IsInside, exact_outside, small_number}
 use Rattle.conode_explain_laws.proofs.UploadViews.{read_as, hears, hears_answers, begin_writes, IsAside, KnowsAside, aside_reads, aside_answers}
 use Rattle.conode_explain_laws.proofs.UploadSteps.{answered_by, acknowledged_by, answered_next, acknowledged_next}
-use Rattle.conode_explain_laws.proofs.UploadStanding.{FollowsIn, NoUpload, Ends, aside_follows, begins, outside_answered, outside_acknowledged}
+use Rattle.conode_explain_laws.proofs.UploadStanding.{FollowsIn, Ends, aside_follows, begins, outside_answered, outside_acknowledged}
 use Rattle.conode_explain_laws.proofs.NoUploads.{none_ended, begins_nothing}
 use Rattle.conode_explain_laws.proofs.UploadExchanges.{exchange, outside_or}
 
@@ -65,7 +64,7 @@ pub record GoesOn (next : Option OpenTransfer) (ended answered : Option Read) (w
   pub reads : v.done ≡ read_served answered v.count ++ whole
 
 from_ends : (next : Option OpenTransfer) (ended answered : Option Read) (whole done : List Complete) (v : View) → Ends ⊥ next ended answered whole done v → GoesOn next ended answered whole v
-from_ends next ended answered whole done v h = record { stays = plain h.follows; reads = elim h.reads [ | inl l ↦ absurd l.0 | inr e ↦ e ] }
+from_ends next ended answered whole done v h = record { stays = plain h.follows; reads = elim h.reads [ inl l ↦ absurd l.0 | inr e ↦ e ] }
 
 -- none is open, or a block download
 abbrev none_or_block : Option OpenTransfer → Bool
@@ -230,7 +229,7 @@ module _ (d : Description) (contents : Contents) (stamp : ℕ → ℕ) (frame : 
 
 -- inside one nothing awaits the client's end
 none_awaited : (held : Option Transfer) (got : List ℕ) (current : Option OpenTransfer) (ended : Option Read) → is_in_sub_block current ≡ true → Stays held got current ended → ended ≡ None
-none_awaited held got current ended i (plain f) = elim (outside_or ⊥ held got current ended f) [ | inl l ↦ absurd l | inr o ↦ absurd (false≢true (sym o ∙ i)) ]
+none_awaited held got current ended i (plain f) = elim (outside_or ⊥ held got current ended f) [ inl l ↦ absurd l | inr o ↦ absurd (false≢true (sym o ∙ i)) ]
 none_awaited held got current ended i (in_blocks a b x) = x
 
 by_transfer : (old : ℕ) (d : Description) (contents : Contents) (stamp : ℕ → ℕ) (frame : List ℕ) (current : Option OpenTransfer) (ended : Option Read) (heard : Bool) (held : Option Transfer) (got : List ℕ) (done : List Complete) (count : ℕ) → AreBytes frame → IsDictionary d contents
