@@ -1,12 +1,12 @@
 -- Worked recordings of a client: what explain says is done, and what the client reports.
-use Rattle.std.proofs.Common.{◌≡◌, ℕ, true, false, List, [], ◌∷◌, reverse, refl, codes}
+use Rattle.std.proofs.Common.{◌≡◌, ℕ, true, false, List, [], ◌∷◌, Option, Some, None, reverse, refl, codes}
 use Rattle.co_frame.specs.SdoRequests.{request_row_in}
 use Rattle.co_frame.specs.SdoResponses.{response_row_in}
 use Rattle.co_sdo_client.specs.declared.mode.Mode.TheVariants.{Plain, Segmented, Block}
-use Rattle.co_sdo_client.specs.Calls.{Call}
+use Rattle.co_sdo_client.specs.Calls.{Call, answers, since_first}
 use Rattle.co_sdo_client.proofs.Reports.{download, upload, hex}
 use Rattle.conode_explain_transfers.specs.declared.kinds.Direction.TheVariants.{Download, Upload}
-use Rattle.conode_explain_laws.specs.Clients.{ClientInput, Came, Elapsed, heard, Transferred, transfers_done, transfers_reported}
+use Rattle.conode_explain_laws.specs.Clients.{ClientInput, Came, Elapsed, events_of, open_sub_block, heard, Transferred, transfers_done, transfers_reported}
 use Rattle.conode_explain_laws.specs.Downloads.{Complete}
 use Rattle.conode_explain_laws.specs.Uploads.{uploads_done}
 
@@ -348,3 +348,43 @@ too_many_written = refl
 too_many_told : reports (download Block (hex (codes "3031323334353637")) true) too_many ≡ []
 unfolding request_row_in response_row_in
 too_many_told = refl
+
+-- ---- the sub-block that a client is in, of an upload in blocks
+
+abbrev its_frames : Call → List ClientInput → Option (List (List ℕ))
+its_frames call inputs = open_sub_block call.mode call.job (since_first (answers (events_of (reverse inputs))))
+
+abbrev asked : List ClientInput
+asked = []
+
+abbrev answered : List ClientInput
+answered = c (codes "C20120000A000000") ∷ []
+
+-- none before the answer to initiate; an empty one after it
+not_yet : its_frames (upload Block 10) asked ≡ None
+not_yet = refl
+
+first_begins : its_frames (upload Block 10) answered ≡ Some []
+first_begins = refl
+
+-- none of an upload in segments, and of a download
+in_segments_none : its_frames (upload Segmented 10) answered ≡ None
+in_segments_none = refl
+
+download_none : its_frames (download Block (hex (codes "E803")) true) (c (codes "A00120007F000000") ∷ []) ≡ None
+download_none = refl
+
+-- with its frames, the newest first
+one_came : its_frames (upload Block 10) (c (codes "C20120000A000000") ∷ c (codes "0130313233343536") ∷ []) ≡ Some (hex (codes "0130313233343536") ∷ [])
+one_came = refl
+
+-- a last segment that isn't taken begins another one; the one that is taken ends the last
+next_begins : its_frames (upload Block 10) (c (codes "C20120000A000000") ∷ c (codes "8530313233343536") ∷ []) ≡ Some []
+next_begins = refl
+
+last_ends : its_frames (upload Block 10) (c (codes "C20120000A000000") ∷ c (codes "8130313233343536") ∷ []) ≡ None
+last_ends = refl
+
+-- a frame that hasn't eight bytes is no event
+short_is_none : events_of (c (codes "00303132333435") ∷ []) ≡ []
+short_is_none = refl

@@ -1,5 +1,5 @@
 -- Worked recordings of a channel over a small dictionary: what explain says is done, and what the channel sets.
-use Rattle.std.proofs.Common.{◌≡◌, ℕ, List, [], ◌∷◌, refl, codes}
+use Rattle.std.proofs.Common.{◌≡◌, ℕ, Bool, true, false, List, [], ◌∷◌, refl, codes}
 use Rattle.co_dict.specs.Objects.{has_object}
 use Rattle.co_dict.specs.Rows.{Contents}
 use Rattle.co_frame.specs.SdoRequests.{request_row_in}
@@ -9,7 +9,7 @@ use Rattle.co_sdo.specs.Completed.{contents_with}
 use Rattle.co_sdo.specs.Refused.{reading_refusal, initiate_refusal, completion_refusal}
 use Rattle.co_sdo.proofs.ExampleChannel.{at, entries, bytes_in, dictionary, hex}
 use Rattle.conode_explain_laws.specs.Recordings.{Input, Received, Abandoned, log_of, recorded}
-use Rattle.conode_explain_laws.specs.Downloads.{Complete, downloads_done, set_with, downloads_set}
+use Rattle.conode_explain_laws.specs.Downloads.{Complete, downloads_done, set_with, downloads_set, goes_up, is_inside, newest_in}
 
 -- the inputs, newest first, and the contents after them
 pub record Scene : Type 0 where
@@ -173,3 +173,77 @@ twice_done = refl
 twice_set : set twice ≡ write 8 (at 0x2100 0) (codes "30313233343536373839") ∷ []
 unfolding request_row_in response_row_in reading_refusal initiate_refusal completion_refusal has_object
 twice_set = refl
+
+-- ---- which frames are in order
+
+-- after segment 1 comes segment 2, or the last one with a higher number; segment 1 again isn't in order, nor a frame with number 0
+higher : goes_up 1 (hex (codes "0237383900000000")) ≡ true
+higher = refl
+
+higher_last : goes_up 1 (hex (codes "8237383900000000")) ≡ true
+higher_last = refl
+
+same_number : goes_up 1 (hex (codes "0130313233343536")) ≡ false
+same_number = refl
+
+same_last : goes_up 1 (hex (codes "8130313233343536")) ≡ false
+same_last = refl
+
+zero : goes_up 0 (hex (codes "0030313233343536")) ≡ false
+zero = refl
+
+-- an abort is in order after each of them
+aborts : goes_up 127 (hex (codes "8000210000000008")) ≡ true
+aborts = refl
+
+-- the newest number of a scene, and whether the next frame falls inside a sub-block
+abbrev newest : Scene → ℕ
+newest s = newest_in dictionary s.inputs
+
+abbrev inside : Scene → Bool
+inside s = is_inside (log_of dictionary s.inputs)
+
+abbrev begun : Scene
+begun = all_come (codes "C20021000A000000" ∷ []) start
+
+begun_inside_it : inside begun ≡ true
+unfolding request_row_in response_row_in reading_refusal initiate_refusal completion_refusal has_object
+begun_inside_it = refl
+
+begun_newest : newest begun ≡ 0
+unfolding request_row_in response_row_in reading_refusal initiate_refusal completion_refusal has_object
+begun_newest = refl
+
+-- before it nothing is
+start_outside : inside start ≡ false
+unfolding request_row_in response_row_in reading_refusal initiate_refusal completion_refusal has_object
+start_outside = refl
+
+first_newest : newest (all_come (codes "0130313233343536" ∷ []) begun) ≡ 1
+unfolding request_row_in response_row_in reading_refusal initiate_refusal completion_refusal has_object
+first_newest = refl
+
+-- a segment that isn't taken counts too
+ahead_newest : newest (all_come (codes "0537383900000000" ∷ []) begun) ≡ 5
+unfolding request_row_in response_row_in reading_refusal initiate_refusal completion_refusal has_object
+ahead_newest = refl
+
+-- a last segment that isn't taken ends the sub-block, and the next one begins
+abbrev next_begun : Scene
+next_begun = all_come (codes "8537383900000000" ∷ []) begun
+
+next_newest : newest next_begun ≡ 0
+unfolding request_row_in response_row_in reading_refusal initiate_refusal completion_refusal has_object
+next_newest = refl
+
+next_inside : inside next_begun ≡ true
+unfolding request_row_in response_row_in reading_refusal initiate_refusal completion_refusal has_object
+next_inside = refl
+
+-- the one that is taken ends the last
+abbrev all_taken : Scene
+all_taken = all_come (codes "8130313233343536" ∷ []) begun
+
+taken_outside : inside all_taken ≡ false
+unfolding request_row_in response_row_in reading_refusal initiate_refusal completion_refusal has_object
+taken_outside = refl
