@@ -1,5 +1,4 @@
--- Where each frame has eight bytes and none begins a block download, the downloads that explain says are done are those that the
--- channel sets: over all inputs.
+-- Where each frame has eight bytes and none begins a block download, both read the client's frames alike: over all inputs.
 use Rattle.std.proofs.Common.{◌≡◌, ℕ, Bool, true, false, List, [], ◌∷◌, ◌++◌, length, Option, Some, None, refl, sym, ap, ◌∙◌, subst, arith}
 use Rattle.std.specs.Prelude.{if◌then◌else◌, IfSome, ◌==◌}
 use Rattle.std.proofs.lemmas.Bool.{false≢true}
@@ -98,7 +97,7 @@ with_abort stamp d log recording sets h =
       same = k.same ∙ h.same;
     }
 
-drops : (held : Option Transfer) (got : List ℕ) (current : Option OpenTransfer) → ExactIn held got current → ExactIn held got None
+pub drops : (held : Option Transfer) (got : List ℕ) (current : Option OpenTransfer) → ExactIn held got current → ExactIn held got None
 drops None got current h = refl
 drops (Some t) got current (exact_upload u n) = exact_upload u refl
 drops (Some t) got current (exact_segments toggle h c) = exact_dropped toggle h.in_turn refl
@@ -123,6 +122,3 @@ all_same stamp d (Abandoned ∷ older) h p =
 all_same stamp d (Started ∷ older) h p =
     let r = all_same stamp d older h.1 p.1 in
     record { current = None; serves = serves_first d.rows [] refl; holds = refl; same = r.same }
-
-pub all_are_done : (stamp : ℕ → ℕ) (d : Description) (inputs : List Input) → AreInputs d inputs → ArePlain inputs → downloads_done d.rows (recorded stamp d inputs) ≡ downloads_set stamp d inputs
-all_are_done stamp d inputs h p = (all_same stamp d inputs h p).same

@@ -1,7 +1,7 @@
--- The uploads that explain says are done, and those that the channel serves whole: over all inputs.
-use Rattle.std.proofs.Common.{◌≡◌, ℕ, suc, Bool, true, false, List, [], ◌∷◌, ◌++◌, length, Option, Some, None, refl, sym, ap, ◌∙◌, ◌⊎◌, inl, inr, subst}
+-- The uploads that explain says are done are some of those that the channel serves whole: over all inputs.
+use Rattle.std.proofs.Common.{◌≡◌, ℕ, suc, Bool, true, false, List, [], ◌∷◌, ◌++◌, length, Option, Some, None, refl, sym, ap, inl, inr, subst}
 use Rattle.std.specs.Prelude.{if◌then◌else◌, IfSome, ◌==◌}
-use Rattle.std.proofs.lemmas.Bool.{eqb-true, false≢true}
+use Rattle.std.proofs.lemmas.Bool.{eqb-true}
 use Rattle.co_value.specs.Numbers.{AreBytes}
 use Rattle.co_frame.specs.SdoRequests.{request_in}
 use Rattle.co_dict.specs.Rows.{Contents}
@@ -19,26 +19,18 @@ use Rattle.conode_explain_transfers.specs.Followed.{Event, following_after}
 use Rattle.conode_explain_transfers.specs.Stages.{confirmed_with}
 use Rattle.conode_explain_transfers.proofs.DataLemmas.{open_after}
 use Rattle.conode_explain_laws.specs.Recordings.{Input, Received, Elapsed, Expired, Abandoned, Started, AreInputs, log_of, and_frame, and_answers, recorded}
-use Rattle.conode_explain_laws.specs.Downloads.{Complete, AreSome, ArePlain}
+use Rattle.conode_explain_laws.specs.Downloads.{Complete, AreSome}
 use Rattle.conode_explain_laws.specs.Uploads.{Read, answered_whole, acknowledged_whole, ended_by, read_served, uploads_done, uploads_served}
-use Rattle.conode_explain_laws.proofs.Readings.{Nothing, request_reading, reading_of}
-use Rattle.conode_explain_laws.proofs.Exchanges.{client_plain}
+use Rattle.conode_explain_laws.proofs.Readings.{Nothing}
 use Rattle.conode_explain_laws.proofs.AllInputs.{short_reading, dropped_since}
-use Rattle.conode_explain_laws.proofs.Exact.{ExactIn, exact_upload, exact_segments, exact_dropped, upload_plain}
-use Rattle.conode_explain_laws.proofs.AllExact.{all_same, kept_of, is_eight}
+use Rattle.conode_explain_laws.proofs.AllExact.{kept_of}
 use Rattle.conode_explain_laws.proofs.Views.{Closes}
 use Rattle.conode_explain_laws.proofs.UploadViews.{view_of, holds, read_as, hears_answers, hears_frame, hears_all, IsAside, KnowsAside, aside_turn, aborted_closes}
 use Rattle.conode_explain_laws.proofs.UploadSteps.{acknowledged_next, answered_next, completes, ticked_whole, dropped_whole}
 use Rattle.conode_explain_laws.proofs.UploadStanding.{aside, asked, gone, segmented, begun, blocks, at_end, FollowsIn, Ends}
-use Rattle.conode_explain_laws.proofs.UploadExchanges.{IsPlain, exchange}
+use Rattle.conode_explain_laws.proofs.UploadExchanges.{exchange}
 
 -- ---- lists
-
--- what explain says is done, and what is served: with one of each more, or where some may be left out, with one that is served
-record Compares (Loose : Type 0) (R : List Complete → List Complete → Type 0) : Type 0 where
-  none : R [] []
-  both : (more some all : List Complete) → R some all → R (more ++ some) (more ++ all)
-  served : Loose → (more some all : List Complete) → R some all → R some (more ++ all)
 
 some_more : (more some all : List Complete) → AreSome some all → AreSome some (more ++ all)
 some_more [] some all h = h
@@ -49,12 +41,6 @@ both_more : (more some all : List Complete) → AreSome some all → AreSome (mo
 both_more [] some all h = h
 both_more (x ∷ more) some all h = inl (refl, both_more more some all h)
 
-are_some : Compares (Unit {0}) AreSome
-are_some = record { none = tt; both = both_more; served = λ l. some_more }
-
-are_same : Compares ⊥ (λ some all. some ≡ all)
-are_same = record { none = refl; both = λ more some all h. ap (λ w. more ++ w) h; served = λ l. absurd l }
-
 -- ---- a frame that hasn't eight bytes
 
 short_reads : (Loose : Type 0) (micros : ℕ) (frame : List ℕ) (heard : Bool) (held : Option Transfer) (got : List ℕ) (done : List Complete) (count : ℕ) → Loose
@@ -62,32 +48,41 @@ short_reads : (Loose : Type 0) (micros : ℕ) (frame : List ℕ) (heard : Bool) 
 short_reads Loose micros frame heard None got done count l = record { holds = tt; same = refl }
 short_reads Loose micros frame heard (Some t) got done count l = aside_turn Loose micros Client frame heard t got done count Nothing (inl (l, refl))
 
--- ---- how frames are read where none begins a download in blocks
-
-client_reads : (held : Option Transfer) (got : List ℕ) (current : Option OpenTransfer) (micros : ℕ) (frame : List ℕ) → ExactIn held got current → reading_of held Client micros frame ≡ request_reading (request_in frame) micros frame
-client_reads None got current micros frame h = refl
-client_reads (Some t) got current micros frame (exact_upload up n) = upload_plain t micros frame up
-client_reads (Some t) got current micros frame (exact_segments toggle h c) = client_plain t toggle micros frame h.in_turn.stage
-client_reads (Some t) got current micros frame (exact_dropped toggle h c) = client_plain t toggle micros frame h.stage
-
 -- ---- what holds after all inputs
 
-module _ (Loose : Type 0) (R : List Complete → List Complete → Type 0) (compares : Compares Loose R) (stamp : ℕ → ℕ) (d : Description) where
+-- a transfer that is dropped
+pub drops : (Loose : Type 0) (held : Option Transfer) (got : List ℕ) (current : Option OpenTransfer) (ended : Option Read) → FollowsIn Loose held got current ended → FollowsIn Loose held got None ended
+drops Loose None got current ended (inl l) = inl l
+drops Loose None got current ended (inr h) = inr (record { none = refl; no_end = h.no_end })
+drops Loose (Some t) got current ended (aside a (inl l)) = aside a (inl l)
+drops Loose (Some t) got current ended (aside a (inr h)) = aside a (inr (record { none = refl; no_end = h.no_end }))
+drops Loose (Some t) got current ended (asked l a) = asked l a
+drops Loose (Some t) got current ended (gone a c e) = gone a refl e
+drops Loose (Some t) got current ended (segmented sent bytes a g c e) = gone (record { direction = a.direction; unconfirmed = ap confirmed_with a.stage; unended = rw a.stage refl }) refl e
+drops Loose (Some t) got current ended (begun block_size bytes a g c e) = gone (record { direction = a.is.direction; unconfirmed = ap confirmed_with a.stage; unended = rw a.stage refl }) refl e
+drops Loose (Some t) got current ended (blocks position sent bytes a c e) = gone (record { direction = a.is.direction; unconfirmed = ap confirmed_with a.stage; unended = rw a.stage refl }) refl e
+drops Loose (Some t) got current ended (at_end crc bytes a g c e) = at_end crc bytes a g (inl refl) e
+
+-- some uploads may be left out
+abbrev Loose : Type 0
+Loose = Unit {0}
+
+module _ (stamp : ℕ → ℕ) (d : Description) where
   record Related (log : Log) (recording : List Event) (whole : List Complete) : Type 0 where
     current : Option OpenTransfer
     serves : Serves d.rows log current
     follows : FollowsIn Loose (following_after recording).transfer (data_after recording) current (acknowledged_whole log)
-    related : R (uploads_done recording) whole
+    related : AreSome (uploads_done recording) whole
 
   -- a request of eight bytes
   with_request : (contents : Contents) (frame : List ℕ) (log : Log) (recording : List Event) (whole : List Complete) → Related log recording whole
-      → IsDictionary d contents → AreBytes frame → length frame ≡ 8 → IsPlain Loose (following_after recording).transfer (stamp (length recording)) frame
+      → IsDictionary d contents → AreBytes frame → length frame ≡ 8
       → Related (Exchanged (record { request = frame; contents = contents; answers = reply_to d contents log frame }) ∷ log)
       (and_answers stamp (reply_to d contents log frame) (and_frame stamp Client frame recording))
       (read_served (answered_whole (reply_to d contents log frame) (Exchanged (record { request = frame; contents = contents; answers = reply_to d contents log frame }) ∷ log))
       (length (and_answers stamp (reply_to d contents log frame) (and_frame stamp Client frame recording)))
       ++ (read_served (ended_by (request_in frame) (acknowledged_whole log)) (suc (length recording)) ++ whole))
-  with_request contents frame log recording whole h lawful small n plain =
+  with_request contents frame log recording whole h lawful small n =
       let one = served d contents log h.current frame h.serves lawful n in
       let made = completes d contents log h.current frame h.serves.opens in
       let answers = reply_to d contents log frame in
@@ -101,47 +96,47 @@ module _ (Loose : Type 0) (R : List Complete → List Complete → Type 0) (comp
       subst P (sym (hears_all stamp answers (and_frame stamp Client frame recording)))
       (subst (λ a. P (hears_answers stamp a (view_of (and_frame stamp Client frame recording)))) (sym one.replies)
       (subst (λ v. P (hears_answers stamp (answers_to d contents h.current frame) v)) (sym (hears_frame stamp Client frame recording))
-      (exchange Loose d contents stamp frame h.current (acknowledged_whole log) (view_of recording) small lawful h.follows kept plain))) in
+      (exchange Loose d contents stamp frame h.current (acknowledged_whole log) (view_of recording) small lawful h.follows kept (inl tt)))) in
       record {
         current = next;
         serves = one.next;
         follows = subst (FollowsIn Loose (following_after longer).transfer (data_after longer) next) (sym made.acknowledged) step.follows;
-        related = subst (λ x. R (uploads_done longer) (read_served x (length longer) ++ (ended ++ whole))) (sym made.answered)
+        related = subst (λ x. AreSome (uploads_done longer) (read_served x (length longer) ++ (ended ++ whole))) (sym made.answered)
             (elim step.reads [
-              | inl r ↦ subst (λ w. R w (answered ++ (ended ++ whole))) (sym r.1)
-                  (compares.served r.0 answered (uploads_done recording) (ended ++ whole) (compares.served r.0 ended (uploads_done recording) whole h.related))
-              | inr e ↦ subst (λ w. R w (answered ++ (ended ++ whole))) (sym e)
-                  (compares.both answered (ended ++ uploads_done recording) (ended ++ whole) (compares.both ended (uploads_done recording) whole h.related))
+              | inl r ↦ subst (λ w. AreSome w (answered ++ (ended ++ whole))) (sym r.1)
+                  (some_more answered (uploads_done recording) (ended ++ whole) (some_more ended (uploads_done recording) whole h.related))
+              | inr e ↦ subst (λ w. AreSome w (answered ++ (ended ++ whole))) (sym e)
+                  (both_more answered (ended ++ uploads_done recording) (ended ++ whole) (both_more ended (uploads_done recording) whole h.related))
             ]);
       }
 
-  aside_all : (held : Option Transfer) (got : List ℕ) (current : Option OpenTransfer) (ended : Option Read) → Loose → IfSome held (IsAside Loose) → FollowsIn Loose held got current ended
-  aside_all None got current ended l h = inl l
-  aside_all (Some t) got current ended l h = aside h (inl l)
+  aside_all : (held : Option Transfer) (got : List ℕ) (current : Option OpenTransfer) (ended : Option Read) → IfSome held (IsAside Loose) → FollowsIn Loose held got current ended
+  aside_all None got current ended h = inl tt
+  aside_all (Some t) got current ended h = aside h (inl tt)
 
   -- a frame of another length
-  with_short : (frame : List ℕ) (log : Log) (recording : List Event) (whole : List Complete) → Related log recording whole → (length frame == 8) ≡ false → Loose
+  with_short : (frame : List ℕ) (log : Log) (recording : List Event) (whole : List Complete) → Related log recording whole → (length frame == 8) ≡ false
       → (one other : List Complete) → Related log (and_frame stamp Client frame recording) (one ++ (other ++ whole))
-  with_short frame log recording whole h n l one other =
+  with_short frame log recording whole h n one other =
       let v = view_of recording in
       let k : KnowsAside Loose (uploads_done recording) (view_of (and_frame stamp Client frame recording)) =
       subst (KnowsAside Loose (uploads_done recording)) (sym (hears_frame stamp Client frame recording))
       (subst (λ reading. KnowsAside Loose (uploads_done recording) (read_as (stamp v.count) Client frame v reading)) (sym (short_reading v.following.transfer (stamp v.count) frame n))
-      (short_reads Loose (stamp v.count) frame v.following.heard v.following.transfer v.got v.done v.count l)) in
+      (short_reads Loose (stamp v.count) frame v.following.heard v.following.transfer v.got v.done v.count tt)) in
       record {
         current = h.current;
         serves = h.serves;
-        follows = aside_all _ _ h.current _ l k.holds;
-        related = subst (λ w. R w (one ++ (other ++ whole))) (sym k.same)
-            (compares.served l one (uploads_done recording) (other ++ whole) (compares.served l other (uploads_done recording) whole h.related));
+        follows = aside_all _ _ h.current _ k.holds;
+        related = subst (λ w. AreSome w (one ++ (other ++ whole))) (sym k.same)
+            (some_more one (uploads_done recording) (other ++ whole) (some_more other (uploads_done recording) whole h.related));
       }
 
   with_frame : (contents : Contents) (frame : List ℕ) (older : List Input) → Related (log_of d older) (recorded stamp d older) (uploads_served stamp d older)
-      → IsDictionary d contents → AreBytes frame → Loose ⊎ (length frame ≡ 8) → IsPlain Loose (following_after (recorded stamp d older)).transfer (stamp (length (recorded stamp d older))) frame
+      → IsDictionary d contents → AreBytes frame
       → Related (log_of d (Received contents frame ∷ older)) (recorded stamp d (Received contents frame ∷ older)) (uploads_served stamp d (Received contents frame ∷ older))
-  with_frame contents frame older h lawful small eight plain = by (length frame == 8) refl eight
+  with_frame contents frame older h lawful small = by (length frame == 8) refl
     where
-      by : (long : Bool) → (length frame == 8) ≡ long → Loose ⊎ (length frame ≡ 8)
+      by : (long : Bool) → (length frame == 8) ≡ long
           → Related
           (if long then Exchanged (record { request = frame; contents = contents; answers = reply_to d contents (log_of d older) frame }) ∷ log_of d older else log_of d older)
           (and_answers stamp (if long then reply_to d contents (log_of d older) frame else []) (and_frame stamp Client frame (recorded stamp d older)))
@@ -150,11 +145,10 @@ module _ (Loose : Type 0) (R : List Complete → List Complete → Type 0) (comp
           (length (and_answers stamp (if long then reply_to d contents (log_of d older) frame else []) (and_frame stamp Client frame (recorded stamp d older))))
           ++ (read_served (ended_by (request_in frame) (acknowledged_whole (log_of d older))) (suc (length (recorded stamp d older)))
           ++ uploads_served stamp d older))
-      by true e eight = with_request contents frame (log_of d older) (recorded stamp d older) (uploads_served stamp d older) h lawful small (eqb-true (length frame) 8 e) plain
-      by false e (inl l) = with_short frame (log_of d older) (recorded stamp d older) (uploads_served stamp d older) h e l
+      by true e = with_request contents frame (log_of d older) (recorded stamp d older) (uploads_served stamp d older) h lawful small (eqb-true (length frame) 8 e)
+      by false e = with_short frame (log_of d older) (recorded stamp d older) (uploads_served stamp d older) h e
           (read_served (answered_whole [] (log_of d older)) (length (and_frame stamp Client frame (recorded stamp d older))))
           (read_served (ended_by (request_in frame) (acknowledged_whole (log_of d older))) (suc (length (recorded stamp d older))))
-      by false e (inr eight) = absurd (false≢true (sym e ∙ is_eight (length frame) eight))
 
   -- a transfer that times out
   with_abort : (log : Log) (recording : List Event) (whole : List Complete) → Related log recording whole
@@ -167,66 +161,33 @@ module _ (Loose : Type 0) (R : List Complete → List Complete → Type 0) (comp
         current = None;
         serves = serves_first d.rows (TimedOut (time_out_reply log) ∷ log) (ended log (time_out_reply log));
         follows = rw k.none (inr (record { none = refl; no_end = refl }));
-        related = subst (λ w. R w whole) (sym k.same) h.related;
+        related = subst (λ w. AreSome w whole) (sym k.same) h.related;
       }
 
-  -- a transfer that is dropped
-  drops : (held : Option Transfer) (got : List ℕ) (current : Option OpenTransfer) (ended : Option Read) → FollowsIn Loose held got current ended → FollowsIn Loose held got None ended
-  drops None got current ended (inl l) = inl l
-  drops None got current ended (inr h) = inr (record { none = refl; no_end = h.no_end })
-  drops (Some t) got current ended (aside a (inl l)) = aside a (inl l)
-  drops (Some t) got current ended (aside a (inr h)) = aside a (inr (record { none = refl; no_end = h.no_end }))
-  drops (Some t) got current ended (asked l a) = asked l a
-  drops (Some t) got current ended (gone a c e) = gone a refl e
-  drops (Some t) got current ended (segmented sent bytes a g c e) = gone (record { direction = a.direction; unconfirmed = ap confirmed_with a.stage; unended = rw a.stage refl }) refl e
-  drops (Some t) got current ended (begun block_size bytes a g c e) = gone (record { direction = a.is.direction; unconfirmed = ap confirmed_with a.stage; unended = rw a.stage refl }) refl e
-  drops (Some t) got current ended (blocks position sent bytes a c e) = gone (record { direction = a.is.direction; unconfirmed = ap confirmed_with a.stage; unended = rw a.stage refl }) refl e
-  drops (Some t) got current ended (at_end crc bytes a g c e) = at_end crc bytes a g (inl refl) e
-
-  -- whether frames are plain, where no upload may be left out
-  older_plain : (input : Input) (older : List Input) → Loose ⊎ ArePlain (input ∷ older) → Loose ⊎ ArePlain older
-  older_plain input older (inl l) = inl l
-  older_plain input older (inr p) = inr p.1
-
-  frame_plain : (contents : Contents) (frame : List ℕ) (older : List Input) → AreInputs d older → Loose ⊎ ArePlain (Received contents frame ∷ older)
-      → IsPlain Loose (following_after (recorded stamp d older)).transfer (stamp (length (recorded stamp d older))) frame
-  frame_plain contents frame older h (inl l) = inl l
-  frame_plain contents frame older h (inr p) =
-      let s = all_same stamp d older h p.1 in
-      inr (p.0.1, client_reads (following_after (recorded stamp d older)).transfer (data_after (recorded stamp d older)) s.current (stamp (length (recorded stamp d older))) frame s.holds)
-
-  frame_long : (contents : Contents) (frame : List ℕ) (older : List Input) → Loose ⊎ ArePlain (Received contents frame ∷ older) → Loose ⊎ (length frame ≡ 8)
-  frame_long contents frame older (inl l) = inl l
-  frame_long contents frame older (inr p) = inr p.0.0
-
-  all_related : (inputs : List Input) → AreInputs d inputs → Loose ⊎ ArePlain inputs → Related (log_of d inputs) (recorded stamp d inputs) (uploads_served stamp d inputs)
-  all_related [] h p = record { current = None; serves = serves_first d.rows [] refl; follows = inr (record { none = refl; no_end = refl }); related = compares.none }
-  all_related (Received contents frame ∷ older) h p =
-      with_frame contents frame older (all_related older h.1 (older_plain (Received contents frame) older p)) h.0.0 h.0.1 (frame_long contents frame older p) (frame_plain contents frame older h.1 p)
-  all_related (Elapsed ∷ older) h p =
-      let r = all_related older h.1 (older_plain Elapsed older p) in
+  all_related : (inputs : List Input) → AreInputs d inputs → Related (log_of d inputs) (recorded stamp d inputs) (uploads_served stamp d inputs)
+  all_related [] h = record { current = None; serves = serves_first d.rows [] refl; follows = inr (record { none = refl; no_end = refl }); related = tt }
+  all_related (Received contents frame ∷ older) h = with_frame contents frame older (all_related older h.1) h.0.0 h.0.1
+  all_related (Elapsed ∷ older) h =
+      let r = all_related older h.1 in
       record {
         current = r.current;
         serves = serves_ticked d.rows (log_of d older) r.current r.serves;
         follows = subst (FollowsIn Loose (following_after (recorded stamp d older)).transfer (data_after (recorded stamp d older)) r.current) (sym (ticked_whole (log_of d older))) r.follows;
         related = r.related;
       }
-  all_related (Expired ∷ older) h p = with_abort (log_of d older) (recorded stamp d older) (uploads_served stamp d older) (all_related older h.1 (older_plain Expired older p))
-  all_related (Abandoned ∷ older) h p =
-      let r = all_related older h.1 (older_plain Abandoned older p) in
+  all_related (Expired ∷ older) h = with_abort (log_of d older) (recorded stamp d older) (uploads_served stamp d older) (all_related older h.1)
+  all_related (Abandoned ∷ older) h =
+      let r = all_related older h.1 in
       record {
         current = None;
         serves = serves_first d.rows (Dropped ∷ log_of d older) (dropped_since (since_initiate (log_of d older)));
         follows = subst (FollowsIn Loose (following_after (recorded stamp d older)).transfer (data_after (recorded stamp d older)) None) (sym (dropped_whole (log_of d older)))
-            (drops (following_after (recorded stamp d older)).transfer (data_after (recorded stamp d older)) r.current (acknowledged_whole (log_of d older)) r.follows);
+            (drops Loose (following_after (recorded stamp d older)).transfer (data_after (recorded stamp d older)) r.current (acknowledged_whole (log_of d older)) r.follows);
         related = r.related;
       }
-  all_related (Started ∷ older) h p =
-      let r = all_related older h.1 (older_plain Started older p) in
+  all_related (Started ∷ older) h =
+      let r = all_related older h.1 in
       record { current = None; serves = serves_first d.rows [] refl; follows = inr (record { none = refl; no_end = refl }); related = r.related }
 
 pub some_are_served : (stamp : ℕ → ℕ) (d : Description) (inputs : List Input) → AreInputs d inputs → AreSome (uploads_done (recorded stamp d inputs)) (uploads_served stamp d inputs)
-some_are_served stamp d inputs h = (all_related (Unit {0}) AreSome are_some stamp d inputs h (inl tt)).related
-
-pub all_are_served : (stamp : ℕ → ℕ) (d : Description) (inputs : List Input) → AreInputs d inputs → ArePlain inputs → uploads_done (recorded stamp d inputs) ≡ uploads_served stamp d inputs
-all_are_served stamp d inputs h p = (all_related ⊥ (λ some all. some ≡ all) are_same stamp d inputs h (inr p)).related
+some_are_served stamp d inputs h = (all_related stamp d inputs h).related

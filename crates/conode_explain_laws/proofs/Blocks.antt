@@ -53,7 +53,7 @@ pub record IsSegment (frame : List ℕ) (segment : BlockSegment) : Type 0 where
   pub bytes : length segment.bytes ≡ 7
   pub command : (command frame == 0x80) ≡ false
 
-is_segment : (frame : List ℕ) (segment : BlockSegment) → block_segment_in frame ≡ Some segment → IsSegment frame segment
+pub is_segment : (frame : List ℕ) (segment : BlockSegment) → block_segment_in frame ≡ Some segment → IsSegment frame segment
 is_segment frame segment e = by (length frame == 8) (nat_le 1 (command frame % 128)) refl refl e
   where
     by : (long numbered : Bool) → (length frame == 8) ≡ long → nat_le 1 (command frame % 128) ≡ numbered
@@ -69,17 +69,17 @@ is_segment frame segment e = by (length frame == 8) (nat_le 1 (command frame % 1
 -- ---- what the channel makes of a frame inside a sub-block
 
 -- how many segments are taken with this one, or none
-abbrev taken_by : ℕ → Option BlockSegment → ℕ
+abbrev pub taken_by : ℕ → Option BlockSegment → ℕ
 taken_by taken next = option_map_or (λ segment. taken + 1) next taken
 
-abbrev ends_with : Option BlockSegment → Bool
+abbrev pub ends_with : Option BlockSegment → Bool
 ends_with x = option_map_or (λ segment. segment.last || (segment.sequence == 127)) x false
 
 -- the answers, and what is open then, where this is held
-abbrev answers_at : Rows → Key → List ℕ → Bool → Bool → ℕ → List Answer
+abbrev pub answers_at : Rows → Key → List ℕ → Bool → Bool → ℕ → List Answer
 answers_at rows key held ends last n = if ends then unless_refused (if last then None else room_refusal rows key held) key (Replied (BlockDownloadAcknowledge n 127) ∷ []) else []
 
-abbrev opens_at : Rows → Key → List ℕ → Option ℕ → Bool → Bool → ℕ → Option OpenTransfer
+abbrev pub opens_at : Rows → Key → List ℕ → Option ℕ → Bool → Bool → ℕ → Option OpenTransfer
 opens_at rows key held size ends last n =
     if ends then unless (if last then None else room_refusal rows key held) (opened_at key (if last then LastTaken size else InSubBlock size 0) held)
     else opened_at key (InSubBlock size n) held
@@ -101,7 +101,7 @@ not_begun reading _ is n = is
 -- ---- answers
 
 -- what explain knows after a response, by what it makes of the transfer
-abbrev turned : Rows → ℕ → Bool → Transfer → List ℕ → List Complete → ℕ → Turn → View
+abbrev pub turned : Rows → ℕ → Bool → Transfer → List ℕ → List Complete → ℕ → Turn → View
 turned rows micros heard t got done count turn = record {
   following = (turns heard t turn micros Server).next;
   got = data_with got turn.takes;
@@ -110,7 +110,7 @@ turned rows micros heard t got done count turn = record {
 }
 
 -- an acknowledgement
-acknowledges : (rows : Rows) (stamp : ℕ → ℕ) (heard : Bool) (u : Transfer) (got : List ℕ) (done : List Complete) (count sequence : ℕ) (turn : Turn) (P : View → Type 0) → u.direction ≡ Download
+pub acknowledges : (rows : Rows) (stamp : ℕ → ℕ) (heard : Bool) (u : Transfer) (got : List ℕ) (done : List Complete) (count sequence : ℕ) (turn : Turn) (P : View → Type 0) → u.direction ≡ Download
     → acknowledged_at u.stage u sequence 127 ≡ turn → P (turned rows (stamp count) heard u got done count turn)
     → P (hears_answers rows stamp (Replied (BlockDownloadAcknowledge sequence 127) ∷ []) (holds heard u got done count))
 acknowledges rows stamp heard u got done count sequence turn P d e h =
@@ -119,14 +119,14 @@ acknowledges rows stamp heard u got done count sequence turn P d e h =
     (subst (λ w. P (turned rows (stamp count) heard u got done count w)) (sym (ap (λ x. acknowledged (is_download x) u sequence 127) d ∙ e)) h)
 
 -- of the last segment
-last_turn : (u : Transfer) (n : ℕ) → u.stage ≡ SubBlock true → length u.pending.items ≡ 7 * n → acknowledged_at u.stage u n 127 ≡ goes_on (record u { stage = AllAcknowledged })
+pub last_turn : (u : Transfer) (n : ℕ) → u.stage ≡ SubBlock true → length u.pending.items ≡ 7 * n → acknowledged_at u.stage u n 127 ≡ goes_on (record u { stage = AllAcknowledged })
 last_turn u n e p =
     let below : nat_lt n (length u.pending.items / 7 + 1) ≡ true = grind (arith, nat_tests) in
     let is : (n + 1 == length u.pending.items / 7 + 1) ≡ true = grind (arith, nat_tests) in
     ap (λ stage. acknowledged_at stage u n 127) e ∙ rw (below, is) refl
 
 -- of all segments of a sub-block
-next_turn : (u : Transfer) (taken : ℕ) → u.stage ≡ SubBlock false → length u.pending.items ≡ 7 * taken
+pub next_turn : (u : Transfer) (taken : ℕ) → u.stage ≡ SubBlock false → length u.pending.items ≡ 7 * taken
     → acknowledged_at u.stage u taken 127 ≡ takes_pending (record u { block_size = 127; next_number = 1; stage = SubBlock false }) (7 * taken)
 next_turn u taken e p =
     let below : nat_lt taken (length u.pending.items / 7 + 1) ≡ true = grind (arith, nat_tests) in
@@ -177,7 +177,7 @@ added t segment micros = with_frame Part (after t (segment_added t segment)) mic
 abbrev passed : Transfer → BlockSegment → ℕ → Transfer
 passed t segment micros = with_frame Part (after t (segment_ahead t segment)) micros Client
 
-number_is : (t : Transfer) (taken n : ℕ) (b : Bool) → length t.pending.items ≡ 7 * taken → (n == awaited_number t) ≡ b → (n == taken + 1) ≡ b
+pub number_is : (t : Transfer) (taken n : ℕ) (b : Bool) → length t.pending.items ≡ 7 * taken → (n == awaited_number t) ≡ b → (n == taken + 1) ≡ b
 number_is t taken n b p e =
     let awaited : length t.pending.items / 7 + 1 ≡ taken + 1 = omega (arith, p) in
     subst (λ x. (n == x) ≡ b) awaited e
@@ -278,11 +278,11 @@ module _ (d : Description) (contents : Contents) (stamp : ℕ → ℕ) (frame : 
 -- ---- the end
 
 -- the client ends it: the number of unused bytes is small
-abbrev IsSmallEnd : SdoRequest → Type 0
+abbrev pub IsSmallEnd : SdoRequest → Type 0
 IsSmallEnd (BlockDownloadEnd unused) = unused ≤ 7
 IsSmallEnd _ = Unit {0}
 
-small_end : (frame : List ℕ) → IfSome (request_in frame) IsSmallEnd
+pub small_end : (frame : List ℕ) → IfSome (request_in frame) IsSmallEnd
 unfolding request_row_in
 small_end frame =
     let P : SdoRequest → Type 0 = λ request. IsSmallEnd request in
@@ -299,10 +299,10 @@ small_end frame =
     tt
 
 -- explain after the end
-abbrev ended : Transfer → ℕ → ℕ → ℕ → Transfer
+abbrev pub ended : Transfer → ℕ → ℕ → ℕ → Transfer
 ended t unused crc micros = with_frame Part (after t (takes_pending (record t { stage = BlockEnded crc }) (length t.pending.items - unused))) micros Client
 
-abbrev left_of : Transfer → ℕ → List ℕ
+abbrev pub left_of : Transfer → ℕ → List ℕ
 left_of t unused = take (length t.pending.items - unused) t.pending.items
 
 take_past : (xs ys : List ℕ) (n : ℕ) → take (length xs + n) (xs ++ ys) ≡ xs ++ take n ys
@@ -310,7 +310,7 @@ take_past [] ys n = let e : 0 + n ≡ n = omega arith in ap (λ k. take k ys) e
 take_past (x ∷ xs) ys n = let e : suc (length xs) + n ≡ suc (length xs + n) = omega arith in ap (λ k. take k (x ∷ (xs ++ ys))) e ∙ ap (λ l. x ∷ l) (take_past xs ys n)
 
 -- the channel sets what explain has taken
-without_is : (got pending : List ℕ) (unused : ℕ) → unused ≤ 7 → 7 ≤ length pending → got ++ take (length pending - unused) pending ≡ without unused (got ++ pending)
+pub without_is : (got pending : List ℕ) (unused : ℕ) → unused ≤ 7 → 7 ≤ length pending → got ++ take (length pending - unused) pending ≡ without unused (got ++ pending)
 without_is got pending unused few many =
     let n : length (got ++ pending) - unused ≡ length got + (length pending - unused) = (let a = length-append got pending in omega (arith, a)) in
     sym (ap (λ k. take k (got ++ pending)) n ∙ take_past got pending (length pending - unused))

@@ -81,7 +81,7 @@ pub record Exactly (next : Option OpenTransfer) (set : Option Whole) (done : Lis
   pub holds : ExactIn v.following.transfer v.got next
   pub same : v.done ≡ write_set set v.count ++ done
 
-closed_exactly : (rows : Rows) (stamp : ℕ → ℕ) (key : Key) (code : ℕ) (done : List Complete) (v : View) → v.done ≡ done → Exactly None None done (hears_answers rows stamp (aborted key code) v)
+pub closed_exactly : (rows : Rows) (stamp : ℕ → ℕ) (key : Key) (code : ℕ) (done : List Complete) (v : View) → v.done ≡ done → Exactly None None done (hears_answers rows stamp (aborted key code) v)
 closed_exactly rows stamp key code done v e =
     let c = aborted_closes rows stamp key code v in
     record { holds = rw c.none refl; same = c.same ∙ e }
@@ -218,14 +218,14 @@ capped d key (Some row) h e = h.capacity key row e
 not_above : (n most : ℕ) → n ≤ most → min n most ≡ n
 not_above n most h = omega arith
 
-size_right : (size : Option ℕ) (n : ℕ) → is_as_indicated size n ≡ true → n ≤ 65535 → size_fault size (counted n) ≡ None
+pub size_right : (size : Option ℕ) (n : ℕ) → is_as_indicated size n ≡ true → n ≤ 65535 → size_fault size (counted n) ≡ None
 size_right None n h few = refl
 size_right (Some size) n h few =
     let m : n ≤ 2 ^ 64 - 1 = omega (arith, few) in
     let c : counted n ≡ n = not_above n (2 ^ 64 - 1) m in
     rw (c, h) refl
 
-regular_done : (u : Transfer) (write : List Complete) → u.irregular ≡ false → size_fault u.size u.taken.count ≡ None → is_download u.direction ≡ true
+pub regular_done : (u : Transfer) (write : List Complete) → u.irregular ≡ false → size_fault u.size u.taken.count ≡ None → is_download u.direction ≡ true
     → (if is_download u.direction then if_done (verdict u None) write else []) ≡ write
 regular_done u write r s p = rw (p, r, s) refl
 
@@ -318,7 +318,7 @@ segment_comes d contents stamp micros frame heard t got done count expected togg
 
 -- ---- every request
 
-begin_comes : (d : Description) (contents : Contents) (stamp : ℕ → ℕ) (current : Option OpenTransfer) (request : SdoRequest) (t : Transfer) (frame : List ℕ) (heard : Bool) (held : Option Transfer) (got : List ℕ) (done : List Complete) (count : ℕ)
+pub begin_comes : (d : Description) (contents : Contents) (stamp : ℕ → ℕ) (current : Option OpenTransfer) (request : SdoRequest) (t : Transfer) (frame : List ℕ) (heard : Bool) (held : Option Transfer) (got : List ℕ) (done : List Complete) (count : ℕ)
     → request_in frame ≡ Some request → begun_with request (stamp count) frame ≡ Some t → AreBytes frame → is_block_begin (Some request) ≡ false
     → Exactly (after_request d contents current (Some request)) (set_by_request d contents current (Some request)) done
     (hears_answers d.rows stamp (request_answers d contents current (Some request))
@@ -412,7 +412,7 @@ upload_plain t micros frame e = by (is_inside t.stage) t.direction e
     by true x e = rw e refl
     by false x e = refl
 
-upload_outside : (current : Option OpenTransfer) → no_download current ≡ true → is_in_sub_block current ≡ false
+pub upload_outside : (current : Option OpenTransfer) → no_download current ≡ true → is_in_sub_block current ≡ false
 upload_outside None h = refl
 upload_outside (Some o) h = by o.stage h
   where
@@ -446,3 +446,10 @@ pub exact_exchange : (d : Description) (contents : Contents) (stamp : ℕ → �
     (hears_answers d.rows stamp (answers_to d contents current frame) (hears d.rows stamp Client frame v))
 exact_exchange d contents stamp frame current v h kept lawful small n =
     exact_by d contents stamp frame current v.following.heard v.following.transfer v.got v.done v.count h kept lawful small n
+
+-- how frames are read where none is inside a sub-block
+pub client_reads : (held : Option Transfer) (got : List ℕ) (current : Option OpenTransfer) (micros : ℕ) (frame : List ℕ) → ExactIn held got current → reading_of held Client micros frame ≡ request_reading (request_in frame) micros frame
+client_reads None got current micros frame h = refl
+client_reads (Some t) got current micros frame (exact_upload up n) = upload_plain t micros frame up
+client_reads (Some t) got current micros frame (exact_segments toggle h c) = client_plain t toggle micros frame h.in_turn.stage
+client_reads (Some t) got current micros frame (exact_dropped toggle h c) = client_plain t toggle micros frame h.stage

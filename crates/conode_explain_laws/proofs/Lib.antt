@@ -9,6 +9,8 @@ pub mod AllInputs
 pub mod NoDownloads
 pub mod Exact
 pub mod AllExact
+pub mod BlockExact
+pub mod AllOrderly
 pub mod UploadViews
 pub mod UploadSteps
 pub mod UploadBlocks
@@ -16,6 +18,17 @@ pub mod UploadStanding
 pub mod NoUploads
 pub mod UploadExchanges
 pub mod AllUploads
+pub mod OrderlyUploads
 pub mod Examples
 mod UploadExamples
 mod ClientExamples
+pub mod ClientViews
+pub mod ClientStanding
+pub mod ClientDownloads
+pub mod ClientUploads
+pub mod ClientBlockDownloads
+pub mod ClientLost
+pub mod ClientBlockUploads
+pub mod ClientAnswers
+pub mod ClientBegins
+pub mod AllClients

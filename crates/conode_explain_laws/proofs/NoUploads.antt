@@ -1,6 +1,6 @@
 -- A request that begins no transfer, where the channel has no upload open: none is open after it, and none is answered.
-use Rattle.std.proofs.Common.{◌≡◌, ℕ, ◌+◌, ◌*◌, ◌-◌, ◌/◌, ◌^◌, ◌<◌, ◌≤◌, Bool, true, false, not, List, ◌∷◌, ◌++◌, Option, Some, None, refl, sym, ◌∙◌, ◌⊎◌}
-use Rattle.std.specs.Prelude.{if◌then◌else◌, ◌==◌, ◌&&◌}
+use Rattle.std.proofs.Common.{◌≡◌, ℕ, Bool, true, false, not, List, ◌++◌, Option, Some, None, refl, sym}
+use Rattle.std.specs.Prelude.{if◌then◌else◌}
 use Rattle.std.proofs.lemmas.Bool.{false≢true}
 use Rattle.co_frame.specs.declared.sdo_request.SdoRequest.{SdoRequest}
 use Rattle.co_frame.specs.declared.sdo_request.SdoRequest.TheVariants.{DownloadExpedited, DownloadInitiate, DownloadSegment, Upload as UploadInitiate, UploadSegment as NextSegment, Abort as Abandon, BlockUploadInitiate, BlockUploadStart, BlockUploadAcknowledge, BlockUploadEnd as UploadEnd, BlockDownloadInitiate, BlockDownloadEnd}
@@ -16,7 +16,7 @@ use Rattle.conode_explain_laws.specs.Uploads.{Read, ended_by}
 use Rattle.conode_explain_laws.proofs.Readings.{request_reading}
 use Rattle.conode_explain_laws.proofs.Views.{is_begin}
 use Rattle.conode_explain_laws.proofs.UploadSteps.{with_segment, with_acknowledge, answered_by, acknowledged_by}
-use Rattle.conode_explain_laws.proofs.UploadStanding.{is_segmented, no_upload, unless_no_upload, begins}
+use Rattle.conode_explain_laws.proofs.UploadStanding.{is_segmented, no_upload, unless_no_upload}
 
 no_segment : (d : Description) (contents : Contents) (o : OpenTransfer) (stage : Stage) (toggle : Bool) (segment : List ℕ) (last : Bool) → is_segmented stage ≡ true → no_upload (after_segment d contents o stage toggle segment last) ≡ true
 no_segment d contents o (Receiving size expected) toggle segment last h = unless_no_upload (segment_refusal d contents o size expected toggle segment last) _ (by last)

@@ -32,7 +32,7 @@ abbrev pub first_data : List ℕ → ℕ → List ℕ
 first_data bytes n = if n == segment_count bytes then all_held bytes (segment_count bytes - 1) else take (7 * n) bytes
 
 -- one segment more
-data_more : (bytes : List ℕ) (position sent : ℕ) → position + sent < segment_count bytes
+pub data_more : (bytes : List ℕ) (position sent : ℕ) → position + sent < segment_count bytes
     → first_data bytes (position + sent) ++ data_at bytes position (sent + 1) ≡ first_data bytes (position + (sent + 1))
 data_more bytes position sent h = by (position + (sent + 1) == segment_count bytes) refl
   where
@@ -45,7 +45,7 @@ data_more bytes position sent h = by (position + (sent + 1) == segment_count byt
     by false e = let below : position + (sent + 1) < segment_count bytes = grind (arith, nat_tests) in rw (before, e) (next_joined bytes position sent (sent + 1) refl below)
 
 -- the first of them
-data_front : (bytes : List ℕ) (n k : ℕ) → k ≤ n → k < segment_count bytes → take (7 * k) (first_data bytes n) ≡ take (7 * k) bytes
+pub data_front : (bytes : List ℕ) (n k : ℕ) → k ≤ n → k < segment_count bytes → take (7 * k) (first_data bytes n) ≡ take (7 * k) bytes
 data_front bytes n k few under = by (n == segment_count bytes)
   where
     by : (last : Bool) → take (7 * k) (if last then all_held bytes (segment_count bytes - 1) else take (7 * n) bytes) ≡ take (7 * k) bytes
@@ -57,8 +57,31 @@ data_front bytes n k few under = by (n == segment_count bytes)
     by false = take-take (7 * k) (7 * n) bytes (omega arith)
 
 -- without the bytes that the last segment leaves unused
-data_whole : (bytes : List ℕ) (n : ℕ) → (n == segment_count bytes) ≡ true → without (7 * segment_count bytes - length bytes) (first_data bytes n) ≡ bytes
+pub data_whole : (bytes : List ℕ) (n : ℕ) → (n == segment_count bytes) ≡ true → without (7 * segment_count bytes - length bytes) (first_data bytes n) ≡ bytes
 data_whole bytes n e = rw e (all_is bytes (segment_count bytes - 1) (omega arith))
+
+-- of pending data the first segments, after what was taken before
+pub data_taken : (got pending bytes : List ℕ) (position sent k : ℕ) → got ≡ take (7 * position) bytes → got ++ pending ≡ first_data bytes (position + sent) → position < segment_count bytes → k ≤ sent → position + k < segment_count bytes
+    → got ++ take (7 * k) pending ≡ take (7 * (position + k)) bytes
+data_taken got pending bytes position sent k before joined first few under =
+    let long : length got ≡ 7 * position = ap length before ∙ (let n = length-take (7 * position) bytes in omega (arith, first)) in
+    let count : length got + 7 * k ≡ 7 * (position + k) = omega (arith, long) in
+    sym (take-append-add got pending (7 * k))
+    ∙ ap (λ n. take n (got ++ pending)) count
+    ∙ ap (take (7 * (position + k))) joined
+    ∙ data_front bytes (position + sent) (position + k) (omega arith) under
+
+-- and all of it, where all segments came
+pub data_all : (got pending bytes : List ℕ) (position sent : ℕ) → got ++ pending ≡ first_data bytes (position + sent) → position < segment_count bytes → length pending ≡ 7 * sent → (position + sent == segment_count bytes) ≡ true
+    → got ++ take (length pending - (7 * segment_count bytes - length bytes)) pending ≡ bytes
+data_all got pending bytes position sent joined first p e =
+    let whole : position + sent ≡ segment_count bytes = eqb-true _ _ e in
+    let long = length-append got pending in
+    let count : length got + (length pending - (7 * segment_count bytes - length bytes)) ≡ length (got ++ pending) - (7 * segment_count bytes - length bytes) = omega (arith, long, p, whole, first) in
+    sym (take-append-add got pending (length pending - (7 * segment_count bytes - length bytes)))
+    ∙ ap (λ n. take n (got ++ pending)) count
+    ∙ ap (without (7 * segment_count bytes - length bytes)) joined
+    ∙ data_whole bytes (position + sent) e
 
 -- ---- explain's transfer
 
@@ -85,28 +108,12 @@ pub record InSubBlock (t : Transfer) (got bytes : List ℕ) (position sent : ℕ
 -- the data of the first segments of it, with what was taken before
 pub acknowledged_data : (t : Transfer) (got bytes : List ℕ) (position sent k : ℕ) → InSubBlock t got bytes position sent → k ≤ sent → position + k < segment_count bytes
     → got ++ take (7 * k) t.pending.items ≡ take (7 * (position + k)) bytes
-acknowledged_data t got bytes position sent k h few under =
-    let first = h.first in
-    let long : length got ≡ 7 * position = ap length h.before ∙ (let n = length-take (7 * position) bytes in omega (arith, first)) in
-    let count : length got + 7 * k ≡ 7 * (position + k) = omega (arith, long) in
-    sym (take-append-add got t.pending.items (7 * k))
-    ∙ ap (λ n. take n (got ++ t.pending.items)) count
-    ∙ ap (take (7 * (position + k))) h.joined
-    ∙ data_front bytes (position + sent) (position + k) (omega arith) under
+acknowledged_data t got bytes position sent k h few under = data_taken got t.pending.items bytes position sent k h.before h.joined h.first few under
 
 -- all data, where all segments came
 pub all_data : (t : Transfer) (got bytes : List ℕ) (position sent : ℕ) → InSubBlock t got bytes position sent → (position + sent == segment_count bytes) ≡ true
     → got ++ take (length t.pending.items - (7 * segment_count bytes - length bytes)) t.pending.items ≡ bytes
-all_data t got bytes position sent h e =
-    let first = h.first in
-    let p = h.pending in
-    let whole : position + sent ≡ segment_count bytes = eqb-true _ _ e in
-    let long = length-append got t.pending.items in
-    let count : length got + (length t.pending.items - (7 * segment_count bytes - length bytes)) ≡ length (got ++ t.pending.items) - (7 * segment_count bytes - length bytes) = omega (arith, long, p, whole, first) in
-    sym (take-append-add got t.pending.items (length t.pending.items - (7 * segment_count bytes - length bytes)))
-    ∙ ap (λ n. take n (got ++ t.pending.items)) count
-    ∙ ap (without (7 * segment_count bytes - length bytes)) h.joined
-    ∙ data_whole bytes (position + sent) e
+all_data t got bytes position sent h e = data_all got t.pending.items bytes position sent h.joined h.first h.pending e
 
 -- ---- a segment
 
@@ -119,7 +126,7 @@ segment_is : (block_size micros : ℕ) (frame : List ℕ) (segment : BlockSegmen
 segment_is block_size micros frame segment a r l =
     rw a (ap (λ x. segment_reading block_size x (beginning (plain_reading Server micros frame))) r ∙ rw l refl)
 
-no_abort : (bytes : List ℕ) (position n : ℕ) → 1 ≤ n → n < 128 → is_abort_in_sub_block (segment_at bytes position n) ≡ false
+pub no_abort : (bytes : List ℕ) (position n : ℕ) → 1 ≤ n → n < 128 → is_abort_in_sub_block (segment_at bytes position n) ≡ false
 no_abort bytes position n some few =
     let last = position + n == segment_count bytes in
     rw (frame_long bytes position n last, other_byte last n some few) refl

@@ -10,7 +10,7 @@ use Rattle.co_sdo.proofs.ExampleChannel.{at, dictionary, hex}
 use Rattle.conode_explain_laws.specs.Recordings.{Expired, Abandoned, recorded}
 use Rattle.conode_explain_laws.specs.Downloads.{Complete}
 use Rattle.conode_explain_laws.specs.Uploads.{uploads_done, uploads_served}
-use Rattle.conode_explain_laws.proofs.Examples.{Scene, start, happens, all_come}
+use Rattle.conode_explain_laws.proofs.Examples.{Scene, start, happens, all_come, in_blocks as in_blocks_written}
 
 abbrev done : Scene → List Complete
 done s = uploads_done (recorded (λ n. n) dictionary s.inputs)
@@ -187,3 +187,15 @@ after_blocks_done = refl
 after_blocks_served : served after_blocks ≡ read 6 (at 0x1017 0) (codes "E803") ∷ []
 unfolding request_row_in response_row_in reading_refusal initiate_refusal completion_refusal has_object
 after_blocks_served = refl
+
+-- the ten bytes are written in blocks, and read: done with the thirteenth frame
+abbrev blocks_read : Scene
+blocks_read = all_come (codes "4000210000000000" ∷ codes "6000000000000000" ∷ codes "7000000000000000" ∷ []) in_blocks_written
+
+blocks_read_done : done blocks_read ≡ read 13 (at 0x2100 0) (codes "30313233343536373839") ∷ []
+unfolding request_row_in response_row_in reading_refusal initiate_refusal completion_refusal has_object
+blocks_read_done = refl
+
+blocks_read_served : served blocks_read ≡ read 13 (at 0x2100 0) (codes "30313233343536373839") ∷ []
+unfolding request_row_in response_row_in reading_refusal initiate_refusal completion_refusal has_object
+blocks_read_served = refl

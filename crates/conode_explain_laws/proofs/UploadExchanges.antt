@@ -1,5 +1,5 @@
 -- One request of an upload with its answers: after it explain's upload follows the channel's transfer as before (`Follows`).
-use Rattle.std.proofs.Common.{◌≡◌, ℕ, suc, ◌+◌, ◌*◌, ◌-◌, ◌/◌, ◌^◌, ◌<◌, ◌≤◌, Bool, true, false, not, List, [], ◌∷◌, ◌++◌, length, take, Option, Some, None, refl, sym, ap, ◌∙◌, ◌⊎◌, inl, inr, subst, arith, append-nil}
+use Rattle.std.proofs.Common.{◌≡◌, ℕ, suc, ◌+◌, ◌*◌, ◌-◌, ◌/◌, ◌<◌, ◌≤◌, Bool, true, false, not, List, [], ◌∷◌, ◌++◌, length, take, Option, Some, None, refl, sym, ap, ◌∙◌, ◌⊎◌, inl, inr, subst, arith, append-nil}
 use Rattle.std.specs.Prelude.{if◌then◌else◌, IfSome, nat_lt, ◌==◌, ◌&&◌}
 use Rattle.std.proofs.lemmas.Bool.{eqb-true, false≢true}
 use Rattle.std.proofs.lemmas.Bool.Decides.{nat_tests}
@@ -45,13 +45,13 @@ use Rattle.conode_explain_laws.specs.Uploads.{is_upload, Read, ended_by, read_se
 use Rattle.conode_explain_laws.proofs.Readings.{Reading, Segment, Begin, Abort, Request, Response, Nothing, request_reading, response_reading, plain_reading, sub_block_reading, reading_of, turn_of}
 use Rattle.conode_explain_laws.proofs.Views.{View, Closes, no_write, is_begin}
 use Rattle.conode_explain_laws.proofs.Follows.{begun_by, client_no_response, is_response, request_spoils}
-use Rattle.conode_explain_laws.proofs.Begins.{outside_answers, outside_opens, awaits, write_of}
+use Rattle.conode_explain_laws.proofs.Begins.{outside_answers, outside_opens, write_of}
 use Rattle.conode_explain_laws.proofs.Exchanges.{same_toggle}
 use Rattle.conode_explain_laws.proofs.UploadViews.{holds, read_as, hears, hears_answers, begin_writes, abort_closes, turned, IsAside, KnowsAside, aside_turn, aside_reads, aside_answers}
 use Rattle.conode_explain_laws.proofs.UploadSteps.{all_of, answered_by, acknowledged_by, answered_next, acknowledged_next}
 use Rattle.conode_explain_laws.proofs.UploadBlocks.{InBlocks, InSubBlock, acknowledged_data, all_data, first_data, more_heard}
-use Rattle.conode_explain_laws.proofs.UploadStanding.{InUpload, InBegun, AtEnd, is_ended, IsWaiting, is_segmented, no_upload, NoUpload, FollowsIn, Ends, ends_closed, closed, ends_aside, ends_loose, answered, size_is, regular_done, inside, uploads, few, block_size_small, download, outside, outside_answered, outside_acknowledged, begins, late_reading, quiet, aside, asked, gone, segmented, begun, blocks, at_end}
-use Rattle.conode_explain_laws.proofs.NoUploads.{OpensNone, opens_none, begins_nothing, none_ended}
+use Rattle.conode_explain_laws.proofs.UploadStanding.{InUpload, InBegun, AtEnd, is_ended, IsWaiting, is_segmented, no_upload, NoUpload, FollowsIn, Ends, ends_closed, closed, ends_aside, ends_loose, answered, size_is, regular_done, few, block_size_small, outside_answered, outside_acknowledged, begins, late_reading, quiet, aside, asked, gone, segmented, begun, blocks, at_end}
+use Rattle.conode_explain_laws.proofs.NoUploads.{opens_none, begins_nothing, none_ended}
 
 -- ---- uploads in segments
 
@@ -437,7 +437,7 @@ no_upload_outside None h = refl
 no_upload_outside (Some o) h = segmented_outside o.stage h
 
 -- the channel isn't inside a sub-block of a download, or some uploads may be left out
-outside_or : (Loose : Type 0) (held : Option Transfer) (got : List ℕ) (current : Option OpenTransfer) (ended : Option Read) → FollowsIn Loose held got current ended → Loose ⊎ (is_in_sub_block current ≡ false)
+pub outside_or : (Loose : Type 0) (held : Option Transfer) (got : List ℕ) (current : Option OpenTransfer) (ended : Option Read) → FollowsIn Loose held got current ended → Loose ⊎ (is_in_sub_block current ≡ false)
 outside_or Loose None got current ended (inl l) = inl l
 outside_or Loose None got current ended (inr h) = inr (no_upload_outside current h.none)
 outside_or Loose (Some t) got current ended (aside a (inl l)) = inl l

@@ -3,7 +3,7 @@
 --
 -- `Loose` says which of the two laws it is for: where it holds, explain may lose what the channel goes on with (a frame that hasn't
 -- eight bytes, a block download), and such an upload isn't done. Where it doesn't, both always are as far.
-use Rattle.std.proofs.Common.{◌≡◌, ℕ, ◌+◌, ◌*◌, ◌-◌, ◌/◌, ◌^◌, ◌<◌, ◌≤◌, Bool, true, false, not, List, [], ◌∷◌, ◌++◌, length, take, Option, Some, None, refl, sym, ap, ◌∙◌, ◌⊎◌, inl, inr, subst, arith}
+use Rattle.std.proofs.Common.{◌≡◌, ℕ, ◌*◌, ◌-◌, ◌^◌, ◌<◌, ◌≤◌, Bool, true, false, not, List, [], ◌∷◌, ◌++◌, length, take, Option, Some, None, refl, sym, ap, ◌∙◌, ◌⊎◌, inl, inr, subst, arith}
 use Rattle.std.specs.Prelude.{if◌then◌else◌, IfSome, min, nat_le, ◌==◌, ◌&&◌}
 use Rattle.std.proofs.lemmas.Bool.{false≢true}
 use Rattle.std.proofs.lemmas.Bool.Decides.{nat_tests}
@@ -46,7 +46,7 @@ use Rattle.conode_explain_transfers.specs.Digests.{counted}
 use Rattle.conode_explain_transfers.specs.Endings.{size_fault, verdict}
 use Rattle.conode_explain_transfers.specs.Initiates.{has_crc, initiate_of}
 use Rattle.conode_explain_transfers.specs.Stages.{confirmed_with}
-use Rattle.conode_explain_transfers.specs.Transfers.{Turn, begun as begun_with_initiate, after, is_download, unexpected}
+use Rattle.conode_explain_transfers.specs.Transfers.{Turn, begun as begun_with_initiate, is_download, unexpected}
 use Rattle.conode_explain_transfers.specs.Turns.{request_turn}
 use Rattle.conode_explain_laws.specs.Downloads.{Complete, is_block_begin, if_done}
 use Rattle.conode_explain_laws.specs.Uploads.{is_upload, Read, ended_by, read_served}

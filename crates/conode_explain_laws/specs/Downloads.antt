@@ -1,7 +1,10 @@
 -- The downloads that explain says are done, and those that the channel of co_sdo sets.
-use Rattle.std.specs.Prelude.{◌≡◌, ℕ, ◌==◌, Bool, true, false, List, [], ◌∷◌, ◌++◌, length, take, Option, Some, None, if◌then◌else◌, ◌⊎◌}
+use Rattle.std.specs.Prelude.{◌≡◌, ℕ, ◌==◌, ◌&&◌, ◌||◌, nat_lt, Bool, true, false, not, List, [], ◌∷◌, ◌++◌, length, take, Option, Some, None, if◌then◌else◌, ◌⊎◌}
 use Rattle.std.specs.List.{AllByRecursion}
+use Rattle.std.specs.Option.{option_map_or}
 use Rattle.co_value.specs.declared.key.Key.{Key}
+use Rattle.co_frame.specs.BlockSegments.{block_segment_in, is_abort_in_sub_block}
+use Rattle.co_frame.specs.SubBlocks.{ends_sub_block}
 use Rattle.co_frame.specs.declared.sdo_request.ExpeditedData.TheVariants.{NotIndicated}
 use Rattle.co_frame.specs.declared.sdo_request.SdoRequest.{SdoRequest}
 use Rattle.co_frame.specs.declared.sdo_request.SdoRequest.TheVariants.{DownloadExpedited, BlockDownloadInitiate}
@@ -11,6 +14,8 @@ use Rattle.co_dict.specs.Stores.{Description}
 use Rattle.co_sdo.specs.Refused.{capacity_at}
 use Rattle.co_sdo.specs.Log.{Log}
 use Rattle.co_sdo.specs.Completed.{set_by}
+use Rattle.co_sdo.specs.Opened.{opened_after}
+use Rattle.co_sdo.specs.Replies.{is_in_sub_block}
 use Rattle.co_sdo.specs.Downloads.{Download as Whole}
 use Rattle.conode_explain_transfers.specs.declared.ended.Ended.{Ended}
 use Rattle.conode_explain_transfers.specs.declared.ended.Ending.{Ending}
@@ -40,7 +45,7 @@ abbrev pub entry_bytes : Rows → Key → Option SdoRequest → List ℕ → Lis
 entry_bytes rows key (Some (DownloadExpedited k (NotIndicated four))) got = take (capacity_at rows key) got
 entry_bytes rows key _ got = got
 
-abbrev pub if_done : Ending → List Complete → List Complete
+abbrev pub if_done : {A : Type 0} → Ending → List A → List A
 if_done (Done crc) write = write
 if_done _ write = []
 
@@ -100,10 +105,41 @@ IsPlainInput _ = Unit {0}
 abbrev pub ArePlain : List Input → Type 0
 ArePlain inputs = AllByRecursion IsPlainInput inputs
 
+-- ---- whole frames, and sub-blocks in order
+
+-- the number of the segment in a frame; 0 where it has none
+abbrev pub number_in : List ℕ → ℕ
+number_in frame = option_map_or (λ segment. segment.sequence) (block_segment_in frame) 0
+
+-- inside a sub-block, after a segment with this number: an abort, or a segment with a higher one
+abbrev pub goes_up : ℕ → List ℕ → Bool
+goes_up newest frame = is_abort_in_sub_block frame || nat_lt newest (number_in frame)
+
+-- the channel's next frame falls inside a sub-block of a download
+abbrev pub is_inside : Log → Bool
+is_inside log = is_in_sub_block (opened_after log)
+
+-- the number of the newest frame, where the next one falls inside the same sub-block; else 0
+abbrev pub newest_in : Description → List Input → ℕ
+newest_in d [] = 0
+newest_in d (Received contents frame ∷ older) = if is_inside (log_of d older) && not (ends_sub_block frame) then number_in frame else 0
+newest_in d (_ ∷ older) = newest_in d older
+
+-- each frame has eight bytes; in a sub-block the numbers go up, and its transfer isn't dropped
+-- without an abort
+abbrev pub IsOrderlyInput : Description → List Input → Input → Type 0
+IsOrderlyInput d older (Received contents frame) = (length frame ≡ 8) × (is_inside (log_of d older) ≡ true → goes_up (newest_in d older) frame ≡ true)
+IsOrderlyInput d older Abandoned = is_inside (log_of d older) ≡ false
+IsOrderlyInput d older _ = Unit {0}
+
+abbrev pub AreOrderly : Description → List Input → Type 0
+AreOrderly d [] = Unit {0}
+AreOrderly d (input ∷ older) = IsOrderlyInput d older input × AreOrderly d older
+
 -- ---- the two
 
 -- these are some of those, in their order
-abbrev pub AreSome : List Complete → List Complete → Type 0
+abbrev pub AreSome : {A : Type 0} → List A → List A → Type 0
 AreSome [] all = Unit {0}
 AreSome (write ∷ others) [] = ⊥
 AreSome (write ∷ others) (set ∷ later) = ((write ≡ set) × AreSome others later) ⊎ AreSome (write ∷ others) later

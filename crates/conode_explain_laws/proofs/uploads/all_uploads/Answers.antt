@@ -1,4 +1,5 @@
-use Rattle.conode_explain_laws.proofs.AllUploads.{some_are_served, all_are_served}
+use Rattle.conode_explain_laws.proofs.AllOrderly.{all_are_served}
+use Rattle.conode_explain_laws.proofs.AllUploads.{some_are_served}
 use Rattle.conode_explain_laws.proofs.uploads.all_uploads.Goals as goal
 
 pub returns : goal.returns
