@@ -17,6 +17,9 @@ pub returns-in-Tick-clause-channels : goal.returns-in-Tick-clause-channels
 returns-in-Tick-clause-channels g c = λ k history before addressed.
     rw c.in-Tick.is (c.take_tick.ensures.channels _ (channels k) (channel_logs history) before.channels)
 
+pub write-requires : goal.write-requires
+write-requires g c = rw c.in-Write.is c.requires.placed
+
 pub returns-in-Write-clause-frames : goal.returns-in-Write-clause-frames
 returns-in-Write-clause-frames g c = λ k history before addressed.
     rw c.in-Write.is (event_frames k history (Written c.in-Write.key c.in-Write.bytes.now) c.args.outbox.now.items)
