@@ -192,6 +192,13 @@ size_t bafokun_ticks(bafokun_node *node, uint32_t most, uint32_t *elapsed, bafok
 size_t bafokun_write(bafokun_node *node, uint16_t index, uint8_t sub_index, const uint8_t *bytes, size_t length,
                      bafokun_frame *frames, size_t room);
 
+/*
+ * The same of the entry with a number, of bafokun_find or bafokun_entry: it isn't searched for. If
+ * no entry has the number, the write is refused with the SDO abort code 06020000h.
+ */
+size_t bafokun_write_at(bafokun_node *node, size_t number, const uint8_t *bytes, size_t length,
+                        bafokun_frame *frames, size_t room);
+
 /* An event of a TPDO: number 0 is that of 1800h. */
 size_t bafokun_event(bafokun_node *node, uint16_t tpdo, bafokun_frame *frames, size_t room);
 
@@ -236,8 +243,14 @@ size_t bafokun_sent(bafokun_node *node, size_t from, bafokun_frame *frames, size
 bool bafokun_value(bafokun_node *node, uint16_t index, uint8_t sub_index, uint8_t *bytes, size_t room, size_t *length);
 
 /*
+ * The same of the entry with a number, of bafokun_find or bafokun_entry: it isn't searched for.
+ */
+bool bafokun_value_at(bafokun_node *node, size_t number, uint8_t *bytes, size_t room, size_t *length);
+
+/*
  * Entries by their number: from 0 on, by increasing index and sub-index. An entry keeps its number
- * until the device is freed.
+ * until the device is freed. A device that is built of the same EDS has the same numbers; in
+ * another device a number may be that of another entry.
  *
  *     for (number = 0; bafokun_entry(&node, number, &entry); number++)
  *         ...
