@@ -221,7 +221,9 @@ size_t bafokun_clear(bafokun_node *node, uint8_t bits, bafokun_frame *frames, si
  * each with bit 4 of the error register, communication error. BAFOKUN_BUS_ACTIVE clears that bit,
  * and bit 0 if no other is left. BAFOKUN_BUS_OFF changes the NMT state by 1029:01, as a lost
  * heartbeat does: 0, or a missing entry, leaves operational for pre-operational, 2 enters stopped,
- * any other value changes nothing. Any other number of a change does nothing.
+ * any other value changes nothing. A bus-off that changes nothing, and any other number of a change,
+ * is no input: it sends nothing, bafokun_sent then returns no frame, and bafokun_answer still
+ * returns the answer to the input before it.
  *
  * After bus-off come BAFOKUN_BUS_RECOVERED and BAFOKUN_BUS_ACTIVE. Call this only at a change: an
  * error that is raised again sends its emergency again.

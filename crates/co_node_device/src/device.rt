@@ -163,7 +163,7 @@ impl<S: ObjectStore> Device<S> {
         frame: &Frame,
         outbox: &mut Outbox,
     ) -> Seen
-        requires { IsPlaced (S.description self.old.store) given.entry }
+        requires { IsPlaced (S.description self.old.store) given }
         ensures frames { (k : Constants) (inputs : Inputs) → Stands k self.old inputs →
             IsAddressed k (moments k inputs) given.entry address frame.now →
             outbox.new.items ≡ prescribed k inputs (given_view given.entry frame.now) }

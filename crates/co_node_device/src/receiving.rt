@@ -85,7 +85,7 @@ pub(crate) fn receive<S: ObjectStore>(
 ) -> Received
     requires outbox { HasRoomFor segments_per_sub_block outbox.old }
     requires room { HaveRoom (S.description store.old).rows (all_settings bank.old) }
-    requires placed { IsPlaced (S.description store.old) given.entry }
+    requires placed { IsPlaced (S.description store.old) given }
     ensures few { array_vec_len outbox.new ≤ array_vec_len outbox.old + segments_per_sub_block }
     ensures alone { may_be_due result.mark ≡ true → array_vec_len outbox.new ≤
         array_vec_len outbox.old + (if marked_time_out result.mark then 1 else 0) }
