@@ -311,10 +311,8 @@ impl Node {
             key_at (description_of self.now.device.store) place ≡ Some key) }
     {
         let place = u32::try_from(number).ok()?;
-        match self.device.store().key_at(place) {
-            Some(there) if there == key => Some(place),
-            _ => None,
-        }
+        let there = self.device.store().key_at(place)?;
+        if there == key { Some(place) } else { None }
     }
 
     /// The bytes of an entry, as `value` returns them. There is no search for it if `number` is its
