@@ -193,7 +193,7 @@ size_t bafokun_write(bafokun_node *node, uint16_t index, uint8_t sub_index, cons
                      bafokun_frame *frames, size_t room);
 
 /*
- * The same of the entry with a number, of bafokun_find or bafokun_entry: it isn't searched for. If
+ * The same for the entry with a number, that of bafokun_find or bafokun_entry, without a search. If
  * no entry has the number, the write is refused with the SDO abort code 06020000h.
  */
 size_t bafokun_write_at(bafokun_node *node, size_t number, const uint8_t *bytes, size_t length,
@@ -244,9 +244,7 @@ size_t bafokun_sent(bafokun_node *node, size_t from, bafokun_frame *frames, size
  */
 bool bafokun_value(bafokun_node *node, uint16_t index, uint8_t sub_index, uint8_t *bytes, size_t room, size_t *length);
 
-/*
- * The same of the entry with a number, of bafokun_find or bafokun_entry: it isn't searched for.
- */
+/* The same for the entry with a number, that of bafokun_find or bafokun_entry, without a search. */
 bool bafokun_value_at(bafokun_node *node, size_t number, uint8_t *bytes, size_t room, size_t *length);
 
 /*
