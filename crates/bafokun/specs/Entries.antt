@@ -9,7 +9,7 @@ use Rattle.co_dict.specs.Rows.{Contents}
 use Rattle.co_dict_table.specs.Entries.{EntryContent, entry_at, number_of}
 use Rattle.bafokun.specs.declared.entries.Entry.{Entry}
 use Rattle.bafokun.specs.declared.entries.Named.{Named}
-use Rattle.bafokun.specs.declared.entries.Named.TheVariants as by
+use Rattle.bafokun.specs.declared.entries.Named.TheVariants as named
 
 -- an access as a number
 abbrev pub access_code : Access → ℕ
@@ -57,10 +57,10 @@ value_numbered entries contents number = option_and_then (λ e. contents e.facts
 
 -- the key of an entry that C names
 abbrev pub key_named : List EntryContent → Named → Key
-key_named entries (by.Key key) = key
-key_named entries (by.Number number) = key_numbered entries number
+key_named entries (named.Key key) = key
+key_named entries (named.Number number) = key_numbered entries number
 
 -- its number, if it is known
 abbrev pub number_named : List EntryContent → Named → Option ℕ
-number_named entries (by.Key key) = number_of entries key
-number_named entries (by.Number number) = Some number
+number_named entries (named.Key key) = number_of entries key
+number_named entries (named.Number number) = Some number

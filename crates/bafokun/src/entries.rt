@@ -61,7 +61,7 @@ fn access_code(access: Access) -> u8
 
 /// How C names an entry.
 #[derive(Clone, Copy)]
-pub enum Named {
+pub(crate) enum Named {
     /// By its key.
     Key(Key),
     /// By its number, from 0 on by increasing key.

@@ -19,7 +19,7 @@ mod texts;
 pub use build::{Fault, Settings, bafokun_build};
 pub use bus::bus_off_as_lost_heartbeat;
 pub use dictionary::{bafokun_entry, bafokun_entry_name, bafokun_find, bafokun_next_changed};
-pub use entries::{Entry, Named};
+pub use entries::Entry;
 pub use frames::CanFrame;
 pub use handle::Handle;
 pub use happened::Events;
