@@ -1,13 +1,13 @@
 //! The entries of a device for C, by their numbers: from 0 on by increasing key.
 
-ghost use Rattle.std.specs.Prelude.{◌≡◌, false, true};
+ghost use Rattle.std.specs.Prelude.{◌≡◌, false};
 ghost use Rattle.co_node_model.specs.Inputs.{Inputs};
 ghost use Rattle.co_node_model.specs.Moments.{Constants};
 ghost use Rattle.co_node_model.specs.Device.{contents_of};
 ghost use Rattle.bafokun.specs.Changes.{IsGiven};
 ghost use Rattle.bafokun.specs.Devices.{IsDevice, IsEmpty, entries_of, known_of, sent_of};
 ghost use Rattle.co_dict_table.specs.Entries.{entry_at, name_at, number_of};
-ghost use Rattle.bafokun.specs.Entries.{IsEntry, IsNumber, key_numbered};
+ghost use Rattle.bafokun.specs.Entries.{IsEntry, IsNumber};
 ghost use Rattle.bafokun.specs.Happened.{events_of};
 ghost use Rattle.bafokun.specs.Texts.{IsText};
 
@@ -82,7 +82,6 @@ pub extern "C" fn bafokun_entry_name(
 
 /// Gets the number of the entry with a key. Returns whether there is such an entry; if not,
 /// `number` is unchanged. C must pass what `bafokun_tick` requires, and a number.
-#[tactic(auto, using(crate::proofs::Numbered::found_key))]
 #[unsafe(no_mangle)]
 pub extern "C" fn bafokun_find(
     alloc: Global,
@@ -95,8 +94,6 @@ pub extern "C" fn bafokun_find(
     ensures number { IsNumber
         (number_of (entries_of node.old) (record { index = index; sub = sub_index }))
         number.old number.new result }
-    ensures key { result ≡ true → key_numbered (entries_of node.old) number.new
-        ≡ record { index = index; sub = sub_index } }
 {
     let key = Key {
         index,

@@ -44,9 +44,10 @@ impl Held {
             self.new.events ≡ and_input k before (Framed frame.now) self.old.events }
     {
         let state = self.node.state();
-        let is_command = frame.id() == 0;
+        // read before the call, since the device's part of it tells which identifiers aren't 0
+        let id = frame.id();
         let seen = self.node.take_frame(frame, &mut self.sent);
-        if is_command {
+        if id == 0 {
             self.events.note(&self.node, state);
         } else {
             self.events.note_frame(seen);

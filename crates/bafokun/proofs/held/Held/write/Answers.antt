@@ -9,7 +9,7 @@ use Rattle.bafokun.proofs.held.Held.write.Goals as goal
 
 pub returns-clause-gave : goal.returns-clause-gave
 returns-clause-gave c = λ k before stands.
-    subst (λ (key : Key). Gave k before (Applied (Written key c.args.bytes.now)) _) c.find.ensures.key (record {
+    subst (λ (key : Key). Gave k before (Applied (Written key c.args.bytes.now)) _) c.find-number.ensures.key (record {
       stands = c.write_at.ensures.stands k before stands;
       sent = c.write_at.ensures.frames k before stands;
       few = c.write_at.ensures.few k before stands;
@@ -17,15 +17,15 @@ returns-clause-gave c = λ k before stands.
 
 pub returns-clause-known : goal.returns-clause-known
 returns-clause-known c = λ k before stands.
-    let after : Inputs = Applied (Written c.find.result.0 c.args.bytes.now) ∷ before in
+    let after : Inputs = Applied (Written c.find-number.result.0 c.args.bytes.now) ∷ before in
     subst (λ (key : Key). KnowsWritten k before key c.args.bytes.now (number_named c.args.self.now.entries c.args.name) c.args.self.now.known c.note_written.new.known)
-    c.find.ensures.key
-    (subst (λ (number : Option ℕ). KnowsWritten k before c.find.result.0 c.args.bytes.now number c.args.self.now.known c.note_written.new.known)
-    c.find.ensures.number
+    c.find-number.ensures.key
+    (subst (λ (number : Option ℕ). KnowsWritten k before c.find-number.result.0 c.args.bytes.now number c.args.self.now.known c.note_written.new.known)
+    c.find-number.ensures.number
     (record { is = c.note_written.ensures k after (c.write_at.ensures.stands k before stands) }))
 
 pub returns-clause-events : goal.returns-clause-events
 returns-clause-events c = λ k before stands.
     subst (λ (key : Key). c.note.new.self ≡ and_input k before (Applied (Written key c.args.bytes.now)) c.args.self.now.events)
-    c.find.ensures.key
-    (c.note.ensures k before (Applied (Written c.find.result.0 c.args.bytes.now)) (c.write_at.ensures.stands k before stands) (c.state-state.ensures k before stands))
+    c.find-number.ensures.key
+    (c.note.ensures k before (Applied (Written c.find-number.result.0 c.args.bytes.now)) (c.write_at.ensures.stands k before stands) (c.state-state.ensures k before stands))
