@@ -44,7 +44,7 @@ impl Held {
             self.new.events ≡ and_input k before (Framed frame.now) self.old.events }
     {
         let state = self.node.state();
-        // read before the call, since the device's part of it tells which identifiers aren't 0
+        // read before the call, where the compiler then knows of most receivers that it isn't 0
         let id = frame.id();
         let seen = self.node.take_frame(frame, &mut self.sent);
         if id == 0 {

@@ -1,19 +1,22 @@
-use Rattle.std.proofs.Common.{◌≡◌, ◌∷◌, ℕ, Option, subst}
+use Rattle.std.proofs.Common.{◌≡◌, ◌≤◌, ◌∷◌, ℕ, Option, length, subst}
 use Rattle.co_value.specs.declared.key.Key.{Key}
 use Rattle.co_node_model.specs.Inputs.{Applied, Inputs, Written}
+use Rattle.co_node_model.specs.Device.{frame_bound, prescribed}
+use Rattle.co_node.specs.Nodes.{Stands}
 use Rattle.bafokun.specs.Changes.{KnowsWritten}
-use Rattle.bafokun.specs.Devices.{Gave}
 use Rattle.bafokun.specs.Entries.{number_named}
 use Rattle.bafokun.specs.Happened.{and_input}
 use Rattle.bafokun.proofs.held.Held.write.Goals as goal
 
 pub returns-clause-gave : goal.returns-clause-gave
-returns-clause-gave c = λ k before stands.
-    subst (λ (key : Key). Gave k before (Applied (Written key c.args.bytes.now)) _) c.find-number.ensures.key (record {
-      stands = c.write_at.ensures.stands k before stands;
-      sent = c.write_at.ensures.frames k before stands;
-      few = c.write_at.ensures.few k before stands;
-    })
+returns-clause-gave c = λ k before stands. record {
+  stands = subst (λ (key : Key). Stands k c.write_at.new.self (Applied (Written key c.args.bytes.now) ∷ before))
+      c.find-number.ensures.key (c.write_at.ensures.stands k before stands);
+  sent = subst (λ (key : Key). c.write_at.new.outbox.items ≡ prescribed k before (Applied (Written key c.args.bytes.now)))
+      c.find-number.ensures.key (c.write_at.ensures.frames k before stands);
+  few = subst (λ (key : Key). length c.write_at.new.outbox.items ≤ frame_bound k before (Applied (Written key c.args.bytes.now)))
+      c.find-number.ensures.key (c.write_at.ensures.few k before stands);
+}
 
 pub returns-clause-known : goal.returns-clause-known
 returns-clause-known c = λ k before stands.
