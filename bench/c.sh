@@ -2,7 +2,7 @@
 # Gives a device a million frames and a million ticks through the calls of bafokun.h, and the same by Node::step in Rattle:
 # an SDO upload of 1000h, and a SYNC where no TPDO waits for it. In turn, the best of nine runs of each, in nanoseconds for one
 # input; status 1 where a call from C takes more than 1.1 times as long, a tick more than 1.2 times. Before it, the memory that a
-# device holds, and the most that its build held, of three sheets.
+# device holds, and the most that its build held, of three sheets; and an entry read and written by its key and by its number.
 set -eu
 # shellcheck source=bench/device.sh
 . "$(dirname "$(readlink -f "$0")")/device.sh"
@@ -31,6 +31,8 @@ int main(void)
     static const bafokun_config config = { 16, 889, 65535 };
     static const bafokun_frame upload = { 0x605, 8, { 0x40, 0x00, 0x10, 0x00, 0, 0, 0, 0 } }, sync = { 0x80, 0, { 0 } };
     bafokun_fault fault;
+    uint8_t bytes[2];
+    size_t number, length;
     double begin;
     long i;
     if (!bafokun_build(&node, text, fread(text, 1, sizeof text, stdin), 5, &config, &fault)) return 1;
@@ -43,6 +45,19 @@ int main(void)
     begin = now();
     for (i = 0; i < 1000000; i++) if (bafokun_tick(&node, frames, BAFOKUN_MOST_FRAMES) != 0) return 1;
     printf("tick %.0f\n", (now() - begin) / 1e6);
+    if (!bafokun_find(&node, 0x2003, 0, &number)) return 1;
+    begin = now();
+    for (i = 0; i < 1000000; i++) if (!bafokun_value(&node, 0x2003, 0, bytes, 2, &length)) return 1;
+    printf("value %.0f\n", (now() - begin) / 1e6);
+    begin = now();
+    for (i = 0; i < 1000000; i++) if (!bafokun_value_at(&node, number, bytes, 2, &length)) return 1;
+    printf("value_at %.0f\n", (now() - begin) / 1e6);
+    begin = now();
+    for (i = 0; i < 1000000; i++) if (bafokun_write(&node, 0x2003, 0, bytes, 2, frames, BAFOKUN_MOST_FRAMES) != 0) return 1;
+    printf("write %.0f\n", (now() - begin) / 1e6);
+    begin = now();
+    for (i = 0; i < 1000000; i++) if (bafokun_write_at(&node, number, bytes, 2, frames, BAFOKUN_MOST_FRAMES) != 0) return 1;
+    printf("write_at %.0f\n", (now() - begin) / 1e6);
     bafokun_free(&node);
     return 0;
 }
@@ -164,6 +179,9 @@ for _ in 1 2 3 4 5 6 7 8 9; do
     for name in "$folder/in_c" "$program"; do "$name" < "$root/bench/pdo-device.eds" >> "$name.all"; done
 done
 for name in "$folder/in_c" "$program"; do smallest < "$name.all" | sort > "$name.best"; done
+awk '{ time[$1] = $2 }
+     END { for (name in time) if (name "_at" in time)
+               printf "%-7s %5d ns by its key, %5d ns by its number\n", name, time[name], time[name "_at"] }' "$folder/in_c.best" | sort
 join "$folder/in_c.best" "$program.best" |
     awk '{ ratio = $2 / $3; if (ratio > ($1 == "tick" ? 1.2 : 1.1)) bad = 1
            printf "%-7s %5d ns from C, %5d ns in Rattle: %.2f\n", $1, $2, $3, ratio }

@@ -596,6 +596,55 @@ static void test_entries(void)
     check(bafokun_entry_name(&node, 41, name, 4) == 0 && name[0] == 0, "entries", "nor a name");
 }
 
+/* An entry is read and written by its number as by its key. */
+static void test_numbers(void)
+{
+    bafokun_node node = BAFOKUN_EMPTY;
+    bafokun_fault fault;
+    bafokun_entry_info entry;
+    bafokun_frame frames[2];
+    uint8_t by_key[16], by_number[16];
+    const char *text = sheet_with("2003=7");
+    size_t number, unlike = 0, of_key, of_number, next = 0;
+    uint32_t code = 0;
+    check(bafokun_build(&node, text, strlen(text), 5, &config, &fault), "numbers", "build");
+    for (number = 0; bafokun_entry(&node, number, &entry); number++) {
+        memset(by_key, 0xEE, sizeof by_key);
+        memset(by_number, 0xEE, sizeof by_number);
+        unlike += !bafokun_value(&node, entry.index, entry.sub_index, by_key, sizeof by_key, &of_key)
+            || !bafokun_value_at(&node, number, by_number, sizeof by_number, &of_number)
+            || of_key != of_number || memcmp(by_key, by_number, sizeof by_key) != 0;
+    }
+    check(number == 46 && unlike == 0, "numbers", "all 46 are read alike");
+    of_number = 77;
+    check(!bafokun_value_at(&node, 46, by_number, sizeof by_number, &of_number) && of_number == 77, "numbers", "past the last");
+    check(!bafokun_value_at(&node, SIZE_MAX, by_number, sizeof by_number, &of_number) && of_number == 77, "numbers", "far past it");
+    memset(by_number, 0xEE, sizeof by_number);
+    check(bafokun_find(&node, 0x2003, 0, &number) && number == 43, "numbers", "find 2003:00");
+    check(bafokun_value_at(&node, number, by_number, 1, &of_number) && of_number == 2, "numbers", "a value, room for one");
+    check(by_number[0] == 7 && by_number[1] == 0xEE, "numbers", "its first byte");
+    while (bafokun_next_changed(&node, next, &next)) next++;
+    check(bafokun_write_at(&node, number, (const uint8_t *)"\x2C\x01", 2, frames, 2) == 0, "numbers", "write 2003:00");
+    check(bafokun_answer(&node, &code) == BAFOKUN_DONE && code == 0, "numbers", "done");
+    check(run_line(&node, "value 2003:00 2C 01"), "numbers", "it is set");
+    check(!bafokun_next_changed(&node, 0, &next), "numbers", "the program knows what it wrote");
+    check(bafokun_write_at(&node, number, by_number, 1, frames, 2) == 0, "numbers", "one byte");
+    check(bafokun_answer(&node, &code) == BAFOKUN_REFUSED && code == 0x06070013, "numbers", "is refused: too short");
+    check(bafokun_write_at(&node, 46, by_number, 2, frames, 2) == 0, "numbers", "past the last");
+    check(bafokun_answer(&node, &code) == BAFOKUN_REFUSED && code == 0x06020000, "numbers", "is refused: no such object");
+    check(bafokun_write_at(&node, SIZE_MAX, by_number, 2, frames, 2) == 0, "numbers", "far past it");
+    check(bafokun_answer(&node, &code) == BAFOKUN_REFUSED && code == 0x06020000, "numbers", "is refused too");
+    check(run_line(&node, "value 2003:00 2C 01"), "numbers", "nothing else is set");
+    check(bafokun_find(&node, 0x1014, 0, &number), "numbers", "find 1014:00");
+    check(bafokun_write_at(&node, number, (const uint8_t *)"\x85\0\0\x80", 4, frames, 2) == 0, "numbers", "write 1014:00");
+    check(bafokun_answer(&node, &code) == BAFOKUN_DONE, "numbers", "EMCY is switched off");
+    check(bafokun_write_at(&node, number, (const uint8_t *)"\x80\0\0\0", 4, frames, 2) == 0, "numbers", "a restricted COB-ID");
+    check(bafokun_answer(&node, &code) == BAFOKUN_REFUSED && code == 0x06090030, "numbers", "is refused by the rule of 1014h");
+    bafokun_free(&node);
+    check(!bafokun_value_at(&node, 0, by_number, 1, &of_number), "numbers", "none of an empty place");
+    check(bafokun_write_at(&node, 0, by_number, 1, frames, 2) == 0, "numbers", "which takes none");
+}
+
 /* The entries whose bytes the program doesn't know, from a number on: these keys, in this order, and no other. */
 static bool are_changed(bafokun_node *node, size_t from, const char *keys)
 {
@@ -836,6 +885,7 @@ int main(int argc, char **argv)
     test_small_arrays();
     test_ticks();
     test_entries();
+    test_numbers();
     test_changes();
     test_happened();
     test_texts();

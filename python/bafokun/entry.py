@@ -18,10 +18,11 @@ class Entry:
     the entry and send at changes are sent. Refused: it was refused, as below the low limit; nothing is changed then.
     """
 
-    __slots__ = ("_node", "_description")
+    __slots__ = ("_node", "_number", "_description")
 
-    def __init__(self, node: Node, description: Description):
+    def __init__(self, node: Node, number: int, description: Description):
         self._node = node
+        self._number = number
         self._description = description
 
     @property
@@ -62,11 +63,11 @@ class Entry:
     @property
     def bytes(self) -> bytes:
         """The bytes, least significant first. When they are set they are all of the entry's."""
-        return self._node.read(self.index, self.sub_index)
+        return self._node._read_at(self._number)
 
     @bytes.setter
     def bytes(self, data: bytes) -> None:
-        self._node.write(self.index, self.sub_index, data)
+        self._node._write_at(self._number, data)
         self._node.changed(self.index, self.sub_index)
 
     @property

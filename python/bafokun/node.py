@@ -124,7 +124,8 @@ class Node:
             raise BuildFault(fault.number, fault.index, fault.sub_index, path)
         # also where nobody closes it
         self._free = weakref.finalize(self, self._library.bafokun_free, self._handle)
-        self._entries = {(it.index, it.sub_index): Entry(self, it) for it in self._descriptions(Sheet(sheet))}
+        descriptions = enumerate(self._descriptions(Sheet(sheet)))
+        self._entries = {(it.index, it.sub_index): Entry(self, number, it) for number, it in descriptions}
         self._names = self._named()
 
     @classmethod
@@ -241,6 +242,11 @@ class Node:
         data = memoryview(data).tobytes()
         self._event("write", _checked("index", index, 0xFFFF), _checked("sub_index", sub_index, 0xFF), data, len(data))
 
+    def _write_at(self, number: int, data: bytes) -> None:
+        """The same of an entry by the library's number."""
+        data = memoryview(data).tobytes()
+        self._event("write_at", number, data, len(data))
+
     def changed(self, index: int, sub_index: int) -> None:
         """The value of an entry changed: an event on each active TPDO that maps it."""
         self._event("changed", _checked("index", index, 0xFFFF), _checked("sub_index", sub_index, 0xFF))
@@ -311,12 +317,19 @@ class Node:
         """The bytes of an entry, least significant first. KeyError: there is none."""
         _checked("index", index, 0xFFFF)
         _checked("sub_index", sub_index, 0xFF)
+        return self._read(f"{index:04X}:{sub_index:02X}", "value", index, sub_index)
+
+    def _read_at(self, number: int) -> bytes:
+        """The same of an entry by the library's number."""
+        return self._read(f"with number {number}", "value_at", number)
+
+    def _read(self, shown: str, name: str, *words: int) -> bytes:
         with self._lock:
             room, length = 64, ctypes.c_size_t()
             while True:
                 data = (ctypes.c_uint8 * room)()
-                if not self._call("value", index, sub_index, data, room, length):
-                    raise KeyError(f"there is no entry {index:04X}:{sub_index:02X}")
+                if not self._call(name, *words, data, room, length):
+                    raise KeyError(f"there is no entry {shown}")
                 if length.value <= room:
                     return bytes(data[: length.value])
                 room = length.value

@@ -3,6 +3,7 @@ pub mod AsBox
 pub mod AsLoss
 pub mod GivenBus
 pub mod KnownSoFar
+pub mod Numbered
 pub mod Put
 pub mod Refused
 pub mod StateKept

@@ -1,8 +1,9 @@
 -- A device that is built for C, or the fault.
-use Rattle.std.specs.Prelude.{◌≡◌, ℕ, List, [], map, Option, Some, None}
+use Rattle.std.specs.Prelude.{◌≡◌, ℕ, List, [], map, Option, Some, None, option_map}
 use Rattle.co_sheet_rows.specs.declared.fault.SheetFault.{SheetFault}
 use Rattle.co_sheet.specs.Accepted.{IsAnswered, first_fault}
 use Rattle.co_sheet.specs.Content.{SheetContent, IsSheet, IsWhole}
+use Rattle.co_dict.specs.Places.{key_at}
 use Rattle.co_dict.specs.Stores.{IsGreatestCapacity}
 use Rattle.co_dict_build.specs.declared.build_fault.BuildFault.{BuildFault}
 use Rattle.co_dict_build.specs.declared.build_fault.BuildFault.TheVariants.{Memory}
@@ -18,7 +19,7 @@ use Rattle.bafokun.specs.Happened.{no_events}
 use Rattle.bafokun.specs.declared.held.Held.{Held}
 use Rattle.bafokun.specs.declared.handle.Handle.{Handle}
 use Rattle.co_sheet_changes.specs.Originals.{original_at}
-use Rattle.co_dict_table.specs.Entries.{EntryContent, contents_of_rows}
+use Rattle.co_dict_table.specs.Entries.{EntryContent, contents_of_rows, entry_at}
 use Rattle.co_dict_table.specs.Known.{Known, blank_of}
 
 -- the capacities of strings and of domains; no entry has one of its own
@@ -46,10 +47,13 @@ pub record IsHeld (made : Node) (table : List EntryContent) (bytes : List Known)
   pub events : held.events ≡ no_events
 
 -- this device was built from this sheet; it has the entry table of the sheet, with these original
--- types by section lines, the application knows no bytes of the entries, and nothing happened
+-- types by section lines, and the number of an entry is its place in the dictionary; the
+-- application knows no bytes of the entries, and nothing happened
 pub record IsHeldOf (originals : ℕ → Option (List ℕ)) (node : ℕ) (settings : Settings) (sheet : SheetContent) (held : Held) : Type 0 where
   pub is_built : IsNodeOf node settings sheet held.node
   pub entries : held.entries ≡ contents_of_rows originals (limits_for settings) sheet.rows
+  pub numbered : (number : ℕ) → key_at (built_description (plan_for node settings sheet)) number
+      ≡ option_map (λ e. e.facts.key) (entry_at held.entries number)
   pub known : held.known ≡ map blank_of held.entries
   pub events : held.events ≡ no_events
 

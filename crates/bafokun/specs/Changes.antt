@@ -3,7 +3,7 @@ use Rattle.std.specs.Prelude.{◌≡◌, ℕ, ◌<◌, ◌≤◌, Bool, true, fa
 use Rattle.std.specs.Option.{option_map_or}
 use Rattle.co_value.specs.declared.key.Key.{Key}
 use Rattle.co_dict.specs.Rows.{Contents}
-use Rattle.co_dict_table.specs.Entries.{EntryContent, entry_at, number_of}
+use Rattle.co_dict_table.specs.Entries.{EntryContent, entry_at}
 use Rattle.co_dict_table.specs.Known.{Known, with_known}
 use Rattle.co_node_model.specs.Inputs.{Applied, Inputs, Written}
 use Rattle.co_node_model.specs.Moments.{Constants}
@@ -48,18 +48,18 @@ abbrev pub known_after : Contents → List EntryContent → List Known → Optio
 known_after contents entries known None = known
 known_after contents entries known (Some number) = known_with contents (entry_at entries number) known number
 
--- the known bytes after the application wrote into the entry with a key, by the answer
-abbrev pub known_written : Contents → List EntryContent → List Known → Key → AppAnswer → List Known
-known_written contents entries known key app.None = known
-known_written contents entries known key app.Done =
-    option_map_or (λ number. with_known known number (bytes_at contents key)) (number_of entries key) known
-known_written contents entries known key (app.Refused code) = known
+-- the known bytes after the application wrote into the entry with a key and a number, by the answer
+abbrev pub known_written : Contents → Option ℕ → List Known → Key → AppAnswer → List Known
+known_written contents number known key app.None = known
+known_written contents number known key app.Done =
+    option_map_or (λ number. with_known known number (bytes_at contents key)) number known
+known_written contents number known key (app.Refused code) = known
 
 -- the same for a write that is the last input
 pub record KnowsWritten (k : Constants) (before : Inputs) (key : Key) (bytes : List ℕ)
-    (entries : List EntryContent) (known later : List Known) : Type 0 where
+    (number : Option ℕ) (known later : List Known) : Type 0 where
   pub is : later
-      ≡ known_written (contents_of k (Applied (Written key bytes) ∷ before)) entries known key
+      ≡ known_written (contents_of k (Applied (Written key bytes) ∷ before)) number known key
       (app_after k (Applied (Written key bytes) ∷ before))
 
 -- C gets the number of the first entry that differs, and its bytes are known then; if there is

@@ -1,12 +1,15 @@
 -- An entry of a device for C.
-use Rattle.std.specs.Prelude.{◌≡◌, ℕ, Bool, true, false, length, Option, Some, None}
-use Rattle.std.specs.Option.{option_map_or}
+use Rattle.std.specs.Prelude.{◌≡◌, ℕ, Bool, true, false, List, length, Option, Some, None}
+use Rattle.std.specs.Option.{option_and_then, option_map_or}
+use Rattle.co_value.specs.declared.key.Key.{Key}
 use Rattle.co_value.specs.Types.{code_of}
 use Rattle.co_profile.specs.declared.access.Access.{Access}
 use Rattle.co_profile.specs.declared.access.Access.TheVariants.{Ro, Wo, Rw, Rwr, Rww, Constant}
 use Rattle.co_dict.specs.Rows.{Contents}
-use Rattle.co_dict_table.specs.Entries.{EntryContent}
+use Rattle.co_dict_table.specs.Entries.{EntryContent, entry_at, number_of}
 use Rattle.bafokun.specs.declared.entries.Entry.{Entry}
+use Rattle.bafokun.specs.declared.entries.Named.{Named}
+use Rattle.bafokun.specs.declared.entries.Named.TheVariants as named
 
 -- an access as a number
 abbrev pub access_code : Access → ℕ
@@ -43,3 +46,21 @@ IsNumber (Some number) before after found = (after ≡ number) × (found ≡ tru
 abbrev pub IsEntry : Option EntryContent → Contents → Entry → Entry → Bool → Type 0
 IsEntry None contents before after found = (after ≡ before) × (found ≡ false)
 IsEntry (Some e) contents before after found = (after ≡ c_entry e (length_in contents e)) × (found ≡ true)
+
+-- the key of the entry with a number; 0000:00, which no entry has, if there is no such entry
+abbrev pub key_numbered : List EntryContent → ℕ → Key
+key_numbered entries number = option_map_or (λ e. e.facts.key) (entry_at entries number) (record { index = 0; sub = 0 })
+
+-- the bytes of the entry with a number in these contents
+abbrev pub value_numbered : List EntryContent → Contents → ℕ → Option (List ℕ)
+value_numbered entries contents number = option_and_then (λ e. contents e.facts.key) (entry_at entries number)
+
+-- the key of an entry that C names
+abbrev pub key_named : List EntryContent → Named → Key
+key_named entries (named.Key key) = key
+key_named entries (named.Number number) = key_numbered entries number
+
+-- its number, if it is known
+abbrev pub number_named : List EntryContent → Named → Option ℕ
+number_named entries (named.Key key) = number_of entries key
+number_named entries (named.Number number) = Some number

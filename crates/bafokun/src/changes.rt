@@ -19,12 +19,13 @@ use co_dict_table::{EntryTable, KnownBytes};
 use co_node::{AppAnswer, Node};
 use co_value::Key;
 
-// The bytes of the entry with a key; empty if there is no such entry.
-fn bytes_at(node: &Node, key: Key) -> &[u8]
+// The bytes of the entry with a key, and with this number if it is among the entries; empty if there
+// is no such entry.
+fn bytes_at(node: &Node, number: usize, key: Key) -> &[u8]
     ensures { (k : Constants) (before : Inputs) → Stands k node.now before →
         result.now ≡ bytes_at (contents_of k before) key }
 {
-    match node.value(key) {
+    match node.value_at(number, key) {
         Some(bytes) => bytes,
         None => &[],
     }
@@ -53,7 +54,10 @@ fn is_changed(node: &Node, entries: &EntryTable, known: &KnownBytes, number: usi
 {
     match entries.get(number) {
         Some(described) => {
-            !is_same(bytes_at(node, described.facts.key), known_at(known, number))
+            !is_same(
+                bytes_at(node, number, described.facts.key),
+                known_at(known, number),
+            )
         }
         None => false,
     }
@@ -83,20 +87,20 @@ pub(crate) fn note(node: &Node, entries: &EntryTable, known: &mut KnownBytes, nu
         ≡ known_with (contents_of k before) (entry_at entries.now number) known.old number }
 {
     match entries.get(number) {
-        Some(described) => known.set(number, bytes_at(node, described.facts.key)),
+        Some(described) => known.set(number, bytes_at(node, number, described.facts.key)),
         None => {}
     }
 }
 
-/// Notes the bytes that the application wrote last, into the entry with a key, as known, if the
-/// write was done.
-pub(crate) fn note_written(node: &Node, entries: &EntryTable, known: &mut KnownBytes, key: Key)
+/// Notes the bytes that the application wrote last, into the entry with a key and a number, as
+/// known, if the write was done.
+pub(crate) fn note_written(node: &Node, known: &mut KnownBytes, key: Key, number: Option<usize>)
     ensures { (k : Constants) (before : Inputs) → Stands k node.now before → known.new
-        ≡ known_written (contents_of k before) entries.now known.old key (app_after k before) }
+        ≡ known_written (contents_of k before) number known.old key (app_after k before) }
 {
     match node.last_app() {
-        AppAnswer::Done => match entries.number(key) {
-            Some(number) => known.set(number, bytes_at(node, key)),
+        AppAnswer::Done => match number {
+            Some(number) => known.set(number, bytes_at(node, number, key)),
             None => {}
         },
         AppAnswer::None | AppAnswer::Refused(_) => {}

@@ -38,7 +38,7 @@ pub extern "C" fn bafokun_entry(
         Some(held) => {
             let found = match held.entries.get(number) {
                 Some(described) => {
-                    let length = match held.node.value(described.facts.key) {
+                    let length = match held.node.value_at(number, described.facts.key) {
                         Some(bytes) => bytes.len(),
                         None => 0,
                     };

@@ -2,10 +2,11 @@
 
 ghost use Rattle.std.specs.Prelude.{◌≡◌};
 ghost use Rattle.co_dict_table.specs.Tables.{described_view};
-ghost use Rattle.bafokun.specs.Entries.{access_code, c_entry};
+ghost use Rattle.bafokun.specs.Entries.{access_code, c_entry, key_named, number_named};
 
-use co_dict_table::DescribedEntry;
+use co_dict_table::{DescribedEntry, EntryTable};
 use co_profile::Access;
+use co_value::Key;
 
 /// An entry of a device, 24 bytes without padding if a size has 8: `struct bafokun_entry_info`.
 #[repr(C)]
@@ -55,5 +56,31 @@ fn access_code(access: Access) -> u8
         Access::Rwr => 4,
         Access::Rww => 5,
         Access::Constant => 6,
+    }
+}
+
+/// How C names an entry.
+#[derive(Clone, Copy)]
+pub(crate) enum Named {
+    /// By its key.
+    Key(Key),
+    /// By its number, from 0 on by increasing key.
+    Number(usize),
+}
+
+impl Named {
+    /// The key and the number of the entry. If no entry has the number, the key is 0000:00, which
+    /// none has either.
+    pub(crate) fn find(self, entries: &EntryTable) -> (Key, Option<usize>)
+        ensures key { result.0 ≡ key_named entries.now self }
+        ensures number { result.1 ≡ number_named entries.now self }
+    {
+        match self {
+            Named::Key(key) => (key, entries.number(key)),
+            Named::Number(number) => match entries.get(number) {
+                Some(described) => (described.facts.key, Some(number)),
+                None => (Key { index: 0, sub: 0 }, Some(number)),
+            },
+        }
     }
 }

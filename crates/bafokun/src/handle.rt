@@ -3,13 +3,13 @@
 ghost use Rattle.std.specs.Prelude.{◌≡◌, Some, None, false, length, option_map, true};
 ghost use Rattle.bafokun.specs.Seals.{alone};
 
+use crate::entries::Named;
 use crate::frames::{CanFrame, put};
 use crate::held::Held;
 use crate::parts::Parts;
 use crate::seal::Seal;
 use co_frame::Frame;
 use co_node::AppEvent;
-use co_value::Key;
 use std::alloc::Global;
 use std::mem::replace;
 
@@ -29,6 +29,7 @@ impl Handle {
     ghost use Rattle.co_node_model.specs.Moments.{Constants};
     ghost use Rattle.bafokun.specs.Changes.{KnowsWritten};
     ghost use Rattle.bafokun.specs.Devices.{Gives, IsDevice, IsEmpty, IsQuiet, entries_of, known_of};
+    ghost use Rattle.bafokun.specs.Entries.{key_named, number_named};
     ghost use Rattle.bafokun.specs.Frames.{ArePut};
     ghost use Rattle.bafokun.specs.Happened.{and_input, events_of};
 
@@ -176,22 +177,26 @@ impl Handle {
     pub(crate) fn write(
         &mut self,
         alloc: Global,
-        key: Key,
+        name: Named,
         bytes: &[u8],
         frames: &mut [CanFrame],
     ) -> usize
-        ensures gives { (k : Constants) (before : Inputs) → IsDevice k self.old before →
-            Gives k before (Applied (Written key bytes.now)) self.new frames.old frames.new result }
+        ensures gives { (k : Constants) (before : Inputs) → IsDevice k self.old before → Gives k
+            before (Applied (Written (key_named (entries_of self.old) name) bytes.now))
+            self.new frames.old frames.new result }
         ensures empty { IsEmpty self.old → IsQuiet self.new frames.old frames.new result }
         ensures entries { entries_of self.new ≡ entries_of self.old }
-        ensures known { (k : Constants) (before : Inputs) → IsDevice k self.old before → KnowsWritten
-            k before key bytes.now (entries_of self.old) (known_of self.old) (known_of self.new) }
+        ensures known { (k : Constants) (before : Inputs) → IsDevice k self.old before →
+            KnowsWritten k before (key_named (entries_of self.old) name) bytes.now
+            (number_named (entries_of self.old) name) (known_of self.old) (known_of self.new) }
         ensures events { (k : Constants) (before : Inputs) → IsDevice k self.old before →
-            events_of self.new ≡ and_input k before (Applied (Written key bytes.now)) (events_of self.old) }
+            events_of self.new ≡ and_input k before
+            (Applied (Written (key_named (entries_of self.old) name) bytes.now))
+            (events_of self.old) }
     {
         match self.take(alloc) {
             Some(mut held) => {
-                held.write(key, bytes);
+                held.write(name, bytes);
                 self.give(held, frames)
             }
             None => 0,

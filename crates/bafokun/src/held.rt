@@ -9,16 +9,17 @@ ghost use Rattle.co_node_model.specs.Device.{contents_of};
 ghost use Rattle.bafokun.specs.Changes.{IsNext, KnowsWritten, known_after};
 ghost use Rattle.bafokun.specs.Bus.{GaveBus, bus_input};
 ghost use Rattle.bafokun.specs.Devices.{Gave};
+ghost use Rattle.bafokun.specs.Entries.{key_named, number_named};
 ghost use Rattle.bafokun.specs.Happened.{and_bus, and_input, and_ticks, left_of, told_of};
 ghost use Rattle.bafokun.specs.Ticks.{GaveTicks};
 
 use crate::bus::bus_input;
 use crate::changes::{next_changed, note, note_written};
+use crate::entries::Named;
 use crate::happened::Events;
 use co_dict_table::{EntryTable, KnownBytes};
 use co_frame::{Frame, Outbox};
 use co_node::{AppEvent, Node};
-use co_value::Key;
 
 /// A device, the frames of its last input, the entry table of its data sheet, the bytes of the
 /// entries that the application knows, and what happened since it asked.
@@ -43,8 +44,10 @@ impl Held {
             self.new.events ≡ and_input k before (Framed frame.now) self.old.events }
     {
         let state = self.node.state();
+        // read before the call, where the compiler then knows of most receivers that it isn't 0
+        let id = frame.id();
         let seen = self.node.take_frame(frame, &mut self.sent);
-        if frame.id() == 0 {
+        if id == 0 {
             self.events.note(&self.node, state);
         } else {
             self.events.note_frame(seen);
@@ -110,18 +113,24 @@ impl Held {
     }
 
     /// The application writes an entry, and knows its bytes if that is done.
-    pub(crate) fn write(&mut self, key: Key, bytes: &[u8])
-        ensures gave { (k : Constants) (before : Inputs) → Stands k self.old.node before →
-            Gave k before (Applied (Written key bytes.now)) self.new }
+    pub(crate) fn write(&mut self, name: Named, bytes: &[u8])
+        ensures gave { (k : Constants) (before : Inputs) → Stands k self.old.node before → Gave k
+            before (Applied (Written (key_named self.old.entries name) bytes.now)) self.new }
         ensures entries { self.new.entries ≡ self.old.entries }
         ensures known { (k : Constants) (before : Inputs) → Stands k self.old.node before →
-            KnowsWritten k before key bytes.now self.old.entries self.old.known self.new.known }
+            KnowsWritten k before (key_named self.old.entries name) bytes.now
+            (number_named self.old.entries name) self.old.known self.new.known }
         ensures events { (k : Constants) (before : Inputs) → Stands k self.old.node before →
-            self.new.events ≡
-            and_input k before (Applied (Written key bytes.now)) self.old.events }
+            self.new.events ≡ and_input k before
+            (Applied (Written (key_named self.old.entries name) bytes.now)) self.old.events }
     {
-        self.take_event(AppEvent::Write(key, bytes));
-        note_written(&self.node, &self.entries, &mut self.known, key);
+        let (key, number) = name.find(&self.entries);
+        let state = self.node.state();
+        // without a search in the node where the number is known
+        let place = number.unwrap_or(usize::MAX);
+        self.node.write_at(place, key, bytes, &mut self.sent);
+        self.events.note(&self.node, state);
+        note_written(&self.node, &mut self.known, key, number);
     }
 
     /// The first entry from a number on whose bytes the application doesn't know; these are known

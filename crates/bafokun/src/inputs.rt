@@ -1,6 +1,6 @@
 //! The inputs of a device from C.
 
-ghost use Rattle.std.specs.Prelude.{◌≡◌};
+ghost use Rattle.std.specs.Prelude.{◌≡◌, Some};
 ghost use Rattle.co_node_model.specs.Inputs.{
   Inputs,
   Framed,
@@ -13,13 +13,16 @@ ghost use Rattle.co_node_model.specs.Inputs.{
   Cleared,
 };
 ghost use Rattle.co_node_model.specs.Moments.{Constants};
+ghost use Rattle.co_dict_table.specs.Entries.{number_of};
 ghost use Rattle.bafokun.specs.Bus.{GivesBus, bus_input};
 ghost use Rattle.bafokun.specs.Devices.{Gives, GivesBootUp, IsDevice, IsEmpty, IsQuiet, entries_of, known_of};
 ghost use Rattle.bafokun.specs.Changes.{KnowsWritten};
+ghost use Rattle.bafokun.specs.Entries.{key_numbered};
 ghost use Rattle.bafokun.specs.Frames.{IsCan, content_of};
 ghost use Rattle.bafokun.specs.Happened.{and_bus, and_input, and_ticks, events_of};
 ghost use Rattle.bafokun.specs.Ticks.{GivesTicks};
 
+use crate::entries::Named;
 use crate::frames::CanFrame;
 use crate::handle::Handle;
 use co_node::AppEvent;
@@ -142,7 +145,8 @@ pub extern "C" fn bafokun_write(
     ensures entries { entries_of node.new ≡ entries_of node.old }
     ensures known { (k : Constants) (before : Inputs) → IsDevice k node.old before →
         KnowsWritten k before (record { index = index; sub = sub_index }) bytes.now
-        (entries_of node.old) (known_of node.old) (known_of node.new) }
+        (number_of (entries_of node.old) (record { index = index; sub = sub_index }))
+        (known_of node.old) (known_of node.new) }
     ensures events { (k : Constants) (before : Inputs) → IsDevice k node.old before →
         events_of node.new ≡ and_input k before
         (Applied (Written (record { index = index; sub = sub_index }) bytes.now))
@@ -152,7 +156,33 @@ pub extern "C" fn bafokun_write(
         index,
         sub: sub_index,
     };
-    node.write(alloc, key, bytes, frames)
+    node.write(alloc, Named::Key(key), bytes, frames)
+}
+
+/// The same of the entry with a number, without a search. A number that no entry has is refused, as
+/// key 0000:00, which no device has. C must pass what `bafokun_write` requires.
+#[unsafe(no_mangle)]
+pub extern "C" fn bafokun_write_at(
+    alloc: Global,
+    node: &mut Handle,
+    number: usize,
+    bytes: &[u8],
+    frames: &mut [CanFrame],
+) -> usize
+    ensures gives { (k : Constants) (before : Inputs) → IsDevice k node.old before →
+        Gives k before (Applied (Written (key_numbered (entries_of node.old) number) bytes.now))
+        node.new frames.old frames.new result }
+    ensures empty { IsEmpty node.old → IsQuiet node.new frames.old frames.new result }
+    ensures entries { entries_of node.new ≡ entries_of node.old }
+    ensures known { (k : Constants) (before : Inputs) → IsDevice k node.old before →
+        KnowsWritten k before (key_numbered (entries_of node.old) number) bytes.now
+        (Some number) (known_of node.old) (known_of node.new) }
+    ensures events { (k : Constants) (before : Inputs) → IsDevice k node.old before →
+        events_of node.new ≡ and_input k before
+        (Applied (Written (key_numbered (entries_of node.old) number) bytes.now))
+        (events_of node.old) }
+{
+    node.write(alloc, Named::Number(number), bytes, frames)
 }
 
 /// An event of the TPDO with a number, from 0: k of 1800h + k. C must pass what `bafokun_tick`

@@ -25,10 +25,10 @@ pub use handle::Handle;
 pub use happened::Events;
 pub use inputs::{
     bafokun_boot, bafokun_bus, bafokun_changed, bafokun_clear, bafokun_event, bafokun_raise,
-    bafokun_take, bafokun_tick, bafokun_ticks, bafokun_write,
+    bafokun_take, bafokun_tick, bafokun_ticks, bafokun_write, bafokun_write_at,
 };
 pub use questions::{
     bafokun_answer, bafokun_free, bafokun_happened, bafokun_held, bafokun_idle, bafokun_node_id,
-    bafokun_sent, bafokun_state, bafokun_value, idle_ticks_elapse,
+    bafokun_sent, bafokun_state, bafokun_value, bafokun_value_at, idle_ticks_elapse,
 };
 pub use texts::{bafokun_abort_text, bafokun_fault_fix, bafokun_fault_text};

@@ -1,12 +1,13 @@
 //! Reading from a device, and freeing it.
 
-ghost use Rattle.std.specs.Prelude.{◌≡◌, ℕ, ◌≤◌, None, drop, length};
+ghost use Rattle.std.specs.Prelude.{◌≡◌, ℕ, ◌≤◌, None, drop, length, option_map};
 ghost use Rattle.co_node_model.specs.Inputs.{Inputs};
 ghost use Rattle.co_node_model.specs.Moments.{Constants};
 ghost use Rattle.co_node_model.specs.Ticks.{IsQuietFor};
 ghost use Rattle.co_node_model.specs.Device.{app_after, contents_of, held_of, room_of, state_of};
 ghost use Rattle.bafokun.specs.Answers.{IsCopied, IsRead, answer_code, refusal_code, state_code};
 ghost use Rattle.bafokun.specs.Devices.{IsDevice, IsEmpty, entries_of, known_of, sent_of};
+ghost use Rattle.bafokun.specs.Entries.{value_numbered};
 ghost use Rattle.bafokun.specs.Frames.{ArePut};
 ghost use Rattle.bafokun.specs.Happened.{IsTold, events_of, left_of, told_of};
 ghost use Rattle.bafokun.specs.Ticks.{AreTicks};
@@ -72,16 +73,53 @@ pub extern "C" fn bafokun_value(
     };
     match node.take(alloc) {
         Some(held) => {
-            let found = match held.node.value(key) {
-                Some(value) => {
-                    copy(value, bytes);
-                    *length = value.len();
-                    true
-                }
-                None => false,
-            };
+            let found = read(held.node.value(key), bytes, length);
             *node = Handle::of(held);
             found
+        }
+        None => false,
+    }
+}
+
+/// The same of the entry with a number, without a search. C must pass what `bafokun_value` requires.
+#[unsafe(no_mangle)]
+pub extern "C" fn bafokun_value_at(
+    alloc: Global,
+    node: &mut Handle,
+    number: usize,
+    bytes: &mut [u8],
+    length: &mut usize,
+) -> bool
+    ensures same { node.new.seal.value ≡ node.old.seal.value }
+    ensures value { (k : Constants) (before : Inputs) → IsDevice k node.old before →
+        IsRead (value_numbered (entries_of node.old) (contents_of k before) number)
+        bytes.old bytes.new length.old length.new result }
+    ensures empty { IsEmpty node.old → IsRead None bytes.old bytes.new length.old length.new result }
+{
+    match node.take(alloc) {
+        Some(held) => {
+            let value = match held.entries.get(number) {
+                Some(described) => held.node.value_at(number, described.facts.key),
+                None => None,
+            };
+            let found = read(value, bytes, length);
+            *node = Handle::of(held);
+            found
+        }
+        None => false,
+    }
+}
+
+// Copies the bytes of an entry, if there is one, and counts them. Returns whether there is one.
+fn read(value: Option<&[u8]>, bytes: &mut [u8], length: &mut usize) -> bool
+    ensures { IsRead (option_map (λ value. value.now) value.entry)
+        bytes.old bytes.new length.old length.new result }
+{
+    match value {
+        Some(value) => {
+            copy(value, bytes);
+            *length = value.len();
+            true
         }
         None => false,
     }

@@ -57,8 +57,18 @@ fn greatest_capacity(slots: &[Slot]) -> u16
 }
 
 impl ImageStore {
+    ghost use Rattle.co_dict.specs.Places.{key_at};
     ghost use Rattle.co_dict.specs.Rows.{capacity_at};
     ghost use Rattle.co_dict.specs.Stores.{IsGreatestCapacity};
+
+    /// The key of the entry at a place; `None` where there is no entry.
+    #[inline(always)]
+    pub fn key_at(&self, place: u32) -> Option<Key>
+        ensures { result ≡ key_at (⟦<ImageStore as ObjectStore>⟧.description self.now) place }
+    {
+        let slot = self.slots.get(place as usize)?;
+        Some(slot.key)
+    }
 
     /// The greatest capacity of all entries, in bytes; 0 where there is no entry.
     pub fn greatest_capacity(&self) -> u16

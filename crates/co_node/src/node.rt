@@ -24,13 +24,14 @@ ghost use Rattle.std.specs.Prelude.{
   option_map,
 };
 ghost use Rattle.co_value.specs.declared.key.Key.{Key};
+ghost use Rattle.co_dict.specs.Places.{key_at};
 ghost use Rattle.co_dict.specs.Stores.{IsGreatestCapacity};
 ghost use Rattle.co_dict_build.specs.Built.{built_contents, built_description};
 ghost use Rattle.co_dict_build.specs.BuildFaults.{IsBuildFault, build_fault};
 ghost use Rattle.co_pdo.specs.Mappings.{has_pdo, mapping_of};
 ghost use Rattle.co_pdo_compiled.specs.CompiledMappings.{IsCompiledForm};
 ghost use Rattle.co_node_model.specs.AppEvents.{event_refusal};
-ghost use Rattle.co_node_model.specs.Inputs.{Applied, Framed, Inputs, Ticked, app_view, input_view};
+ghost use Rattle.co_node_model.specs.Inputs.{Applied, Framed, Inputs, Ticked, Written, app_view, input_view};
 ghost use Rattle.co_node_model.specs.Moments.{Constants};
 ghost use Rattle.co_node_model.specs.Heartbeats.{boot_up};
 ghost use Rattle.co_node_model.specs.Ticks.{IsQuietFor};
@@ -49,13 +50,21 @@ ghost use Rattle.co_node_device.specs.Lasts.{last_losses, last_seen};
 ghost use Rattle.co_node.specs.Built.{IsBuilt};
 ghost use Rattle.co_node.specs.Held.{HoldsWithin};
 ghost use Rattle.co_node.specs.Memory.{memory_of};
-ghost use Rattle.co_node.specs.Nodes.{Stands, built_constants, greatest_capacity, node_constants, planned};
+ghost use Rattle.co_node.specs.Nodes.{
+  Stands,
+  built_constants,
+  description_of,
+  greatest_capacity,
+  node_constants,
+  planned,
+};
 ghost use Rattle.co_node.specs.Records.{HasRoom};
 ghost use Rattle.co_node.specs.Refused.{AsForNobody};
 ghost use Rattle.co_node.specs.Runs.{all_ends, most_frames, recorded_after};
 
 use crate::config::Config;
 use crate::record::Record;
+use co_dict::ObjectStore;
 use co_dict_build::BuildFault;
 use co_dict_image::ImageStore;
 use co_frame::{Frame, Outbox};
@@ -189,6 +198,31 @@ impl Node {
         self.device.take_event(event, outbox);
     }
 
+    /// The application writes bytes into an entry, as `take_event` does at `AppEvent::Write`. There
+    /// is no search for it if `number` is its number among the device's entries in increasing key,
+    /// from 0 on.
+    pub fn write_at(&mut self, number: usize, key: Key, bytes: &[u8], outbox: &mut Outbox)
+        ensures frames { (k : Constants) (before : Inputs) → Stands k self.old before →
+            outbox.new.items ≡ prescribed k before (Applied (Written key bytes.now)) }
+        ensures stands { (k : Constants) (before : Inputs) → Stands k self.old before →
+            Stands k self.new (Applied (Written key bytes.now) ∷ before) }
+        ensures few { (k : Constants) (before : Inputs) → Stands k self.old before →
+            length outbox.new.items ≤ frame_bound k before (Applied (Written key bytes.now)) }
+        ensures held { (k : Constants) (before : Inputs) → Stands k self.old before →
+            HoldsWithin k (Applied (Written key bytes.now) ∷ before) }
+        ensures refused { (k : Constants) (before : Inputs) → Stands k self.old before →
+            (code : ℕ) →
+            event_refusal k.description (contents_of k before) (Written key bytes.now) ≡ Some code →
+            AsForNobody k self.new outbox.new.items before (Written key bytes.now) code }
+        ensures memory { (k : Constants) (before : Inputs) → Stands k self.old before →
+            memory_of self.new ≡ memory_of self.old }
+    {
+        match self.place_with(number, key) {
+            Some(place) => self.device.write_at(place, key, bytes, outbox),
+            None => self.take_event(AppEvent::Write(key, bytes), outbox),
+        }
+    }
+
     // Takes a received frame, out of line: `step` is small in each of its callers.
     #[inline(always)]
     fn step_frame(&mut self, frame: &Frame, outbox: &mut Outbox)
@@ -267,7 +301,30 @@ impl Node {
         ensures { (k : Constants) (before : Inputs) → Stands k self.now before →
             option_map (λ bytes. bytes.now) result ≡ contents_of k before key }
     {
-        self.device.value(key)
+        self.device.store().bytes(key)
+    }
+
+    // The place with this number, if the entry is there.
+    #[inline(always)]
+    fn place_with(&self, number: usize, key: Key) -> Option<u32>
+        ensures { IfSome result (λ place.
+            key_at (description_of self.now.device.store) place ≡ Some key) }
+    {
+        let place = u32::try_from(number).ok()?;
+        let there = self.device.store().key_at(place)?;
+        if there == key { Some(place) } else { None }
+    }
+
+    /// The bytes of an entry, as `value` returns them. There is no search for it if `number` is its
+    /// number among the device's entries in increasing key, from 0 on.
+    pub fn value_at(&self, number: usize, key: Key) -> Option<&[u8]>
+        ensures { (k : Constants) (before : Inputs) → Stands k self.now before →
+            option_map (λ bytes. bytes.now) result ≡ contents_of k before key }
+    {
+        match self.place_with(number, key) {
+            Some(place) => self.device.store().bytes_at(place),
+            None => self.value(key),
+        }
     }
 
     /// The node-ID, 1 to 127.
@@ -275,7 +332,7 @@ impl Node {
         ensures { (k : Constants) (before : Inputs) → Stands k self.now before →
             result ≡ k.description.node }
     {
-        self.device.node_id()
+        self.device.store().node_id()
     }
 
     /// The NMT state (CiA 301, 7.3.2).

@@ -29,7 +29,7 @@ pub record IsBefore (k : Constants) (history : History) (d : Description) (entri
 abbrev pub IsAddressed : Constants → History → Given → Address → FrameContent → Type 0
 IsAddressed k history Frame address frame = address ≡ address_at k history frame.id
 IsAddressed k history Tick address frame = Unit {0}
-IsAddressed k history (Write key bytes) address frame = Unit {0}
+IsAddressed k history (Write place key bytes) address frame = Unit {0}
 IsAddressed k history (Event n) address frame = Unit {0}
 IsAddressed k history (Changed key) address frame = Unit {0}
 IsAddressed k history (Raise code bits manufacturer) address frame = Unit {0}

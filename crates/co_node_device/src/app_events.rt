@@ -6,12 +6,14 @@ ghost use Rattle.co_node_parts.specs.EmergencyQueues.{EmergencyLog, EmergenciesS
 ghost use Rattle.co_node_model.specs.AppEvents.{is_tpdo};
 ghost use Rattle.co_node_model.specs.Inputs.{Written, EventOn, ChangedAt, Raised, Cleared};
 ghost use Rattle.co_node_model.specs.declared.mark.Mark.TheVariants as was;
+ghost use Rattle.co_node_device.specs.Given.{IsPlaceOf};
 ghost use Rattle.co_node_device.specs.Receiving.{app_moment};
 ghost use Rattle.co_node_model.specs.Marks.{marked_rpdo};
 
 use crate::emergencies::{clear, raise_and_queue};
 use crate::receiving::Received;
 use co_dict::{ObjectStore, Side, app_store, entry_row};
+use co_dict_placed::app_store_at;
 use co_frame::AbortCode;
 use co_node_model::{AppAnswer, Asked, DeviceError, Mark};
 use co_node_parts::{Emergencies, EmergencyEvent};
@@ -40,8 +42,14 @@ fn done(mark: Mark) -> Received
     }
 }
 
-/// The application writes bytes into an entry.
-pub(crate) fn write<S: ObjectStore>(store: &mut S, key: Key, bytes: &[u8]) -> Received
+/// The application writes bytes into an entry; without a search for it where its place is known.
+pub(crate) fn write<S: ObjectStore>(
+    store: &mut S,
+    place: Option<u32>,
+    key: Key,
+    bytes: &[u8],
+) -> Received
+    requires { IsPlaceOf (S.description store.old) key place }
     ensures mark { result.mark ≡ (app_moment (S.description store.old) (S.contents store.old)
         (Written key bytes.now)).mark }
     ensures app { result.app ≡ (app_moment (S.description store.old) (S.contents store.old)
@@ -51,13 +59,21 @@ pub(crate) fn write<S: ObjectStore>(store: &mut S, key: Key, bytes: &[u8]) -> Re
     ensures description { S.description store.new ≡ S.description store.old }
     ensures rpdo { marked_rpdo result.mark ≡ None }
 {
-    match app_store(store, key, bytes) {
-        Ok(()) => {
-            store.set(key, bytes);
-            done(Mark::Written(key))
+    match place {
+        Some(place) => {
+            if let Err(code) = app_store_at(store, place, key, bytes) {
+                return refused(code);
+            }
+            store.set_at(place, bytes);
         }
-        Err(code) => refused(code),
+        None => {
+            if let Err(code) = app_store(store, key, bytes) {
+                return refused(code);
+            }
+            store.set(key, bytes);
+        }
     }
+    done(Mark::Written(key))
 }
 
 /// Whether the dictionary has the TPDO with a number; never from 512 on.

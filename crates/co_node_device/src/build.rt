@@ -115,20 +115,12 @@ impl<S: ObjectStore> Device<S> {
         send_life(&self.store, Some(Heartbeat::BootUp), outbox);
     }
 
-    /// The bytes of an entry; `None` if there is no such entry.
-    pub fn value(&self, key: Key) -> Option<&[u8]>
-        ensures { (k : Constants) (inputs : Inputs) → Stands k self.now inputs →
-            option_map (λ bytes. bytes.now) result ≡ contents_of k inputs key }
+    /// The store of the entries.
+    #[inline(always)]
+    pub fn store(&self) -> &S
+        ensures { result.now ≡ self.now.store }
     {
-        self.store.bytes(key)
-    }
-
-    /// The node-ID, 1 to 127.
-    pub fn node_id(&self) -> u8
-        ensures { (k : Constants) (inputs : Inputs) → Stands k self.now inputs →
-            result ≡ k.description.node }
-    {
-        self.store.node_id()
+        &self.store
     }
 
     /// The NMT state (CiA 301, 7.3.2).

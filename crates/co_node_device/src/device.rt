@@ -1,12 +1,13 @@
 //! A device over a dictionary, and its inputs.
 
-ghost use Rattle.std.specs.Prelude.{◌≡◌, ◌<◌, ◌≤◌, ◌∷◌, length, true, IfSome, if◌then◌else◌};
+ghost use Rattle.std.specs.Prelude.{◌≡◌, ◌<◌, ◌≤◌, ◌∷◌, length, true, IfSome, Some, if◌then◌else◌};
 ghost use Rattle.std.proofs.Props.{props};
 ghost use Rattle.co_pdo_compiled.proofs.Props.{part_prop};
 ghost use Rattle.co_sdo_bank.specs.Banks.{all_settings};
 ghost use Rattle.co_sdo_bank.specs.Channels.{HaveRoom};
 ghost use Rattle.co_frame.specs.SegmentSizes.{segments_per_sub_block};
-ghost use Rattle.co_node_model.specs.Inputs.{Applied, Framed, Inputs, InputView, Ticked, app_view};
+ghost use Rattle.co_dict.specs.Places.{key_at};
+ghost use Rattle.co_node_model.specs.Inputs.{Applied, Framed, Inputs, InputView, Ticked, Written, app_view};
 ghost use Rattle.co_node_model.specs.Moments.{Constants};
 ghost use Rattle.co_node_model.specs.Device.{prescribed, frame_bound, moment, moments};
 ghost use Rattle.co_node_device.specs.Lasts.{last_seen};
@@ -30,6 +31,7 @@ use co_node_laws::{addresses_kept, few, mappings_kept, schedule_ready};
 use co_node_model::{Address, AppEvent, Mark, emergency_event, life_of, state_event};
 use co_node_parts::Transition;
 use co_pdo::active_is_there;
+use co_value::Key;
 
 /// A device over a dictionary. Each SDO channel has room for every entry.
 #[derive(Drop)]
@@ -42,7 +44,7 @@ pub struct Device<S: ObjectStore> {
 }
 
 impl<S: ObjectStore> Device<S> {
-    ghost use Rattle.co_node_device.specs.Given.{given_view};
+    ghost use Rattle.co_node_device.specs.Given.{IsPlaced, given_view};
     ghost use Rattle.co_node_device.specs.Befores.{IsAddressed};
     ghost use Rattle.co_node_device.specs.Receiving.{may_be_due};
     ghost use Rattle.co_node_device.specs.Phases.{with_sent};
@@ -126,12 +128,28 @@ impl<S: ObjectStore> Device<S> {
             Stands k self.new (Applied (app_view event.entry) ∷ inputs) }
     {
         let given = match event {
-            AppEvent::Write(key, bytes) => Given::Write(key, bytes),
+            AppEvent::Write(key, bytes) => Given::Write(None, key, bytes),
             AppEvent::Event(number) => Given::Event(number),
             AppEvent::Changed(key) => Given::Changed(key),
             AppEvent::Raise(code, bits, manufacturer) => Given::Raise(code, bits, manufacturer),
             AppEvent::Clear(bits) => Given::Clear(bits),
         };
+        self.take(given, Address::Nobody, &Frame::default(), outbox);
+    }
+
+    /// The application writes bytes into the entry at a place, which has this key: as `take_event`
+    /// does at `Write`, without a search for the entry.
+    #[inline(never)]
+    pub fn write_at(&mut self, place: u32, key: Key, bytes: &[u8], outbox: &mut Outbox)
+        requires { key_at (S.description self.old.store) place ≡ Some key }
+        ensures frames { (k : Constants) (inputs : Inputs) → Stands k self.old inputs →
+            outbox.new.items ≡ prescribed k inputs (Applied (Written key bytes.now)) }
+        ensures few { (k : Constants) (inputs : Inputs) → Stands k self.old inputs →
+            length outbox.new.items ≤ frame_bound k inputs (Applied (Written key bytes.now)) }
+        ensures stands { (k : Constants) (inputs : Inputs) → Stands k self.old inputs →
+            Stands k self.new (Applied (Written key bytes.now) ∷ inputs) }
+    {
+        let given = Given::Write(Some(place), key, bytes);
         self.take(given, Address::Nobody, &Frame::default(), outbox);
     }
 
@@ -145,6 +163,7 @@ impl<S: ObjectStore> Device<S> {
         frame: &Frame,
         outbox: &mut Outbox,
     ) -> Seen
+        requires { IsPlaced (S.description self.old.store) given }
         ensures frames { (k : Constants) (inputs : Inputs) → Stands k self.old inputs →
             IsAddressed k (moments k inputs) given.entry address frame.now →
             outbox.new.items ≡ prescribed k inputs (given_view given.entry frame.now) }

@@ -9,8 +9,8 @@ pub enum Given<'a> {
     Frame,
     /// 1 ms elapsed.
     Tick,
-    /// The application writes bytes into an entry.
-    Write(Key, &'a [u8]),
+    /// The application writes bytes into an entry, at its place in the dictionary where that is known.
+    Write(Option<u32>, Key, &'a [u8]),
     /// An application event of the TPDO with this number.
     Event(u16),
     /// The application reports that the value of this entry changed.

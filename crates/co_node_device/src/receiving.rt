@@ -13,7 +13,7 @@ ghost use Rattle.co_node_device.specs.Befores.{IsBefore, IsAddressed, logs_recei
 ghost use Rattle.co_node_device.specs.Receiving.{IsFrameReceived, frame_moment, may_be_due};
 ghost use Rattle.co_node_parts.specs.EmergencyQueues.{EmergencyLog, EmergenciesStand, with_queued};
 ghost use Rattle.co_node_model.specs.Device.{received_at};
-ghost use Rattle.co_node_device.specs.Given.{given_view};
+ghost use Rattle.co_node_device.specs.Given.{IsPlaced, given_view};
 ghost use Rattle.co_node_model.specs.Marks.{marked_rpdo, marked_time_out};
 
 use crate::app_events::{change, clear_errors, event, raise, write};
@@ -85,6 +85,7 @@ pub(crate) fn receive<S: ObjectStore>(
 ) -> Received
     requires outbox { HasRoomFor segments_per_sub_block outbox.old }
     requires room { HaveRoom (S.description store.old).rows (all_settings bank.old) }
+    requires placed { IsPlaced (S.description store.old) given }
     ensures few { array_vec_len outbox.new ≤ array_vec_len outbox.old + segments_per_sub_block }
     ensures alone { may_be_due result.mark ≡ true → array_vec_len outbox.new ≤
         array_vec_len outbox.old + (if marked_time_out result.mark then 1 else 0) }
@@ -129,7 +130,7 @@ pub(crate) fn receive<S: ObjectStore>(
             mark: take_tick(bank, outbox),
             app: AppAnswer::None,
         },
-        Given::Write(key, bytes) => write(store, key, bytes),
+        Given::Write(place, key, bytes) => write(store, place, key, bytes),
         Given::Event(number) => event(store, number),
         Given::Changed(key) => change(store, key),
         Given::Raise(code, bits, manufacturer) => {

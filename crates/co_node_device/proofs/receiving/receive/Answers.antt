@@ -1,7 +1,10 @@
+use Rattle.std.proofs.Common.{subst}
 use Rattle.co_node_model.specs.Moments.{channels}
 use Rattle.co_node_model.specs.Addresses.{address_at}
 use Rattle.co_node_model.specs.Sdo.{channel_logs}
 use Rattle.co_node_model.specs.Inputs.{Written, EventOn, ChangedAt}
+use Rattle.co_node_device.specs.declared.given.Given.{Given}
+use Rattle.co_node_device.specs.Given.{IsPlaced}
 use Rattle.co_node_device.proofs.Receptions.{at_address, event_frames, event_channels, write_queues}
 use Rattle.co_node_device.proofs.receiving.receive.Goals as goal
 
@@ -16,6 +19,10 @@ returns-in-Tick-clause-frames g c = λ k history before addressed.
 pub returns-in-Tick-clause-channels : goal.returns-in-Tick-clause-channels
 returns-in-Tick-clause-channels g c = λ k history before addressed.
     rw c.in-Tick.is (c.take_tick.ensures.channels _ (channels k) (channel_logs history) before.channels)
+
+pub write-requires : goal.write-requires
+write-requires g c =
+    subst (λ (given : Given). IsPlaced (g.S.ObjectStore.description c.args.store.now) given) c.in-Write.is c.requires.placed
 
 pub returns-in-Write-clause-frames : goal.returns-in-Write-clause-frames
 returns-in-Write-clause-frames g c = λ k history before addressed.
