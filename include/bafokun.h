@@ -39,7 +39,7 @@
 extern "C" {
 #endif
 
-#define BAFOKUN_VERSION "0.14.0"
+#define BAFOKUN_VERSION "0.15.0"
 #define BAFOKUN_VERSION_MAJOR 0
 #define BAFOKUN_VERSION_MINOR 14
 #define BAFOKUN_VERSION_PATCH 0
