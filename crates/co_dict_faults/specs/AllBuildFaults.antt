@@ -50,11 +50,13 @@ bad_mappings outside d contents keys =
     flat_map (λ key. list_if (is_mapping_found outside d contents key) (BadMapping key)) keys
 
 -- the faults of each word and count of these mappings
+abbrev pub words_of_mapping : List Key → Description → Contents → Key → List MappingFault
+words_of_mapping outside d contents key =
+    if is_mapping_found outside d contents key
+    then mapping_faults (side_of key.index) d contents key.index else []
+
 abbrev pub words_at_fault : List Key → Description → Contents → List Key → List MappingFault
-words_at_fault outside d contents keys =
-    flat_map
-    (λ key. if is_mapping_found outside d contents key
-    then mapping_faults (side_of key.index) d contents key.index else []) keys
+words_at_fault outside d contents keys = flat_map (words_of_mapping outside d contents) keys
 
 -- ---- all
 
