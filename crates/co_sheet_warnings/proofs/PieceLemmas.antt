@@ -1,8 +1,9 @@
 -- Lists that a loop goes over, item by item.
-use Rattle.std.proofs.Common.{◌≡◌, ℕ, ◌+◌, ◌<◌, suc, eqb, Bool, true, false, cond, Option, Some, None, List, ◌∷◌, ◌++◌, refl, sym, ap, ◌∙◌, length, get_or, drop, drop-cons, add-one, append_assoc, arith}
+use Rattle.std.proofs.Common.{◌≡◌, ℕ, ◌+◌, ◌<◌, ◌≤◌, suc, eqb, Bool, true, false, cond, Option, Some, None, List, [], ◌∷◌, ◌++◌, refl, sym, ap, ◌∙◌, length, get_or, drop, drop-cons, add-one, append_assoc, arith}
+use Rattle.std.proofs.lemmas.List.{append-nil, drop_all}
 use Rattle.std.proofs.lemmas.Bool.Decides.{nat_tests}
 use Rattle.std.specs.List.{cons_option, filter_map}
-use Rattle.std.specs.Prelude.{option_to_list}
+use Rattle.std.specs.Prelude.{is_none, is_some, option_to_list}
 
 -- one item more of what a list gives, where F gives a piece for each
 pub pieces-turn : {X Y : Type 0} (F : List X → List Y) (piece : X → List Y) → ((x : X) (xs : List X) → F (x ∷ xs) ≡ piece x ++ F xs)
@@ -40,3 +41,14 @@ piece-first {Y = Y} f x xs = by_case (f x)
 -- numbers that aren't equal
 pub apart : (a b : ℕ) → (a ≡ b → ⊥) → eqb a b ≡ false
 apart a b h = grind (arith, nat_tests)
+
+-- past the last item
+pub pieces-end : {X Y : Type 0} (F : List X → List Y) → F [] ≡ [] → (xs : List X) (i : ℕ) (before all : List Y) → length xs ≤ i
+    → before ++ F (drop i xs) ≡ all → before ≡ all
+pieces-end F none xs i before all past invariant =
+    sym (append-nil before) ∙ ap (λ l. before ++ l) (sym none) ∙ sym (ap (λ l. before ++ F l) (drop_all i xs past)) ∙ invariant
+
+-- what is there isn't absent
+pub some-is : {X : Type 0} (found : Option X) → is_some found ≡ true → is_none found ≡ false
+some-is (Some x) h = refl
+some-is None h = cc
