@@ -1,5 +1,5 @@
 -- Lists that a loop makes item by item.
-use Rattle.std.proofs.Common.{◌≡◌, ℕ, ◌+◌, ◌<◌, ◌≤◌, suc, Bool, List, [], ◌∷◌, ◌++◌, sym, ap, ◌∙◌, length, get_or, drop, drop-cons, add-one, append_assoc}
+use Rattle.std.proofs.Common.{◌≡◌, ℕ, ◌+◌, ◌<◌, ◌≤◌, suc, Bool, true, false, cond, List, [], ◌∷◌, ◌++◌, sym, ap, ◌∙◌, length, get_or, drop, drop-cons, add-one, append_assoc}
 use Rattle.std.proofs.lemmas.List.{append-nil, drop_all}
 use Rattle.co_dict_build.specs.declared.build_fault.BuildFault.{BuildFault}
 use Rattle.co_dict_faults.specs.AllBuildFaults.{list_if}
@@ -34,3 +34,19 @@ pub pieces-end : {X Y : Type 0} (F : List X → List Y) → F [] ≡ [] → (xs 
     → before ++ F (drop i xs) ≡ all → before ≡ all
 pieces-end F none xs i before all past invariant =
     sym (append-nil before) ∙ ap (λ l. before ++ l) (sym none) ∙ sym (ap (λ l. before ++ F l) (drop_all i xs past)) ∙ invariant
+
+-- one item more, kept where it passes a test, and passed over where it doesn't
+pub kept-turn : {X Y : Type 0} (F : List X → List Y) (test : X → Bool) (make : X → Y) → ((x : X) (xs : List X) → F (x ∷ xs) ≡ cond (test x) (make x ∷ []) [] ++ F xs)
+    → (xs : List X) (i : ℕ) (d : X) → test (get_or xs i d) ≡ true → (before after all : List Y) → i < length xs → after ≡ before ++ make (get_or xs i d) ∷ []
+    → before ++ F (drop i xs) ≡ all → after ++ F (drop (i + 1) xs) ≡ all
+kept-turn F test make cut xs i d passes before after all inside added invariant =
+    let x = get_or xs i d in
+    pieces-turn F (λ x. cond (test x) (make x ∷ []) []) cut xs i d before after all inside (added ∙ ap (λ b. before ++ cond b (make x ∷ []) []) (sym passes)) invariant
+
+pub passed-turn : {X Y : Type 0} (F : List X → List Y) (test : X → Bool) (make : X → Y) → ((x : X) (xs : List X) → F (x ∷ xs) ≡ cond (test x) (make x ∷ []) [] ++ F xs)
+    → (xs : List X) (i : ℕ) (d : X) → test (get_or xs i d) ≡ false → (before all : List Y) → i < length xs
+    → before ++ F (drop i xs) ≡ all → before ++ F (drop (i + 1) xs) ≡ all
+passed-turn F test make cut xs i d fails before all inside invariant =
+    let x = get_or xs i d in
+    pieces-turn F (λ x. cond (test x) (make x ∷ []) []) cut xs i d before before all inside
+    (sym (append-nil before) ∙ ap (λ b. before ++ cond b (make x ∷ []) []) (sym fails)) invariant

@@ -1,5 +1,5 @@
 -- All faults of a dictionary that a data sheet makes for a node-ID and limits (CiA 301; CiA 306).
-use Rattle.std.specs.Prelude.{ℕ, ◌==◌, Bool, false, not, ◌&&◌, ◌||◌, if◌then◌else◌, List, [], ◌∷◌, ◌++◌, map, flat_map, length, sum_by, Option, Some, None}
+use Rattle.std.specs.Prelude.{ℕ, ◌==◌, Bool, false, not, ◌&&◌, if◌then◌else◌, List, [], ◌∷◌, ◌++◌, map, flat_map, length, sum_by, Option, Some, None}
 use Rattle.std.specs.Option.{option_map_or}
 use Rattle.co_value.specs.declared.key.Key.{Key}
 use Rattle.co_dict.specs.Rows.{Rows, Contents}

@@ -4,14 +4,12 @@ ghost use Rattle.std.specs.Prelude.{◌≡◌, ◌≤◌, ◌++◌, map, true, A
 ghost use Rattle.co_value.specs.Keys.{is_key_before};
 ghost use Rattle.co_sheet.specs.SheetViews.{row_view};
 ghost use Rattle.co_sheet.specs.SheetLaws.{IsSheetRow};
-ghost use Rattle.co_dict.specs.Stores.{Description};
 ghost use Rattle.co_dict_build.specs.declared.build_fault.BuildFault.TheVariants.{TooMany, ValueRange};
 ghost use Rattle.co_dict_build.specs.Capacities.{limits_view};
-ghost use Rattle.co_dict_build.specs.Built.{Plan, plan_of, plan_in, built_description, built_contents};
+ghost use Rattle.co_dict_build.specs.Built.{plan_of, plan_in, built_description, built_contents};
 ghost use Rattle.co_dict_faults.specs.SoundPlans.{sound_plan};
 ghost use Rattle.co_dict_faults.specs.AllBuildFaults.{
   parameter_faults,
-  room_faults,
   build_faults_of,
   list_if,
   mapping_faults_of,

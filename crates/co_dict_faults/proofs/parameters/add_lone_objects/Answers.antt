@@ -1,4 +1,4 @@
-use Rattle.std.proofs.Common.{Some, List, not, ◌&&◌, refl, map}
+use Rattle.std.proofs.Common.{Some, not, ◌&&◌, refl, map}
 use Rattle.co_dict_build.specs.declared.build_fault.BuildFault.TheVariants.{PdoPair}
 use Rattle.co_dict_build.specs.BuildFaults.{is_unpaired}
 use Rattle.co_dict_faults.specs.AllBuildFaults.{is_index, unpaired_past}
