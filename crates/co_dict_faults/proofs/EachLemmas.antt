@@ -1,12 +1,11 @@
 -- Each of all faults is one by the definition of its kind.
-use Rattle.std.proofs.Common.{◌≡◌, ℕ, Bool, true, false, cond, List, [], ◌∷◌, ◌++◌, length, Option, Some, None, refl, sym, ap, ◌∙◌, subst, map, Contains}
+use Rattle.std.proofs.Common.{◌≡◌, ℕ, Bool, true, false, cond, List, [], ◌∷◌, ◌++◌, length, Option, Some, None, refl, sym, map, Contains}
 use Rattle.std.proofs.lemmas.Bool.{true≢false}
 use Rattle.std.proofs.lemmas.List.Elements.{All-from_recursion, All-contains, All-contains_itself, recursion_from_All}
 use Rattle.std.specs.Prelude.{flat_map, not, ◌&&◌, sum_by}
 use Rattle.std.specs.List.{AllByRecursion}
 use Rattle.co_value.specs.declared.key.Key.{Key}
-use Rattle.co_sheet.specs.Content.{Row as SheetRow}
-use Rattle.co_dict.specs.Rows.{Rows, Contents}
+use Rattle.co_dict.specs.Rows.{Contents}
 use Rattle.co_dict.specs.Stores.{Description}
 use Rattle.co_dict_build.specs.declared.build_fault.BuildFault.{BuildFault}
 use Rattle.co_dict_build.specs.declared.build_fault.BuildFault.TheVariants.{NodeId, ValueRange, BadCobId, PdoPair, BadMapping, TooMany}
@@ -14,7 +13,7 @@ use Rattle.co_dict_build.specs.Capacities.{capacity_of}
 use Rattle.co_dict_build.specs.Built.{Plan, built_description, built_contents}
 use Rattle.co_dict_build.specs.BuildFaults.{is_node, is_sum_outside, is_bad_cob_id, is_unpaired, is_bad_mapping, is_too_many}
 use Rattle.co_dict_faults.specs.AllBuildFaults.{list_if, is_index, is_word_found, is_mapping_found, unpaired_past, bad_words, bad_mappings, parameter_faults, room_faults, build_faults_of}
-use Rattle.co_dict_faults.specs.BuildFaultLaws.{HasSumOutside, HasEntry, HasObject, IsFaultOf}
+use Rattle.co_dict_faults.specs.BuildFaultLaws.{IsFaultOf}
 use Rattle.co_dict_faults.specs.SoundPlans.{sum_outside, sums_outside, sound_plan, rests_word, rests_mapping}
 
 -- ---- what holds of each of a list

@@ -1,5 +1,5 @@
 -- Worked examples, computed from the definitions: all faults of a dictionary, what is left out, and each reason of a mapping.
-use Rattle.std.proofs.Common.{◌≡◌, ℕ, ◌++◌, List, [], ◌∷◌, refl, Some, None, Option, true, false}
+use Rattle.std.proofs.Common.{◌≡◌, ℕ, ◌++◌, List, [], ◌∷◌, refl, None, true, false}
 use Rattle.std.specs.Prelude.{Bool, pos}
 use Rattle.co_value.specs.declared.key.Key.{Key}
 use Rattle.co_value.specs.declared.data_type.DataType.{DataType}

@@ -1,5 +1,5 @@
 -- The first of all faults is the one that is answered.
-use Rattle.std.proofs.Common.{◌≡◌, ℕ, ◌==◌, Bool, true, false, cond, List, [], ◌∷◌, ◌++◌, length, Option, Some, None, refl, sym, ap, ◌∙◌, subst, map, arith}
+use Rattle.std.proofs.Common.{◌≡◌, ℕ, ◌==◌, Bool, true, false, cond, List, [], ◌∷◌, ◌++◌, length, Option, Some, None, refl, sym, ap, ◌∙◌, map, arith}
 use Rattle.std.proofs.lemmas.Bool.{true≢false}
 use Rattle.std.proofs.lemmas.Bool.Decides.{nat_tests}
 use Rattle.std.specs.Prelude.{slice_get, find, flat_map, option_map, not, ◌&&◌, sum_by}
@@ -15,7 +15,7 @@ use Rattle.co_dict_build.specs.Built.{Plan, plan_with, built_description, built_
 use Rattle.co_dict_build.specs.BuildFaults.{is_node, is_sum_outside, value_out_of_range, is_unpaired, unpaired, is_bad_cob_id, is_bad_mapping, bad_cob_id, bad_mapping, is_too_many, fault_if, first_there, parameter_fault, dictionary_fault, room_fault, build_fault}
 use Rattle.co_dict_build.proofs.Roomless.{same_parameters}
 use Rattle.co_dict_faults.specs.AllBuildFaults.{list_if, is_index, unpaired_past, bad_words, bad_mappings, parameter_faults, room_faults, build_faults_of}
-use Rattle.co_dict_faults.specs.SoundPlans.{sum_outside, sums_outside, sound_default, sound_row, no_room, sound_plan}
+use Rattle.co_dict_faults.specs.SoundPlans.{sums_outside, sound_default, sound_row, no_room, sound_plan}
 
 abbrev first : List BuildFault → Option BuildFault
 first faults = slice_get faults 0

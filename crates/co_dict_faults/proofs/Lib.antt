@@ -4,6 +4,7 @@ mod FirstLemmas
 mod FoundLemmas
 pub mod MappingLemmas
 mod OrderLemmas
+mod PieceLemmas
 mod ReasonCounts
 mod ReasonLemmas
 mod RowLemmas

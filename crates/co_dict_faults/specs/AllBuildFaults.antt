@@ -1,5 +1,5 @@
 -- All faults of a dictionary that a data sheet makes for a node-ID and limits (CiA 301; CiA 306).
-use Rattle.std.specs.Prelude.{ℕ, ◌==◌, Bool, false, not, ◌&&◌, ◌||◌, if◌then◌else◌, List, [], ◌∷◌, ◌++◌, map, flat_map, length, sum_by, Option, Some, None}
+use Rattle.std.specs.Prelude.{ℕ, ◌==◌, Bool, false, not, ◌&&◌, if◌then◌else◌, List, [], ◌∷◌, ◌++◌, map, flat_map, length, sum_by, Option, Some, None}
 use Rattle.std.specs.Option.{option_map_or}
 use Rattle.co_value.specs.declared.key.Key.{Key}
 use Rattle.co_dict.specs.Rows.{Rows, Contents}
@@ -50,11 +50,13 @@ bad_mappings outside d contents keys =
     flat_map (λ key. list_if (is_mapping_found outside d contents key) (BadMapping key)) keys
 
 -- the faults of each word and count of these mappings
+abbrev pub words_of_mapping : List Key → Description → Contents → Key → List MappingFault
+words_of_mapping outside d contents key =
+    if is_mapping_found outside d contents key
+    then mapping_faults (side_of key.index) d contents key.index else []
+
 abbrev pub words_at_fault : List Key → Description → Contents → List Key → List MappingFault
-words_at_fault outside d contents keys =
-    flat_map
-    (λ key. if is_mapping_found outside d contents key
-    then mapping_faults (side_of key.index) d contents key.index else []) keys
+words_at_fault outside d contents keys = flat_map (words_of_mapping outside d contents) keys
 
 -- ---- all
 

@@ -4,14 +4,12 @@ ghost use Rattle.std.specs.Prelude.{◌≡◌, ◌≤◌, ◌++◌, map, true, A
 ghost use Rattle.co_value.specs.Keys.{is_key_before};
 ghost use Rattle.co_sheet.specs.SheetViews.{row_view};
 ghost use Rattle.co_sheet.specs.SheetLaws.{IsSheetRow};
-ghost use Rattle.co_dict.specs.Stores.{Description};
 ghost use Rattle.co_dict_build.specs.declared.build_fault.BuildFault.TheVariants.{TooMany, ValueRange};
 ghost use Rattle.co_dict_build.specs.Capacities.{limits_view};
-ghost use Rattle.co_dict_build.specs.Built.{Plan, plan_of, plan_in, built_description, built_contents};
+ghost use Rattle.co_dict_build.specs.Built.{plan_of, plan_in, built_description, built_contents};
 ghost use Rattle.co_dict_faults.specs.SoundPlans.{sound_plan};
 ghost use Rattle.co_dict_faults.specs.AllBuildFaults.{
   parameter_faults,
-  room_faults,
   build_faults_of,
   list_if,
   mapping_faults_of,
@@ -19,7 +17,7 @@ ghost use Rattle.co_dict_faults.specs.AllBuildFaults.{
 };
 
 use crate::mapping_fault::MappingFault;
-use crate::parameters::{add_if, add_lone_objects, add_mappings, add_words, words_at_fault};
+use crate::parameters::{add_if, add_lone_objects, add_mappings, add_words, add_words_at_fault};
 use crate::sound_rows::{sound_rows, sums_outside};
 use co_dict::ObjectStore;
 use co_dict_build::{BuildFault, FromRows, Limits, is_too_many, usable_dummies};
@@ -45,21 +43,24 @@ fn add_value_ranges(faults: &mut Vec<BuildFault>, outside: &[Key]) -> Result<(),
     Ok(())
 }
 
-// adds the faults of the parameters
-fn add_parameter_faults<S: ObjectStore>(
+// adds all faults of a dictionary, with the sums out of range, and whether it needs too much
+fn add_faults<S: ObjectStore>(
     faults: &mut Vec<BuildFault>,
     store: &S,
     rows: &[EntryRow<'_>],
     outside: &[Key],
+    is_too_many: bool,
 ) -> Result<(), AllocError>
     requires { (S.description store.now).keys ≡ map (λ row. row.key) rows.now }
-    ensures { OnOk result (faults.new.items ≡ faults.old.items
-        ++ parameter_faults outside.now (S.description store.now) (S.contents store.now)) }
+    ensures { OnOk result (faults.new.items ≡ faults.old.items ++ ((map ValueRange outside.now
+        ++ parameter_faults outside.now (S.description store.now) (S.contents store.now))
+        ++ list_if is_too_many TooMany)) }
 {
+    add_value_ranges(faults, outside)?;
     add_words(faults, store, rows, outside)?;
     add_lone_objects(faults, store, rows)?;
     add_mappings(faults, store, rows, outside)?;
-    Ok(())
+    add_if(faults, is_too_many, BuildFault::TooMany)
 }
 
 // the dictionary of rows of a sheet without the sums out of range, and without room for strings and
@@ -109,10 +110,9 @@ fn found_in<S: ObjectStore>(
         (map (λ row. row.key) rows.now)) }
 {
     let mut faults = Vec::new(alloc);
-    add_value_ranges(&mut faults, outside)?;
-    add_parameter_faults(&mut faults, store, rows, outside)?;
-    add_if(&mut faults, is_too_many, BuildFault::TooMany)?;
-    let mappings = words_at_fault(alloc, store, rows, outside)?;
+    add_faults(&mut faults, store, rows, outside, is_too_many)?;
+    let mut mappings = Vec::new(alloc);
+    add_words_at_fault(alloc, &mut mappings, store, rows, outside)?;
     Ok(BuildFaults { faults, mappings })
 }
 

@@ -2,12 +2,11 @@
 
 ghost use Rattle.std.specs.Prelude.{◌≡◌, ◌≤◌, ℕ, true, AllPairs, Contains, slice_get, is_some, is_none, not};
 ghost use Rattle.std.specs.List.Sorted.{IsStrictlySortedBy};
-ghost use Rattle.co_value.specs.declared.key.Key.{Key};
 ghost use Rattle.co_sheet.specs.SheetLaws.{IsRowBefore};
 ghost use Rattle.co_dict.specs.declared.side.Side.{Side};
 ghost use Rattle.co_dict.specs.Rows.{Contents};
 ghost use Rattle.co_dict.specs.Stores.{Description};
-ghost use Rattle.co_dict.specs.MappingWords.{word_width, word_refusal};
+ghost use Rattle.co_dict.specs.MappingWords.{word_refusal};
 ghost use Rattle.co_dict.specs.MappingCounts.{count_refusal, is_mapping_index};
 ghost use Rattle.co_dict_build.specs.declared.build_fault.BuildFault.{BuildFault as Fault};
 ghost use Rattle.co_dict_build.specs.Built.{Plan};

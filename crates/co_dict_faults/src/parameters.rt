@@ -1,7 +1,8 @@
 //! The faults of the parameters of a dictionary.
 
-ghost use Rattle.std.specs.Prelude.{◌≡◌, ◌++◌, map, true, None, IfOk, OnOk};
+ghost use Rattle.std.specs.Prelude.{◌≡◌, ◌++◌, ◌&&◌, not, map, true, None, OnOk};
 ghost use Rattle.co_dict.specs.MappingCounts.{is_mapping_index};
+ghost use Rattle.co_dict_build.specs.BuildFaults.{is_unpaired};
 ghost use Rattle.co_dict_faults.specs.AllBuildFaults.{
   is_word_found,
   list_if,
@@ -11,6 +12,7 @@ ghost use Rattle.co_dict_faults.specs.AllBuildFaults.{
   is_mapping_found,
   bad_mappings,
   words_at_fault,
+  words_of_mapping,
 };
 ghost use Rattle.co_dict_faults.specs.MappingReasons.{side_of};
 
@@ -43,9 +45,8 @@ pub(crate) fn add_words<S: ObjectStore>(
         (map (λ row. row.key) rows.now)) }
 {
     for row in rows {
-        if is_word_found(store, outside, row.key) {
-            faults.push(BuildFault::BadCobId(row.key))?;
-        }
+        let is_found = is_word_found(store, outside, row.key);
+        add_if(faults, is_found, BuildFault::BadCobId(row.key))?;
     }
     Ok(())
 }
@@ -73,6 +74,14 @@ fn is_index(last: Option<u16>, index: u16) -> bool
     }
 }
 
+// whether an index is another than the last one, of a PDO object without its partner or an entry
+fn is_lone<S: ObjectStore>(store: &S, last: Option<u16>, index: u16) -> bool
+    ensures { result
+        ≡ (not (is_index last index) && is_unpaired (S.description store.now).rows index) }
+{
+    !is_index(last, index) && is_unpaired(store, index)
+}
+
 /// Adds each PDO object that has no partner, or lacks an entry that a PDO needs (CiA 301, 7.5.2.35
 /// to 7.5.2.38).
 pub(crate) fn add_lone_objects<S: ObjectStore>(
@@ -86,7 +95,7 @@ pub(crate) fn add_lone_objects<S: ObjectStore>(
     let mut last = None;
     for row in rows {
         let index = row.key.index;
-        let is_lone = !is_index(last, index) && is_unpaired(store, index);
+        let is_lone = is_lone(store, last, index);
         add_if(faults, is_lone, BuildFault::PdoPair(index))?;
         last = Some(index);
     }
@@ -113,9 +122,8 @@ pub(crate) fn add_mappings<S: ObjectStore>(
         (map (λ row. row.key) rows.now)) }
 {
     for row in rows {
-        if is_mapping_found(store, outside, row.key) {
-            faults.push(BuildFault::BadMapping(row.key))?;
-        }
+        let is_found = is_mapping_found(store, outside, row.key);
+        add_if(faults, is_found, BuildFault::BadMapping(row.key))?;
     }
     Ok(())
 }
@@ -131,24 +139,38 @@ fn side_of(index: u16) -> Side
     }
 }
 
-/// The faults of the words and counts of these mappings.
-pub(crate) fn words_at_fault<S: ObjectStore>(
+// adds the faults of the words and the count of a mapping, if it isn't allowed
+fn add_words_of_mapping<S: ObjectStore>(
     alloc: Global,
+    words: &mut Vec<MappingFault>,
+    store: &S,
+    outside: &[Key],
+    key: Key,
+) -> Result<(), AllocError>
+    ensures { OnOk result (words.new.items ≡ words.old.items
+        ++ words_of_mapping outside.now (S.description store.now) (S.contents store.now) key) }
+{
+    if !is_mapping_found(store, outside, key) {
+        return Ok(());
+    }
+    let found = mapping_faults(alloc, store, side_of(key.index), key.index)?;
+    words.extend_from_slice(found.as_slice())
+}
+
+/// Adds the faults of the words and counts of the mappings that aren't allowed.
+pub(crate) fn add_words_at_fault<S: ObjectStore>(
+    alloc: Global,
+    words: &mut Vec<MappingFault>,
     store: &S,
     rows: &[EntryRow<'_>],
     outside: &[Key],
-) -> Result<Vec<MappingFault>, AllocError>
-    ensures { IfOk result (λ words. words.items
-        ≡ words_at_fault outside.now (S.description store.now) (S.contents store.now)
+) -> Result<(), AllocError>
+    ensures { OnOk result (words.new.items ≡ words.old.items
+        ++ words_at_fault outside.now (S.description store.now) (S.contents store.now)
         (map (λ row. row.key) rows.now)) }
 {
-    let mut words = Vec::new(alloc);
     for row in rows {
-        let index = row.key.index;
-        if is_mapping_found(store, outside, row.key) {
-            let found = mapping_faults(alloc, store, side_of(index), index)?;
-            words.extend_from_slice(found.as_slice())?;
-        }
+        add_words_of_mapping(alloc, words, store, outside, row.key)?;
     }
-    Ok(words)
+    Ok(())
 }

@@ -1,11 +1,7 @@
 //! The values at fault, and the rows without them (CiA 306, $NODEID).
 
-ghost use Rattle.std.specs.Prelude.{◌≡◌, ◌≤◌, ◌||◌, ◌==◌, map, true, All, AllPairs, IfOk};
-ghost use Rattle.std.specs.List.{list_any};
-ghost use Rattle.co_value.specs.Keys.{is_key_before};
+ghost use Rattle.std.specs.Prelude.{◌≡◌, ◌||◌, ◌==◌, map, IfOk};
 ghost use Rattle.co_sheet.specs.SheetViews.{row_view};
-ghost use Rattle.co_sheet.specs.SheetLaws.{IsSheetRow};
-ghost use Rattle.co_dict_build.specs.SheetRows.{IsReady};
 ghost use Rattle.co_dict_faults.specs.SoundPlans.{
   sums_outside,
   sound_row,

@@ -218,6 +218,15 @@ added-turn view f xs i d before after all inside is invariant =
     (ap (λ l. l ++ rest) is ∙ append_assoc before (f (view (get_or xs i d))) rest
     ∙ sym (ap (λ l. before ++ flat_map f (map view l)) (drop-cons xs i d inside)) ∙ invariant)
 
+-- the same, where each item gives one
+pub mapped-turn : {X Y : Type 0} (f : X → Y) (xs : List X) (i : ℕ) (d : X) (before after all : List Y) → i < length xs
+    → after ≡ before ++ f (get_or xs i d) ∷ [] → before ++ map f (drop i xs) ≡ all → after ++ map f (drop (i + 1) xs) ≡ all
+mapped-turn f xs i d before after all inside is invariant =
+    let rest = map f (drop (suc i) xs) in
+    rw (add-one i)
+    (ap (λ l. l ++ rest) is ∙ append_assoc before (f (get_or xs i d) ∷ []) rest
+    ∙ sym (ap (λ l. before ++ map f l) (drop-cons xs i d inside)) ∙ invariant)
+
 or-assoc : (a b c : Bool) → ((a || b) || c) ≡ (a || (b || c))
 or-assoc true b c = refl
 or-assoc false b c = refl

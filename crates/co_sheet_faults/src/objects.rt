@@ -4,7 +4,7 @@ ghost use Rattle.std.specs.Prelude.{◌≡◌, ◌++◌, ◌==◌, map, flat_map
 ghost use Rattle.std.specs.List.{list_any};
 ghost use Rattle.co_sheet_text.specs.Views.{section_view};
 ghost use Rattle.co_sheet.specs.ObjectLists.{is_one_of};
-ghost use Rattle.co_sheet.specs.Entries.{single_codes, compound_codes, object_code, sub_indices};
+ghost use Rattle.co_sheet.specs.Entries.{single_codes, compound_codes, object_code};
 ghost use Rattle.co_sheet.specs.SectionViews.{object_view, entry_view};
 ghost use Rattle.co_sheet_faults.specs.Soundness.{is_compact};
 ghost use Rattle.co_sheet_faults.specs.AllChecks.{sub_index_0_found};

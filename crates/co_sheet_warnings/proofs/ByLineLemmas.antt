@@ -1,5 +1,5 @@
 -- A stable sort by a number keeps those of each number as they were.
-use Rattle.std.proofs.Common.{◌≡◌, ℕ, Bool, true, false, cond, not, ◌&&◌, List, [], ◌∷◌, refl, ap, ◌∙◌, arith, ltb, eqb}
+use Rattle.std.proofs.Common.{◌≡◌, ℕ, ◌≤◌, Bool, true, false, cond, not, ◌&&◌, List, [], ◌∷◌, refl, ap, ◌∙◌, arith, ltb, eqb}
 use Rattle.std.proofs.lemmas.Bool.Decides.{nat_tests}
 use Rattle.std.specs.List.{filter}
 use Rattle.std.specs.Ordering.{nat_cmp, is_lt}
@@ -23,3 +23,7 @@ ties-same a b = ap (λ p. not p && not (is_lt (nat_cmp b a))) (is_lt-number a b)
 pub filter-alike : {X : Type 0} (p q : X → Bool) → ((x : X) → p x ≡ q x) → (xs : List X) → filter p xs ≡ filter q xs
 filter-alike p q same [] = refl
 filter-alike p q same (x ∷ xs) = ap (λ b. cond b (x ∷ filter p xs) (filter p xs)) (same x) ∙ ap (λ l. cond (q x) (x ∷ l) l) (filter-alike p q same xs)
+
+-- a size within a limit
+pub within : (limit size : ℕ) → size ≤ limit → ltb limit size ≡ false
+within limit size h = grind (arith, nat_tests)

@@ -6,6 +6,7 @@ ghost use Rattle.co_sheet_warnings.specs.Warnings.{places_in};
 
 use crate::cob_ids::{fixed_cob_id, node_id_place};
 use crate::communication::{heartbeat_twice, inhibit_time, own_heartbeat};
+use crate::places::add_one;
 use crate::read_text::ReadText;
 use crate::sub_indices::{missing_name, sub_index_0, sub_number, unlisted};
 use crate::warning::WarningKind;
@@ -41,9 +42,7 @@ pub(crate) fn add_places_in(
         ≡ places.old.items ++ flat_map (places_in text.now kind) text.now.sections) }
 {
     for section in text.sections() {
-        if let Some(place) = place_in(text, kind, section) {
-            places.push(place)?;
-        }
+        add_one(places, place_in(text, kind, section))?;
     }
     Ok(())
 }

@@ -12,6 +12,7 @@ mod known_key;
 mod lines;
 mod lists;
 mod own_node;
+mod places;
 mod read_text;
 mod repeats;
 mod sub_indices;

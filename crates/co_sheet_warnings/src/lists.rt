@@ -6,8 +6,9 @@ ghost use Rattle.co_sheet_text.specs.Views.{section_view};
 ghost use Rattle.co_sheet.specs.ObjectLists.{is_listed};
 ghost use Rattle.co_sheet.specs.Listings.{listing_view, named_by};
 ghost use Rattle.co_sheet_warnings.specs.Lists.{first_fall, is_right_list, wrong_listing};
-ghost use Rattle.co_sheet_warnings.specs.private.Views.{failing, list_places, names};
+ghost use Rattle.co_sheet_warnings.specs.private.Views.{list_places, names};
 
+use crate::places::add_one;
 use co_sheet::{Listing, read_list};
 use co_sheet_text::{SectionKind, TextSection};
 use indexmap::IndexSet;
@@ -37,7 +38,17 @@ fn is_right_list(list: SectionKind, index: u64) -> bool
     }
 }
 
-// the lines that name objects that belong in another list
+// the line that names an object that belongs in another list
+fn wrong_listing(list: SectionKind, listing: &Listing) -> Option<usize>
+    ensures { result ≡ wrong_listing list (listing_view listing.now) }
+{
+    if listing.index <= 0xFFFF && !is_right_list(list, listing.index) {
+        Some(listing.line)
+    } else {
+        None
+    }
+}
+
 fn add_wrong_listings(
     places: &mut Vec<usize>,
     list: SectionKind,
@@ -47,9 +58,7 @@ fn add_wrong_listings(
         ++ filter_map (wrong_listing list) (map listing_view listings.now)) }
 {
     for listing in listings {
-        if listing.index <= 0xFFFF && !is_right_list(list, listing.index) {
-            places.push(listing.line)?;
-        }
+        add_one(places, wrong_listing(list, listing))?;
     }
     Ok(())
 }
@@ -77,27 +86,6 @@ pub(crate) enum ListCheck {
     Order,
 }
 
-// adds the lines of a list's listings that fail a check
-fn add_failing(
-    places: &mut Vec<usize>,
-    check: ListCheck,
-    list: SectionKind,
-    listings: &[Listing],
-) -> Result<(), AllocError>
-    ensures { OnOk result (places.new.items
-        ≡ places.old.items ++ failing check list (map listing_view listings.now)) }
-{
-    match check {
-        ListCheck::Objects => add_wrong_listings(places, list, listings),
-        ListCheck::Order => {
-            if let Some(place) = first_fall(listings) {
-                places.push(place)?;
-            }
-            Ok(())
-        }
-    }
-}
-
 // adds the lines of a section that fail a check
 fn add_places_of_list(
     alloc: Global,
@@ -110,7 +98,10 @@ fn add_places_of_list(
 {
     let mut listings = Vec::new(alloc);
     add_named(&mut listings, section)?;
-    add_failing(places, check, section.kind, listings.as_slice())
+    match check {
+        ListCheck::Objects => add_wrong_listings(places, section.kind, listings.as_slice()),
+        ListCheck::Order => add_one(places, first_fall(listings.as_slice())),
+    }
 }
 
 /// Adds the lines of all lists that fail a check.
@@ -127,18 +118,6 @@ pub(crate) fn add_places_of_lists(
         add_places_of_list(alloc, places, check, section)?;
     }
     Ok(())
-}
-
-// what the lists name
-fn listings_in(alloc: Global, sections: &[TextSection]) -> Result<Vec<Listing>, AllocError>
-    ensures { IfOk result (λ all.
-        map listing_view all.items ≡ flat_map named_by (map section_view sections.now)) }
-{
-    let mut all = Vec::new(alloc);
-    for section in sections {
-        add_named(&mut all, section)?;
-    }
-    Ok(all)
 }
 
 // the indices that listings name
@@ -161,6 +140,9 @@ pub(crate) fn listed_indices(
     ensures { IfOk result (λ indices. (i : ℕ) →
         contains nat_eq indices i ≡ is_listed (map section_view sections.now) i) }
 {
-    let listings = listings_in(alloc, sections)?;
-    indices_of(alloc, listings.as_slice())
+    let mut all = Vec::new(alloc);
+    for section in sections {
+        add_named(&mut all, section)?;
+    }
+    indices_of(alloc, all.as_slice())
 }

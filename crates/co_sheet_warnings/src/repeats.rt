@@ -9,7 +9,6 @@ ghost use Rattle.co_sheet_warnings.specs.Repeats.{
   enabled_cob_id,
   repeats,
   same_scoped,
-  scope_of,
 };
 ghost use Rattle.co_sheet_warnings.specs.private.Views.{as_name, name_view, placed_in, repeats_of, scoped_view};
 
@@ -92,16 +91,6 @@ fn identifier_in<'a>(node: u8, section: &TextSection<'_, 'a>) -> Option<PlacedNa
     })
 }
 
-fn scope_of(kind: SectionKind) -> Option<u64>
-    ensures { result ≡ scope_of kind }
-{
-    match kind {
-        SectionKind::Object(_) => Some(OBJECTS),
-        SectionKind::SubIndex(key) => Some(u64::from(key.index)),
-        _ => None,
-    }
-}
-
 /// What should come once.
 #[derive(Clone, Copy)]
 pub(crate) enum Once {
@@ -117,7 +106,11 @@ fn placed_in<'a>(once: Once, section: &TextSection<'_, 'a>) -> Option<PlacedName
     if let Once::Identifiers(node) = once {
         return identifier_in(node, section);
     }
-    let scope = scope_of(section.kind)?;
+    let scope = match section.kind {
+        SectionKind::Object(_) => OBJECTS,
+        SectionKind::SubIndex(key) => u64::from(key.index),
+        _ => return None,
+    };
     let given = section.property(b"ParameterName")?;
     Some(PlacedName {
         name: ScopedName {

@@ -1,7 +1,6 @@
 //! What an object says of its sub-indices, against those that the text describes.
 
-ghost use Rattle.std.specs.Prelude.{◌≡◌, [], ◌∷◌, map, option_map, option_to_list};
-ghost use Rattle.co_sheet.specs.ObjectLists.{is_one_of};
+ghost use Rattle.std.specs.Prelude.{◌≡◌, map, option_map, option_to_list};
 ghost use Rattle.co_sheet_text.specs.Views.{property_view, section_view};
 ghost use Rattle.co_sheet.specs.SectionViews.{entry_view};
 ghost use Rattle.co_sheet_warnings.specs.Lists.{unlisted};
@@ -29,15 +28,6 @@ pub(crate) fn is_within(low: u16, high: u16, index: u16) -> bool
     low <= index && index <= high
 }
 
-fn is_count(number: Option<u64>, count: usize) -> bool
-    ensures { result ≡ is_one_of (count ∷ []) number }
-{
-    match number {
-        Some(number) => number == count as u64,
-        None => false,
-    }
-}
-
 /// The line of an object's SubNumber that isn't the number of its sub-index sections.
 pub(crate) fn sub_number(text: &ReadText, section: &TextSection) -> Option<usize>
     ensures { option_to_list result
@@ -46,7 +36,7 @@ pub(crate) fn sub_number(text: &ReadText, section: &TextSection) -> Option<usize
     match section.kind {
         SectionKind::Object(index) => {
             let given = section.property(b"SubNumber")?;
-            if is_count(given.number(), text.parts(index).len()) {
+            if given.number() == Some(text.parts(index).len() as u64) {
                 None
             } else {
                 Some(given.line)

@@ -1,8 +1,9 @@
 //! The places of each kind in a text.
 
-ghost use Rattle.std.specs.Prelude.{◌≡◌, ◌++◌, ℕ, List, flat_map, option_to_list, OnOk};
+ghost use Rattle.std.specs.Prelude.{◌≡◌, ◌++◌, true, option_to_list, OnOk};
 ghost use Rattle.co_sheet_warnings.specs.Lists.{no_error_control};
 ghost use Rattle.co_sheet_warnings.specs.Warnings.{places_of};
+ghost use Rattle.co_sheet_warnings.specs.private.Views.{has_one_place};
 
 use crate::in_sections::add_places_in;
 use crate::infos::{
@@ -12,34 +13,11 @@ use crate::keys::Topic;
 use crate::known_key::unknown_key;
 use crate::lines::{add_long_lines, mixed_line_ends, other_bytes};
 use crate::lists::{ListCheck, add_places_of_lists};
+use crate::places::{add_each, add_one};
 use crate::read_text::ReadText;
 use crate::repeats::{Once, add_repeats_of};
 use crate::warning::WarningKind;
 use std::alloc::{AllocError, Global};
-
-// adds a place that may be there
-fn add_one(places: &mut Vec<usize>, found: Option<usize>) -> Result<(), AllocError>
-    ensures { (wanted : List ℕ) → option_to_list found ≡ wanted →
-        OnOk result (places.new.items ≡ places.old.items ++ wanted) }
-{
-    if let Some(place) = found {
-        places.push(place)?;
-    }
-    Ok(())
-}
-
-// adds the places that are there
-fn add_each(places: &mut Vec<usize>, found: &[Option<usize>]) -> Result<(), AllocError>
-    ensures { OnOk result
-        (places.new.items ≡ places.old.items ++ flat_map option_to_list found.now) }
-{
-    for place in found {
-        if let Some(place) = place {
-            places.push(*place)?;
-        }
-    }
-    Ok(())
-}
 
 // no line is to blame for what isn't there
 fn no_error_control(text: &ReadText) -> Option<usize>
@@ -50,6 +28,23 @@ fn no_error_control(text: &ReadText) -> Option<usize>
         Some(0)
     } else {
         None
+    }
+}
+
+// the line of a text where a kind applies that has one at most
+#[tactic(auto, unfolding(crate::specs::Warnings::places_of))]
+fn place_of(text: &ReadText, kind: WarningKind) -> Option<usize>
+    ensures { has_one_place kind ≡ true → option_to_list result ≡ places_of text.now kind }
+{
+    match kind {
+        WarningKind::FileInfoKeys => missing_keys(Topic::FileInfo, text, &FILE_KEYS),
+        WarningKind::DeviceInfoKeys => missing_keys(Topic::DeviceInfo, text, &DEVICE_KEYS),
+        WarningKind::NoErrorControl => no_error_control(text),
+        WarningKind::Utf8 => other_bytes(text, true),
+        WarningKind::NotAscii => other_bytes(text, false),
+        WarningKind::UnknownKey => unknown_key(text.keys),
+        WarningKind::LineEnds => mixed_line_ends(text.bytes),
+        _ => None,
     }
 }
 
@@ -65,30 +60,24 @@ pub(crate) fn add_places_of(
 {
     let sections = text.sections();
     match kind {
-        WarningKind::FileInfoKeys => {
-            add_one(places, missing_keys(Topic::FileInfo, text, &FILE_KEYS))
-        }
-        WarningKind::DeviceInfoKeys => {
-            add_one(places, missing_keys(Topic::DeviceInfo, text, &DEVICE_KEYS))
-        }
+        WarningKind::FileInfoKeys
+        | WarningKind::DeviceInfoKeys
+        | WarningKind::NoErrorControl
+        | WarningKind::Utf8
+        | WarningKind::NotAscii
+        | WarningKind::UnknownKey
+        | WarningKind::LineEnds => add_one(places, place_of(text, kind)),
         WarningKind::PdoCount => add_each(places, &pdo_counts(text)),
-        WarningKind::WrongList => {
-            add_places_of_lists(alloc, places, ListCheck::Objects, sections)
-        }
         WarningKind::IdentityNumber => add_each(places, &identity_numbers(text)),
+        WarningKind::DateFormat => add_each(places, &date_formats(text)),
+        WarningKind::WrongList => add_places_of_lists(alloc, places, ListCheck::Objects, sections),
+        WarningKind::ListOrder => add_places_of_lists(alloc, places, ListCheck::Order, sections),
         WarningKind::SharedCobId => match text.node {
             Some(node) => add_repeats_of(alloc, places, Once::Identifiers(node), sections),
             None => Ok(()),
         },
-        WarningKind::NoErrorControl => add_one(places, no_error_control(text)),
-        WarningKind::LongLine => add_long_lines(places, text.lines),
-        WarningKind::Utf8 => add_one(places, other_bytes(text, true)),
-        WarningKind::NotAscii => add_one(places, other_bytes(text, false)),
-        WarningKind::ListOrder => add_places_of_lists(alloc, places, ListCheck::Order, sections),
         WarningKind::EqualNames => add_repeats_of(alloc, places, Once::Names, sections),
-        WarningKind::UnknownKey => add_one(places, unknown_key(text.keys)),
-        WarningKind::DateFormat => add_each(places, &date_formats(text)),
-        WarningKind::LineEnds => add_one(places, mixed_line_ends(text.bytes)),
-        other => add_places_in(places, text, other),
+        WarningKind::LongLine => add_long_lines(places, text.lines),
+        _ => add_places_in(places, text, kind),
     }
 }

@@ -1,5 +1,5 @@
 -- What the tables of a text say, without where its bytes lie in memory.
-use Rattle.std.specs.Prelude.{◌≡◌, ◌==◌, ℕ, Bool, false, nat_eq, List, [], map, filter_map, codes, Option, Some, option_map}
+use Rattle.std.specs.Prelude.{◌≡◌, ◌==◌, ℕ, Bool, true, false, nat_eq, List, [], map, filter_map, codes, Option, Some, option_map}
 use Rattle.std.specs.List.{list_any}
 use Rattle.std.specs.Option.{option_map_or}
 use Rattle.std.specs.HashSet.{HashSet, contains}
@@ -12,6 +12,16 @@ use Rattle.co_sheet_warnings.specs.declared.repeats.Once.{Once}
 use Rattle.co_sheet_warnings.specs.declared.repeats.Once.TheVariants.{Identifiers, Names}
 use Rattle.co_sheet_warnings.specs.declared.repeats.PlacedName.{PlacedName}
 use Rattle.co_sheet_warnings.specs.declared.repeats.ScopedName.{ScopedName as CodeName}
+use Rattle.co_sheet_warnings.specs.declared.warning.WarningKind.{WarningKind}
+use Rattle.co_sheet_warnings.specs.declared.warning.WarningKind.TheVariants.{
+  FileInfoKeys,
+  DeviceInfoKeys,
+  NoErrorControl,
+  Utf8,
+  NotAscii,
+  UnknownKey,
+  LineEnds,
+}
 use Rattle.co_sheet_text.specs.declared.section_kind.SectionKind.{SectionKind}
 use Rattle.co_sheet_text.specs.Sections.{TextSection, property_at}
 use Rattle.co_sheet.specs.Listings.{named_by}
@@ -23,6 +33,17 @@ use Rattle.co_sheet_warnings.specs.Lists.{first_fall, wrong_listing}
 use Rattle.co_sheet_warnings.specs.ReadTexts.{ReadText}
 use Rattle.co_sheet_warnings.specs.Repeats.{Placed, ScopedName, equal_names, identifier_in, name_in, shared_cob_ids}
 use Rattle.co_sheet_warnings.specs.SubIndices.{is_constant_word}
+
+-- the kinds that apply at one line of a text at most
+abbrev pub has_one_place : WarningKind → Bool
+has_one_place FileInfoKeys = true
+has_one_place DeviceInfoKeys = true
+has_one_place NoErrorControl = true
+has_one_place Utf8 = true
+has_one_place NotAscii = true
+has_one_place UnknownKey = true
+has_one_place LineEnds = true
+has_one_place kind = false
 
 -- the lines of a list's listings that fail a check, and of a section
 abbrev pub failing : ListCheck → SectionKind → List Listing → List ℕ

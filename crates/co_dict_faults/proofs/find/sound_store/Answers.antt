@@ -1,12 +1,8 @@
-use Rattle.std.proofs.Common.{◌≡◌, List, map, sym, ap, ◌∙◌, subst, All}
-use Rattle.std.specs.Prelude.{AllPairs}
-use Rattle.co_value.specs.Keys.{is_key_before}
-use Rattle.co_sheet_rows.specs.declared.entry.EntryRow.{EntryRow}
+use Rattle.std.proofs.Common.{map, ap, ◌∙◌}
 use Rattle.co_sheet.specs.SheetViews.{row_view}
 use Rattle.co_dict.specs.Stores.{Description}
-use Rattle.co_dict_build.specs.SheetRows.{IsReady}
 use Rattle.co_dict_build.proofs.Plans.{keys_built}
-use Rattle.co_dict_faults.specs.SoundPlans.{no_room, sound_row}
+use Rattle.co_dict_faults.specs.SoundPlans.{no_room}
 use Rattle.co_dict_faults.proofs.RowLemmas.{rows_ready, same_keys, sound_increase}
 use Rattle.co_dict_faults.proofs.find.sound_store.Goals as goal
 

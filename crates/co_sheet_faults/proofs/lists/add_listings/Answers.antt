@@ -1,12 +1,10 @@
-use Rattle.std.proofs.Common.{◌∙◌, ◌++◌, List, ap, subst, sym}
-use Rattle.std.proofs.lemmas.Result.{IfOk-weaker}
+use Rattle.std.proofs.Common.{◌≡◌, ◌∙◌, ◌++◌, List, ap, subst, sym, OnOk, IfOk}
 use Rattle.std.specs.List.{flat_map, list_any}
 use Rattle.co_sheet_text.specs.Sections.{TextSection}
 use Rattle.co_sheet_text.specs.SectionLaws.{IsParsed}
 use Rattle.co_sheet.specs.ObjectLists.{listings}
 use Rattle.co_sheet_faults.specs.private.Collected.{listing_collected}
 use Rattle.co_sheet_faults.specs.private.ListParts.{is_listing_at_fault}
-use Rattle.co_sheet_faults.proofs.EntryCodeLemmas.{on-ok}
 use Rattle.co_sheet_faults.proofs.lists.add_listings.Goals as goal
 
 pub add_each_listing-requires-clause-named : goal.add_each_listing-requires-clause-named
@@ -17,12 +15,10 @@ add_each_listing-requires-clause-parsed c = subst IsParsed (sym c.in_ok-tables.e
 
 pub returns-clause-found : goal.returns-clause-found
 returns-clause-found c =
-    on-ok c.add_each_listing.result
-    (λ found. found ∙ ap (λ (ss : List TextSection). c.args.faults.now.items ++ flat_map (listing_collected ss) (listings ss)) c.in_ok-tables.ensures)
-    c.add_each_listing.ensures.found
+    subst (λ (ss : List TextSection). OnOk c.add_each_listing.result (c.add_each_listing.new.faults.items ≡ c.args.faults.now.items ++ flat_map (listing_collected ss) (listings ss)))
+    c.in_ok-tables.ensures c.add_each_listing.ensures.found
 
 pub returns-clause-bad : goal.returns-clause-bad
 returns-clause-bad c =
-    IfOk-weaker c.add_each_listing.result _ _
-    (λ bad is. is ∙ ap (λ (ss : List TextSection). list_any (is_listing_at_fault ss) (listings ss)) c.in_ok-tables.ensures)
-    c.add_each_listing.ensures.bad
+    subst (λ (ss : List TextSection). IfOk c.add_each_listing.result (λ bad. bad ≡ list_any (is_listing_at_fault ss) (listings ss)))
+    c.in_ok-tables.ensures c.add_each_listing.ensures.bad

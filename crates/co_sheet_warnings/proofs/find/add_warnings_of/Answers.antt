@@ -1,16 +1,16 @@
 use denote.Ref.{Bor}
-use Rattle.std.proofs.Common.{◌≡◌, ℕ, List, Option, IfOk, map, ap, ◌∙◌, subst}
+use Rattle.std.proofs.Common.{◌≡◌, ℕ, List, Option, OnOk, ◌++◌, map, ap, ◌∙◌, subst}
 use Rattle.co_sheet_text.specs.Text.{Line, lines_of}
 use Rattle.co_sheet_text.specs.Sections.{TextSection}
 use Rattle.co_sheet_text.specs.LinesAtFault.{sections_read}
 use Rattle.co_sheet_text.specs.Views.{section_view}
 use Rattle.co_sheet_warnings.specs.Keys.{WrittenKey}
 use Rattle.co_sheet_warnings.specs.KnownKeys.{telling_keys}
-use Rattle.co_sheet_warnings.specs.Lines.{numbered, text_lines}
+use Rattle.co_sheet_warnings.specs.Lines.{numbered}
 use Rattle.co_sheet_warnings.specs.ReadTexts.{ReadText, own_node, read_text}
 use Rattle.co_sheet_warnings.specs.Warnings.{all_warnings}
 use Rattle.co_sheet_warnings.specs.private.Views.{key_view}
-use Rattle.co_sheet_warnings.proofs.find.warnings_in.Goals as goal
+use Rattle.co_sheet_warnings.proofs.find.add_warnings_of.Goals as goal
 
 pub returns : goal.returns
 returns c =
@@ -27,4 +27,4 @@ returns c =
     let with_keys : List WrittenKey → ReadText = λ ks. record { text = text; lines = lines_of text; sections = sections_read (lines_of text); keys = ks; node = own } in
     let with_node : Option ℕ → ReadText = λ n. record { text = text; lines = lines_of text; sections = sections_read (lines_of text); keys = telling_keys (lines_of text); node = n } in
     let whole : c.in_ok-read.read ≡ read_text text node = c.in_ok-read.ensures ∙ ap with_lines lines ∙ ap with_sections c.requires.sections ∙ ap with_keys keys ∙ ap with_node is_own in
-    subst (λ (t : ReadText). IfOk c.all_warnings.result (λ warnings. warnings.items ≡ all_warnings c.args.all t)) whole c.all_warnings.ensures
+    subst (λ (t : ReadText). OnOk c.add_all.result (c.add_all.new.warnings.items ≡ c.args.warnings.now.items ++ all_warnings c.args.all t)) whole c.add_all.ensures

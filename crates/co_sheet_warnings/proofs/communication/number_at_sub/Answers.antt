@@ -1,0 +1,16 @@
+use Rattle.std.proofs.Common.{refl, cond, map, eqb}
+use Rattle.std.specs.Prelude.{find, option_and_then}
+use Rattle.co_sheet.specs.Entries.{Entry}
+use Rattle.co_sheet.specs.SectionViews.{entry_view}
+use Rattle.co_sheet_warnings.specs.Communication.{number_at_sub}
+use Rattle.co_sheet_warnings.specs.SubIndices.{value_number}
+use Rattle.co_sheet_warnings.proofs.PieceLemmas.{apart, made-first, search-turn}
+use Rattle.co_sheet_warnings.proofs.communication.number_at_sub.Goals as goal
+
+pub loop-part-preserved : goal.loop-part-preserved
+loop-part-preserved c =
+    let sub = c.args.sub in
+    let is_it = λ (e : Entry). eqb e.key.sub sub in
+    search-turn (λ parts. number_at_sub sub (map entry_view parts)) (λ part. is_it (entry_view part)) (λ x b y. cond b (value_number (entry_view x)) y)
+    (λ x l. made-first (option_and_then value_number) (is_it (entry_view x)) (entry_view x) (find is_it (map entry_view l))) (λ x y. refl)
+    c.args.parts.now c.loop-part.part-index _ _ c.loop-part-test.true (apart _ _ c.if-part-sub.false) c.loop-part.invariant
