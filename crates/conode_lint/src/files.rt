@@ -98,21 +98,6 @@ impl Session {
         }
     }
 
-    fn take_sheets<R: Files + AllocGlobal, O: Write, E: Write>(
-        &mut self,
-        rt: &R,
-        sheets: &[String],
-        options: &LintOptions<'_>,
-        out: &mut O,
-        err: &mut E,
-    ) -> Result<(), CmdFault> {
-        for sheet in sheets {
-            let path = sheet.as_str();
-            self.take_read(rt.alloc(), path, file_text(rt, path), options, out, err)?;
-        }
-        Ok(())
-    }
-
     fn take_folder<R: Files + AllocGlobal + Clone + Drop, O: Write, E: Write>(
         &mut self,
         rt: &R,
@@ -122,7 +107,13 @@ impl Session {
         err: &mut E,
     ) -> Result<(), CmdFault> {
         match sheets_in(rt, path) {
-            Ok(sheets) => self.take_sheets(rt, sheets.as_slice(), options, out, err),
+            Ok(sheets) => {
+                for sheet in &sheets {
+                    let path = sheet.as_str();
+                    self.take_read(rt.alloc(), path, file_text(rt, path), options, out, err)?;
+                }
+                Ok(())
+            }
             Err(fault) => self.take_fault(rt.alloc(), path, fault, err),
         }
     }
@@ -136,10 +127,12 @@ impl Session {
         out: &mut O,
         err: &mut E,
     ) -> Result<(), CmdFault> {
-        if path != "-" && is_folder(rt, path) {
+        if path == "-" {
+            self.take_read(rt.alloc(), path, input_text(rt), options, out, err)
+        } else if is_folder(rt, path) {
             self.take_folder(rt, path, options, out, err)
         } else {
-            self.take_read(rt.alloc(), path, text_of(rt, path), options, out, err)
+            self.take_read(rt.alloc(), path, file_text(rt, path), options, out, err)
         }
     }
 
@@ -180,15 +173,6 @@ fn input_text<R: AllocGlobal + Input>(rt: &R) -> Result<Vec<u8>, CmdFault> {
     }
 }
 
-// the text of a file, or of standard input for `-`
-fn text_of<R: Files + AllocGlobal + Input>(rt: &R, path: &str) -> Result<Vec<u8>, CmdFault> {
-    if path == "-" {
-        input_text(rt)
-    } else {
-        file_text(rt, path)
-    }
-}
-
 // lints all paths, and returns how much was found; a log of SARIF has these rules
 fn lint_paths<R: Files + AllocGlobal + Input + Clone + Drop, O: Write, E: Write>(
     rt: &R,
@@ -226,23 +210,6 @@ fn status_of(counts: &Counts, strict: bool) -> u8
 }
 
 // checks the names that are to be allowed, lints all paths, and returns the status
-fn lint_with<R: Files + AllocGlobal + Input + Clone + Drop, O: Write, E: Write>(
-    rt: &R,
-    rules: &[Rule<'_>],
-    paths: &[&str],
-    options: &LintOptions<'_>,
-    out: &mut O,
-    err: &mut E,
-) -> Result<u8, CmdFault> {
-    if let Some(name) = unknown_name(rules, options.checks.allowed) {
-        let _ = writeln!(err, "no finding has the name {name}");
-        return Ok(2);
-    }
-    let outcome = lint_paths(rt, rules, paths, options, out, err);
-    let counts = flushed(out, outcome)?;
-    Ok(status_of(&counts, options.strict))
-}
-
 fn lint_all<R: Files + AllocGlobal + Input + Clone + Drop, O: Write, E: Write>(
     rt: &R,
     paths: &[&str],
@@ -251,7 +218,13 @@ fn lint_all<R: Files + AllocGlobal + Input + Clone + Drop, O: Write, E: Write>(
     err: &mut E,
 ) -> Result<u8, CmdFault> {
     let rules = all_rules(rt.alloc())?;
-    lint_with(rt, rules.as_slice(), paths, options, out, err)
+    if let Some(name) = unknown_name(rules.as_slice(), options.checks.allowed) {
+        let _ = writeln!(err, "no finding has the name {name}");
+        return Ok(2);
+    }
+    let outcome = lint_paths(rt, rules.as_slice(), paths, options, out, err);
+    let counts = flushed(out, outcome)?;
+    Ok(status_of(&counts, options.strict))
 }
 
 /// Lints files, the `*.eds` and `*.dcf` of folders, and standard input for `-`, and writes what is

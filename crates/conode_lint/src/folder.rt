@@ -2,7 +2,6 @@
 
 use conode_io::CmdFault;
 use std::alloc::{AllocError, Global};
-use std::fs::DirEntry;
 use std::rt::Files;
 use std::{fs, io};
 
@@ -38,19 +37,6 @@ fn add_path(alloc: Global, paths: &mut Vec<String>, path: &str) -> Result<(), Al
     Ok(())
 }
 
-// adds the path of an entry of a folder, if it is a data sheet
-fn add_entry<R: Files + Drop>(
-    alloc: Global,
-    paths: &mut Vec<String>,
-    entry: io::Result<DirEntry<R>>,
-) -> Result<(), CmdFault> {
-    let entry = entry.map_err(fault_of)?;
-    if is_sheet_name(entry.file_name()) {
-        add_path(alloc, paths, entry.path().to_string_lossy())?;
-    }
-    Ok(())
-}
-
 // adds the paths of a folder's data sheets
 fn add_sheets<R: Files + AllocGlobal + Clone + Drop>(
     rt: &R,
@@ -59,7 +45,10 @@ fn add_sheets<R: Files + AllocGlobal + Clone + Drop>(
 ) -> Result<(), CmdFault> {
     let entries = fs::read_dir(rt, folder).map_err(fault_of)?;
     for entry in entries {
-        add_entry(rt.alloc(), paths, entry)?;
+        let entry = entry.map_err(fault_of)?;
+        if is_sheet_name(entry.file_name()) {
+            add_path(rt.alloc(), paths, entry.path().to_string_lossy())?;
+        }
     }
     Ok(())
 }
