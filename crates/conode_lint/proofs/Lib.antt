@@ -1,4 +1,5 @@
 pub mod CutLemmas
+pub mod LoopLemmas
 mod FaultLemmas
 mod MarkLemmas
 mod BuildLaws

@@ -35,10 +35,7 @@ fn push_counted(text: &mut String, count: usize, thing: &str) -> Result<(), Allo
     ensures { OnOk result
         (string_bytes text.new ≡ string_bytes text.old ++ counted count thing.now) }
 {
-    push_decimal(text, count as u64)?;
-    text.push_str(" ")?;
-    text.push_str(thing)?;
-    text.push_str(if count == 1 { "" } else { "s" })
+    write!(text, "{count} {thing}{}", if count == 1 { "" } else { "s" })
 }
 
 fn push_piece(text: &mut String, piece: &Piece<'_>) -> Result<(), AllocError>

@@ -49,10 +49,7 @@ fn push_about(text: &mut String, about: About) -> Result<(), AllocError>
         About::Entry(index, sub_index) => push_entry(text, index, sub_index),
         About::Bits(index, bits) => {
             push_entry(text, index, 0)?;
-            push_pieces(
-                text,
-                &[Piece::Decimal(bits as usize), Piece::Text(" bits in all: ")],
-            )
+            write!(text, "{bits} bits in all: ")
         }
     }
 }
@@ -83,14 +80,10 @@ pub(crate) fn push_help(text: &mut String, fix: &str, subject: &str) -> Result<(
     ensures { OnOk result
         (string_bytes text.new ≡ string_bytes text.old ++ help_of fix.now subject.now) }
 {
-    text.push_str(fix)?;
     if subject.is_empty() {
-        return Ok(());
+        return text.push_str(fix);
     }
-    push_pieces(
-        text,
-        &[Piece::Text(" ("), Piece::Text(subject), Piece::Text(")")],
-    )
+    write!(text, "{fix} ({subject})")
 }
 
 /// How to fix it, and the subject of the standard. `Err`: out of memory.

@@ -1,7 +1,10 @@
 //! Entries and objects as objects of JSON.
 
-ghost use Rattle.std.specs.Prelude.{◌≡◌, ◌++◌, codes, OnOk};
+ghost use Rattle.std.specs.Prelude.{◌≡◌, [], ◌∷◌, ◌++◌, codes, OnOk};
+ghost use Rattle.json.specs.Token.{begin_object, end_object};
 ghost use Rattle.co_sheet_text.specs.Views.{section_view};
+ghost use Rattle.conode_json.specs.Members.{flag_member};
+ghost use Rattle.conode_show_text.specs.Entries.{is_mappable};
 ghost use Rattle.conode_show.specs.JsonForm.{
   entry_tokens,
   key_members,
@@ -19,45 +22,23 @@ use conode_json::JsonWriter;
 use conode_show_text::{Content, has_sub_indices, is_mappable};
 use std::alloc::{AllocError, Global};
 
-// the default, the value of a device configuration file, and the limits
-#[tactic(auto, unfolding(crate::specs::JsonForm::value_members))]
-fn put_values<'p>(
-    alloc: Global,
-    writer: &mut JsonWriter,
-    node: Option<u8>,
-    section: &'p TextSection<'p, 'p>,
-) -> Result<(), AllocError>
-    ensures { OnOk result
-        (writer.new ≡ writer.old ++ value_members node (section_view section.entry.now)) }
-{
-    put_parts(
-        alloc,
-        writer,
-        &[
-            Part::Value("default", node, b"DefaultValue", section),
-            Part::Value("value", node, b"ParameterValue", section),
-            Part::Limit("low", b"LowLimit", section),
-            Part::Limit("high", b"HighLimit", section),
-        ],
-    )
-}
-
-// the key of an entry, its name, type and access
+// the beginning of an entry: its key, its name, type and access
 #[tactic(auto, unfolding(crate::specs::JsonForm::key_members, crate::specs::JsonForm::named_members))]
-fn put_named<'p>(
+fn put_front<'p>(
     alloc: Global,
     writer: &mut JsonWriter,
     key: Key,
     section: &'p TextSection<'p, 'p>,
 ) -> Result<(), AllocError>
-    ensures { OnOk result (writer.new ≡ writer.old
-        ++ key_members key ++ named_members (section_view section.entry.now)
-        ++ property_member (codes "access") (codes "AccessType") (section_view section.entry.now)) }
+    ensures { OnOk result (writer.new ≡ writer.old ++ begin_object
+        ∷ (key_members key ++ named_members (section_view section.entry.now)
+        ++ property_member (codes "access") (codes "AccessType") (section_view section.entry.now))) }
 {
     put_parts(
         alloc,
         writer,
         &[
+            Part::BeginObject,
             Part::Number("index", Some(i128::from(key.index))),
             Part::Number("subIndex", Some(i128::from(key.sub))),
             Part::Property("name", b"ParameterName", section),
@@ -67,7 +48,34 @@ fn put_named<'p>(
     )
 }
 
-#[tactic(auto, unfolding(crate::specs::JsonForm::entry_tokens))]
+// the end of an entry: the default, the value of a device configuration file, the limits, and
+// whether it may be mapped
+#[tactic(auto, unfolding(crate::specs::JsonForm::value_members))]
+fn put_end<'p>(
+    alloc: Global,
+    writer: &mut JsonWriter,
+    node: Option<u8>,
+    section: &'p TextSection<'p, 'p>,
+) -> Result<(), AllocError>
+    ensures { OnOk result (writer.new ≡ writer.old
+        ++ value_members node (section_view section.entry.now)
+        ++ flag_member (codes "mappable") (is_mappable (section_view section.entry.now))
+        ++ end_object ∷ []) }
+{
+    put_parts(
+        alloc,
+        writer,
+        &[
+            Part::Value("default", node, b"DefaultValue", section),
+            Part::Value("value", node, b"ParameterValue", section),
+            Part::Limit("low", b"LowLimit", section),
+            Part::Limit("high", b"HighLimit", section),
+            Part::Flag("mappable", is_mappable(section)),
+            Part::EndObject,
+        ],
+    )
+}
+
 fn put_entry<'p>(
     alloc: Global,
     writer: &mut JsonWriter,
@@ -78,11 +86,8 @@ fn put_entry<'p>(
     ensures { OnOk result
         (writer.new ≡ writer.old ++ entry_tokens node key (section_view section.entry.now)) }
 {
-    writer.begin_object()?;
-    put_named(alloc, writer, key, section)?;
-    put_values(alloc, writer, node, section)?;
-    writer.put_flag("mappable", is_mappable(section))?;
-    writer.end_object()
+    put_front(alloc, writer, key, section)?;
+    put_end(alloc, writer, node, section)
 }
 
 // an object with sub-indices

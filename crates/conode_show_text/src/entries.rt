@@ -23,7 +23,7 @@ use crate::sections::object_code;
 use crate::texts::{push_plain, push_property};
 use crate::type_names::push_type_name;
 use co_sheet_text::{SectionKind, TextSection};
-use co_text::push_u16;
+use co_text::word_digits;
 use co_value::Key;
 use std::alloc::AllocError;
 
@@ -135,9 +135,7 @@ fn push_heading(
         (text.new.items ≡ text.old.items ++ object_heading index (section_view section.now)) }
 {
     part.clear();
-    push_words(part, "\n### ")?;
-    push_u16(part, index)?;
-    push_words(part, "h ")?;
+    write!(part, "\n### {}h ", word_digits(index).as_str())?;
     text.extend_from_slice(part.as_bytes())?;
     part.clear();
     push_property(part, section, b"ParameterName")?;

@@ -11,7 +11,6 @@ ghost use Rattle.conode_show_text.specs.Meanings.{
   mapped_key,
   mapped_text,
   meaning_text,
-  millis_text,
   said,
   time_text,
   transmission_name,
@@ -23,7 +22,6 @@ use crate::numbers::push_words;
 use crate::texts::push_plain;
 use crate::values::{Word, value_of, word_of};
 use co_sheet_text::TextSection;
-use co_text::push_decimal;
 use co_value::Key;
 use std::alloc::AllocError;
 
@@ -76,31 +74,15 @@ fn push_transmission(text: &mut String, number: u64) -> Result<(), AllocError>
     if let Some(name) = transmission_name(number) {
         return push_words(text, name);
     }
-    push_decimal(text, number)?;
     if 240 < number {
-        return push_words(text, ": reserved");
+        return write!(text, "{number}: reserved");
     }
-    push_words(text, ": every ")?;
-    push_decimal(text, number)?;
-    push_words(text, " SYNCs")
+    write!(text, "{number}: every {number} SYNCs")
 }
 
-// a time in ms; with tenths, if the number is in 100 µs
-#[tactic(auto, unfolding(crate::specs::Meanings::millis_text))]
-fn push_millis(text: &mut String, in_tenths: bool, number: u64) -> Result<(), AllocError>
-    ensures { OnOk result
-        (string_bytes text.new ≡ string_bytes text.old ++ millis_text in_tenths number) }
-{
-    if !in_tenths {
-        return push_decimal(text, number);
-    }
-    push_decimal(text, number / 10)?;
-    push_words(text, ".")?;
-    push_decimal(text, number % 10)
-}
-
-// a time after the words `before`, or the words `off` for 0
-#[tactic(auto, unfolding(crate::specs::Meanings::time_text))]
+// a time after the words `before`, or the words `off` for 0; in ms, with tenths if the number is in
+// 100 µs
+#[tactic(auto, unfolding(crate::specs::Meanings::time_text, crate::specs::Meanings::millis_text))]
 fn push_time(
     text: &mut String,
     off: &str,
@@ -114,9 +96,11 @@ fn push_time(
     if number == 0 {
         return push_words(text, off);
     }
-    push_words(text, before)?;
-    push_millis(text, in_tenths, number)?;
-    push_words(text, " ms")
+    if in_tenths {
+        write!(text, "{before}{}.{} ms", number / 10, number % 10)
+    } else {
+        write!(text, "{before}{number} ms")
+    }
 }
 
 // whether an entry of the heartbeat consumer is used: its time isn't 0, its node-ID 1 to 127
@@ -145,12 +129,13 @@ fn push_consumer(text: &mut String, number: u64) -> Result<(), AllocError>
     if !is_consumer_used(number) {
         return push_words(text, "not used");
     }
-    push_words(text, "node ")?;
-    push_decimal(text, number / 0x1_0000 % 0x100)?;
-    push_words(text, ", within ")?;
-    push_decimal(text, number % 0x1_0000)?;
-    push_words(text, " ms")?;
-    push_words(text, consumer_reserved(number))
+    let node = number / 0x1_0000 % 0x100;
+    let time = number % 0x1_0000;
+    write!(
+        text,
+        "node {node}, within {time} ms{}",
+        consumer_reserved(number)
+    )
 }
 
 /// The key that a word of a mapping names (CiA 301, 7.5.2.36).
@@ -167,10 +152,8 @@ pub fn mapped_key(number: u64) -> Key
 fn push_mapped(text: &mut String, number: u64) -> Result<(), AllocError>
     ensures { OnOk result (string_bytes text.new ≡ string_bytes text.old ++ mapped_text number) }
 {
-    push_words(text, mapped_key(number).text().as_str())?;
-    push_words(text, ", ")?;
-    push_decimal(text, number % 0x100)?;
-    push_words(text, " bits")
+    let key = mapped_key(number).text();
+    write!(text, "{}, {} bits", key.as_str(), number % 0x100)
 }
 
 #[tactic(auto, unfolding(crate::specs::CobIds::cob_id_text, crate::specs::CobIds::sync_text))]

@@ -4,7 +4,7 @@
 ghost use Rattle.std.specs.Prelude.{◌≡◌, ◌≤◌, ◌++◌, ◌*◌, ◌^◌, pos, OnOk, string_bytes};
 ghost use Rattle.std.specs.Fmt.{signed_decimal};
 ghost use Rattle.co_value.specs.Numbers.{bits_of};
-ghost use Rattle.conode_show_text.specs.Numbers.{hex_text, if_small, is_one_digit, number_text};
+ghost use Rattle.conode_show_text.specs.Numbers.{if_small, is_one_digit, number_text};
 
 use std::alloc::AllocError;
 
@@ -12,13 +12,6 @@ pub(crate) fn push_words(text: &mut String, words: &str) -> Result<(), AllocErro
     ensures { OnOk result (string_bytes text.new ≡ string_bytes text.old ++ words.now) }
 {
     text.push_str(words)
-}
-
-#[tactic(auto, unfolding(crate::specs::Numbers::hex_text))]
-pub(crate) fn push_hex(text: &mut String, number: u64) -> Result<(), AllocError>
-    ensures { OnOk result (string_bytes text.new ≡ string_bytes text.old ++ hex_text number) }
-{
-    write!(text, "{number:X}h")
 }
 
 // 2 ^ bits
@@ -64,7 +57,7 @@ pub(crate) fn push_decimal_of(text: &mut String, number: i128) -> Result<(), All
 
 /// Appends a number of a type of `width` bytes: in decimal, and in hexadecimal digits if these
 /// differ.
-#[tactic(auto, unfolding(crate::specs::Numbers::number_text, crate::specs::Numbers::in_parentheses))]
+#[tactic(auto, unfolding(crate::specs::Numbers::number_text, crate::specs::Numbers::in_parentheses, crate::specs::Numbers::hex_text))]
 pub(crate) fn push_number(text: &mut String, width: usize, number: i128) -> Result<(), AllocError>
     requires { width ≤ 8 }
     ensures { OnOk result
@@ -77,7 +70,5 @@ pub(crate) fn push_number(text: &mut String, width: usize, number: i128) -> Resu
     let Some(bits) = small_bits(width, number) else {
         return Ok(());
     };
-    push_words(text, " (")?;
-    push_hex(text, bits)?;
-    push_words(text, ")")
+    write!(text, " ({bits:X}h)")
 }

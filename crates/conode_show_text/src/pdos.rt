@@ -23,12 +23,10 @@ ghost use Rattle.conode_show_text.specs.Pdos.{
 use crate::cells::{Cell, Content, push_line};
 use crate::format::Format;
 use crate::meaning::{Meaning, mapped_key};
-use crate::numbers::push_words;
 use crate::values::{Word, value_of, word_of};
 use co_profile::IndexRange;
 use co_sheet::section_at;
 use co_sheet_text::{SectionKind, TextSection};
-use co_text::push_decimal;
 use co_value::Key;
 use std::alloc::AllocError;
 
@@ -47,13 +45,11 @@ pub fn is_pdo_cob_id(key: Key) -> bool
 pub(crate) fn push_pdo_name(text: &mut String, index: u16) -> Result<(), AllocError>
     ensures { OnOk result (string_bytes text.new ≡ string_bytes text.old ++ pdo_name index) }
 {
-    let (service, before) = if IndexRange::RPDO_COMMUNICATION.contains(index) {
-        ("RPDO ", 0x13FF)
+    if IndexRange::RPDO_COMMUNICATION.contains(index) {
+        write!(text, "RPDO {}", index.saturating_sub(0x13FF))
     } else {
-        ("TPDO ", 0x17FF)
-    };
-    push_words(text, service)?;
-    push_decimal(text, u64::from(index.saturating_sub(before)))
+        write!(text, "TPDO {}", index.saturating_sub(0x17FF))
+    }
 }
 
 // the value of a sub-index in words

@@ -9,7 +9,6 @@ use crate::format::Format;
 use crate::meaning::Meaning;
 use crate::numbers::push_words;
 use co_sheet_text::{SectionKind, TextSection};
-use co_text::push_decimal;
 use co_value::Key;
 use std::alloc::AllocError;
 
@@ -69,19 +68,12 @@ impl Service {
     }
 }
 
-/// The directions of requests and responses.
-const TO_SERVER: &str = ", client to server";
-
-const TO_CLIENT: &str = ", server to client";
-
 #[tactic(auto, unfolding(crate::specs::Services::channel_name))]
 fn push_channel(text: &mut String, end: &str, channel: u16, way: &str) -> Result<(), AllocError>
     ensures { OnOk result
         (string_bytes text.new ≡ string_bytes text.old ++ channel_name end.now channel way.now) }
 {
-    push_words(text, end)?;
-    push_decimal(text, u64::from(channel))?;
-    push_words(text, way)
+    write!(text, "{end}{channel}{way}")
 }
 
 /// Appends the name of a service. `Err`: out of memory; a part of the text may be there.
@@ -95,10 +87,18 @@ pub(crate) fn push_service_name(text: &mut String, service: Service) -> Result<(
         Service::EmcyInhibitTime => push_words(text, "EMCY inhibit time"),
         Service::HeartbeatConsumer => push_words(text, "Heartbeat consumer"),
         Service::HeartbeatProducer => push_words(text, "Heartbeat producer"),
-        Service::SdoRequests(channel) => push_channel(text, "SDO ", channel, TO_SERVER),
-        Service::SdoResponses(channel) => push_channel(text, "SDO ", channel, TO_CLIENT),
-        Service::ClientRequests(channel) => push_channel(text, "SDO client ", channel, TO_SERVER),
-        Service::ClientResponses(channel) => push_channel(text, "SDO client ", channel, TO_CLIENT),
+        Service::SdoRequests(channel) => {
+            push_channel(text, "SDO ", channel, ", client to server")
+        }
+        Service::SdoResponses(channel) => {
+            push_channel(text, "SDO ", channel, ", server to client")
+        }
+        Service::ClientRequests(channel) => {
+            push_channel(text, "SDO client ", channel, ", client to server")
+        }
+        Service::ClientResponses(channel) => {
+            push_channel(text, "SDO client ", channel, ", server to client")
+        }
     }
 }
 

@@ -4,7 +4,7 @@ ghost use Rattle.std.specs.Prelude.{◌≡◌, ◌++◌, ◌==◌, OnOk, find, o
 ghost use Rattle.std.specs.Option.{option_copied};
 ghost use Rattle.conode_show_text.specs.Entries.{type_name, type_names};
 
-use crate::numbers::{push_hex, push_words};
+use crate::numbers::push_words;
 use std::alloc::AllocError;
 
 // the name of a data type by its code (CiA 301, 7.4.7.1)
@@ -43,15 +43,12 @@ fn known_name(code: u64) -> Option<&'static str>
 }
 
 /// Appends the name of a data type, or its number if the code has no name.
-#[tactic(auto, unfolding(crate::specs::Entries::type_name))]
+#[tactic(auto, unfolding(crate::specs::Entries::type_name, crate::specs::Numbers::hex_text))]
 pub(crate) fn push_type_name(text: &mut String, code: u64) -> Result<(), AllocError>
     ensures { OnOk result (string_bytes text.new ≡ string_bytes text.old ++ type_name code) }
 {
     match known_name(code) {
         Some(name) => push_words(text, name),
-        None => {
-            push_words(text, "type ")?;
-            push_hex(text, code)
-        }
+        None => write!(text, "type {code:X}h"),
     }
 }

@@ -24,7 +24,7 @@ ghost use Rattle.conode_show_text.specs.Values.{
   word_of,
 };
 
-use crate::numbers::{push_decimal_of, push_hex, push_number, push_words};
+use crate::numbers::{push_decimal_of, push_number, push_words};
 use crate::texts::push_plain;
 use co_sheet::{data_type_with, numeric_default};
 use co_sheet_rows::Preset;
@@ -58,20 +58,18 @@ fn sum_of(node: Option<u8>, addend: u64) -> Option<u64>
     addend.checked_add(u64::from(node?))
 }
 
-#[tactic(auto, unfolding(crate::specs::Values::sum_text))]
+#[tactic(auto, unfolding(crate::specs::Values::sum_text, crate::specs::Numbers::hex_text))]
 fn push_sum(text: &mut String, node: Option<u8>, addend: u64) -> Result<(), AllocError>
     ensures { OnOk result (string_bytes text.new ≡ string_bytes text.old ++ sum_text node addend) }
 {
     push_words(text, "$NODEID")?;
     if addend != 0 {
-        push_words(text, "+")?;
-        push_hex(text, addend)?;
+        write!(text, "+{addend:X}h")?;
     }
-    let Some(sum) = sum_of(node, addend) else {
-        return Ok(());
-    };
-    push_words(text, " = ")?;
-    push_hex(text, sum)
+    match sum_of(node, addend) {
+        Some(sum) => write!(text, " = {sum:X}h"),
+        None => Ok(()),
+    }
 }
 
 #[tactic(auto, unfolding(crate::specs::Values::known_text))]

@@ -1,0 +1,10 @@
+use Rattle.std.proofs.Common.{arith, map}
+use Rattle.co_sheet_text.specs.Views.{section_view}
+use Rattle.conode_lint.specs.BuildLines.{build_marks}
+use Rattle.conode_lint.proofs.LoopLemmas.{appended_more}
+use Rattle.conode_lint.proofs.build_marks.add_build_faults.Goals as goal
+
+pub loop-fault-preserved : goal.loop-fault-preserved
+loop-fault-preserved c =
+    appended_more (build_marks c.args.sheet.now (map section_view c.args.sections.now)) c.args.faults.now c.loop-fault.fault-index _ _ _ _
+    (omega arith) c.loop-fault.invariant c.in_ok-add_build_fault.ensures

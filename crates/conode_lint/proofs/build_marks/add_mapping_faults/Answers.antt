@@ -1,0 +1,10 @@
+use Rattle.std.proofs.Common.{arith, map}
+use Rattle.co_sheet_text.specs.Views.{section_view}
+use Rattle.conode_lint.specs.BuildLines.{mapping_mark}
+use Rattle.conode_lint.proofs.LoopLemmas.{pushed_more}
+use Rattle.conode_lint.proofs.build_marks.add_mapping_faults.Goals as goal
+
+pub loop-fault-preserved : goal.loop-fault-preserved
+loop-fault-preserved c =
+    pushed_more (mapping_mark c.args.sheet.now (map section_view c.args.sections.now)) c.args.faults.now c.loop-fault.fault-index _ _ _ _
+    (omega arith) c.loop-fault.invariant (rw c.entry_line.ensures at c.in_ok-push.ensures.items)

@@ -1,0 +1,8 @@
+use Rattle.std.proofs.Common.{arith}
+use Rattle.conode_lint.specs.Marks.{warning_mark}
+use Rattle.conode_lint.proofs.LoopLemmas.{pushed_more}
+use Rattle.conode_lint.proofs.marks.add_warnings.Goals as goal
+
+pub loop-warning-preserved : goal.loop-warning-preserved
+loop-warning-preserved c =
+    pushed_more warning_mark c.args.warnings.now c.loop-warning.warning-index _ _ _ _ (omega arith) c.loop-warning.invariant c.in_ok-push.ensures.items

@@ -1,0 +1,7 @@
+use Rattle.std.proofs.Common.{arith}
+use Rattle.conode_show_text.specs.Layout.{cell_byte}
+use Rattle.conode_show_text.proofs.Steps.{appended_more}
+use Rattle.conode_show_text.proofs.layout.push_cell.Goals as goal
+
+pub loop-byte-preserved : goal.loop-byte-preserved
+loop-byte-preserved c = appended_more cell_byte c.args.part.now c.loop-byte.byte-index 0 _ _ _ (omega arith) c.loop-byte.invariant c.in_ok-push_cell_byte.ensures
