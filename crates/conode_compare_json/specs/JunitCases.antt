@@ -33,7 +33,7 @@ differences_word count = if count == 1 then codes " difference: " else codes " d
 unfoldable pub failure_begin : List ℕ → ℕ → List ℕ → List ℕ → List ℕ
 failure_begin kind found word rule = concat (
     codes "<testcase classname=\"conode.compare\" name=\"" ∷ kind ∷ codes "\"><failure type=\"" ∷ kind
-    ∷ codes "\" message=\"" ∷ decimal found ∷ word ∷ escaped rule ∷ codes "\">" ∷ [])
+    ∷ codes "\" message=\"" ∷ decimal found ∷ (word ++ escaped rule) ∷ codes "\">" ∷ [])
 
 unfoldable pub failed_markup : List ℕ → Counted → List Noted → List ℕ
 failed_markup recording counted noted =

@@ -70,7 +70,7 @@ fn push_line(
         noted.value_type,
         noted.finding,
     )?;
-    push_pieces(alloc, text, &[Piece::Text(line.as_bytes())])
+    push_pieces(alloc, text, &[Piece::Text("", line.as_bytes())])
 }
 
 fn push_lines(
@@ -98,11 +98,7 @@ fn push_more(alloc: Global, text: &mut String, count: u64) -> Result<(), AllocEr
     push_pieces(
         alloc,
         text,
-        &[
-            Piece::Markup("and "),
-            Piece::Number(count),
-            Piece::Markup(" more\n"),
-        ],
+        &[Piece::Number("and ", count), Piece::Markup(" more\n")],
     )
 }
 
@@ -165,14 +161,10 @@ fn push_failure<'t>(
         alloc,
         text,
         &[
-            Piece::Markup("<testcase classname=\"conode.compare\" name=\""),
-            Piece::Markup(kind),
-            Piece::Markup("\"><failure type=\""),
-            Piece::Markup(kind),
-            Piece::Markup("\" message=\""),
-            Piece::Number(found),
-            Piece::Markup(word),
-            Piece::Text(rule),
+            Piece::Words("<testcase classname=\"conode.compare\" name=\"", kind),
+            Piece::Words("\"><failure type=\"", kind),
+            Piece::Number("\" message=\"", found),
+            Piece::Text(word, rule),
             Piece::Markup("\">"),
         ],
     )
@@ -219,8 +211,10 @@ fn push_passed(alloc: Global, text: &mut String, counted: Counted) -> Result<(),
         alloc,
         text,
         &[
-            Piece::Markup("<testcase classname=\"conode.compare\" name=\""),
-            Piece::Markup(counted.kind.name()),
+            Piece::Words(
+                "<testcase classname=\"conode.compare\" name=\"",
+                counted.kind.name(),
+            ),
             Piece::Markup(case_end(counted.occasions)),
         ],
     )
@@ -260,20 +254,18 @@ pub(crate) fn push_outcome(
             alloc,
             text,
             &[
-                Piece::Markup("<testcase classname=\"conode.compare\" name=\"compared\""),
-                Piece::Markup("><error type=\"not-compared\" message=\"no frame of node "),
-                Piece::Number(u64::from(about.node)),
+                Piece::Number(
+                    "<testcase classname=\"conode.compare\" name=\"compared\">\
+                    <error type=\"not-compared\" message=\"no frame of node ",
+                    u64::from(about.node),
+                ),
                 Piece::Markup("\"/></testcase>\n"),
             ],
         ),
-        Outcome::SeveralInterfaces => push_pieces(
-            alloc,
-            text,
-            &[
-                Piece::Markup("<testcase classname=\"conode.compare\" name=\"compared\""),
-                Piece::Markup("><error type=\"not-compared\" message=\"several interfaces: "),
-                Piece::Markup("name one with --interface\"/></testcase>\n"),
-            ],
+        Outcome::SeveralInterfaces => text.push_str(
+            "<testcase classname=\"conode.compare\" name=\"compared\">\
+            <error type=\"not-compared\" message=\"several interfaces: name one with \
+            --interface\"/></testcase>\n",
         ),
     }
 }

@@ -6,7 +6,6 @@ use Rattle.co_text.specs.Printed.{digits_text}
 use Rattle.co_value.specs.KeyTexts.{key_text}
 use Rattle.co_sheet.specs.Content.{Row}
 use Rattle.conode_compare_report.specs.Abouts.{Described}
-use Rattle.conode_compare_report.specs.Coverages.{CoverageView}
 use Rattle.conode_compare_report.specs.declared.coverage.Covered.{Covered}
 use Rattle.conode_compare_report.specs.declared.coverage.Numbered.{Numbered}
 use Rattle.conode_compare_report.specs.declared.kind.Counted.{Counted}
@@ -44,9 +43,9 @@ found_begin found =
 -- the row of a kind: how often it could have shown, and how often it did
 unfoldable pub kind_row : Counted → List ℕ
 kind_row counted = concat (
-    row_begin counted.occasions ∷ kind_name counted.kind ∷ codes "</td><td>" ∷ kind_rule counted.kind
+    (row_begin counted.occasions ++ kind_name counted.kind) ∷ codes "</td><td>" ∷ kind_rule counted.kind
     ∷ codes "</td><td class=\"n\" data-is=\"Occasions\">" ∷ count_or (codes "none") counted.occasions
-    ∷ found_begin counted.found ∷ decimal counted.found ∷ codes "</td></tr>\n" ∷ [])
+    ∷ (found_begin counted.found ++ decimal counted.found) ∷ codes "</td></tr>\n" ∷ [])
 
 unfoldable pub kinds_table : List Counted → List ℕ
 kinds_table kinds = OPENING.now ++ flat_map kind_row kinds ++ codes "</tbody>\n</table>\n"
@@ -111,7 +110,7 @@ entries_text rows entries =
 
 unfoldable pub service_item : Served → List ℕ
 service_item served = concat (
-    item_begin served.count ∷ service_name served.service ∷ codes "<b>" ∷ count_or (codes "not seen") served.count
+    (item_begin served.count ++ service_name served.service) ∷ codes "<b>" ∷ count_or (codes "not seen") served.count
     ∷ codes "</b></li>\n" ∷ [])
 
 unfoldable pub services_text : List Served → List ℕ
@@ -119,7 +118,7 @@ services_text services = codes "<h3>Services</h3>\n<ul>\n" ++ flat_map service_i
 
 unfoldable pub state_item : List ℕ → Bool → List ℕ
 state_item name seen = concat (
-    (if seen then codes "<li>" else codes "<li class=\"not\">") ∷ name
+    ((if seen then codes "<li>" else codes "<li class=\"not\">") ++ name)
     ∷ (if seen then codes "<b>seen</b></li>\n" else codes "<b>not seen</b></li>\n") ∷ [])
 
 unfoldable pub states_text : States → List ℕ
@@ -140,15 +139,12 @@ unfoldable pub numbers_text : Listed → List ℕ → List ℕ → List Numbered
 numbers_text listed head none numbers =
     if length numbers == 0 then none else head ++ flat_map (numbered_item listed) numbers ++ codes "</ul>\n"
 
-unfoldable pub seen_text : CoverageView → List ℕ
-seen_text coverage =
-    services_text coverage.services ++ states_text coverage.states
-    ++ numbers_text TransmissionTypes TYPES.now NO_TYPES.now coverage.types
-    ++ numbers_text AbortCodes ABORTS.now NO_ABORTS.now coverage.aborts
-
 -- ---- all of it
 
 -- what the recording tested; the end of the section comes after it
 unfoldable pub tested : Described → Kept → List ℕ
 tested about report =
-    kinds_table report.kinds ++ entries_text about.rows report.coverage.entries ++ seen_text report.coverage
+    kinds_table report.kinds ++ entries_text about.rows report.coverage.entries
+    ++ services_text report.coverage.services ++ states_text report.coverage.states
+    ++ numbers_text TransmissionTypes TYPES.now NO_TYPES.now report.coverage.types
+    ++ numbers_text AbortCodes ABORTS.now NO_ABORTS.now report.coverage.aborts

@@ -6,7 +6,6 @@ ghost use Rattle.conode_compare_report.specs.Abouts.{about_view};
 ghost use Rattle.conode_compare_page.specs.Coverage.{
   numbered_item,
   numbers_text,
-  seen_text,
   service_item,
   services_text,
   state_item,
@@ -17,7 +16,7 @@ ghost use Rattle.conode_compare_page.specs.Coverage.{
 use crate::entries::push_entries;
 use crate::kinds::push_kinds;
 use crate::words::either;
-use conode_compare_report::{About, Coverage, Numbered, Report, Served, States};
+use conode_compare_report::{About, Numbered, Report, Served, States};
 use conode_markup::{Piece, push_pieces};
 use std::alloc::{AllocError, Global};
 
@@ -46,10 +45,11 @@ fn push_service(alloc: Global, text: &mut String, served: &Served) -> Result<(),
         alloc,
         text,
         &[
-            Piece::Markup(either(served.count == 0, "<li class=\"not\">", "<li>")),
-            Piece::Markup(served.service.name()),
-            Piece::Markup("<b>"),
-            Piece::Count(served.count, "not seen"),
+            Piece::Words(
+                either(served.count == 0, "<li class=\"not\">", "<li>"),
+                served.service.name(),
+            ),
+            Piece::Count("<b>", served.count, "not seen"),
             Piece::Markup("</b></li>\n"),
         ],
     )
@@ -76,8 +76,7 @@ fn push_state(alloc: Global, text: &mut String, name: &str, seen: bool) -> Resul
         alloc,
         text,
         &[
-            Piece::Markup(either(seen, "<li>", "<li class=\"not\">")),
-            Piece::Markup(name),
+            Piece::Words(either(seen, "<li>", "<li class=\"not\">"), name),
             Piece::Markup(either(seen, "<b>seen</b></li>\n", "<b>not seen</b></li>\n")),
         ],
     )
@@ -109,10 +108,8 @@ fn push_numbered(
             alloc,
             text,
             &[
-                Piece::Markup("<li>type "),
-                Piece::Number(numbered.number as u64),
-                Piece::Markup("<b>"),
-                Piece::Number(numbered.count),
+                Piece::Number("<li>type ", numbered.number as u64),
+                Piece::Number("<b>", numbered.count),
                 Piece::Markup("</b></li>\n"),
             ],
         ),
@@ -120,10 +117,8 @@ fn push_numbered(
             alloc,
             text,
             &[
-                Piece::Markup("<li><code>"),
-                Piece::Code(numbered.number),
-                Piece::Markup("h</code><b>"),
-                Piece::Number(numbered.count),
+                Piece::Code("<li><code>", numbered.number),
+                Piece::Number("h</code><b>", numbered.count),
                 Piece::Markup("</b></li>\n"),
             ],
         ),
@@ -153,11 +148,20 @@ fn push_numbers(
     text.push_str("</ul>\n")
 }
 
-#[tactic(auto, unfolding(crate::specs::Coverage::seen_text))]
-fn push_seen(alloc: Global, text: &mut String, coverage: &Coverage) -> Result<(), AllocError>
-    ensures { OnOk result
-        (string_bytes text.new ≡ string_bytes text.old ++ seen_text coverage.now) }
+/// Appends what the recording tested, without the end of the section.
+#[tactic(auto, unfolding(crate::specs::Coverage::tested))]
+pub(crate) fn push_coverage(
+    alloc: Global,
+    text: &mut String,
+    about: &About<'_, '_>,
+    report: &Report,
+) -> Result<(), AllocError>
+    ensures { OnOk result (string_bytes text.new
+        ≡ string_bytes text.old ++ tested (about_view about.now) report.now) }
 {
+    push_kinds(alloc, text, report.kinds.as_slice())?;
+    let coverage = &report.coverage;
+    push_entries(alloc, text, about.rows, coverage.entries.as_slice())?;
     push_services(alloc, text, coverage.services.as_slice())?;
     push_states(alloc, text, coverage.states)?;
     let types = coverage.types.as_slice();
@@ -171,20 +175,4 @@ fn push_seen(alloc: Global, text: &mut String, coverage: &Coverage) -> Result<()
     )?;
     let aborts = coverage.aborts.as_slice();
     push_numbers(alloc, text, Listed::AbortCodes, ABORTS, NO_ABORTS, aborts)
-}
-
-/// Appends what the recording tested, without the end of the section.
-#[tactic(auto, unfolding(crate::specs::Coverage::tested))]
-pub(crate) fn push_coverage(
-    alloc: Global,
-    text: &mut String,
-    about: &About<'_, '_>,
-    report: &Report,
-) -> Result<(), AllocError>
-    ensures { OnOk result (string_bytes text.new
-        ≡ string_bytes text.old ++ tested (about_view about.now) report.now) }
-{
-    push_kinds(alloc, text, report.kinds.as_slice())?;
-    push_entries(alloc, text, about.rows, report.coverage.entries.as_slice())?;
-    push_seen(alloc, text, &report.coverage)
 }

@@ -110,10 +110,8 @@ fn push_entry(
         alloc,
         text,
         &[
-            Piece::Markup("<li><code>"),
-            Piece::Key(row.key),
-            Piece::Markup("</code>"),
-            Piece::Text(name),
+            Piece::Key("<li><code>", row.key),
+            Piece::Text("</code>", name),
             Piece::Markup(entry_end(covered)),
         ],
     )
@@ -168,10 +166,11 @@ fn begin_entries(
         alloc,
         text,
         &[
-            Piece::Markup("<h3>Entries that were transferred by SDO: "),
-            Piece::Number(transferred as u64),
-            Piece::Markup(" of "),
-            Piece::Number(all as u64),
+            Piece::Number(
+                "<h3>Entries that were transferred by SDO: ",
+                transferred as u64,
+            ),
+            Piece::Number(" of ", all as u64),
             Piece::Markup("</h3>\n<ul>\n"),
         ],
     )
