@@ -6,7 +6,7 @@ use Rattle.conode_compare_report.specs.declared.kind.Counted.{Counted}
 use Rattle.conode_compare_report.specs.declared.kind.Kind.{Kind}
 use Rattle.conode_compare_report.specs.declared.noted.Noted.{Noted}
 use Rattle.conode_compare_report.specs.Kinds.{kind_name, kind_number, kind_of, kind_rule}
-use Rattle.conode_markup.specs.Escapes.{escaped}
+use Rattle.conode_json.specs.Escapes.{escaped}
 use Rattle.conode_compare_report.specs.declared.outcome.Outcome.{Outcome}
 use Rattle.conode_compare_report.specs.declared.outcome.Outcome.TheVariants.{NoDifference, Differences, NoFrame, SeveralInterfaces}
 

@@ -21,7 +21,7 @@ ghost use Rattle.conode_compare_json.specs.JunitCases.{
 
 use conode_compare_report::{About, Counted, Kind, Noted, Outcome, Report};
 use conode_compare_text::set_finding_line;
-use conode_markup::{Piece, push_pieces};
+use conode_json::{Piece, push_pieces};
 use std::alloc::{AllocError, Global};
 
 /// How many differences of a kind have a line.

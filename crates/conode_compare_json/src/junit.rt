@@ -17,7 +17,7 @@ ghost use Rattle.conode_compare_json.specs.JunitDocument.{
 
 use crate::cases::{push_case, push_outcome, push_words};
 use conode_compare_report::{About, Counted, Outcome, Report};
-use conode_markup::{Piece, push_pieces};
+use conode_json::{Piece, push_pieces};
 use std::alloc::{AllocError, Global};
 
 /// The document up to the name of its test cases.

@@ -14,7 +14,7 @@ use Rattle.conode_compare_report.specs.Views.{Kept}
 use Rattle.conode_compare_report.specs.declared.service.Served.{Served}
 use Rattle.conode_compare_report.specs.Kinds.{kind_name, kind_rule}
 use Rattle.conode_compare_report.specs.Services.{service_name}
-use Rattle.conode_markup.specs.Escapes.{escaped}
+use Rattle.conode_json.specs.Escapes.{escaped}
 use Rattle.conode_compare_page.specs.declared.coverage.Listed.{Listed}
 use Rattle.conode_compare_page.specs.declared.coverage.Listed.TheVariants.{TransmissionTypes, AbortCodes}
 use Rattle.conode_compare_page.specs.declared.coverage.TheConstants.{TYPES, NO_TYPES, ABORTS, NO_ABORTS}

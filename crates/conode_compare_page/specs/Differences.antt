@@ -6,8 +6,8 @@ use Rattle.conode_compare_report.specs.declared.noted.Noted.{Noted}
 use Rattle.conode_compare_report.specs.Views.{Kept}
 use Rattle.conode_compare_report.specs.Contexts.{KeptLine, around}
 use Rattle.conode_compare_report.specs.Kinds.{kind_name, kind_of, kind_rule}
-use Rattle.conode_markup.specs.Escapes.{escaped}
-use Rattle.conode_markup.specs.Pieces.{seconds_text}
+use Rattle.conode_json.specs.Escapes.{escaped}
+use Rattle.conode_json.specs.Pieces.{seconds_text}
 use Rattle.conode_compare_page.specs.declared.differences.TheConstants.{NONE, OPENING}
 use Rattle.conode_compare_page.specs.Indexed.{indexed}
 

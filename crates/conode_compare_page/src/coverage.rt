@@ -17,7 +17,7 @@ use crate::entries::push_entries;
 use crate::kinds::push_kinds;
 use crate::words::either;
 use conode_compare_report::{About, Numbered, Report, Served, States};
-use conode_markup::{Piece, push_pieces};
+use conode_json::{Piece, push_pieces};
 use std::alloc::{AllocError, Global};
 
 /// What a list of numbers has.

@@ -17,7 +17,7 @@ ghost use Rattle.conode_compare_page.specs.Device.{
 };
 
 use conode_compare_report::{About, Identity, Report};
-use conode_markup::{Piece, push_pieces};
+use conode_json::{Piece, push_pieces};
 use std::alloc::{AllocError, Global};
 
 /// The page from its last word on.

@@ -19,7 +19,7 @@ ghost use Rattle.conode_compare_page.specs.Differences.{
 use crate::words::either;
 use conode_compare_report::{ContextLine, Kind, Noted, Report};
 use conode_compare_text::push_finding;
-use conode_markup::{Piece, push_pieces};
+use conode_json::{Piece, push_pieces};
 use std::alloc::{AllocError, Global};
 
 /// The section up to the rows of its table.

@@ -18,7 +18,7 @@ ghost use Rattle.conode_compare_page.specs.Coverage.{
 
 use co_sheet::EntryRow;
 use conode_compare_report::Covered;
-use conode_markup::{Piece, push_pieces};
+use conode_json::{Piece, push_pieces};
 use std::alloc::{AllocError, Global};
 
 // the end of an entry's item: which transfers came, in words

@@ -16,7 +16,7 @@ ghost use Rattle.conode_compare_page.specs.Head.{
 use crate::style::STYLE;
 use crate::words::either;
 use conode_compare_report::{About, Outcome, Report};
-use conode_markup::{Piece, push_pieces};
+use conode_json::{Piece, push_pieces};
 use std::alloc::{AllocError, Global};
 
 /// The page up to its title.

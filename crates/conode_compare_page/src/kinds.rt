@@ -6,7 +6,7 @@ ghost use Rattle.conode_compare_page.specs.Coverage.{kind_row, kinds_table};
 
 use crate::words::either;
 use conode_compare_report::Counted;
-use conode_markup::{Piece, push_pieces};
+use conode_json::{Piece, push_pieces};
 use std::alloc::{AllocError, Global};
 
 /// The section up to the rows of its table.

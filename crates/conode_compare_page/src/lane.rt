@@ -13,7 +13,7 @@ ghost use Rattle.conode_compare_page.specs.Picture.{
 };
 
 use conode_compare_report::{Bin, Lane};
-use conode_markup::{Piece, push_pieces};
+use conode_json::{Piece, push_pieces};
 use std::alloc::{AllocError, Global};
 
 /// The beginning of an outline, and what ends it and its lane.

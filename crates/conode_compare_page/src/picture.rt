@@ -22,7 +22,7 @@ ghost use Rattle.conode_compare_page.specs.Picture.{
 use crate::lane::{begin_lane, push_frames};
 use crate::states::push_states;
 use conode_compare_report::{Bin, Kind, Lane, Lanes, Noted, Report};
-use conode_markup::{Piece, push_pieces};
+use conode_json::{Piece, push_pieces};
 use std::alloc::{AllocError, Global};
 
 /// The end of the times, the colours of the states, and the end of the section.

@@ -16,7 +16,7 @@ ghost use Rattle.conode_compare_page.specs.Picture.{
 
 use crate::lane::begin_lane;
 use conode_compare_report::{Bin, States};
-use conode_markup::{Piece, push_pieces};
+use conode_json::{Piece, push_pieces};
 use std::alloc::{AllocError, Global};
 
 /// What a span shows of the states.

@@ -243,35 +243,6 @@ impl Kind {
     pub fn number(self) -> usize
         ensures { result ≡ kind_number self }
     {
-        match self {
-            Kind::HeartbeatLate => 0,
-            Kind::HeartbeatState => 1,
-            Kind::HeartbeatLength => 2,
-            Kind::PdoLength => 3,
-            Kind::PdoState => 4,
-            Kind::PdoSync => 5,
-            Kind::PdoInhibit => 6,
-            Kind::PdoLate => 7,
-            Kind::BootMissing => 8,
-            Kind::SecondSender => 9,
-            Kind::EmergencyLength => 10,
-            Kind::EmergencyState => 11,
-            Kind::EmergencyRegister => 12,
-            Kind::EmergencyInhibit => 13,
-            Kind::NoAnswer => 14,
-            Kind::AnswerKey => 15,
-            Kind::AnswerForm => 16,
-            Kind::AnswerToggle => 17,
-            Kind::AnswerSize => 18,
-            Kind::AnswerCrc => 19,
-            Kind::AnswerState => 20,
-            Kind::AbortKey => 21,
-            Kind::ValueLength => 22,
-            Kind::ValueConst => 23,
-            Kind::ValueHeld => 24,
-            Kind::AccessRead => 25,
-            Kind::AccessWrite => 26,
-            Kind::AccessLimits => 27,
-        }
+        self as usize
     }
 }

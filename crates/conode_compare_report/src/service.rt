@@ -131,33 +131,7 @@ impl Service {
     pub(crate) fn number(self) -> usize
         ensures { result ≡ service_number self }
     {
-        match self {
-            Service::Start => 0,
-            Service::Stop => 1,
-            Service::EnterPreOperational => 2,
-            Service::ResetNode => 3,
-            Service::ResetCommunication => 4,
-            Service::BootUp => 5,
-            Service::Heartbeat => 6,
-            Service::NodeGuarding => 7,
-            Service::Emergency => 8,
-            Service::Sync => 9,
-            Service::Time => 10,
-            Service::ExpeditedUpload => 11,
-            Service::SegmentedUpload => 12,
-            Service::BlockUpload => 13,
-            Service::ExpeditedDownload => 14,
-            Service::SegmentedDownload => 15,
-            Service::BlockDownload => 16,
-            Service::Tpdo1 => 17,
-            Service::Tpdo2 => 18,
-            Service::Tpdo3 => 19,
-            Service::Tpdo4 => 20,
-            Service::Rpdo1 => 21,
-            Service::Rpdo2 => 22,
-            Service::Rpdo3 => 23,
-            Service::Rpdo4 => 24,
-        }
+        self as usize
     }
 }
 

@@ -1,1 +1,3 @@
-mod Examples
+pub mod EscapeLaws
+mod JsonExamples
+mod MarkupExamples

@@ -2,9 +2,9 @@
 use Rattle.std.specs.Prelude.{ℕ, ◌/◌, ◌%◌, ◌==◌, if◌then◌else◌, List, [], ◌++◌, codes, decimal}
 use Rattle.co_text.specs.Printed.{digits_text}
 use Rattle.co_value.specs.KeyTexts.{key_text}
-use Rattle.conode_markup.specs.declared.pieces.Piece.{Piece}
-use Rattle.conode_markup.specs.declared.pieces.Piece.TheVariants.{Markup, Text, Words, Number, Count, Seconds, Key, Code}
-use Rattle.conode_markup.specs.Escapes.{escaped}
+use Rattle.conode_json.specs.declared.pieces.Piece.{Piece}
+use Rattle.conode_json.specs.declared.pieces.Piece.TheVariants.{Markup, Text, Words, Number, Count, Seconds, Key, Code}
+use Rattle.conode_json.specs.Escapes.{escaped}
 
 -- microseconds, in seconds with six digits after the point
 unfoldable pub seconds_text : ℕ → List ℕ

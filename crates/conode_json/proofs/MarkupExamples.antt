@@ -6,9 +6,9 @@ use Rattle.std.specs.List.{flat_map}
 use Rattle.std.specs.Str.{chars, is_utf8}
 use Rattle.co_text.specs.Printed.{digits_text}
 use Rattle.conode_lint_text.specs.Characters.{characters_of, windows_1252}
-use Rattle.conode_markup.specs.declared.pieces.Piece.TheVariants.{Markup, Number, Count, Seconds, Key, Code}
-use Rattle.conode_markup.specs.Escapes.{escaped, escaped_character, is_character_data, is_plain}
-use Rattle.conode_markup.specs.Pieces.{piece_markup, seconds_text}
+use Rattle.conode_json.specs.declared.pieces.Piece.TheVariants.{Markup, Number, Count, Seconds, Key, Code}
+use Rattle.conode_json.specs.Escapes.{escaped, escaped_character, is_character_data, is_plain}
+use Rattle.conode_json.specs.Pieces.{piece_markup, seconds_text}
 
 -- an element of markup in a name
 a_tag : escaped (codes "<b>'&\"") ≡ codes "&lt;b&gt;&#39;&amp;&quot;"

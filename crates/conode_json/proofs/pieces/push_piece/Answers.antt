@@ -1,10 +1,10 @@
 -- The markup, and the value.
 use Rattle.std.proofs.Common.{◌≡◌, ◌∙◌, List, ◌++◌, Result, Ok, Err, refl, ap, append-nil, append_assoc}
 use Rattle.std.specs.Result.{OnOk}
-use Rattle.conode_markup.specs.declared.pieces.Piece.{Piece}
-use Rattle.conode_markup.specs.declared.pieces.Piece.TheVariants.{Markup, Text, Words, Number, Count, Seconds, Key, Code}
-use Rattle.conode_markup.specs.Pieces.{markup_of, piece_markup, value_text}
-use Rattle.conode_markup.proofs.pieces.push_piece.Goals as goal
+use Rattle.conode_json.specs.declared.pieces.Piece.{Piece}
+use Rattle.conode_json.specs.declared.pieces.Piece.TheVariants.{Markup, Text, Words, Number, Count, Seconds, Key, Code}
+use Rattle.conode_json.specs.Pieces.{markup_of, piece_markup, value_text}
+use Rattle.conode_json.proofs.pieces.push_piece.Goals as goal
 
 both_parts : (piece : Piece) → markup_of piece ++ value_text piece ≡ piece_markup piece
 both_parts (Markup markup) = append-nil markup.now

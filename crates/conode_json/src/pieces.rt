@@ -4,7 +4,7 @@
 ghost use Rattle.std.specs.Prelude.{◌≡◌, ◌++◌, ◌<◌, ◌^◌, OnOk, string_bytes};
 ghost use Rattle.std.specs.List.{flat_map};
 ghost use Rattle.co_text.specs.Printed.{digits_text};
-ghost use Rattle.conode_markup.specs.Pieces.{markup_of, piece_markup, seconds_text, value_text};
+ghost use Rattle.conode_json.specs.Pieces.{markup_of, piece_markup, seconds_text, value_text};
 
 use crate::escape::push_escaped;
 use co_text::{push_decimal, push_digit, push_u32};
