@@ -85,6 +85,35 @@ const SERVICES: [Service; 25] = [
     Service::Rpdo4,
 ];
 
+// their names, in this order
+const NAMES: [&str; 25] = [
+    "NMT start",
+    "NMT stop",
+    "NMT enter pre-operational",
+    "NMT reset node",
+    "NMT reset communication",
+    "boot-up",
+    "heartbeat",
+    "node guarding",
+    "EMCY",
+    "SYNC",
+    "TIME",
+    "SDO upload expedited",
+    "SDO upload segmented",
+    "SDO block upload",
+    "SDO download expedited",
+    "SDO download segmented",
+    "SDO block download",
+    "TPDO1",
+    "TPDO2",
+    "TPDO3",
+    "TPDO4",
+    "RPDO1",
+    "RPDO2",
+    "RPDO3",
+    "RPDO4",
+];
+
 /// How often a service was seen: frames of it, or SDO transfers that were confirmed.
 #[derive(Clone, Copy)]
 pub struct Served {
@@ -98,33 +127,7 @@ impl Service {
     pub fn name(self) -> &'static str
         ensures { result.now ≡ service_name self }
     {
-        match self {
-            Service::Start => "NMT start",
-            Service::Stop => "NMT stop",
-            Service::EnterPreOperational => "NMT enter pre-operational",
-            Service::ResetNode => "NMT reset node",
-            Service::ResetCommunication => "NMT reset communication",
-            Service::BootUp => "boot-up",
-            Service::Heartbeat => "heartbeat",
-            Service::NodeGuarding => "node guarding",
-            Service::Emergency => "EMCY",
-            Service::Sync => "SYNC",
-            Service::Time => "TIME",
-            Service::ExpeditedUpload => "SDO upload expedited",
-            Service::SegmentedUpload => "SDO upload segmented",
-            Service::BlockUpload => "SDO block upload",
-            Service::ExpeditedDownload => "SDO download expedited",
-            Service::SegmentedDownload => "SDO download segmented",
-            Service::BlockDownload => "SDO block download",
-            Service::Tpdo1 => "TPDO1",
-            Service::Tpdo2 => "TPDO2",
-            Service::Tpdo3 => "TPDO3",
-            Service::Tpdo4 => "TPDO4",
-            Service::Rpdo1 => "RPDO1",
-            Service::Rpdo2 => "RPDO2",
-            Service::Rpdo3 => "RPDO3",
-            Service::Rpdo4 => "RPDO4",
-        }
+        NAMES[self as usize]
     }
 
     /// Its place among all, from 0 on.
