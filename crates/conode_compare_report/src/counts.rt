@@ -18,14 +18,6 @@ fn place_of(numbers: &[Numbered], number: u32) -> Option<usize>
     numbers.iter().position(|counted| counted.number == number)
 }
 
-impl Numbered {
-    fn add(&mut self)
-        ensures { self.new ≡ one_more_of self.old }
-    {
-        self.count = self.count.saturating_add(1);
-    }
-}
-
 /// Counts a number. A new one is appended if fewer than `most` are there.
 #[tactic(auto, unfolding(crate::specs::Counts::numbered_with))]
 pub(crate) fn count_number(
@@ -37,7 +29,8 @@ pub(crate) fn count_number(
 {
     match place_of(numbers.as_slice(), number) {
         Some(place) => {
-            numbers[place].add();
+            let counted = &mut numbers[place];
+            counted.count = counted.count.saturating_add(1);
             Ok(())
         }
         None => {

@@ -138,14 +138,6 @@ impl Service {
     }
 }
 
-impl Served {
-    fn add(&mut self)
-        ensures { self.new ≡ served_once_more self.old }
-    {
-        self.count = self.count.saturating_add(1);
-    }
-}
-
 // each of these services, none of which was seen so far
 fn none_of_all(alloc: Global, services: &[Service]) -> Result<Vec<Served>, AllocError>
     ensures { IfOk result (λ counts. counts.items ≡ map none_of services.now) }
@@ -264,7 +256,8 @@ pub(crate) fn count_service(services: &mut [Served], service: Option<Service>)
     };
     let place = service.number();
     if place < services.len() {
-        services[place].add();
+        let served = &mut services[place];
+        served.count = served.count.saturating_add(1);
     }
 }
 

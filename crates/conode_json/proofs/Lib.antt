@@ -1,3 +1,4 @@
+pub mod Appending
 pub mod EscapeLaws
 mod JsonExamples
 mod MarkupExamples

@@ -1,6 +1,6 @@
 -- One list after another.
 use Rattle.conode_compare_page.specs.Coverage.{tested}
-use Rattle.conode_compare_page.proofs.Appending.{six}
+use Rattle.conode_json.proofs.Appending.{six}
 use Rattle.conode_compare_page.proofs.coverage.push_coverage.Goals as goal
 
 pub returns : goal.returns

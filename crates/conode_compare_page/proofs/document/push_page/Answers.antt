@@ -1,6 +1,6 @@
 -- One section after another.
 use Rattle.conode_compare_page.specs.Page.{page}
-use Rattle.conode_compare_page.proofs.Appending.{six}
+use Rattle.conode_json.proofs.Appending.{six}
 use Rattle.conode_compare_page.proofs.document.push_page.Goals as goal
 
 pub returns : goal.returns
