@@ -40,11 +40,11 @@ pub(crate) fn push_words(text: &mut String, words: &str) -> Result<(), AllocErro
 }
 
 // the differences of a kind
-fn of_kind(alloc: Global, kind: Kind, report: &Report) -> Result<Vec<Noted>, AllocError>
-    ensures { IfOk result (λ own. own.items ≡ filter (is_of_kind kind) report.now.noted) }
+fn of_kind(alloc: Global, kind: Kind, noted: &[Noted]) -> Result<Vec<Noted>, AllocError>
+    ensures { IfOk result (λ own. own.items ≡ filter (is_of_kind kind) noted.now) }
 {
     let mut own = Vec::new(alloc);
-    for one in &report.noted {
+    for one in noted {
         if is_of_kind(kind, one) {
             own.push(*one)?;
         }
@@ -130,7 +130,7 @@ fn push_own_lines(
         ++ lines_markup recording.now counted.found
         (filter (is_of_kind counted.kind) report.now.noted)) }
 {
-    let own = of_kind(alloc, counted.kind, report)?;
+    let own = of_kind(alloc, counted.kind, report.noted.as_slice())?;
     push_first_lines(alloc, text, recording, counted.found, own.as_slice())
 }
 

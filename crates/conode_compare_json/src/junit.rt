@@ -47,13 +47,13 @@ fn is_skipped(counted: &Counted) -> bool
 }
 
 // how many test cases are failed, and how many are skipped
-fn counts_of(report: &Report) -> (usize, usize)
-    ensures failed { result.0 ≡ count_by is_failed report.now.kinds }
-    ensures skipped { result.1 ≡ count_by is_skipped report.now.kinds }
+fn counts_of(kinds: &[Counted]) -> (usize, usize)
+    ensures failed { result.0 ≡ count_by is_failed kinds.now }
+    ensures skipped { result.1 ≡ count_by is_skipped kinds.now }
 {
     let mut failed = 0;
     let mut skipped = 0;
-    for counted in &report.kinds {
+    for counted in kinds {
         if is_failed(counted) {
             failed += 1;
         }
@@ -89,7 +89,7 @@ fn numbers_of(about: &About<'_, '_>, report: &Report) -> Numbers
     ensures { result ≡ numbers_of (about_view about.now) report.now }
 {
     let errors = error_count(Outcome::of(about));
-    let (failed, skipped) = counts_of(report);
+    let (failed, skipped) = counts_of(report.kinds.as_slice());
     Numbers {
         tests: (report.kinds.len() + errors) as u64,
         failures: failed as u64,

@@ -6,6 +6,7 @@ use Rattle.co_text.specs.Printed.{digits_text}
 use Rattle.co_value.specs.KeyTexts.{key_text}
 use Rattle.co_sheet.specs.Content.{Row}
 use Rattle.conode_compare_report.specs.Abouts.{Described}
+use Rattle.conode_compare_report.specs.Coverages.{CoverageView}
 use Rattle.conode_compare_report.specs.declared.coverage.Covered.{Covered}
 use Rattle.conode_compare_report.specs.declared.coverage.Numbered.{Numbered}
 use Rattle.conode_compare_report.specs.declared.kind.Counted.{Counted}
@@ -139,12 +140,15 @@ unfoldable pub numbers_text : Listed → List ℕ → List ℕ → List Numbered
 numbers_text listed head none numbers =
     if length numbers == 0 then none else head ++ flat_map (numbered_item listed) numbers ++ codes "</ul>\n"
 
+unfoldable pub seen_text : CoverageView → List ℕ
+seen_text coverage =
+    services_text coverage.services ++ states_text coverage.states
+    ++ numbers_text TransmissionTypes TYPES.now NO_TYPES.now coverage.types
+    ++ numbers_text AbortCodes ABORTS.now NO_ABORTS.now coverage.aborts
+
 -- ---- all of it
 
 -- what the recording tested; the end of the section comes after it
 unfoldable pub tested : Described → Kept → List ℕ
 tested about report =
-    kinds_table report.kinds ++ entries_text about.rows report.coverage.entries
-    ++ services_text report.coverage.services ++ states_text report.coverage.states
-    ++ numbers_text TransmissionTypes TYPES.now NO_TYPES.now report.coverage.types
-    ++ numbers_text AbortCodes ABORTS.now NO_ABORTS.now report.coverage.aborts
+    kinds_table report.kinds ++ entries_text about.rows report.coverage.entries ++ seen_text report.coverage

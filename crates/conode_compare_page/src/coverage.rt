@@ -6,6 +6,7 @@ ghost use Rattle.conode_compare_report.specs.Abouts.{about_view};
 ghost use Rattle.conode_compare_page.specs.Coverage.{
   numbered_item,
   numbers_text,
+  seen_text,
   service_item,
   services_text,
   state_item,
@@ -16,7 +17,7 @@ ghost use Rattle.conode_compare_page.specs.Coverage.{
 use crate::entries::push_entries;
 use crate::kinds::push_kinds;
 use crate::words::either;
-use conode_compare_report::{About, Numbered, Report, Served, States};
+use conode_compare_report::{About, Coverage, Numbered, Report, Served, States};
 use conode_json::{Piece, push_pieces};
 use std::alloc::{AllocError, Global};
 
@@ -148,20 +149,11 @@ fn push_numbers(
     text.push_str("</ul>\n")
 }
 
-/// Appends what the recording tested, without the end of the section.
-#[tactic(auto, unfolding(crate::specs::Coverage::tested))]
-pub(crate) fn push_coverage(
-    alloc: Global,
-    text: &mut String,
-    about: &About<'_, '_>,
-    report: &Report,
-) -> Result<(), AllocError>
-    ensures { OnOk result (string_bytes text.new
-        ≡ string_bytes text.old ++ tested (about_view about.now) report.now) }
+#[tactic(auto, unfolding(crate::specs::Coverage::seen_text))]
+fn push_seen(alloc: Global, text: &mut String, coverage: &Coverage) -> Result<(), AllocError>
+    ensures { OnOk result
+        (string_bytes text.new ≡ string_bytes text.old ++ seen_text coverage.now) }
 {
-    push_kinds(alloc, text, report.kinds.as_slice())?;
-    let coverage = &report.coverage;
-    push_entries(alloc, text, about.rows, coverage.entries.as_slice())?;
     push_services(alloc, text, coverage.services.as_slice())?;
     push_states(alloc, text, coverage.states)?;
     let types = coverage.types.as_slice();
@@ -175,4 +167,20 @@ pub(crate) fn push_coverage(
     )?;
     let aborts = coverage.aborts.as_slice();
     push_numbers(alloc, text, Listed::AbortCodes, ABORTS, NO_ABORTS, aborts)
+}
+
+/// Appends what the recording tested, without the end of the section.
+#[tactic(auto, unfolding(crate::specs::Coverage::tested))]
+pub(crate) fn push_coverage(
+    alloc: Global,
+    text: &mut String,
+    about: &About<'_, '_>,
+    report: &Report,
+) -> Result<(), AllocError>
+    ensures { OnOk result (string_bytes text.new
+        ≡ string_bytes text.old ++ tested (about_view about.now) report.now) }
+{
+    push_kinds(alloc, text, report.kinds.as_slice())?;
+    push_entries(alloc, text, about.rows, report.coverage.entries.as_slice())?;
+    push_seen(alloc, text, &report.coverage)
 }

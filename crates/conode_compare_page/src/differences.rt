@@ -8,6 +8,7 @@ ghost use Rattle.conode_compare_page.specs.Differences.{
   after_name,
   context_line,
   difference,
+  difference_list,
   difference_row,
   difference_table,
   differences,
@@ -173,13 +174,26 @@ fn push_rows(
     Ok(())
 }
 
+#[tactic(auto, unfolding(crate::specs::Differences::difference_list))]
+fn push_list(
+    alloc: Global,
+    text: &mut String,
+    report: &Report,
+    noted: &[Noted],
+) -> Result<(), AllocError>
+    ensures { OnOk result (string_bytes text.new
+        ≡ string_bytes text.old ++ difference_list report.now noted.now) }
+{
+    text.push_str(OPENING)?;
+    push_rows(alloc, text, report, noted)
+}
+
 #[tactic(auto, unfolding(crate::specs::Differences::difference_table))]
 fn push_table(alloc: Global, text: &mut String, report: &Report) -> Result<(), AllocError>
     ensures { OnOk result (string_bytes text.new
         ≡ string_bytes text.old ++ difference_table report.now) }
 {
-    text.push_str(OPENING)?;
-    push_rows(alloc, text, report, report.noted.as_slice())?;
+    push_list(alloc, text, report, report.noted.as_slice())?;
     push_end(alloc, text, report.unlisted)
 }
 
