@@ -1,11 +1,7 @@
 //! Numbers that are counted in lists.
 
 ghost use Rattle.std.specs.Prelude.{◌≡◌, ◌<◌, OnOk, IfSome, length, position};
-ghost use Rattle.conode_compare_report.specs.Counts.{
-  is_number,
-  numbered_with,
-  one_more_of,
-};
+ghost use Rattle.conode_compare_report.specs.Counts.{is_number, numbered_with};
 
 use crate::coverage::Numbered;
 use std::alloc::AllocError;

@@ -12,7 +12,6 @@ ghost use Rattle.conode_compare_report.specs.Coverages.{
   none_of,
   role_lane,
   role_service,
-  served_once_more,
   service_of,
   services_with,
   transfer_service,
