@@ -9,10 +9,10 @@ use Rattle.conode_compare_json.proofs.cases.of_kind.Goals as goal
 module _ {X : Type 0} (p : X → Bool) (xs : List X) (i : ℕ) (d : X) (old : List X) where
   kept : (new : List X) → i < length xs → p (get_or xs i d) ≡ true → old ≡ filter p (take i xs) → new ≡ old ++ get_or xs i d ∷ []
       → new ≡ filter p (take (i + 1) xs)
-  kept new within is e f = f ∙ ap (λ ys. ys ++ get_or xs i d ∷ []) e ∙ sym (rw is at filter_more p xs i d within)
+  kept new within is e f = f ∙ ap (λ ys. ys ++ get_or xs i d ∷ []) e ∙ sym (rw is at filter_more {X = X} p xs i d within)
 
   skipped : i < length xs → p (get_or xs i d) ≡ false → old ≡ filter p (take i xs) → old ≡ filter p (take (i + 1) xs)
-  skipped within other e = e ∙ sym ((rw other at filter_more p xs i d within) ∙ append-nil (filter p (take i xs)))
+  skipped within other e = e ∙ sym ((rw other at filter_more {X = X} p xs i d within) ∙ append-nil (filter p (take i xs)))
 
 pub loop-one-preserved : goal.loop-one-preserved
 loop-one-preserved c = elim c.if-is_of_kind.branch [
