@@ -6,8 +6,8 @@ use Rattle.std.specs.Str.{chars, is_utf8}
 use lib.Utf8.{encode}
 use Rattle.co_text.specs.Printed.{digits_text}
 use Rattle.conode_lint_text.specs.Characters.{characters_of}
-use Rattle.conode_markup.specs.Escapes.{escaped_character}
-use Rattle.conode_markup.specs.Pieces.{seconds_text}
+use Rattle.conode_json.specs.Escapes.{escaped_character}
+use Rattle.conode_json.specs.Pieces.{seconds_text}
 use Rattle.conode_compare_text.specs.FindingTexts.{finding_line, finding_text, millis_text, numbered, timed_number}
 use Rattle.conode_compare_text.specs.Tallies.{no_frames}
 use Rattle.conode_compare_report.specs.declared.kind.Kind.TheVariants.{HeartbeatLate}

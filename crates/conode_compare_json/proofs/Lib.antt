@@ -1,4 +1,3 @@
-pub mod Appending
 pub mod Firsts
 pub mod Pairs
 pub mod Reported

@@ -6,7 +6,7 @@ use Rattle.conode_compare_report.specs.declared.kind.Counted.{Counted}
 use Rattle.conode_compare_report.specs.declared.kind.Kind.{Kind}
 use Rattle.conode_compare_report.specs.declared.noted.Noted.{Noted}
 use Rattle.conode_compare_report.specs.Kinds.{kind_name, kind_number, kind_of, kind_rule}
-use Rattle.conode_markup.specs.Escapes.{escaped}
+use Rattle.conode_json.specs.Escapes.{escaped}
 use Rattle.conode_compare_report.specs.declared.outcome.Outcome.{Outcome}
 use Rattle.conode_compare_report.specs.declared.outcome.Outcome.TheVariants.{NoDifference, Differences, NoFrame, SeveralInterfaces}
 
@@ -33,7 +33,7 @@ differences_word count = if count == 1 then codes " difference: " else codes " d
 unfoldable pub failure_begin : List ℕ → ℕ → List ℕ → List ℕ → List ℕ
 failure_begin kind found word rule = concat (
     codes "<testcase classname=\"conode.compare\" name=\"" ∷ kind ∷ codes "\"><failure type=\"" ∷ kind
-    ∷ codes "\" message=\"" ∷ decimal found ∷ word ∷ escaped rule ∷ codes "\">" ∷ [])
+    ∷ codes "\" message=\"" ∷ decimal found ∷ (word ++ escaped rule) ∷ codes "\">" ∷ [])
 
 unfoldable pub failed_markup : List ℕ → Counted → List Noted → List ℕ
 failed_markup recording counted noted =

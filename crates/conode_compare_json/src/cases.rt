@@ -21,7 +21,7 @@ ghost use Rattle.conode_compare_json.specs.JunitCases.{
 
 use conode_compare_report::{About, Counted, Kind, Noted, Outcome, Report};
 use conode_compare_text::set_finding_line;
-use conode_markup::{Piece, push_pieces};
+use conode_json::{Piece, push_pieces};
 use std::alloc::{AllocError, Global};
 
 /// How many differences of a kind have a line.
@@ -40,11 +40,11 @@ pub(crate) fn push_words(text: &mut String, words: &str) -> Result<(), AllocErro
 }
 
 // the differences of a kind
-fn of_kind(alloc: Global, kind: Kind, report: &Report) -> Result<Vec<Noted>, AllocError>
-    ensures { IfOk result (λ own. own.items ≡ filter (is_of_kind kind) report.now.noted) }
+fn of_kind(alloc: Global, kind: Kind, noted: &[Noted]) -> Result<Vec<Noted>, AllocError>
+    ensures { IfOk result (λ own. own.items ≡ filter (is_of_kind kind) noted.now) }
 {
     let mut own = Vec::new(alloc);
-    for one in &report.noted {
+    for one in noted {
         if is_of_kind(kind, one) {
             own.push(*one)?;
         }
@@ -70,7 +70,7 @@ fn push_line(
         noted.value_type,
         noted.finding,
     )?;
-    push_pieces(alloc, text, &[Piece::Text(line.as_bytes())])
+    push_pieces(alloc, text, &[Piece::Text("", line.as_bytes())])
 }
 
 fn push_lines(
@@ -98,11 +98,7 @@ fn push_more(alloc: Global, text: &mut String, count: u64) -> Result<(), AllocEr
     push_pieces(
         alloc,
         text,
-        &[
-            Piece::Markup("and "),
-            Piece::Number(count),
-            Piece::Markup(" more\n"),
-        ],
+        &[Piece::Number("and ", count), Piece::Markup(" more\n")],
     )
 }
 
@@ -134,7 +130,7 @@ fn push_own_lines(
         ++ lines_markup recording.now counted.found
         (filter (is_of_kind counted.kind) report.now.noted)) }
 {
-    let own = of_kind(alloc, counted.kind, report)?;
+    let own = of_kind(alloc, counted.kind, report.noted.as_slice())?;
     push_first_lines(alloc, text, recording, counted.found, own.as_slice())
 }
 
@@ -165,14 +161,10 @@ fn push_failure<'t>(
         alloc,
         text,
         &[
-            Piece::Markup("<testcase classname=\"conode.compare\" name=\""),
-            Piece::Markup(kind),
-            Piece::Markup("\"><failure type=\""),
-            Piece::Markup(kind),
-            Piece::Markup("\" message=\""),
-            Piece::Number(found),
-            Piece::Markup(word),
-            Piece::Text(rule),
+            Piece::Words("<testcase classname=\"conode.compare\" name=\"", kind),
+            Piece::Words("\"><failure type=\"", kind),
+            Piece::Number("\" message=\"", found),
+            Piece::Text(word, rule),
             Piece::Markup("\">"),
         ],
     )
@@ -219,8 +211,10 @@ fn push_passed(alloc: Global, text: &mut String, counted: Counted) -> Result<(),
         alloc,
         text,
         &[
-            Piece::Markup("<testcase classname=\"conode.compare\" name=\""),
-            Piece::Markup(counted.kind.name()),
+            Piece::Words(
+                "<testcase classname=\"conode.compare\" name=\"",
+                counted.kind.name(),
+            ),
             Piece::Markup(case_end(counted.occasions)),
         ],
     )
@@ -260,20 +254,18 @@ pub(crate) fn push_outcome(
             alloc,
             text,
             &[
-                Piece::Markup("<testcase classname=\"conode.compare\" name=\"compared\""),
-                Piece::Markup("><error type=\"not-compared\" message=\"no frame of node "),
-                Piece::Number(u64::from(about.node)),
+                Piece::Number(
+                    "<testcase classname=\"conode.compare\" name=\"compared\">\
+                    <error type=\"not-compared\" message=\"no frame of node ",
+                    u64::from(about.node),
+                ),
                 Piece::Markup("\"/></testcase>\n"),
             ],
         ),
-        Outcome::SeveralInterfaces => push_pieces(
-            alloc,
-            text,
-            &[
-                Piece::Markup("<testcase classname=\"conode.compare\" name=\"compared\""),
-                Piece::Markup("><error type=\"not-compared\" message=\"several interfaces: "),
-                Piece::Markup("name one with --interface\"/></testcase>\n"),
-            ],
+        Outcome::SeveralInterfaces => text.push_str(
+            "<testcase classname=\"conode.compare\" name=\"compared\">\
+            <error type=\"not-compared\" message=\"several interfaces: name one with \
+            --interface\"/></testcase>\n",
         ),
     }
 }

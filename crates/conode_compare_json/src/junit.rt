@@ -17,7 +17,7 @@ ghost use Rattle.conode_compare_json.specs.JunitDocument.{
 
 use crate::cases::{push_case, push_outcome, push_words};
 use conode_compare_report::{About, Counted, Outcome, Report};
-use conode_markup::{Piece, push_pieces};
+use conode_json::{Piece, push_pieces};
 use std::alloc::{AllocError, Global};
 
 /// The document up to the name of its test cases.
@@ -47,13 +47,13 @@ fn is_skipped(counted: &Counted) -> bool
 }
 
 // how many test cases are failed, and how many are skipped
-fn counts_of(report: &Report) -> (usize, usize)
-    ensures failed { result.0 ≡ count_by is_failed report.now.kinds }
-    ensures skipped { result.1 ≡ count_by is_skipped report.now.kinds }
+fn counts_of(kinds: &[Counted]) -> (usize, usize)
+    ensures failed { result.0 ≡ count_by is_failed kinds.now }
+    ensures skipped { result.1 ≡ count_by is_skipped kinds.now }
 {
     let mut failed = 0;
     let mut skipped = 0;
-    for counted in &report.kinds {
+    for counted in kinds {
         if is_failed(counted) {
             failed += 1;
         }
@@ -89,7 +89,7 @@ fn numbers_of(about: &About<'_, '_>, report: &Report) -> Numbers
     ensures { result ≡ numbers_of (about_view about.now) report.now }
 {
     let errors = error_count(Outcome::of(about));
-    let (failed, skipped) = counts_of(report);
+    let (failed, skipped) = counts_of(report.kinds.as_slice());
     Numbers {
         tests: (report.kinds.len() + errors) as u64,
         failures: failed as u64,
@@ -114,26 +114,25 @@ fn begin_suite(
         alloc,
         text,
         &[
-            Piece::Markup(OPENING),
-            Piece::Text(about.recording.as_bytes()),
-            Piece::Markup("\" tests=\""),
-            Piece::Number(numbers.tests),
-            Piece::Markup("\" failures=\""),
-            Piece::Number(numbers.failures),
-            Piece::Markup("\" errors=\""),
-            Piece::Number(numbers.errors),
-            Piece::Markup("\" skipped=\""),
-            Piece::Number(numbers.skipped),
-            Piece::Markup("\" time=\""),
-            Piece::Seconds(micros),
-            Piece::Markup("\">\n<properties>\n<property name=\"version\" value=\""),
-            Piece::Text(about.version.as_bytes()),
-            Piece::Markup("\"/>\n<property name=\"sheet\" value=\""),
-            Piece::Text(about.sheet.as_bytes()),
-            Piece::Markup("\"/>\n<property name=\"recording\" value=\""),
-            Piece::Text(about.recording.as_bytes()),
-            Piece::Markup("\"/>\n<property name=\"node\" value=\""),
-            Piece::Number(about.node as u64),
+            Piece::Text(OPENING, about.recording.as_bytes()),
+            Piece::Number("\" tests=\"", numbers.tests),
+            Piece::Number("\" failures=\"", numbers.failures),
+            Piece::Number("\" errors=\"", numbers.errors),
+            Piece::Number("\" skipped=\"", numbers.skipped),
+            Piece::Seconds("\" time=\"", micros),
+            Piece::Text(
+                "\">\n<properties>\n<property name=\"version\" value=\"",
+                about.version.as_bytes(),
+            ),
+            Piece::Text(
+                "\"/>\n<property name=\"sheet\" value=\"",
+                about.sheet.as_bytes(),
+            ),
+            Piece::Text(
+                "\"/>\n<property name=\"recording\" value=\"",
+                about.recording.as_bytes(),
+            ),
+            Piece::Number("\"/>\n<property name=\"node\" value=\"", about.node as u64),
             Piece::Markup("\"/>\n</properties>\n"),
         ],
     )

@@ -17,11 +17,8 @@ use std::alloc::{AllocError, Global};
 pub(crate) enum Part<'a> {
     BeginObject,
     EndObject,
-    EndArray,
     /// The beginning of a member that is an object.
     Object(&'a str),
-    /// The beginning of a member that is an array.
-    Array(&'a str),
     Text(&'a str, &'a str),
     /// A text from outside, in UTF-8; nothing for `None`.
     Bytes(&'a str, Option<&'a [u8]>),
@@ -78,9 +75,7 @@ fn put_part(alloc: Global, writer: &mut JsonWriter, part: &Part<'_>) -> Result<(
     match *part {
         Part::BeginObject => writer.begin_object(),
         Part::EndObject => writer.end_object(),
-        Part::EndArray => writer.end_array(),
         Part::Object(name) => writer.begin_object_of(name),
-        Part::Array(name) => writer.begin_array_of(name),
         Part::Text(name, text) => writer.put_text(name, text),
         Part::Bytes(name, bytes) => put_bytes_if(alloc, writer, name, bytes),
         Part::Number(name, number) => writer.put_number(alloc, name, i128::from(number)),

@@ -16,8 +16,8 @@ use Rattle.conode_compare_report.specs.Spans.{LanesView}
 use Rattle.conode_compare_text.specs.FindingTexts.{finding_text, millis_text, timed_number}
 use Rattle.conode_explain_values.specs.declared.value_type.ValueType.TheVariants.{Plain}
 use Rattle.conode_lint_text.specs.Characters.{characters_of}
-use Rattle.conode_markup.specs.Escapes.{escaped_character}
-use Rattle.conode_markup.specs.Pieces.{seconds_text}
+use Rattle.conode_json.specs.Escapes.{escaped_character}
+use Rattle.conode_json.specs.Pieces.{seconds_text}
 use Rattle.conode_compare_report.specs.declared.outcome.Outcome.TheVariants.{NoDifference, Differences, NoFrame, SeveralInterfaces}
 use Rattle.conode_compare_page.specs.declared.states.Shown.TheVariants.{Nothing, Initialising, PreOperational, Operational, Stopped, Several}
 use Rattle.conode_compare_page.specs.declared.coverage.Listed.TheVariants.{TransmissionTypes, AbortCodes}

@@ -15,7 +15,7 @@ use Rattle.conode_compare_report.specs.Views.{Kept}
 use Rattle.conode_compare_report.specs.declared.service.Served.{Served}
 use Rattle.conode_compare_report.specs.Kinds.{kind_name, kind_rule}
 use Rattle.conode_compare_report.specs.Services.{service_name}
-use Rattle.conode_markup.specs.Escapes.{escaped}
+use Rattle.conode_json.specs.Escapes.{escaped}
 use Rattle.conode_compare_page.specs.declared.coverage.Listed.{Listed}
 use Rattle.conode_compare_page.specs.declared.coverage.Listed.TheVariants.{TransmissionTypes, AbortCodes}
 use Rattle.conode_compare_page.specs.declared.coverage.TheConstants.{TYPES, NO_TYPES, ABORTS, NO_ABORTS}
@@ -44,9 +44,9 @@ found_begin found =
 -- the row of a kind: how often it could have shown, and how often it did
 unfoldable pub kind_row : Counted → List ℕ
 kind_row counted = concat (
-    row_begin counted.occasions ∷ kind_name counted.kind ∷ codes "</td><td>" ∷ kind_rule counted.kind
+    (row_begin counted.occasions ++ kind_name counted.kind) ∷ codes "</td><td>" ∷ kind_rule counted.kind
     ∷ codes "</td><td class=\"n\" data-is=\"Occasions\">" ∷ count_or (codes "none") counted.occasions
-    ∷ found_begin counted.found ∷ decimal counted.found ∷ codes "</td></tr>\n" ∷ [])
+    ∷ (found_begin counted.found ++ decimal counted.found) ∷ codes "</td></tr>\n" ∷ [])
 
 unfoldable pub kinds_table : List Counted → List ℕ
 kinds_table kinds = OPENING.now ++ flat_map kind_row kinds ++ codes "</tbody>\n</table>\n"
@@ -111,7 +111,7 @@ entries_text rows entries =
 
 unfoldable pub service_item : Served → List ℕ
 service_item served = concat (
-    item_begin served.count ∷ service_name served.service ∷ codes "<b>" ∷ count_or (codes "not seen") served.count
+    (item_begin served.count ++ service_name served.service) ∷ codes "<b>" ∷ count_or (codes "not seen") served.count
     ∷ codes "</b></li>\n" ∷ [])
 
 unfoldable pub services_text : List Served → List ℕ
@@ -119,7 +119,7 @@ services_text services = codes "<h3>Services</h3>\n<ul>\n" ++ flat_map service_i
 
 unfoldable pub state_item : List ℕ → Bool → List ℕ
 state_item name seen = concat (
-    (if seen then codes "<li>" else codes "<li class=\"not\">") ∷ name
+    ((if seen then codes "<li>" else codes "<li class=\"not\">") ++ name)
     ∷ (if seen then codes "<b>seen</b></li>\n" else codes "<b>not seen</b></li>\n") ∷ [])
 
 unfoldable pub states_text : States → List ℕ

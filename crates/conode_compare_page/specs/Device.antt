@@ -5,8 +5,8 @@ use Rattle.co_text.specs.Printed.{digits_text}
 use Rattle.conode_compare_report.specs.Abouts.{Described}
 use Rattle.conode_compare_report.specs.declared.identity.Identity.{Identity}
 use Rattle.conode_compare_report.specs.Views.{Kept}
-use Rattle.conode_markup.specs.Escapes.{escaped}
-use Rattle.conode_markup.specs.Pieces.{seconds_text}
+use Rattle.conode_json.specs.Escapes.{escaped}
+use Rattle.conode_json.specs.Pieces.{seconds_text}
 use Rattle.conode_compare_page.specs.declared.device.TheConstants.{CLOSING}
 
 -- a number of the identity, 1018h, with its name

@@ -4,7 +4,7 @@ use Rattle.std.specs.List.{concat}
 use Rattle.conode_compare_report.specs.Abouts.{Described}
 use Rattle.conode_compare_report.specs.Outcomes.{outcome_of}
 use Rattle.conode_compare_report.specs.Views.{Kept}
-use Rattle.conode_markup.specs.Escapes.{escaped}
+use Rattle.conode_json.specs.Escapes.{escaped}
 use Rattle.conode_compare_report.specs.declared.outcome.Outcome.{Outcome}
 use Rattle.conode_compare_report.specs.declared.outcome.Outcome.TheVariants.{NoDifference, Differences, NoFrame, SeveralInterfaces}
 use Rattle.conode_compare_page.specs.declared.head.TheConstants.{OPENING}

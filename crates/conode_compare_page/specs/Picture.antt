@@ -7,7 +7,7 @@ use Rattle.conode_compare_report.specs.declared.lanes.States.{States}
 use Rattle.conode_compare_report.specs.declared.noted.Noted.{Noted}
 use Rattle.conode_compare_report.specs.Views.{Kept}
 use Rattle.conode_compare_report.specs.Kinds.{kind_name, kind_of}
-use Rattle.conode_markup.specs.Pieces.{seconds_text}
+use Rattle.conode_json.specs.Pieces.{seconds_text}
 use Rattle.conode_compare_report.specs.declared.lanes.Lane.{Lane}
 use Rattle.conode_compare_report.specs.declared.lanes.Lane.TheVariants.{Heartbeats, Emergencies, Transfers, Tpdos, Rpdos}
 use Rattle.conode_compare_page.specs.declared.states.Shown.{Shown}

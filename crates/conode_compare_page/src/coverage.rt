@@ -18,7 +18,7 @@ use crate::entries::push_entries;
 use crate::kinds::push_kinds;
 use crate::words::either;
 use conode_compare_report::{About, Coverage, Numbered, Report, Served, States};
-use conode_markup::{Piece, push_pieces};
+use conode_json::{Piece, push_pieces};
 use std::alloc::{AllocError, Global};
 
 /// What a list of numbers has.
@@ -46,10 +46,11 @@ fn push_service(alloc: Global, text: &mut String, served: &Served) -> Result<(),
         alloc,
         text,
         &[
-            Piece::Markup(either(served.count == 0, "<li class=\"not\">", "<li>")),
-            Piece::Markup(served.service.name()),
-            Piece::Markup("<b>"),
-            Piece::Count(served.count, "not seen"),
+            Piece::Words(
+                either(served.count == 0, "<li class=\"not\">", "<li>"),
+                served.service.name(),
+            ),
+            Piece::Count("<b>", served.count, "not seen"),
             Piece::Markup("</b></li>\n"),
         ],
     )
@@ -76,8 +77,7 @@ fn push_state(alloc: Global, text: &mut String, name: &str, seen: bool) -> Resul
         alloc,
         text,
         &[
-            Piece::Markup(either(seen, "<li>", "<li class=\"not\">")),
-            Piece::Markup(name),
+            Piece::Words(either(seen, "<li>", "<li class=\"not\">"), name),
             Piece::Markup(either(seen, "<b>seen</b></li>\n", "<b>not seen</b></li>\n")),
         ],
     )
@@ -109,10 +109,8 @@ fn push_numbered(
             alloc,
             text,
             &[
-                Piece::Markup("<li>type "),
-                Piece::Number(numbered.number as u64),
-                Piece::Markup("<b>"),
-                Piece::Number(numbered.count),
+                Piece::Number("<li>type ", numbered.number as u64),
+                Piece::Number("<b>", numbered.count),
                 Piece::Markup("</b></li>\n"),
             ],
         ),
@@ -120,10 +118,8 @@ fn push_numbered(
             alloc,
             text,
             &[
-                Piece::Markup("<li><code>"),
-                Piece::Code(numbered.number),
-                Piece::Markup("h</code><b>"),
-                Piece::Number(numbered.count),
+                Piece::Code("<li><code>", numbered.number),
+                Piece::Number("h</code><b>", numbered.count),
                 Piece::Markup("</b></li>\n"),
             ],
         ),

@@ -17,7 +17,7 @@ ghost use Rattle.conode_compare_page.specs.Device.{
 };
 
 use conode_compare_report::{About, Identity, Report};
-use conode_markup::{Piece, push_pieces};
+use conode_json::{Piece, push_pieces};
 use std::alloc::{AllocError, Global};
 
 /// The page from its last word on.
@@ -40,8 +40,7 @@ fn push_identity_row(
             alloc,
             text,
             &[
-                Piece::Markup("<dt>"),
-                Piece::Markup(name),
+                Piece::Words("<dt>", name),
                 Piece::Markup("</dt><dd>not in the data sheet</dd>\n"),
             ],
         ),
@@ -49,10 +48,8 @@ fn push_identity_row(
             alloc,
             text,
             &[
-                Piece::Markup("<dt>"),
-                Piece::Markup(name),
-                Piece::Markup("</dt><dd>"),
-                Piece::Code((number % 0x1_0000_0000) as u32),
+                Piece::Words("<dt>", name),
+                Piece::Code("</dt><dd>", (number % 0x1_0000_0000) as u32),
                 Piece::Markup("h</dd>\n"),
             ],
         ),
@@ -75,10 +72,8 @@ fn push_any<'t>(
             alloc,
             text,
             &[
-                Piece::Markup("<dt>"),
-                Piece::Markup(name),
-                Piece::Markup("</dt><dd>"),
-                Piece::Text(value),
+                Piece::Words("<dt>", name),
+                Piece::Text("</dt><dd>", value),
                 Piece::Markup("</dd>\n"),
             ],
         ),
@@ -101,10 +96,8 @@ fn push_recorded(
             alloc,
             text,
             &[
-                Piece::Markup("<dt>"),
-                Piece::Markup(name),
-                Piece::Markup(", as recorded</dt><dd>"),
-                Piece::Code((number % 0x1_0000_0000) as u32),
+                Piece::Words("<dt>", name),
+                Piece::Code(", as recorded</dt><dd>", (number % 0x1_0000_0000) as u32),
                 Piece::Markup("h</dd>\n"),
             ],
         ),
@@ -149,10 +142,8 @@ fn push_stamps(alloc: Global, text: &mut String, report: &Report) -> Result<(), 
             alloc,
             text,
             &[
-                Piece::Markup("<dt>Stamps</dt><dd>"),
-                Piece::Seconds(begin),
-                Piece::Markup(" to "),
-                Piece::Seconds(report.end),
+                Piece::Seconds("<dt>Stamps</dt><dd>", begin),
+                Piece::Seconds(" to ", report.end),
                 Piece::Markup(" s</dd>\n</dl>\n</section>\n"),
             ],
         ),
@@ -176,18 +167,15 @@ fn push_compared(
         alloc,
         text,
         &[
-            Piece::Markup("<dt>Node-ID</dt><dd>"),
-            Piece::Number(about.node as u64),
-            Piece::Markup("</dd>\n<dt>Data sheet</dt><dd>"),
-            Piece::Text(about.sheet.as_bytes()),
-            Piece::Markup(", "),
-            Piece::Number(entries as u64),
-            Piece::Markup(" entries</dd>\n<dt>Recording</dt><dd>"),
-            Piece::Text(about.recording.as_bytes()),
-            Piece::Markup(", "),
-            Piece::Number(lines),
-            Piece::Markup(" lines, "),
-            Piece::Number(bad),
+            Piece::Number("<dt>Node-ID</dt><dd>", about.node as u64),
+            Piece::Text("</dd>\n<dt>Data sheet</dt><dd>", about.sheet.as_bytes()),
+            Piece::Number(", ", entries as u64),
+            Piece::Text(
+                " entries</dd>\n<dt>Recording</dt><dd>",
+                about.recording.as_bytes(),
+            ),
+            Piece::Number(", ", lines),
+            Piece::Number(" lines, ", bad),
             Piece::Markup(" of them bad</dd>\n"),
         ],
     )
@@ -232,16 +220,17 @@ pub(crate) fn push_foot(
         alloc,
         text,
         &[
-            Piece::Markup("</section>\n<footer>Made by conode "),
-            Piece::Text(about.version.as_bytes()),
-            Piece::Markup(", as <code>conode compare --format html --tolerance "),
-            Piece::Number(about.limits.tolerance as u64),
-            Piece::Markup(" --drift "),
-            Piece::Number(about.limits.drift as u64),
-            Piece::Markup(" --answer "),
-            Piece::Number(about.limits.answer as u64),
-            Piece::Markup(" --boot "),
-            Piece::Number(about.limits.boot as u64),
+            Piece::Text(
+                "</section>\n<footer>Made by conode ",
+                about.version.as_bytes(),
+            ),
+            Piece::Number(
+                ", as <code>conode compare --format html --tolerance ",
+                about.limits.tolerance as u64,
+            ),
+            Piece::Number(" --drift ", about.limits.drift as u64),
+            Piece::Number(" --answer ", about.limits.answer as u64),
+            Piece::Number(" --boot ", about.limits.boot as u64),
             Piece::Markup(CLOSING),
         ],
     )

@@ -19,7 +19,7 @@ ghost use Rattle.conode_compare_page.specs.Differences.{
 use crate::words::either;
 use conode_compare_report::{ContextLine, Kind, Noted, Report};
 use conode_compare_text::push_finding;
-use conode_markup::{Piece, push_pieces};
+use conode_json::{Piece, push_pieces};
 use std::alloc::{AllocError, Global};
 
 /// The section up to the rows of its table.
@@ -56,10 +56,8 @@ fn push_context_line(
         alloc,
         text,
         &[
-            Piece::Markup(either(marked, "<mark>", "")),
-            Piece::Number(line.number),
-            Piece::Markup(": "),
-            Piece::Text(line.bytes.as_slice()),
+            Piece::Number(either(marked, "<mark>", ""), line.number),
+            Piece::Text(": ", line.bytes.as_slice()),
             Piece::Markup(either(marked, "\n</mark>", "\n")),
         ],
     )
@@ -97,18 +95,15 @@ fn push_cells(
         alloc,
         text,
         &[
-            Piece::Markup("<tbody class=\"one\" id=\"d"),
-            Piece::Number(at as u64),
-            Piece::Markup("\">\n<tr><td class=\"n\" data-is=\"Line\">"),
-            Piece::Number(noted.line),
-            Piece::Markup("</td><td class=\"n\" data-is=\"Seconds\">"),
-            Piece::Seconds(noted.micros.saturating_sub(begin)),
-            Piece::Markup("</td><td><span class=\"found\">"),
-            Piece::Markup(kind.name()),
-            Piece::Markup("</span> "),
-            Piece::Text(said),
-            Piece::Markup("</td><td data-is=\"Prescribed:\">"),
-            Piece::Markup(kind.rule()),
+            Piece::Number("<tbody class=\"one\" id=\"d", at as u64),
+            Piece::Number("\">\n<tr><td class=\"n\" data-is=\"Line\">", noted.line),
+            Piece::Seconds(
+                "</td><td class=\"n\" data-is=\"Seconds\">",
+                noted.micros.saturating_sub(begin),
+            ),
+            Piece::Words("</td><td><span class=\"found\">", kind.name()),
+            Piece::Text("</span> ", said),
+            Piece::Words("</td><td data-is=\"Prescribed:\">", kind.rule()),
             Piece::Markup("</td></tr>\n<tr class=\"around\"><td colspan=\"4\"><pre>"),
         ],
     )
@@ -158,8 +153,7 @@ fn push_end(alloc: Global, text: &mut String, unlisted: u64) -> Result<(), Alloc
         alloc,
         text,
         &[
-            Piece::Markup("</table>\n<p>"),
-            Piece::Number(unlisted),
+            Piece::Number("</table>\n<p>", unlisted),
             Piece::Markup(" more came after these, and aren't listed.</p>\n</section>\n"),
         ],
     )

@@ -1,6 +1,6 @@
 //! The page.
 
-ghost use Rattle.std.specs.Prelude.{◌≡◌, IfOk, string_bytes};
+ghost use Rattle.std.specs.Prelude.{◌≡◌, ◌++◌, IfOk, OnOk, string_bytes};
 ghost use Rattle.conode_compare_report.specs.Abouts.{about_view};
 ghost use Rattle.conode_compare_page.specs.Page.{page};
 
@@ -12,19 +12,32 @@ use crate::picture::push_picture;
 use conode_compare_report::{About, Report};
 use std::alloc::{AllocError, Global};
 
+// the sections of the page, one after another. `Err`: out of memory; a part may be there
+#[tactic(auto, unfolding(crate::specs::Page::page))]
+fn push_page(
+    alloc: Global,
+    text: &mut String,
+    about: &About<'_, '_>,
+    report: &Report,
+) -> Result<(), AllocError>
+    ensures { OnOk result (string_bytes text.new
+        ≡ string_bytes text.old ++ page (about_view about.now) report.now) }
+{
+    push_head(alloc, text, about, report)?;
+    push_device(alloc, text, about, report)?;
+    push_differences(alloc, text, report)?;
+    push_picture(alloc, text, report)?;
+    push_coverage(alloc, text, about, report)?;
+    push_foot(alloc, text, about)
+}
+
 /// A comparison as one page of HTML, which is XML too: the verdict, the device, the differences,
 /// the bus over time, what the recording tested, how the page was made. It has no script and needs
 /// no other file. `Err`: out of memory.
-#[tactic(auto, unfolding(crate::specs::Page::page))]
 pub fn page(alloc: Global, about: &About<'_, '_>, report: &Report) -> Result<String, AllocError>
     ensures { IfOk result (λ text. string_bytes text ≡ page (about_view about.now) report.now) }
 {
     let mut text = String::new(alloc);
-    push_head(alloc, &mut text, about, report)?;
-    push_device(alloc, &mut text, about, report)?;
-    push_differences(alloc, &mut text, report)?;
-    push_picture(alloc, &mut text, report)?;
-    push_coverage(alloc, &mut text, about, report)?;
-    push_foot(alloc, &mut text, about)?;
+    push_page(alloc, &mut text, about, report)?;
     Ok(text)
 }

@@ -18,7 +18,7 @@ ghost use Rattle.conode_compare_page.specs.Coverage.{
 
 use co_sheet::EntryRow;
 use conode_compare_report::Covered;
-use conode_markup::{Piece, push_pieces};
+use conode_json::{Piece, push_pieces};
 use std::alloc::{AllocError, Global};
 
 // the end of an entry's item: which transfers came, in words
@@ -110,10 +110,8 @@ fn push_entry(
         alloc,
         text,
         &[
-            Piece::Markup("<li><code>"),
-            Piece::Key(row.key),
-            Piece::Markup("</code>"),
-            Piece::Text(name),
+            Piece::Key("<li><code>", row.key),
+            Piece::Text("</code>", name),
             Piece::Markup(entry_end(covered)),
         ],
     )
@@ -168,10 +166,11 @@ fn begin_entries(
         alloc,
         text,
         &[
-            Piece::Markup("<h3>Entries that were transferred by SDO: "),
-            Piece::Number(transferred as u64),
-            Piece::Markup(" of "),
-            Piece::Number(all as u64),
+            Piece::Number(
+                "<h3>Entries that were transferred by SDO: ",
+                transferred as u64,
+            ),
+            Piece::Number(" of ", all as u64),
             Piece::Markup("</h3>\n<ul>\n"),
         ],
     )

@@ -16,7 +16,7 @@ ghost use Rattle.conode_compare_page.specs.Head.{
 use crate::style::STYLE;
 use crate::words::either;
 use conode_compare_report::{About, Outcome, Report};
-use conode_markup::{Piece, push_pieces};
+use conode_json::{Piece, push_pieces};
 use std::alloc::{AllocError, Global};
 
 /// The page up to its title.
@@ -49,7 +49,7 @@ fn push_headline(
             alloc,
             text,
             &[
-                Piece::Number(count),
+                Piece::Number("", count),
                 Piece::Markup(either(count == 1, " difference", " differences")),
             ],
         ),
@@ -95,12 +95,12 @@ fn end_title(
         alloc,
         text,
         &[
-            Piece::Markup(": "),
-            Piece::Text(recording.as_bytes()),
-            Piece::Markup("</title>\n<style>\n"),
-            Piece::Markup(STYLE),
-            Piece::Markup("</style>\n</head>\n<body>\n<header class=\""),
-            Piece::Markup(outcome_class(outcome)),
+            Piece::Text(": ", recording.as_bytes()),
+            Piece::Words("</title>\n<style>\n", STYLE),
+            Piece::Words(
+                "</style>\n</head>\n<body>\n<header class=\"",
+                outcome_class(outcome),
+            ),
             Piece::Markup("\">\n<h1>"),
         ],
     )
@@ -122,20 +122,25 @@ fn push_compared(
         alloc,
         text,
         &[
-            Piece::Markup("</h1>\n<p>Node "),
-            Piece::Number(about.node as u64),
-            Piece::Markup(" in <code>"),
-            Piece::Text(about.recording.as_bytes()),
-            Piece::Markup("</code>, against its data sheet <code>"),
-            Piece::Text(about.sheet.as_bytes()),
-            Piece::Markup("</code> and CiA 301</p>\n"),
-            Piece::Markup(reason(outcome)),
-            Piece::Markup("<dl class=\"counts\">\n<div><dt>frames as prescribed</dt><dd>"),
-            Piece::Number(about.tally.prescribed),
-            Piece::Markup("</dd></div>\n<div><dt>with a difference</dt><dd>"),
-            Piece::Number(about.tally.different),
-            Piece::Markup("</dd></div>\n<div><dt>unjudged</dt><dd>"),
-            Piece::Number(about.tally.unjudged),
+            Piece::Number("</h1>\n<p>Node ", about.node as u64),
+            Piece::Text(" in <code>", about.recording.as_bytes()),
+            Piece::Text(
+                "</code>, against its data sheet <code>",
+                about.sheet.as_bytes(),
+            ),
+            Piece::Words("</code> and CiA 301</p>\n", reason(outcome)),
+            Piece::Number(
+                "<dl class=\"counts\">\n<div><dt>frames as prescribed</dt><dd>",
+                about.tally.prescribed,
+            ),
+            Piece::Number(
+                "</dd></div>\n<div><dt>with a difference</dt><dd>",
+                about.tally.different,
+            ),
+            Piece::Number(
+                "</dd></div>\n<div><dt>unjudged</dt><dd>",
+                about.tally.unjudged,
+            ),
             Piece::Markup("</dd></div>\n</dl>\n</header>\n"),
         ],
     )

@@ -6,7 +6,7 @@ ghost use Rattle.conode_compare_page.specs.Coverage.{kind_row, kinds_table};
 
 use crate::words::either;
 use conode_compare_report::Counted;
-use conode_markup::{Piece, push_pieces};
+use conode_json::{Piece, push_pieces};
 use std::alloc::{AllocError, Global};
 
 /// The section up to the rows of its table.
@@ -29,18 +29,24 @@ fn push_kind(alloc: Global, text: &mut String, counted: &Counted) -> Result<(), 
         alloc,
         text,
         &[
-            Piece::Markup(either(counted.occasions == 0, "<tr class=\"not\"><td>", "<tr><td>")),
-            Piece::Markup(counted.kind.name()),
-            Piece::Markup("</td><td>"),
-            Piece::Markup(counted.kind.rule()),
-            Piece::Markup("</td><td class=\"n\" data-is=\"Occasions\">"),
-            Piece::Count(counted.occasions, "none"),
-            Piece::Markup(either(
-                counted.found == 0,
-                "</td><td class=\"n\" data-is=\"Found\">",
-                "</td><td class=\"n found\" data-is=\"Found\">",
-            )),
-            Piece::Number(counted.found),
+            Piece::Words(
+                either(counted.occasions == 0, "<tr class=\"not\"><td>", "<tr><td>"),
+                counted.kind.name(),
+            ),
+            Piece::Words("</td><td>", counted.kind.rule()),
+            Piece::Count(
+                "</td><td class=\"n\" data-is=\"Occasions\">",
+                counted.occasions,
+                "none",
+            ),
+            Piece::Number(
+                either(
+                    counted.found == 0,
+                    "</td><td class=\"n\" data-is=\"Found\">",
+                    "</td><td class=\"n found\" data-is=\"Found\">",
+                ),
+                counted.found,
+            ),
             Piece::Markup("</td></tr>\n"),
         ],
     )

@@ -13,7 +13,7 @@ ghost use Rattle.conode_compare_page.specs.Picture.{
 };
 
 use conode_compare_report::{Bin, Lane};
-use conode_markup::{Piece, push_pieces};
+use conode_json::{Piece, push_pieces};
 use std::alloc::{AllocError, Global};
 
 /// The beginning of an outline, and what ends it and its lane.
@@ -78,12 +78,12 @@ pub(crate) fn begin_lane<'t>(
         alloc,
         text,
         &[
-            Piece::Markup("<div class=\"lane\"><span>"),
-            Piece::Markup(name),
-            Piece::Markup("</span><svg xmlns=\"http://www.w3.org/2000/svg\" viewBox=\"0 0 "),
-            Piece::Number(spans as u64),
-            Piece::Markup(" 100\" preserveAspectRatio=\"none\">"),
-            Piece::Markup(within),
+            Piece::Words("<div class=\"lane\"><span>", name),
+            Piece::Number(
+                "</span><svg xmlns=\"http://www.w3.org/2000/svg\" viewBox=\"0 0 ",
+                spans as u64,
+            ),
+            Piece::Words(" 100\" preserveAspectRatio=\"none\">", within),
         ],
     )
 }
@@ -104,10 +104,8 @@ fn push_step(
         alloc,
         text,
         &[
-            Piece::Markup("H"),
-            Piece::Number(at as u64),
-            Piece::Markup("V"),
-            Piece::Number(top as u64),
+            Piece::Number("H", at as u64),
+            Piece::Number("V", top as u64),
         ],
     )
 }
@@ -131,8 +129,7 @@ fn push_outline(
         alloc,
         text,
         &[
-            Piece::Markup("H"),
-            Piece::Number(bins.len() as u64),
+            Piece::Number("H", bins.len() as u64),
             Piece::Markup(OUTLINE_END),
         ],
     )

@@ -22,7 +22,7 @@ ghost use Rattle.conode_compare_page.specs.Picture.{
 use crate::lane::{begin_lane, push_frames};
 use crate::states::push_states;
 use conode_compare_report::{Bin, Kind, Lane, Lanes, Noted, Report};
-use conode_markup::{Piece, push_pieces};
+use conode_json::{Piece, push_pieces};
 use std::alloc::{AllocError, Global};
 
 /// The end of the times, the colours of the states, and the end of the section.
@@ -49,11 +49,7 @@ fn push_across(alloc: Global, text: &mut String, at: usize, bin: &Bin) -> Result
     push_pieces(
         alloc,
         text,
-        &[
-            Piece::Markup("M"),
-            Piece::Number(at as u64),
-            Piece::Markup(".5 0v100"),
-        ],
+        &[Piece::Number("M", at as u64), Piece::Markup(".5 0v100")],
     )
 }
 
@@ -103,16 +99,11 @@ fn push_mark_text(
         alloc,
         text,
         &[
-            Piece::Markup("<a href=\"#d"),
-            Piece::Number(at as u64),
-            Piece::Markup("\"><path class=\"hit\" d=\"M"),
-            Piece::Number(span),
-            Piece::Markup(".5 0v100\"><title>line "),
-            Piece::Number(noted.line),
-            Piece::Markup(", "),
-            Piece::Seconds(since),
-            Piece::Markup(" s: "),
-            Piece::Markup(Kind::of(noted.finding).name()),
+            Piece::Number("<a href=\"#d", at as u64),
+            Piece::Number("\"><path class=\"hit\" d=\"M", span),
+            Piece::Number(".5 0v100\"><title>line ", noted.line),
+            Piece::Seconds(", ", since),
+            Piece::Words(" s: ", Kind::of(noted.finding).name()),
             Piece::Markup("</title></path></a>\n"),
         ],
     )
@@ -182,16 +173,11 @@ fn push_axis(alloc: Global, text: &mut String, quarter: u64) -> Result<(), Alloc
         alloc,
         text,
         &[
-            Piece::Markup("<div class=\"axis\"><span>"),
-            Piece::Seconds(0),
-            Piece::Markup(" s</span><span>"),
-            Piece::Seconds(quarter),
-            Piece::Markup(" s</span><span>"),
-            Piece::Seconds(quarter * 2),
-            Piece::Markup(" s</span><span>"),
-            Piece::Seconds(quarter * 3),
-            Piece::Markup(" s</span><span>"),
-            Piece::Seconds(quarter * 4),
+            Piece::Seconds("<div class=\"axis\"><span>", 0),
+            Piece::Seconds(" s</span><span>", quarter),
+            Piece::Seconds(" s</span><span>", quarter * 2),
+            Piece::Seconds(" s</span><span>", quarter * 3),
+            Piece::Seconds(" s</span><span>", quarter * 4),
             Piece::Markup(LEGEND),
         ],
     )

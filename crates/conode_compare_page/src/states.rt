@@ -16,7 +16,7 @@ ghost use Rattle.conode_compare_page.specs.Picture.{
 
 use crate::lane::begin_lane;
 use conode_compare_report::{Bin, States};
-use conode_markup::{Piece, push_pieces};
+use conode_json::{Piece, push_pieces};
 use std::alloc::{AllocError, Global};
 
 /// What a span shows of the states.
@@ -125,16 +125,11 @@ fn push_area(
         alloc,
         text,
         &[
-            Piece::Markup("<rect class=\""),
-            Piece::Markup(class),
-            Piece::Markup("\" x=\""),
-            Piece::Number(from as u64),
-            Piece::Markup("\" y=\""),
-            Piece::Number(state_top(shown) as u64),
-            Piece::Markup("\" width=\""),
-            Piece::Number(to.saturating_sub(from) as u64),
-            Piece::Markup("\" height=\"100\"><title>"),
-            Piece::Markup(class),
+            Piece::Words("<rect class=\"", class),
+            Piece::Number("\" x=\"", from as u64),
+            Piece::Number("\" y=\"", state_top(shown) as u64),
+            Piece::Number("\" width=\"", to.saturating_sub(from) as u64),
+            Piece::Words("\" height=\"100\"><title>", class),
             Piece::Markup("</title></rect>\n"),
         ],
     )

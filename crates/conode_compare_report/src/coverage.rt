@@ -184,7 +184,10 @@ impl Coverage {
             states: States::none(),
             types: Vec::new(alloc),
             aborts: Vec::new(alloc),
-            identity: Identity::none(),
+            identity: Identity {
+                revision: None,
+                serial: None,
+            },
         })
     }
 

@@ -5,7 +5,6 @@ ghost use Rattle.conode_compare_report.specs.Identities.{
   identity_at,
   identity_with,
   is_identity_read,
-  no_identity,
 };
 
 use crate::occasions::is_done;
@@ -34,16 +33,6 @@ fn is_read(ended: &Ended) -> bool
 }
 
 impl Identity {
-    /// Nothing is shown.
-    pub(crate) fn none() -> Identity
-        ensures { result ≡ no_identity }
-    {
-        Identity {
-            revision: None,
-            serial: None,
-        }
-    }
-
     // the number of a sub-index
     fn set(&mut self, sub: u8, number: Option<u64>)
         ensures { self.new ≡ identity_at sub number self.old }

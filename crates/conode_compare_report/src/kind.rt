@@ -74,6 +74,70 @@ pub(crate) const KINDS: [Kind; 28] = [
     Kind::AccessLimits,
 ];
 
+/// Their names, in this order.
+const NAMES: [&str; 28] = [
+    "heartbeat-late",
+    "heartbeat-state",
+    "heartbeat-length",
+    "pdo-length",
+    "pdo-state",
+    "pdo-sync",
+    "pdo-inhibit",
+    "pdo-late",
+    "boot-missing",
+    "second-sender",
+    "emcy-length",
+    "emcy-state",
+    "emcy-register",
+    "emcy-inhibit",
+    "no-answer",
+    "answer-key",
+    "answer-form",
+    "answer-toggle",
+    "answer-size",
+    "answer-crc",
+    "answer-state",
+    "abort-key",
+    "value-length",
+    "value-const",
+    "value-held",
+    "access-read",
+    "access-write",
+    "access-limits",
+];
+
+/// What CiA 301 prescribes of each, in this order.
+const RULES: [&str; 28] = [
+    "a heartbeat comes within the producer heartbeat time, 1017:00 (CiA 301, 7.2.8.3.2)",
+    "a heartbeat has the NMT state that the commands gave (CiA 301, 7.3.2.2)",
+    "a frame of error control has one byte (CiA 301, 7.2.8.3.2)",
+    "a TPDO has as many bytes as its mapping (CiA 301, 7.5.2.38)",
+    "a TPDO is sent while operational only (CiA 301, 7.3.2.2)",
+    "a TPDO of type 0 to 240 is sent after a SYNC (CiA 301, 7.5.2.37)",
+    "two frames of a TPDO are at least its inhibit time apart (CiA 301, 7.5.2.37)",
+    "a TPDO is sent when its event timer has passed (CiA 301, 7.5.2.37)",
+    "after a reset a boot-up comes before any other frame (CiA 301, 7.3.2.2)",
+    "one device has the node-ID, and it answers requests only (CiA 301, 7.2.4.3)",
+    "an EMCY has eight bytes (CiA 301, 7.2.7)",
+    "no EMCY is sent in the NMT state stopped (CiA 301, 7.3.2.2)",
+    "with any error bit 0 of the error register is set (CiA 301, 7.5.2.2)",
+    "two EMCY are at least the inhibit time 1015:00 apart (CiA 301, 7.5.2.18)",
+    "the server answers each request of an SDO client (CiA 301, 7.2.4.3)",
+    "an answer has the multiplexer of its request (CiA 301, 7.2.4.3)",
+    "an answer is one that the protocol of its request has (CiA 301, 7.2.4.3)",
+    "a segment, or its confirmation, has the toggle bit awaited (CiA 301, 7.2.4.3)",
+    "an upload has as many bytes as it indicates (CiA 301, 7.2.4.3.6)",
+    "a block upload ends with the CRC of its bytes (CiA 301, 7.2.4.3.16)",
+    "no SDO is served in the NMT state stopped (CiA 301, 7.3.2.2)",
+    "an abort has the multiplexer of its transfer (CiA 301, 7.2.4.3.17)",
+    "a number has as many bytes as its data type (CiA 301, 7.4.7.1)",
+    "a constant entry has the value of the data sheet (CiA 301, 7.4)",
+    "an entry that is named as held keeps what is written to it",
+    "an entry that is readable can be read (CiA 301, 7.4)",
+    "an entry that is read only isn't written (CiA 301, 7.2.4.3.17)",
+    "a value outside the limits is refused (CiA 301, 7.2.4.3.17)",
+];
+
 /// How often a kind was found, and how often it could have been.
 #[derive(Clone, Copy)]
 pub struct Counted {
@@ -151,127 +215,20 @@ impl Kind {
     pub fn name(self) -> &'static str
         ensures { result.now ≡ kind_name self }
     {
-        match self {
-            Kind::HeartbeatLate => "heartbeat-late",
-            Kind::HeartbeatState => "heartbeat-state",
-            Kind::HeartbeatLength => "heartbeat-length",
-            Kind::PdoLength => "pdo-length",
-            Kind::PdoState => "pdo-state",
-            Kind::PdoSync => "pdo-sync",
-            Kind::PdoInhibit => "pdo-inhibit",
-            Kind::PdoLate => "pdo-late",
-            Kind::BootMissing => "boot-missing",
-            Kind::SecondSender => "second-sender",
-            Kind::EmergencyLength => "emcy-length",
-            Kind::EmergencyState => "emcy-state",
-            Kind::EmergencyRegister => "emcy-register",
-            Kind::EmergencyInhibit => "emcy-inhibit",
-            Kind::NoAnswer => "no-answer",
-            Kind::AnswerKey => "answer-key",
-            Kind::AnswerForm => "answer-form",
-            Kind::AnswerToggle => "answer-toggle",
-            Kind::AnswerSize => "answer-size",
-            Kind::AnswerCrc => "answer-crc",
-            Kind::AnswerState => "answer-state",
-            Kind::AbortKey => "abort-key",
-            Kind::ValueLength => "value-length",
-            Kind::ValueConst => "value-const",
-            Kind::ValueHeld => "value-held",
-            Kind::AccessRead => "access-read",
-            Kind::AccessWrite => "access-write",
-            Kind::AccessLimits => "access-limits",
-        }
+        NAMES[self as usize]
     }
 
     /// What CiA 301 prescribes, in one sentence with its section.
     pub fn rule(self) -> &'static str
         ensures { result.now ≡ kind_rule self }
     {
-        match self {
-            Kind::HeartbeatLate => {
-                "a heartbeat comes within the producer heartbeat time, 1017:00 (CiA 301, 7.2.8.3.2)"
-            }
-            Kind::HeartbeatState => {
-                "a heartbeat has the NMT state that the commands gave (CiA 301, 7.3.2.2)"
-            }
-            Kind::HeartbeatLength => "a frame of error control has one byte (CiA 301, 7.2.8.3.2)",
-            Kind::PdoLength => "a TPDO has as many bytes as its mapping (CiA 301, 7.5.2.38)",
-            Kind::PdoState => "a TPDO is sent while operational only (CiA 301, 7.3.2.2)",
-            Kind::PdoSync => "a TPDO of type 0 to 240 is sent after a SYNC (CiA 301, 7.5.2.37)",
-            Kind::PdoInhibit => {
-                "two frames of a TPDO are at least its inhibit time apart (CiA 301, 7.5.2.37)"
-            }
-            Kind::PdoLate => "a TPDO is sent when its event timer has passed (CiA 301, 7.5.2.37)",
-            Kind::BootMissing => {
-                "after a reset a boot-up comes before any other frame (CiA 301, 7.3.2.2)"
-            }
-            Kind::SecondSender => {
-                "one device has the node-ID, and it answers requests only (CiA 301, 7.2.4.3)"
-            }
-            Kind::EmergencyLength => "an EMCY has eight bytes (CiA 301, 7.2.7)",
-            Kind::EmergencyState => "no EMCY is sent in the NMT state stopped (CiA 301, 7.3.2.2)",
-            Kind::EmergencyRegister => {
-                "with any error bit 0 of the error register is set (CiA 301, 7.5.2.2)"
-            }
-            Kind::EmergencyInhibit => {
-                "two EMCY are at least the inhibit time 1015:00 apart (CiA 301, 7.5.2.18)"
-            }
-            Kind::NoAnswer => "the server answers each request of an SDO client (CiA 301, 7.2.4.3)",
-            Kind::AnswerKey => "an answer has the multiplexer of its request (CiA 301, 7.2.4.3)",
-            Kind::AnswerForm => {
-                "an answer is one that the protocol of its request has (CiA 301, 7.2.4.3)"
-            }
-            Kind::AnswerToggle => {
-                "a segment, or its confirmation, has the toggle bit awaited (CiA 301, 7.2.4.3)"
-            }
-            Kind::AnswerSize => "an upload has as many bytes as it indicates (CiA 301, 7.2.4.3.6)",
-            Kind::AnswerCrc => {
-                "a block upload ends with the CRC of its bytes (CiA 301, 7.2.4.3.16)"
-            }
-            Kind::AnswerState => "no SDO is served in the NMT state stopped (CiA 301, 7.3.2.2)",
-            Kind::AbortKey => "an abort has the multiplexer of its transfer (CiA 301, 7.2.4.3.17)",
-            Kind::ValueLength => "a number has as many bytes as its data type (CiA 301, 7.4.7.1)",
-            Kind::ValueConst => "a constant entry has the value of the data sheet (CiA 301, 7.4)",
-            Kind::ValueHeld => "an entry that is named as held keeps what is written to it",
-            Kind::AccessRead => "an entry that is readable can be read (CiA 301, 7.4)",
-            Kind::AccessWrite => "an entry that is read only isn't written (CiA 301, 7.2.4.3.17)",
-            Kind::AccessLimits => "a value outside the limits is refused (CiA 301, 7.2.4.3.17)",
-        }
+        RULES[self as usize]
     }
 
     /// Its place in the table, from 0 on.
     pub fn number(self) -> usize
         ensures { result ≡ kind_number self }
     {
-        match self {
-            Kind::HeartbeatLate => 0,
-            Kind::HeartbeatState => 1,
-            Kind::HeartbeatLength => 2,
-            Kind::PdoLength => 3,
-            Kind::PdoState => 4,
-            Kind::PdoSync => 5,
-            Kind::PdoInhibit => 6,
-            Kind::PdoLate => 7,
-            Kind::BootMissing => 8,
-            Kind::SecondSender => 9,
-            Kind::EmergencyLength => 10,
-            Kind::EmergencyState => 11,
-            Kind::EmergencyRegister => 12,
-            Kind::EmergencyInhibit => 13,
-            Kind::NoAnswer => 14,
-            Kind::AnswerKey => 15,
-            Kind::AnswerForm => 16,
-            Kind::AnswerToggle => 17,
-            Kind::AnswerSize => 18,
-            Kind::AnswerCrc => 19,
-            Kind::AnswerState => 20,
-            Kind::AbortKey => 21,
-            Kind::ValueLength => 22,
-            Kind::ValueConst => 23,
-            Kind::ValueHeld => 24,
-            Kind::AccessRead => 25,
-            Kind::AccessWrite => 26,
-            Kind::AccessLimits => 27,
-        }
+        self as usize
     }
 }

@@ -16,7 +16,6 @@ ghost use Rattle.conode_compare_report.specs.Occasions.{
   ended_passed,
   entry_of_upload,
   first_byte,
-  found,
   frame_passed,
   has_key,
   has_segment,
@@ -34,7 +33,6 @@ ghost use Rattle.conode_compare_report.specs.Occasions.{
   kind_passed,
   no_counts,
   none_of,
-  passed,
   passes,
   role_passed,
   side_passed,
@@ -52,21 +50,6 @@ use conode_compare_rules::{FrameKind, NmtState, Verdict};
 use conode_compare_values::{has_limits, is_held, is_read_only, is_readable};
 use conode_explain_transfers::{Direction, Ended, Ending, Heard, Protocol, Side, What};
 use std::alloc::{AllocError, Global};
-
-impl Counted {
-    fn pass(&mut self)
-        ensures { self.new ≡ passed self.old }
-    {
-        self.occasions = self.occasions.saturating_add(1);
-    }
-
-    fn find(&mut self)
-        ensures { self.new ≡ found self.old }
-    {
-        self.found = self.found.saturating_add(1);
-        self.occasions = self.occasions.saturating_add(1);
-    }
-}
 
 // each of these kinds, which nothing showed so far
 fn none_of_all(alloc: Global, kinds: &[Kind]) -> Result<Vec<Counted>, AllocError>
@@ -97,7 +80,8 @@ pub(crate) fn pass(counts: &mut [Counted], could: bool, kind: Kind)
 {
     let place = kind.number();
     if could && place < counts.len() {
-        counts[place].pass();
+        let counted = &mut counts[place];
+        counted.occasions = counted.occasions.saturating_add(1);
     }
 }
 
@@ -108,7 +92,9 @@ pub(crate) fn find(counts: &mut [Counted], kind: Kind)
 {
     let place = kind.number();
     if place < counts.len() {
-        counts[place].find();
+        let counted = &mut counts[place];
+        counted.found = counted.found.saturating_add(1);
+        counted.occasions = counted.occasions.saturating_add(1);
     }
 }
 

@@ -2,10 +2,9 @@
 
 ghost use Rattle.std.specs.Prelude.{◌≡◌};
 ghost use Rattle.conode_compare_report.specs.Abouts.{about_view};
-ghost use Rattle.conode_compare_report.specs.Outcomes.{of_tally, outcome_name, outcome_of};
+ghost use Rattle.conode_compare_report.specs.Outcomes.{outcome_name, outcome_of};
 
 use crate::about::About;
-use conode_compare_text::Tally;
 
 /// How a comparison ended.
 #[derive(Clone, Copy)]
@@ -18,27 +17,20 @@ pub enum Outcome {
     SeveralInterfaces,
 }
 
-fn of_tally(tally: Tally) -> Outcome
-    ensures { result ≡ of_tally tally }
-{
-    if tally.different > 0 {
-        Outcome::Differences
-    } else if tally.prescribed == 0 && tally.unjudged == 0 {
-        Outcome::NoFrame
-    } else {
-        Outcome::NoDifference
-    }
-}
-
 impl Outcome {
     /// How a comparison ended.
     pub fn of(about: &About<'_, '_>) -> Outcome
         ensures { result ≡ outcome_of (about_view about.now) }
     {
+        let tally = about.tally;
         if about.several {
             Outcome::SeveralInterfaces
+        } else if tally.different > 0 {
+            Outcome::Differences
+        } else if tally.prescribed == 0 && tally.unjudged == 0 {
+            Outcome::NoFrame
         } else {
-            of_tally(about.tally)
+            Outcome::NoDifference
         }
     }
 

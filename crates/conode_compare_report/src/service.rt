@@ -12,7 +12,6 @@ ghost use Rattle.conode_compare_report.specs.Coverages.{
   none_of,
   role_lane,
   role_service,
-  served_once_more,
   service_of,
   services_with,
   transfer_service,
@@ -85,6 +84,35 @@ const SERVICES: [Service; 25] = [
     Service::Rpdo4,
 ];
 
+// their names, in this order
+const NAMES: [&str; 25] = [
+    "NMT start",
+    "NMT stop",
+    "NMT enter pre-operational",
+    "NMT reset node",
+    "NMT reset communication",
+    "boot-up",
+    "heartbeat",
+    "node guarding",
+    "EMCY",
+    "SYNC",
+    "TIME",
+    "SDO upload expedited",
+    "SDO upload segmented",
+    "SDO block upload",
+    "SDO download expedited",
+    "SDO download segmented",
+    "SDO block download",
+    "TPDO1",
+    "TPDO2",
+    "TPDO3",
+    "TPDO4",
+    "RPDO1",
+    "RPDO2",
+    "RPDO3",
+    "RPDO4",
+];
+
 /// How often a service was seen: frames of it, or SDO transfers that were confirmed.
 #[derive(Clone, Copy)]
 pub struct Served {
@@ -98,74 +126,14 @@ impl Service {
     pub fn name(self) -> &'static str
         ensures { result.now ≡ service_name self }
     {
-        match self {
-            Service::Start => "NMT start",
-            Service::Stop => "NMT stop",
-            Service::EnterPreOperational => "NMT enter pre-operational",
-            Service::ResetNode => "NMT reset node",
-            Service::ResetCommunication => "NMT reset communication",
-            Service::BootUp => "boot-up",
-            Service::Heartbeat => "heartbeat",
-            Service::NodeGuarding => "node guarding",
-            Service::Emergency => "EMCY",
-            Service::Sync => "SYNC",
-            Service::Time => "TIME",
-            Service::ExpeditedUpload => "SDO upload expedited",
-            Service::SegmentedUpload => "SDO upload segmented",
-            Service::BlockUpload => "SDO block upload",
-            Service::ExpeditedDownload => "SDO download expedited",
-            Service::SegmentedDownload => "SDO download segmented",
-            Service::BlockDownload => "SDO block download",
-            Service::Tpdo1 => "TPDO1",
-            Service::Tpdo2 => "TPDO2",
-            Service::Tpdo3 => "TPDO3",
-            Service::Tpdo4 => "TPDO4",
-            Service::Rpdo1 => "RPDO1",
-            Service::Rpdo2 => "RPDO2",
-            Service::Rpdo3 => "RPDO3",
-            Service::Rpdo4 => "RPDO4",
-        }
+        NAMES[self as usize]
     }
 
     /// Its place among all, from 0 on.
     pub(crate) fn number(self) -> usize
         ensures { result ≡ service_number self }
     {
-        match self {
-            Service::Start => 0,
-            Service::Stop => 1,
-            Service::EnterPreOperational => 2,
-            Service::ResetNode => 3,
-            Service::ResetCommunication => 4,
-            Service::BootUp => 5,
-            Service::Heartbeat => 6,
-            Service::NodeGuarding => 7,
-            Service::Emergency => 8,
-            Service::Sync => 9,
-            Service::Time => 10,
-            Service::ExpeditedUpload => 11,
-            Service::SegmentedUpload => 12,
-            Service::BlockUpload => 13,
-            Service::ExpeditedDownload => 14,
-            Service::SegmentedDownload => 15,
-            Service::BlockDownload => 16,
-            Service::Tpdo1 => 17,
-            Service::Tpdo2 => 18,
-            Service::Tpdo3 => 19,
-            Service::Tpdo4 => 20,
-            Service::Rpdo1 => 21,
-            Service::Rpdo2 => 22,
-            Service::Rpdo3 => 23,
-            Service::Rpdo4 => 24,
-        }
-    }
-}
-
-impl Served {
-    fn add(&mut self)
-        ensures { self.new ≡ served_once_more self.old }
-    {
-        self.count = self.count.saturating_add(1);
+        self as usize
     }
 }
 
@@ -287,7 +255,8 @@ pub(crate) fn count_service(services: &mut [Served], service: Option<Service>)
     };
     let place = service.number();
     if place < services.len() {
-        services[place].add();
+        let served = &mut services[place];
+        served.count = served.count.saturating_add(1);
     }
 }
 

@@ -1,1 +1,4 @@
-mod Examples
+pub mod Appending
+pub mod EscapeLaws
+mod JsonExamples
+mod MarkupExamples

@@ -1,1 +1,3 @@
+pub mod Escapes
 pub mod Members
+pub mod Pieces

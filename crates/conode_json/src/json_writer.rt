@@ -1,8 +1,9 @@
 //! A JSON document that is being written (RFC 8259).
 
 ghost use Rattle.std.specs.Prelude.{◌≡◌, ◌++◌, [], ◌∷◌, map, IfOk, OnOk};
-ghost use Rattle.json.specs.Print.{print};
-ghost use Rattle.json.specs.Token.{begin_object, end_array, end_object, string};
+ghost use Rattle.json.specs.Print.{IsPrintable, print};
+ghost use Rattle.json.specs.Reads.{token_of};
+ghost use Rattle.json.specs.Token.{begin_object, end_array, end_object, key, string};
 ghost use Rattle.conode_lint_text.specs.JsonForm.{utf8_of};
 ghost use Rattle.conode_json.specs.Members.{
   array_begin,
@@ -18,7 +19,7 @@ ghost use Rattle.conode_json.specs.Members.{
 };
 
 use conode_lint_text::utf8_of;
-use json::Writer;
+use json::{Token, Writer};
 use std::alloc::{AllocError, Global};
 use std::marker::Model;
 
@@ -87,28 +88,43 @@ impl JsonWriter {
         Ok(text)
     }
 
+    // a token that is no number
+    fn put(&mut self, token: Token<'_>) -> Result<(), AllocError>
+        requires { IsPrintable (token_of token) }
+        ensures { OnOk result (self.new ≡ self.old ++ token_of token.entry ∷ []) }
+    {
+        self.writer.token(token)?;
+        Ok(())
+    }
+
+    // a member whose value is, or begins with, a token that is no number
+    fn put_member(&mut self, name: &str, value: Token<'_>) -> Result<(), AllocError>
+        requires { IsPrintable (token_of value) }
+        ensures { OnOk result (self.new ≡ self.old ++ key name.now ∷ token_of value.entry ∷ []) }
+    {
+        self.put(Token::Key(name))?;
+        self.put(value)
+    }
+
     /// Begins an object: the document, or an element of an array.
     pub fn begin_object(&mut self) -> Result<(), AllocError>
         ensures { OnOk result (self.new ≡ self.old ++ begin_object ∷ []) }
     {
-        self.writer.begin_object()?;
-        Ok(())
+        self.put(Token::BeginObject)
     }
 
     /// Ends an object.
     pub fn end_object(&mut self) -> Result<(), AllocError>
         ensures { OnOk result (self.new ≡ self.old ++ end_object ∷ []) }
     {
-        self.writer.end_object()?;
-        Ok(())
+        self.put(Token::EndObject)
     }
 
     /// Ends an array.
     pub fn end_array(&mut self) -> Result<(), AllocError>
         ensures { OnOk result (self.new ≡ self.old ++ end_array ∷ []) }
     {
-        self.writer.end_array()?;
-        Ok(())
+        self.put(Token::EndArray)
     }
 
     /// Begins a member that is an object.
@@ -116,9 +132,7 @@ impl JsonWriter {
     pub fn begin_object_of(&mut self, name: &str) -> Result<(), AllocError>
         ensures { OnOk result (self.new ≡ self.old ++ object_begin name.now) }
     {
-        self.writer.key(name)?;
-        self.writer.begin_object()?;
-        Ok(())
+        self.put_member(name, Token::BeginObject)
     }
 
     /// Begins a member that is an array.
@@ -126,9 +140,7 @@ impl JsonWriter {
     pub fn begin_array_of(&mut self, name: &str) -> Result<(), AllocError>
         ensures { OnOk result (self.new ≡ self.old ++ array_begin name.now) }
     {
-        self.writer.key(name)?;
-        self.writer.begin_array()?;
-        Ok(())
+        self.put_member(name, Token::BeginArray)
     }
 
     /// A member that is a text.
@@ -136,9 +148,7 @@ impl JsonWriter {
     pub fn put_text(&mut self, name: &str, text: &str) -> Result<(), AllocError>
         ensures { OnOk result (self.new ≡ self.old ++ text_member name.now text.now) }
     {
-        self.writer.key(name)?;
-        self.writer.string(text)?;
-        Ok(())
+        self.put_member(name, Token::String(text))
     }
 
     /// A member that is a text from outside, in UTF-8: as it is if it is valid, else converted from
@@ -155,8 +165,7 @@ impl JsonWriter {
         ensures { OnOk result (self.new ≡ self.old ++ string (utf8_of bytes.now) ∷ []) }
     {
         let text = utf8_of(alloc, bytes)?;
-        self.writer.string(text.as_str())?;
-        Ok(())
+        self.put(Token::String(text.as_str()))
     }
 
     /// A member that is true or false.
@@ -164,9 +173,7 @@ impl JsonWriter {
     pub fn put_flag(&mut self, name: &str, is: bool) -> Result<(), AllocError>
         ensures { OnOk result (self.new ≡ self.old ++ flag_member name.now is) }
     {
-        self.writer.key(name)?;
-        self.writer.boolean(is)?;
-        Ok(())
+        self.put_member(name, Token::Bool(is))
     }
 
     // a number as a value
@@ -178,8 +185,7 @@ impl JsonWriter {
             return Ok(());
         }
         let digits = format!(in alloc; "{number}")?;
-        self.writer.string(digits.as_str())?;
-        Ok(())
+        self.put(Token::String(digits.as_str()))
     }
 
     /// A member that is a number; one that readers might not keep exactly becomes a string of its
@@ -188,7 +194,7 @@ impl JsonWriter {
     pub fn put_number(&mut self, alloc: Global, name: &str, number: i128) -> Result<(), AllocError>
         ensures { OnOk result (self.new ≡ self.old ++ number_member name.now number) }
     {
-        self.writer.key(name)?;
+        self.put(Token::Key(name))?;
         self.number(alloc, number)
     }
 
@@ -208,14 +214,12 @@ impl JsonWriter {
     }
 
     /// A member that is an array of numbers.
-    #[tactic(auto, unfolding(crate::specs::Members::numbers_member))]
+    #[tactic(auto, unfolding(crate::specs::Members::array_begin, crate::specs::Members::numbers_member))]
     pub fn put_numbers(&mut self, name: &str, bytes: &[u8]) -> Result<(), AllocError>
         ensures { OnOk result (self.new ≡ self.old ++ numbers_member name.now bytes.now) }
     {
-        self.writer.key(name)?;
-        self.writer.begin_array()?;
+        self.begin_array_of(name)?;
         put_elements(&mut self.writer, bytes)?;
-        self.writer.end_array()?;
-        Ok(())
+        self.put(Token::EndArray)
     }
 }

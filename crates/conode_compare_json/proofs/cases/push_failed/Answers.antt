@@ -1,6 +1,6 @@
 -- One part after another.
 use Rattle.conode_compare_json.specs.JunitCases.{failed_markup}
-use Rattle.conode_compare_json.proofs.Appending.{three}
+use Rattle.conode_json.proofs.Appending.{three}
 use Rattle.conode_compare_json.proofs.cases.push_failed.Goals as goal
 
 pub returns : goal.returns

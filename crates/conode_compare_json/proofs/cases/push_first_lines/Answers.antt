@@ -1,6 +1,6 @@
 -- One part after another.
 use Rattle.conode_compare_json.specs.JunitCases.{lines_markup}
-use Rattle.conode_compare_json.proofs.Appending.{two}
+use Rattle.conode_json.proofs.Appending.{two}
 use Rattle.conode_compare_json.proofs.Firsts.{take_min}
 use Rattle.conode_compare_json.proofs.cases.push_first_lines.Goals as goal
 

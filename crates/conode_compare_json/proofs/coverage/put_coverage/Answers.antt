@@ -1,6 +1,6 @@
 -- One part after another.
 use Rattle.conode_compare_json.specs.CoverageTokens.{coverage_member}
-use Rattle.conode_compare_json.proofs.Appending.{seven}
+use Rattle.conode_json.proofs.Appending.{seven}
 use Rattle.conode_compare_json.proofs.coverage.put_coverage.Goals as goal
 
 pub returns : goal.returns

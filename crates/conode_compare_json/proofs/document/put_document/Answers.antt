@@ -1,6 +1,6 @@
 -- One part after another.
 use Rattle.conode_compare_json.specs.JsonDocument.{document_tokens}
-use Rattle.conode_compare_json.proofs.Appending.{six}
+use Rattle.conode_json.proofs.Appending.{six}
 use Rattle.conode_compare_json.proofs.document.put_document.Goals as goal
 
 pub returns : goal.returns

@@ -4,6 +4,6 @@ use Rattle.conode_compare_json.proofs.junit.counts_of.Given as goal
 
 abbrev pub invariant-loop-counted : goal.invariant-loop-counted
 invariant-loop-counted l = record {
-  failed : l.failed ≡ count_by is_failed (take l.counted-index l.report.kinds);
-  skipped : l.skipped ≡ count_by is_skipped (take l.counted-index l.report.kinds);
+  failed : l.failed ≡ count_by is_failed (take l.counted-index l.kinds);
+  skipped : l.skipped ≡ count_by is_skipped (take l.counted-index l.kinds);
 }

@@ -1,6 +1,6 @@
 -- One part after another.
 use Rattle.conode_compare_json.specs.JunitDocument.{junit_document}
-use Rattle.conode_compare_json.proofs.Appending.{four}
+use Rattle.conode_json.proofs.Appending.{four}
 use Rattle.conode_compare_json.proofs.junit.push_document.Goals as goal
 
 pub returns : goal.returns

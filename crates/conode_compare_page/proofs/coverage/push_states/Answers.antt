@@ -1,6 +1,6 @@
 -- One part after another.
 use Rattle.conode_compare_page.specs.Coverage.{states_text}
-use Rattle.conode_compare_page.proofs.Appending.{on_ok, six}
+use Rattle.conode_json.proofs.Appending.{on_ok, six}
 use Rattle.conode_compare_page.proofs.coverage.push_states.Goals as goal
 
 pub returns : goal.returns

@@ -1,6 +1,6 @@
 -- The row, the lines around it, and the end.
 use Rattle.conode_compare_page.specs.Differences.{difference}
-use Rattle.conode_compare_page.proofs.Appending.{on_ok, three}
+use Rattle.conode_json.proofs.Appending.{on_ok, three}
 use Rattle.conode_compare_page.proofs.differences.push_difference.Goals as goal
 
 pub returns : goal.returns

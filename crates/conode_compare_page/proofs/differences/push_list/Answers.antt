@@ -1,6 +1,6 @@
 -- One part after another.
 use Rattle.conode_compare_page.specs.Differences.{difference_list}
-use Rattle.conode_compare_page.proofs.Appending.{two}
+use Rattle.conode_json.proofs.Appending.{two}
 use Rattle.conode_compare_page.proofs.differences.push_list.Goals as goal
 
 pub returns : goal.returns

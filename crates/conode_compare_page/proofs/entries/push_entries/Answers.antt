@@ -1,7 +1,7 @@
 -- One part after another.
 use Rattle.conode_compare_report.proofs.Places.{rows_counted}
 use Rattle.conode_compare_page.specs.Coverage.{entries_text}
-use Rattle.conode_compare_page.proofs.Appending.{on_ok, five}
+use Rattle.conode_json.proofs.Appending.{on_ok, five}
 use Rattle.conode_compare_page.proofs.entries.push_entries.Goals as goal
 
 pub returns : goal.returns

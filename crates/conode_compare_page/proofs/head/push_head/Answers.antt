@@ -1,6 +1,6 @@
 -- One part after another.
 use Rattle.conode_compare_page.specs.Head.{head}
-use Rattle.conode_compare_page.proofs.Appending.{five}
+use Rattle.conode_json.proofs.Appending.{five}
 use Rattle.conode_compare_page.proofs.head.push_head.Goals as goal
 
 pub returns : goal.returns

@@ -1,7 +1,7 @@
 -- The head, the rows, and the end.
 use Rattle.std.proofs.Common.{take_all}
 use Rattle.conode_compare_page.specs.Coverage.{kinds_table}
-use Rattle.conode_compare_page.proofs.Appending.{on_ok, three}
+use Rattle.conode_json.proofs.Appending.{on_ok, three}
 use Rattle.conode_compare_page.proofs.kinds.push_kinds.Goals as goal
 
 pub returns : goal.returns

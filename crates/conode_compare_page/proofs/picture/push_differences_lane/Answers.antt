@@ -1,6 +1,6 @@
 -- One part after another.
 use Rattle.conode_compare_page.specs.Picture.{differences_lane}
-use Rattle.conode_compare_page.proofs.Appending.{three}
+use Rattle.conode_json.proofs.Appending.{three}
 use Rattle.conode_compare_page.proofs.picture.push_differences_lane.Goals as goal
 
 pub returns : goal.returns

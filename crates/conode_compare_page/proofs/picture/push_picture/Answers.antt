@@ -1,6 +1,6 @@
 -- The head of the section, and the picture.
 use Rattle.conode_compare_page.specs.Picture.{picture}
-use Rattle.conode_compare_page.proofs.Appending.{two}
+use Rattle.conode_json.proofs.Appending.{two}
 use Rattle.conode_compare_page.proofs.picture.push_picture.Goals as goal
 
 pub returns : goal.returns

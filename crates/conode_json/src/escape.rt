@@ -3,7 +3,7 @@
 
 ghost use Rattle.std.specs.Prelude.{◌≡◌, ◌++◌, true, IfOk, OnOk, option_map, string_bytes};
 ghost use Rattle.std.specs.List.{flat_map};
-ghost use Rattle.conode_markup.specs.Escapes.{
+ghost use Rattle.conode_json.specs.Escapes.{
   escaped,
   escaped_character,
   is_character_data,

@@ -1,14 +1,14 @@
 -- What is escaped, evaluated, on both sides of each edge.
-use Rattle.std.proofs.Common.{◌≡◌, true, false, [], ◌∷◌, refl}
+use Rattle.std.proofs.Common.{◌≡◌, ℕ, List, Bor, true, false, [], ◌∷◌, refl}
 use Rattle.std.specs.Prelude.{codes}
 use Rattle.std.specs.Fmt.{digits}
 use Rattle.std.specs.List.{flat_map}
 use Rattle.std.specs.Str.{chars, is_utf8}
 use Rattle.co_text.specs.Printed.{digits_text}
 use Rattle.conode_lint_text.specs.Characters.{characters_of, windows_1252}
-use Rattle.conode_markup.specs.declared.pieces.Piece.TheVariants.{Number, Seconds, Key, Code}
-use Rattle.conode_markup.specs.Escapes.{escaped, escaped_character, is_character_data, is_plain}
-use Rattle.conode_markup.specs.Pieces.{piece_markup, seconds_text}
+use Rattle.conode_json.specs.declared.pieces.Piece.TheVariants.{Markup, Number, Count, Seconds, Key, Code}
+use Rattle.conode_json.specs.Escapes.{escaped, escaped_character, is_character_data, is_plain}
+use Rattle.conode_json.specs.Pieces.{piece_markup, seconds_text}
 
 -- an element of markup in a name
 a_tag : escaped (codes "<b>'&\"") ≡ codes "&lt;b&gt;&#39;&amp;&quot;"
@@ -75,7 +75,16 @@ less_than_a_second : seconds_text 1000 ≡ codes "0.001000"
 unfolding seconds_text digits_text digits
 less_than_a_second = refl
 
-in_row : flat_map piece_markup (Number 5 ∷ Seconds 1 ∷ Key (record { index = 0x1018; sub = 1 }) ∷ Code 0x06020000 ∷ [])
-    ≡ codes "50.0000011018:0106020000"
+abbrev markup : List ℕ → Bor (List ℕ)
+markup text = record { ref_ptr = (0, 0); now = text }
+
+in_row : flat_map piece_markup (Markup (markup (codes "<i>")) ∷ Number (markup (codes "</i>")) 5 ∷ Seconds (markup (codes " ")) 1 ∷ Key (markup (codes ",")) (record { index = 0x1018; sub = 1 }) ∷ Code (markup []) 0x06020000 ∷ [])
+    ≡ codes "<i></i>5 0.000001,1018:0106020000"
 unfolding seconds_text digits_text digits
 in_row = refl
+
+-- a count, and words for 0
+counts : flat_map piece_markup (Count (markup (codes "<b>")) 12 (markup (codes "none")) ∷ Count (markup (codes "<b>")) 0 (markup (codes "none")) ∷ [])
+    ≡ codes "<b>12<b>none"
+unfolding digits
+counts = refl

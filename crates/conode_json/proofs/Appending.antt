@@ -34,3 +34,7 @@ module _ {X A E : Type 0} (r : Result A E) (old : List X) where
   pub six : (t u v w x now a b c d i j : List X) → t ≡ old ++ a → u ≡ t ++ b → v ≡ u ++ c → w ≡ v ++ d → x ≡ w ++ i → OnOk r (now ≡ x ++ j)
       → OnOk r (now ≡ old ++ (a ++ b ++ c ++ d ++ i ++ j))
   six t u v w x now a b c d i j e f g h k last = five u v w x now (a ++ b) c d i j (both old t u a b e f) g h k last
+
+  pub seven : (t u v w x y now a b c d i j k : List X) → t ≡ old ++ a → u ≡ t ++ b → v ≡ u ++ c → w ≡ v ++ d → x ≡ w ++ i → y ≡ x ++ j
+      → OnOk r (now ≡ y ++ k) → OnOk r (now ≡ old ++ (a ++ b ++ c ++ d ++ i ++ j ++ k))
+  seven t u v w x y now a b c d i j k e f g h l m last = six u v w x y now (a ++ b) c d i j k (both old t u a b e f) g h l m last

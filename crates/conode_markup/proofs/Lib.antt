@@ -1,2 +1,0 @@
-pub mod EscapeLaws
-mod Examples
