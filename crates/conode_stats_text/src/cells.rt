@@ -160,7 +160,7 @@ fn push_escaped(text: &mut String, byte: u8) -> Result<(), AllocError>
 }
 
 /// Appends a name; bytes that can't be printed are escaped, as `\x07`.
-pub(crate) fn push_name(text: &mut String, name: &[u8]) -> Result<(), AllocError>
+pub fn push_name(text: &mut String, name: &[u8]) -> Result<(), AllocError>
     ensures { OnOk result (string_bytes text.new ≡ string_bytes text.old ++ name_text name.now) }
 {
     for byte in name {
@@ -171,7 +171,7 @@ pub(crate) fn push_name(text: &mut String, name: &[u8]) -> Result<(), AllocError
 
 /// Appends an identifier.
 #[tactic(auto, unfolding(crate::specs::StatsLines::id_text, co_text::specs::Printed::digits_text))]
-pub(crate) fn push_id(text: &mut String, id: u32) -> Result<(), AllocError>
+pub fn push_id(text: &mut String, id: u32) -> Result<(), AllocError>
     ensures { OnOk result (string_bytes text.new ≡ string_bytes text.old ++ id_text id) }
 {
     if id < 0x800 {

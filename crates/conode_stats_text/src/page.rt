@@ -2,13 +2,14 @@
 
 ghost use Rattle.std.specs.Prelude.{◌≤◌, IfSome};
 
-use crate::failures::{push_emergency, push_failure, push_open};
+use crate::excerpt::Excerpt;
+use crate::finding::{Kind, open_finding};
 use crate::lines::{push_bus, push_count, push_load, push_row};
-use crate::nodes::{is_shown, push_node_in, push_restarts};
+use crate::nodes::{is_shown, push_node_in};
 use crate::pieces::{Piece, push_pieces};
 use crate::sheet_times::{SheetTime, sheet_time};
-use crate::wrong::push_wrong_in;
-use conode_stats_counts::{Bus, Counts, Row};
+use crate::wrong::push_listed;
+use conode_stats_counts::{Bus, Counts, FailureRow, Row};
 use std::alloc::{AllocError, Global};
 
 /// The contents of the page.
@@ -44,6 +45,23 @@ const MORE_IDENTIFIERS: &str = "frames of more than 4,096 identifiers, not in th
 
 const MORE_INTERFACES: &str = "frames of more than 16 interfaces, not counted";
 
+/// What looks wrong with nodes, in the order of the page.
+const KINDS: [Kind; 7] = [
+    Kind::Silence,
+    Kind::Lateness,
+    Kind::Loss,
+    Kind::Restarts,
+    Kind::Failures,
+    Kind::Waits,
+    Kind::Emergencies,
+];
+
+/// So many findings are all at the top of the page.
+const MOST_FINDINGS: u64 = 20;
+
+/// Of more than these so many of each kind.
+const MOST_OF_KIND: u64 = 2;
+
 /// Bits 29 and 31 of the number of an identifier: an error frame, and one of 29 bits.
 const ERROR_FRAME: u32 = 0x2000_0000;
 
@@ -66,88 +84,143 @@ fn error_frames(bus: &Bus) -> u64 {
 }
 
 /// The identifiers of a bus, the smallest first.
-pub(crate) fn sorted_rows(alloc: Global, bus: &Bus) -> Result<Vec<Row>, AllocError> {
+pub fn sorted_rows(alloc: Global, bus: &Bus) -> Result<Vec<Row>, AllocError> {
     let mut rows = bus.rows().to_vec(alloc)?;
     rows.sort_by_key(|row| row.can_id)?;
     Ok(rows)
 }
 
-// the restarts on a bus
-fn push_restarts_on(text: &mut String, bus: &Bus) -> Result<(), AllocError> {
-    for number in 1..128u32 {
-        if let Some(node) = bus.nodes().get(number as usize) {
-            push_restarts(text, bus.interface(), number, node)?;
-        }
-    }
-    Ok(())
-}
-
-// the SDO transfers with a node that failed
-fn push_failures_of(text: &mut String, bus: &Bus, node: u8) -> Result<(), AllocError> {
-    for row in bus.transfers().rows() {
-        if row.cause.node == node {
-            push_failure(text, bus.interface(), row)?;
-        }
-    }
-    Ok(())
-}
-
-// the SDO transfers that failed on a bus, by node
-fn push_failures_on(text: &mut String, bus: &Bus) -> Result<(), AllocError> {
-    for node in 1..128u8 {
-        push_failures_of(text, bus, node)?;
-    }
-    Ok(())
-}
-
-// the SDO transfers that are open on a bus
-fn push_open_on(text: &mut String, bus: &Bus) -> Result<(), AllocError> {
-    let end = bus.all().last;
-    for track in bus.transfers().channels() {
-        let transfer = track.channel.unfinished(end);
-        push_open(text, bus.interface(), u32::from(track.node), end, &transfer)?;
-    }
-    Ok(())
-}
-
-// the EMCY messages of a node
-fn push_emergencies_of(text: &mut String, bus: &Bus, node: u8) -> Result<(), AllocError> {
-    for row in bus.emergencies().rows() {
-        if row.cause.node == node {
-            push_emergency(text, bus.interface(), row)?;
-        }
-    }
-    Ok(())
-}
-
-// the EMCY messages on a bus, by node
-fn push_emergencies_on(text: &mut String, bus: &Bus) -> Result<(), AllocError> {
-    for node in 1..128u8 {
-        push_emergencies_of(text, bus, node)?;
-    }
-    Ok(())
-}
-
-// the heartbeats that look wrong on a bus
-fn push_heartbeats_on(
+// what looks wrong in one way with the nodes of a bus, by node
+fn push_nodes_wrong(
     text: &mut String,
+    excerpt: &mut Excerpt,
     sheets: &[SheetTime<'_>],
     bus: &Bus,
+    kind: Kind,
 ) -> Result<(), AllocError> {
     let end = bus.all().last;
     for number in 1..128u8 {
         if let Some(node) = bus.nodes().get(usize::from(number)) {
             let time = sheet_time(sheets, bus.interface(), number);
-            let heartbeats = &node.heartbeats;
-            push_wrong_in(
-                text,
-                bus.interface(),
-                end,
-                time,
-                u32::from(number),
-                heartbeats,
-            )?;
+            let finding = kind.of_node(end, time, node);
+            push_listed(text, excerpt, bus.interface(), u32::from(number), &finding)?;
         }
+    }
+    Ok(())
+}
+
+// the rows of a node
+fn push_rows_of(
+    text: &mut String,
+    excerpt: &mut Excerpt,
+    interface: &[u8],
+    rows: &[FailureRow],
+    kind: Kind,
+    node: u8,
+) -> Result<(), AllocError> {
+    for row in rows {
+        if row.cause.node == node {
+            let finding = kind.of_row(row);
+            push_listed(text, excerpt, interface, u32::from(node), &finding)?;
+        }
+    }
+    Ok(())
+}
+
+// the SDO transfers that failed on a bus, or its EMCY messages, by node
+fn push_rows_wrong(
+    text: &mut String,
+    excerpt: &mut Excerpt,
+    interface: &[u8],
+    rows: &[FailureRow],
+    kind: Kind,
+) -> Result<(), AllocError> {
+    for node in 1..128u8 {
+        push_rows_of(text, excerpt, interface, rows, kind, node)?;
+    }
+    Ok(())
+}
+
+// the SDO transfers that are open on a bus
+fn push_open_on(text: &mut String, excerpt: &mut Excerpt, bus: &Bus) -> Result<(), AllocError> {
+    let end = bus.all().last;
+    for track in bus.transfers().channels() {
+        let finding = open_finding(end, &track.channel.unfinished(end));
+        push_listed(
+            text,
+            excerpt,
+            bus.interface(),
+            u32::from(track.node),
+            &finding,
+        )?;
+    }
+    Ok(())
+}
+
+// what looks wrong in one way on a bus
+fn push_kind_on(
+    text: &mut String,
+    excerpt: &mut Excerpt,
+    sheets: &[SheetTime<'_>],
+    bus: &Bus,
+    kind: Kind,
+) -> Result<(), AllocError> {
+    match kind {
+        Kind::Failures => {
+            push_rows_wrong(text, excerpt, bus.interface(), bus.transfers().rows(), kind)
+        }
+        Kind::Waits => push_open_on(text, excerpt, bus),
+        Kind::Emergencies => {
+            push_rows_wrong(
+                text,
+                excerpt,
+                bus.interface(),
+                bus.emergencies().rows(),
+                kind,
+            )
+        }
+        _ => push_nodes_wrong(text, excerpt, sheets, bus, kind),
+    }
+}
+
+// what looks wrong in one way, by bus
+fn push_kind(
+    text: &mut String,
+    excerpt: &mut Excerpt,
+    page: &Page<'_>,
+    kind: Kind,
+) -> Result<(), AllocError> {
+    for bus in page.counts.buses() {
+        push_kind_on(text, excerpt, page.sheets, bus, kind)?;
+    }
+    Ok(())
+}
+
+// how many lines there are of what looks wrong with nodes; none is written
+fn count_findings(text: &mut String, page: &Page<'_>) -> Result<u64, AllocError> {
+    let mut none = Excerpt::new(0, 0);
+    for kind in &KINDS {
+        push_kind(text, &mut none, page, *kind)?;
+    }
+    Ok(none.seen)
+}
+
+// the first of each kind, and how many more there are
+fn push_first(text: &mut String, page: &Page<'_>, most: u64) -> Result<(), AllocError> {
+    for kind in &KINDS {
+        let mut excerpt = Excerpt::new(0, most);
+        push_kind(text, &mut excerpt, page, *kind)?;
+        push_count(text, "", kind.further(), excerpt.left())?;
+    }
+    Ok(())
+}
+
+// the rest of each kind
+fn push_further(text: &mut String, page: &Page<'_>, most: u64) -> Result<(), AllocError> {
+    text.push_str("More of what looks wrong\n")?;
+    for kind in &KINDS {
+        let mut excerpt = Excerpt::new(most, u64::MAX);
+        push_kind(text, &mut excerpt, page, *kind)?;
     }
     Ok(())
 }
@@ -168,36 +241,23 @@ fn push_counts_on(text: &mut String, cell: &mut String, bus: &Bus) -> Result<(),
         text,
         cell.as_str(),
         &[
+            ("stamps that step back", bus.all().steps_back),
+            ("error frames", error_frames(bus)),
             (MORE_FAILURES, bus.transfers().left_out()),
             (MORE_EMERGENCIES, bus.emergencies().left_out()),
-            ("error frames", error_frames(bus)),
-            ("stamps that step back", bus.all().steps_back),
             (MORE_IDENTIFIERS, bus.left_out()),
         ],
     )
 }
 
-// what looks wrong on a bus
-fn push_wrong_on(
+// what else looks wrong, by bus
+fn push_all_counts(
     text: &mut String,
     cell: &mut String,
-    sheets: &[SheetTime<'_>],
-    bus: &Bus,
+    page: &Page<'_>,
 ) -> Result<(), AllocError> {
-    push_restarts_on(text, bus)?;
-    push_failures_on(text, bus)?;
-    push_open_on(text, bus)?;
-    push_emergencies_on(text, bus)?;
-    push_heartbeats_on(text, sheets, bus)?;
-    push_counts_on(text, cell, bus)
-}
-
-// all that looks wrong
-fn push_all_wrong(text: &mut String, cell: &mut String, page: &Page<'_>) -> Result<(), AllocError> {
-    text.push_str("What looks wrong\n")?;
-    let before = text.len();
     for bus in page.counts.buses() {
-        push_wrong_on(text, cell, page.sheets, bus)?;
+        push_counts_on(text, cell, bus)?;
     }
     push_counts(
         text,
@@ -206,7 +266,20 @@ fn push_all_wrong(text: &mut String, cell: &mut String, page: &Page<'_>) -> Resu
             ("bad lines", page.bad),
             (MORE_INTERFACES, page.counts.left_out()),
         ],
-    )?;
+    )
+}
+
+// all that looks wrong, so many of each kind
+fn push_all_wrong(
+    text: &mut String,
+    cell: &mut String,
+    page: &Page<'_>,
+    most: u64,
+) -> Result<(), AllocError> {
+    text.push_str("What looks wrong\n")?;
+    let before = text.len();
+    push_first(text, page, most)?;
+    push_all_counts(text, cell, page)?;
     if text.len() == before {
         return text.push_str("  nothing\n");
     }
@@ -326,13 +399,25 @@ fn push_page(
 ) -> Result<(), AllocError>
     requires { IfSome page.now.bit_rate (λ rate. rate ≤ 1000000) }
 {
-    push_all_wrong(text, cell, page)?;
+    let findings = count_findings(text, page)?;
+    let most = if findings <= MOST_FINDINGS {
+        findings
+    } else {
+        MOST_OF_KIND
+    };
+    push_all_wrong(text, cell, page, most)?;
     push_buses(text, page)?;
     push_all_nodes(text, cell, page)?;
-    push_all_rows(alloc, text, cell, page)
+    push_all_rows(alloc, text, cell, page)?;
+    if findings <= MOST_FINDINGS {
+        return Ok(());
+    }
+    push_further(text, page, most)
 }
 
-/// Sets the text to the page: what looks wrong, the buses, their nodes, and their identifiers.
+/// Sets the text to the page: what looks wrong, the buses, their nodes, and their identifiers. So
+/// that 24 lines show each kind of what looks wrong, only two findings of a kind are at the top where
+/// there are more than 20 in all; the others are then at the end.
 /// `Err`: out of memory; the text is then any part of the page.
 pub fn set_page(alloc: Global, text: &mut String, page: &Page<'_>) -> Result<(), AllocError>
     requires { IfSome page.now.bit_rate (λ rate. rate ≤ 1000000) }

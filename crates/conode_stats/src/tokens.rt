@@ -4,16 +4,14 @@
 ghost use Rattle.std.specs.Prelude.{◌≡◌, ◌++◌, ◌∷◌, [], OnOk};
 ghost use Rattle.json.specs.Token.{begin_object};
 ghost use Rattle.conode_json.specs.Members.{text_member};
-ghost use Rattle.conode_stats_text.specs.StatsTokens.{load_members, own_gap, row_tokens, tally_members};
+ghost use Rattle.conode_stats.specs.StatsTokens.{load_members, own_gap, row_tokens, tally_members};
 
-use crate::cells::{push_id, push_name};
-use crate::failure_tokens::{put_all_open, put_emergencies, put_failures};
+use crate::failure_tokens::put_failures;
 use crate::node_tokens::put_nodes;
-use crate::page::{Page, sorted_rows};
 use crate::parts::{Part, put_parts};
-use crate::sheet_times::SheetTime;
 use conode_json::JsonWriter;
 use conode_stats_counts::{Bus, Load, Row, Tally};
+use conode_stats_text::{Page, SheetTime, push_id, push_name, sorted_rows};
 use std::alloc::{AllocError, Global};
 
 // a gap, if there are any
@@ -125,8 +123,6 @@ fn put_bus(
     put_tally(alloc, writer, "interface", shown.as_str(), &bus.all())?;
     put_load(alloc, writer, &bus.load())?;
     put_failures(alloc, writer, shown, bus)?;
-    put_all_open(alloc, writer, bus)?;
-    put_emergencies(alloc, writer, bus)?;
     put_nodes(alloc, writer, sheets, bus)?;
     put_rows_on(alloc, writer, shown, bus)
 }
@@ -165,7 +161,11 @@ fn put_whole(
 }
 
 /// Writes the statistics as one JSON object. `Err`: out of memory; some tokens may be there.
-pub fn put_page(alloc: Global, writer: &mut JsonWriter, page: &Page<'_>) -> Result<(), AllocError> {
+pub(crate) fn put_page(
+    alloc: Global,
+    writer: &mut JsonWriter,
+    page: &Page<'_>,
+) -> Result<(), AllocError> {
     let mut shown = String::new(alloc);
     put_whole(alloc, writer, &mut shown, page)
 }

@@ -8,7 +8,7 @@ use Rattle.conode_stats_counts.specs.declared.node.Shown.{Shown}
 use Rattle.conode_stats_counts.specs.declared.state.StateTimes.{StateTimes}
 use Rattle.conode_stats_text.specs.NodeLines.{is_shown, state_word}
 use Rattle.conode_stats_text.specs.Paces.{lost_gap, median, pace_of, silent_since, usual_pace}
-use Rattle.conode_stats_text.specs.StatsTokens.{joined, number_in, number_of}
+use Rattle.conode_stats.specs.StatsTokens.{joined, number_in, number_of}
 
 unfoldable pub times_tokens : StateTimes → List Token
 times_tokens times =

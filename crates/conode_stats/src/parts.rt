@@ -3,8 +3,8 @@
 
 ghost use Rattle.std.specs.Prelude.{◌≡◌, ◌++◌, OnOk};
 ghost use Rattle.std.specs.List.{flat_map};
-ghost use Rattle.conode_stats_text.specs.StatsTokens.{number_in};
-ghost use Rattle.conode_stats_text.specs.Parts.{part_tokens};
+ghost use Rattle.conode_stats.specs.StatsTokens.{number_in};
+ghost use Rattle.conode_stats.specs.Parts.{part_tokens};
 
 use conode_json::JsonWriter;
 use std::alloc::{AllocError, Global};

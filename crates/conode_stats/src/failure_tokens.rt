@@ -1,24 +1,25 @@
 //! SDO transfers that failed, or are open, and EMCY messages, in JSON. Each function writes tokens.
 //! `Err`: out of memory; some tokens may be there.
 
-ghost use Rattle.std.specs.Prelude.{◌≡◌, ◌++◌, ◌%◌, OnOk};
-ghost use Rattle.conode_stats_text.specs.FailureTokens.{
+ghost use Rattle.std.specs.Prelude.{◌≡◌, ◌++◌, ◌%◌, OnOk, string_bytes};
+ghost use Rattle.conode_stats.specs.FailureTokens.{
+  code_digits,
+  code_name,
   counted_tokens,
-  emergency_tokens,
   failure_tokens,
   open_tokens_in,
 };
-ghost use Rattle.conode_stats_text.specs.Parts.{part_tokens};
+ghost use Rattle.conode_stats.specs.Parts.{part_tokens};
 
-use crate::failures::is_waiting;
 use crate::parts::{Part, put_parts};
-use co_text::{push_u32, word_digits};
+use co_text::{push_u16, push_u32};
 use conode_explain_transfers::Ended;
 use conode_json::JsonWriter;
 use conode_stats_counts::{Bus, FailureRow};
+use conode_stats_text::{Kind, is_waiting};
 use std::alloc::{AllocError, Global};
 
-// how often something of a node came, and when last
+// how often something of a node came, and when
 #[tactic(auto, unfolding(crate::specs::FailureTokens::counted_tokens))]
 fn put_counted(
     alloc: Global,
@@ -37,56 +38,100 @@ fn put_counted(
             Part::Number("node", u64::from(row.cause.node)),
             code,
             Part::Number("count", row.count),
+            Part::Number("first", row.first),
             Part::Number("last", row.last),
             Part::EndObject,
         ],
     )
 }
 
-// `shown` is scratch space
+// the name of the member of a code
+fn code_name(kind: Kind) -> &'static str
+    ensures { result.now ≡ code_name kind }
+{
+    match kind {
+        Kind::Emergencies => "errorCode",
+        _ => "abortCode",
+    }
+}
+
+// the digits of a code
+fn push_code(text: &mut String, kind: Kind, code: u32) -> Result<(), AllocError>
+    ensures { OnOk result (string_bytes text.new
+        ≡ string_bytes text.old ++ code_digits kind code) }
+{
+    match kind {
+        Kind::Emergencies => push_u16(text, (code % 65536) as u16),
+        _ => push_u32(text, code),
+    }
+}
+
+// SDO transfers that failed, or EMCY messages; `shown` is scratch space
 #[tactic(auto, unfolding(crate::specs::FailureTokens::failure_tokens))]
-fn put_failure(
+fn put_row(
     alloc: Global,
     writer: &mut JsonWriter,
     shown: &mut String,
+    kind: Kind,
     row: &FailureRow,
 ) -> Result<(), AllocError>
-    ensures { OnOk result (writer.new ≡ writer.old ++ failure_tokens row.now) }
+    ensures { OnOk result (writer.new ≡ writer.old ++ failure_tokens kind row.now) }
 {
     match row.cause.code {
         None => put_counted(alloc, writer, row, Part::Nothing),
         Some(code) => {
             shown.clear();
-            push_u32(shown, code)?;
-            put_counted(alloc, writer, row, Part::Text("abortCode", shown.as_str()))
+            push_code(shown, kind, code)?;
+            put_counted(
+                alloc,
+                writer,
+                row,
+                Part::Text(code_name(kind), shown.as_str()),
+            )
         }
     }
 }
 
-// the SDO transfers with a node that failed
-fn put_failures_of(
+// those of a node
+fn put_rows_of(
     alloc: Global,
     writer: &mut JsonWriter,
     shown: &mut String,
-    bus: &Bus,
+    kind: Kind,
+    rows: &[FailureRow],
     node: u8,
 ) -> Result<(), AllocError> {
-    for row in bus.transfers().rows() {
+    for row in rows {
         if row.cause.node == node {
-            put_failure(alloc, writer, shown, row)?;
+            put_row(alloc, writer, shown, kind, row)?;
         }
     }
     Ok(())
 }
 
-/// Writes how many frames of a bus have no row, and the SDO transfers of the bus that failed, by node.
-/// `shown` is scratch space.
+// those of a bus, by node
+fn put_rows(
+    alloc: Global,
+    writer: &mut JsonWriter,
+    shown: &mut String,
+    kind: Kind,
+    rows: &[FailureRow],
+) -> Result<(), AllocError> {
+    for node in 1..128u8 {
+        put_rows_of(alloc, writer, shown, kind, rows, node)?;
+    }
+    Ok(())
+}
+
+/// Writes how many frames of a bus have no row, its SDO transfers that failed, and those that are
+/// open, and its EMCY messages. `shown` is scratch space.
 pub(crate) fn put_failures(
     alloc: Global,
     writer: &mut JsonWriter,
     shown: &mut String,
     bus: &Bus,
 ) -> Result<(), AllocError> {
+    let (transfers, emergencies) = (bus.transfers(), bus.emergencies());
     put_parts(
         alloc,
         writer,
@@ -95,63 +140,26 @@ pub(crate) fn put_failures(
             Part::Array("failedTransfers"),
         ],
     )?;
-    for node in 1..128u8 {
-        put_failures_of(alloc, writer, shown, bus, node)?;
-    }
-    let left_out = bus.transfers().left_out();
+    put_rows(alloc, writer, shown, Kind::Failures, transfers.rows())?;
     put_parts(
         alloc,
         writer,
         &[
             Part::EndArray,
-            Part::Number("failedTransfersLeftOut", left_out),
+            Part::Number("failedTransfersLeftOut", transfers.left_out()),
+            Part::Array("openTransfers"),
         ],
-    )
-}
-
-#[tactic(auto, unfolding(crate::specs::FailureTokens::emergency_tokens))]
-fn put_emergency(alloc: Global, writer: &mut JsonWriter, row: &FailureRow) -> Result<(), AllocError>
-    ensures { OnOk result (writer.new ≡ writer.old ++ emergency_tokens row.now) }
-{
-    match row.cause.code {
-        None => put_counted(alloc, writer, row, Part::Nothing),
-        Some(code) => {
-            let digits = word_digits((code % 65536) as u16);
-            put_counted(alloc, writer, row, Part::Text("errorCode", digits.as_str()))
-        }
-    }
-}
-
-// the EMCY messages of a node
-fn put_emergencies_of(
-    alloc: Global,
-    writer: &mut JsonWriter,
-    bus: &Bus,
-    node: u8,
-) -> Result<(), AllocError> {
-    for row in bus.emergencies().rows() {
-        if row.cause.node == node {
-            put_emergency(alloc, writer, row)?;
-        }
-    }
-    Ok(())
-}
-
-/// Writes the EMCY messages of a bus, by node.
-pub(crate) fn put_emergencies(
-    alloc: Global,
-    writer: &mut JsonWriter,
-    bus: &Bus,
-) -> Result<(), AllocError> {
-    writer.begin_array_of("emergencies")?;
-    for node in 1..128u8 {
-        put_emergencies_of(alloc, writer, bus, node)?;
-    }
-    let left_out = bus.emergencies().left_out();
+    )?;
+    put_all_open(alloc, writer, bus)?;
+    put_parts(alloc, writer, &[Part::EndArray, Part::Array("emergencies")])?;
+    put_rows(alloc, writer, shown, Kind::Emergencies, emergencies.rows())?;
     put_parts(
         alloc,
         writer,
-        &[Part::EndArray, Part::Number("emergenciesLeftOut", left_out)],
+        &[
+            Part::EndArray,
+            Part::Number("emergenciesLeftOut", emergencies.left_out()),
+        ],
     )
 }
 
@@ -184,17 +192,12 @@ fn put_open_in(
     }
 }
 
-/// Writes the SDO transfers that are open on a bus.
-pub(crate) fn put_all_open(
-    alloc: Global,
-    writer: &mut JsonWriter,
-    bus: &Bus,
-) -> Result<(), AllocError> {
-    writer.begin_array_of("openTransfers")?;
+// the SDO transfers that are open on a bus
+fn put_all_open(alloc: Global, writer: &mut JsonWriter, bus: &Bus) -> Result<(), AllocError> {
     let end = bus.all().last;
     for track in bus.transfers().channels() {
         let transfer = track.channel.unfinished(end);
         put_open_in(alloc, writer, track.node, end, &transfer)?;
     }
-    writer.end_array()
+    Ok(())
 }

@@ -2,9 +2,9 @@
 use Rattle.std.specs.Prelude.{List, [], ◌∷◌}
 use Rattle.json.specs.Token.{Token, begin_object, end_array, end_object}
 use Rattle.conode_json.specs.Members.{array_begin, object_begin, text_member}
-use Rattle.conode_stats_text.specs.declared.parts.Part.{Part}
-use Rattle.conode_stats_text.specs.declared.parts.Part.TheVariants.{Nothing, BeginObject, EndObject, EndArray, Object, Array, Text, Number, NumberIf}
-use Rattle.conode_stats_text.specs.StatsTokens.{number_in, number_of}
+use Rattle.conode_stats.specs.declared.parts.Part.{Part}
+use Rattle.conode_stats.specs.declared.parts.Part.TheVariants.{Nothing, BeginObject, EndObject, EndArray, Object, Array, Text, Number, NumberIf}
+use Rattle.conode_stats.specs.StatsTokens.{number_in, number_of}
 
 abbrev pub part_tokens : Part → List Token
 part_tokens Nothing = []

@@ -2,7 +2,7 @@
 //! be there.
 
 ghost use Rattle.std.specs.Prelude.{◌≡◌, ◌++◌, OnOk};
-ghost use Rattle.conode_stats_text.specs.NodeTokens.{
+ghost use Rattle.conode_stats.specs.NodeTokens.{
   answer_tokens,
   count_tokens,
   gap_in,
@@ -16,12 +16,12 @@ ghost use Rattle.conode_stats_text.specs.NodeTokens.{
   wait_members,
 };
 
-use crate::nodes::{is_shown, state_word};
-use crate::pace::{Pace, lost_gap, median, silent_since};
 use crate::parts::{Part, put_parts};
-use crate::sheet_times::{SheetTime, sheet_time};
 use conode_json::JsonWriter;
 use conode_stats_counts::{Bus, Heartbeats, Node, Shown, StateTimes};
+use conode_stats_text::{
+    Pace, SheetTime, is_shown, lost_gap, median, sheet_time, silent_since, state_word,
+};
 use std::alloc::{AllocError, Global};
 
 #[tactic(auto, unfolding(crate::specs::NodeTokens::times_tokens))]

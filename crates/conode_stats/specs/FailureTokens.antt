@@ -6,30 +6,35 @@ use Rattle.co_text.specs.Printed.{digits_text}
 use Rattle.co_value.specs.declared.key.Key.{Key}
 use Rattle.conode_explain_transfers.specs.declared.ended.Ended.{Ended}
 use Rattle.conode_stats_counts.specs.declared.failure.FailureRow.{FailureRow}
+use Rattle.conode_stats_text.specs.declared.finding.Kind.{Kind}
+use Rattle.conode_stats_text.specs.declared.finding.Kind.TheVariants.{Emergencies}
 use Rattle.conode_stats_text.specs.FailureLines.{is_waiting}
-use Rattle.conode_stats_text.specs.StatsTokens.{number_of}
+use Rattle.conode_stats.specs.StatsTokens.{number_of}
 
--- how often something of a node came, with the members of its code, and the stamp of the last
+-- how often something of a node came, with the members of its code, and the stamps of the first and
+-- the last
 unfoldable pub counted_tokens : FailureRow → List Token → List Token
 counted_tokens row code =
     (begin_object ∷ []) ++ number_of (codes "node") row.cause.node ++ code
-    ++ number_of (codes "count") row.count ++ number_of (codes "last") row.last ++ end_object ∷ []
+    ++ number_of (codes "count") row.count ++ number_of (codes "first") row.first ++ number_of (codes "last") row.last
+    ++ end_object ∷ []
 
--- the code of an abort
-abbrev pub code_members : Option ℕ → List Token
-code_members None = []
-code_members (Some code) = text_member (codes "abortCode") (digits_text 16 8 code)
+-- the code of an abort, or of an EMCY message
+abbrev pub code_name : Kind → List ℕ
+code_name Emergencies = codes "errorCode"
+code_name _ = codes "abortCode"
 
-unfoldable pub failure_tokens : FailureRow → List Token
-failure_tokens row = counted_tokens row (code_members row.cause.code)
+abbrev pub code_digits : Kind → ℕ → List ℕ
+code_digits Emergencies code = digits_text 16 4 (code % 65536)
+code_digits _ code = digits_text 16 8 code
 
--- the error code of EMCY messages
-abbrev pub error_members : Option ℕ → List Token
-error_members None = []
-error_members (Some code) = text_member (codes "errorCode") (digits_text 16 4 (code % 65536))
+abbrev pub code_members : Kind → Option ℕ → List Token
+code_members kind None = []
+code_members kind (Some code) = text_member (code_name kind) (code_digits kind code)
 
-unfoldable pub emergency_tokens : FailureRow → List Token
-emergency_tokens row = counted_tokens row (error_members row.cause.code)
+-- a row of a kind
+unfoldable pub failure_tokens : Kind → FailureRow → List Token
+failure_tokens kind row = counted_tokens row (code_members kind row.cause.code)
 
 unfoldable pub key_members : Key → List Token
 key_members key = number_of (codes "index") key.index ++ number_of (codes "subIndex") key.sub
