@@ -15,6 +15,7 @@ mod nodes;
 mod row;
 mod rows;
 mod sdo_frame;
+mod shown_time;
 mod sign;
 mod size;
 mod state;
