@@ -40,8 +40,8 @@ gap_in heartbeats = if length heartbeats.first == 0 then None else Some heartbea
 abbrev pub late_gap_in : Heartbeats → Option ℕ
 late_gap_in heartbeats = if heartbeats.late == 0 then None else Some heartbeats.longest_late
 
--- heartbeats: the time that a download set, in ms, how many were later than 1.5 times that, and the
--- longest wait for one of these; the longest wait while no download showed it, and the median
+-- heartbeats: the time that a transfer shows, in ms, how many were later than 1.5 times that, and the
+-- longest wait for one of these; the longest wait while no transfer shows it, and the median
 unfoldable pub wait_members : Heartbeats → List Token
 wait_members heartbeats =
     joined (number_in (codes "heartbeatTime") heartbeats.written ∷ number_of (codes "lateHeartbeats") heartbeats.late

@@ -33,7 +33,6 @@ pub use heartbeats::{Heartbeats, is_late};
 pub use load::{Load, Second};
 pub use node::{Node, Shown};
 pub use row::Row;
-pub use sdo_frame::Pending;
 pub use size::Size;
 pub use state::{NmtState, StateTimes};
 pub use tally::Tally;

@@ -25,7 +25,7 @@ times = record { boot_up = 1999; pre_operational = 2000000; operational = 300000
 abbrev pub last : Shown
 last = record { state = Stopped; micros = 40000000 }
 
--- heartbeats later than the time that was downloaded, and others
+-- heartbeats later than the time that the recording has, and others
 abbrev pub heartbeats : Heartbeats
 heartbeats = record { written = Some 100; since = Some 40000000; late = 2; longest_late = 151000; longest = 800000; first = 200000 ∷ 800000 ∷ 210000 ∷ [] }
 

@@ -36,8 +36,8 @@ of_one = refl
 abbrev heartbeats : Option ℕ → ℕ → ℕ → List ℕ → Heartbeats
 heartbeats written late longest first = record { written = written; since = Some 1000000; late = late; longest_late = 151000; longest = longest; first = first }
 
-downloaded : pace_of (Some 300) (heartbeats (Some 100) 0 0 []) ≡ Some (Written 100)
-downloaded = refl
+recorded : pace_of (Some 300) (heartbeats (Some 100) 0 0 []) ≡ Some (Written 100)
+recorded = refl
 
 by_sheet : pace_of (Some 300) (heartbeats None 0 0 (200000 ∷ 200000 ∷ [])) ≡ Some (Sheet 300)
 by_sheet = refl
@@ -50,7 +50,7 @@ unknown : pace_of None (heartbeats None 0 0 (200000 ∷ [])) ≡ None
 unfolding median
 unknown = refl
 
--- for waits while no download showed the time
+-- for waits while no transfer showed the time
 usual : usual_pace (Some 300) (heartbeats (Some 100) 0 0 []) ≡ Some (Sheet 300)
 usual = refl
 
@@ -65,8 +65,8 @@ long = refl
 long_by_sheet : is_long (Sheet 200) 300001 ≡ true
 long_by_sheet = refl
 
-not_long_by_download : is_long (Written 200) 300000 ≡ false
-not_long_by_download = refl
+not_long_by_recording : is_long (Written 200) 300000 ≡ false
+not_long_by_recording = refl
 
 -- ---- what looks wrong
 
@@ -101,14 +101,14 @@ not_late = refl
 
 -- ---- lines
 
-silent_by_download : silent_line (codes "can0") 5 1000000 (Written 100) ≡ codes "  can0: node 5 silent since 1.000000, 1017h as downloaded 100 ms\n"
+silent_by_recording : silent_line (codes "can0") 5 1000000 (Written 100) ≡ codes "  can0: node 5 silent since 1.000000, 1017h as recorded 100 ms\n"
 unfolding silent_line node_front seconds digits_text digits
-silent_by_download = refl
+silent_by_recording = refl
 
-late_by_download : late_line (codes "can0") 5 2 151000
-    ≡ codes "  can0: node 5 heartbeats later than 1.5 times 1017h as downloaded: 2, up to 151.000 ms\n"
+late_by_recording : late_line (codes "can0") 5 2 151000
+    ≡ codes "  can0: node 5 heartbeats later than 1.5 times 1017h as recorded: 2, up to 151.000 ms\n"
 unfolding late_line node_front thousandths digits_text digits
-late_by_download = refl
+late_by_recording = refl
 
 by_the_median : lost_line (codes "can0") 5 300001 (Median 200000) ≡ codes "  can0: node 5 heartbeats up to 300.001 ms apart, median 200.000 ms\n"
 unfolding lost_line node_front thousandths digits_text digits

@@ -30,11 +30,11 @@ abbrev pub silent_in : ℕ → Option ℕ → Heartbeats → Option Finding
 silent_in end sheet heartbeats =
     silent_at (pace_of sheet heartbeats) (silent_since end (pace_of sheet heartbeats) heartbeats.since)
 
--- one with heartbeats later than a download has it
+-- one with heartbeats later than the recording has it
 abbrev pub late_in : Heartbeats → Option Finding
 late_in heartbeats = if nat_lt 0 heartbeats.late then Some (Late heartbeats.late heartbeats.longest_late) else None
 
--- one whose longest wait, while no download shows the time, is too long
+-- one whose longest wait, while no transfer shows the time, is too long
 abbrev pub lost_in : Option ℕ → Heartbeats → Option Finding
 lost_in sheet heartbeats = lost_at (usual_pace sheet heartbeats) (lost_gap (usual_pace sheet heartbeats) heartbeats.longest)
 

@@ -33,7 +33,7 @@ abbrev pub median_pace : Option ℕ → Option Pace
 median_pace None = None
 median_pace (Some gap) = Some (Median gap)
 
--- while no download shows the time: that of the sheet, or else the median of the first gaps
+-- while no transfer shows the time: that of the sheet, or else the median of the first gaps
 abbrev pub usual_pace : Option ℕ → Heartbeats → Option Pace
 usual_pace (Some time) heartbeats = Some (Sheet time)
 usual_pace None heartbeats = median_pace (median heartbeats.first)
@@ -56,7 +56,7 @@ is_long (Median median) gap = nat_lt (median + median / 2) gap
 
 -- to the end of the line
 abbrev pub pace_front : Pace → List ℕ
-pace_front (Written time) = codes ", 1017h as downloaded "
+pace_front (Written time) = codes ", 1017h as recorded "
 pace_front (Sheet time) = codes ", 1017h of the sheet "
 pace_front (Median median) = codes ", median "
 
@@ -76,7 +76,7 @@ lost_line interface node gap pace =
 
 unfoldable pub late_line : List ℕ → ℕ → ℕ → ℕ → List ℕ
 late_line interface node count gap =
-    concat (node_front interface node ∷ codes " heartbeats later than 1.5 times 1017h as downloaded: " ∷ decimal count
+    concat (node_front interface node ∷ codes " heartbeats later than 1.5 times 1017h as recorded: " ∷ decimal count
     ∷ codes ", up to " ∷ thousandths gap ∷ codes " ms\n" ∷ [])
 
 -- ---- what looks wrong

@@ -25,7 +25,7 @@ const ANSWER_TIME: u64 = 1_000_000;
 pub enum Kind {
     /// Nodes that are silent at the end.
     Silence,
-    /// Heartbeats later than a download has it.
+    /// Heartbeats later than the recording has it.
     Lateness,
     /// Other heartbeats that came too late.
     Loss,
@@ -44,7 +44,7 @@ pub enum Kind {
 pub(crate) enum Finding {
     /// It is silent since this stamp, at this pace.
     Silent(u64, Pace),
-    /// So many heartbeats came later than a download has it, the last after the longest wait.
+    /// So many heartbeats came later than the recording has it, one after the longest wait.
     Late(u64, u64),
     /// The longest wait for a heartbeat, at this pace.
     Lost(u64, Pace),

@@ -21,7 +21,7 @@ use conode_stats_counts::{Heartbeats, is_late};
 /// How often a node should send a heartbeat.
 #[derive(Clone, Copy)]
 pub enum Pace {
-    /// The producer heartbeat time in ms, 1017:00, that a download in the recording set.
+    /// The producer heartbeat time in ms, 1017:00, that a transfer in the recording shows.
     Written(u16),
     /// The same in ms, by a data sheet.
     Sheet(u16),
@@ -65,7 +65,7 @@ fn median_pace(median: Option<u64>) -> Option<Pace>
 }
 
 impl Pace {
-    /// How often a node should send a heartbeat while no download shows it; by a sheet's time, if
+    /// How often a node should send a heartbeat while no transfer shows it; by a sheet's time, if
     /// there is one.
     pub fn usual(sheet: Option<u16>, heartbeats: &Heartbeats) -> Option<Pace>
         ensures { result ≡ usual_pace sheet heartbeats.now }
@@ -104,7 +104,7 @@ impl Pace {
         ensures { result.now ≡ pace_front self }
     {
         match self {
-            Pace::Written(_) => ", 1017h as downloaded ",
+            Pace::Written(_) => ", 1017h as recorded ",
             Pace::Sheet(_) => ", 1017h of the sheet ",
             Pace::Median(_) => ", median ",
         }

@@ -41,7 +41,7 @@ fn push_silent(
     )
 }
 
-// a node with heartbeats that were too late by a download
+// a node with heartbeats that were too late by the recording
 #[tactic(auto, unfolding(crate::specs::Paces::late_line))]
 fn push_late(
     text: &mut String,
@@ -57,7 +57,7 @@ fn push_late(
         text,
         &[
             Piece::Node(interface, node),
-            Piece::Words(" heartbeats later than 1.5 times 1017h as downloaded: "),
+            Piece::Words(" heartbeats later than 1.5 times 1017h as recorded: "),
             Piece::Number(count),
             Piece::Words(", up to "),
             Piece::Millis(gap),
