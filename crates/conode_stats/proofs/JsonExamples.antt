@@ -1,5 +1,5 @@
 -- The statistics in JSON, evaluated.
-use Rattle.std.proofs.Common.{ℕ, Option, [], ◌∷◌, ◌++◌, ◌≡◌, Some, None, false, refl}
+use Rattle.std.proofs.Common.{ℕ, Option, [], ◌∷◌, ◌++◌, ◌≡◌, Some, None, refl}
 use Rattle.std.specs.Prelude.{codes}
 use Rattle.std.specs.Fmt.{digits}
 use Rattle.json.specs.Token.{begin_object, end_object, key, number, string}

@@ -1,5 +1,5 @@
 -- The lines of SDO transfers and EMCY messages, evaluated.
-use Rattle.std.proofs.Common.{ℕ, [], ◌∷◌, ◌≡◌, Option, Some, None, refl}
+use Rattle.std.proofs.Common.{ℕ, ◌≡◌, Option, Some, None, refl}
 use Rattle.std.specs.Prelude.{codes}
 use Rattle.std.specs.Fmt.{digits}
 use Rattle.co_text.specs.Printed.{digits_text}
