@@ -11,7 +11,7 @@ use co_sheet::{FaultKind, GREATEST_SIZE, SheetFault, read};
 use co_sheet_changes::Originals;
 use conode_convert::{SheetText, SheetWord, bad_sheet, bad_sheet_word, sheet_words, texts_of};
 use conode_explain_filter::{Filter, FilterFault, FilterWords};
-use conode_explain_signals::{Signal, SignalFault, first_missing};
+use conode_explain_forms::{Signal, SignalFault, first_missing};
 use conode_explain_text::StampForm;
 use conode_io::{CmdFault, cannot_read, flushed, stopped};
 use conode_logs::Form;
