@@ -9,9 +9,10 @@ ghost use Rattle.conode_stats.specs.StatsTokens.{load_members, own_gap, row_toke
 use crate::failure_tokens::put_failures;
 use crate::node_tokens::put_nodes;
 use crate::parts::{Part, put_parts};
+use conode_explain_text::push_name;
 use conode_json::JsonWriter;
 use conode_stats_counts::{Bus, Load, Row, Tally};
-use conode_stats_text::{Page, SheetTime, push_id, push_name, sorted_rows};
+use conode_stats_text::{Page, SheetTime, push_id, sorted_rows};
 use std::alloc::{AllocError, Global};
 
 // a gap, if there are any

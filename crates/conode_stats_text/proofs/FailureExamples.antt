@@ -7,7 +7,7 @@ use Rattle.conode_explain_transfers.specs.declared.ended.Ended.{Ended}
 use Rattle.conode_stats_counts.specs.declared.failure.FailureRow.{FailureRow}
 use Rattle.conode_stats_text.specs.declared.finding.Finding.TheVariants.{Open}
 use Rattle.conode_stats_text.specs.Cells.{seconds}
-use Rattle.conode_stats_text.specs.FailureLines.{counted_line, emergency_line, failure_line, open_line, span_text}
+use Rattle.conode_stats_text.specs.FailureLines.{counted_line, emergency_line, failure_line, open_line}
 use Rattle.conode_stats_text.specs.Findings.{open_finding}
 use Rattle.conode_stats_text.specs.StatsLines.{node_front}
 
@@ -17,28 +17,28 @@ row code = record { cause = record { node = 5; code = code }; count = 12; first 
 -- ---- lines
 
 aborted : failure_line (codes "can0") (row (Some 0x06020000)) ≡ codes "  can0: node 5 SDO transfers aborted with 06020000h: 12, the first at 1.000250, the last at 3.001000\n"
-unfolding failure_line counted_line span_text node_front seconds digits_text digits
+unfolding failure_line counted_line node_front seconds digits_text digits
 aborted = refl
 
 unanswered : failure_line (codes "can0") (row None) ≡ codes "  can0: node 5 SDO transfers without an answer: 12, the first at 1.000250, the last at 3.001000\n"
-unfolding failure_line counted_line span_text node_front seconds digits_text digits
+unfolding failure_line counted_line node_front seconds digits_text digits
 unanswered = refl
 
 emergency : emergency_line (codes "can0") (row (Some 0x8110)) ≡ codes "  can0: node 5 EMCY 8110h: 12, the first at 1.000250, the last at 3.001000\n"
-unfolding emergency_line counted_line span_text node_front seconds digits_text digits
+unfolding emergency_line counted_line node_front seconds digits_text digits
 emergency = refl
 
 reset_error : emergency_line (codes "can0") (row (Some 0)) ≡ codes "  can0: node 5 EMCY 0000h: 12, the first at 1.000250, the last at 3.001000\n"
-unfolding emergency_line counted_line span_text node_front seconds digits_text digits
+unfolding emergency_line counted_line node_front seconds digits_text digits
 reset_error = refl
 
 short_message : emergency_line (codes "can0") (row None) ≡ codes "  can0: node 5 EMCY messages without a code: 12, the first at 1.000250, the last at 3.001000\n"
-unfolding emergency_line counted_line span_text node_front seconds digits_text digits
+unfolding emergency_line counted_line node_front seconds digits_text digits
 short_message = refl
 
 -- one alone, or several with one stamp
-single : span_text 3001000 3001000 ≡ codes ", at 3.001000"
-unfolding span_text seconds digits_text digits
+single : emergency_line (codes "can0") (record (row (Some 0x8110)) { count = 2; first = 3001000 }) ≡ codes "  can0: node 5 EMCY 8110h: 2, at 3.001000\n"
+unfolding emergency_line counted_line node_front seconds digits_text digits
 single = refl
 
 -- ---- a transfer of 1018:01 that is open, its last frame at 2 s

@@ -9,17 +9,18 @@ use Rattle.conode_stats_counts.specs.declared.failure.FailureRow.{FailureRow}
 use Rattle.conode_stats_text.specs.Cells.{seconds}
 use Rattle.conode_stats_text.specs.StatsLines.{node_front}
 
--- when something came, from the stamps of the first and of the last
-unfoldable pub span_text : ℕ → ℕ → List ℕ
-span_text first last =
-    if first == last then concat (codes ", at " ∷ seconds last ∷ [])
-    else concat (codes ", the first at " ∷ seconds first ∷ codes ", the last at " ∷ seconds last ∷ [])
+-- how often something of a node came, in these words with a code
+abbrev pub counted_front : List ℕ → FailureRow → List ℕ → List ℕ → List ℕ → List (List ℕ) → List (List ℕ)
+counted_front interface row front code after more =
+    node_front interface row.cause.node ∷ front ∷ code ∷ after ∷ decimal row.count ∷ more
 
--- how often something of a node came, in these words with a code, and when
+-- the same, and when: the stamps of the first and of the last, or the only one
 unfoldable pub counted_line : List ℕ → FailureRow → List ℕ → List ℕ → List ℕ → List ℕ
 counted_line interface row front code after =
-    concat (node_front interface row.cause.node ∷ front ∷ code ∷ after ∷ decimal row.count ∷ span_text row.first row.last
-    ∷ codes "\n" ∷ [])
+    if row.first == row.last
+    then concat (counted_front interface row front code after (codes ", at " ∷ seconds row.last ∷ codes "\n" ∷ []))
+    else concat (counted_front interface row front code after (codes ", the first at " ∷ seconds row.first
+    ∷ codes ", the last at " ∷ seconds row.last ∷ codes "\n" ∷ []))
 
 -- transfers that failed, and why
 abbrev pub failure_by : List ℕ → FailureRow → Option ℕ → List ℕ

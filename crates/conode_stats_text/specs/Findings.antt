@@ -1,5 +1,5 @@
 -- What looks wrong with nodes, its lines, and which of them are listed.
-use Rattle.std.specs.Prelude.{ℕ, ◌+◌, ◌==◌, Bool, nat_le, nat_lt, ◌&&◌, if◌then◌else◌, List, [], Option, Some, None}
+use Rattle.std.specs.Prelude.{ℕ, ◌+◌, ◌==◌, Bool, nat_le, nat_lt, ◌&&◌, if◌then◌else◌, List, [], codes, Option, Some, None}
 use Rattle.conode_explain_transfers.specs.declared.ended.Ended.{Ended}
 use Rattle.conode_stats_counts.specs.declared.failure.FailureRow.{FailureRow}
 use Rattle.conode_stats_counts.specs.declared.heartbeats.Heartbeats.{Heartbeats}
@@ -7,12 +7,13 @@ use Rattle.conode_stats_counts.specs.declared.node.Node.{Node}
 use Rattle.conode_stats_counts.specs.Gaps.{counted}
 use Rattle.conode_stats_text.specs.declared.excerpt.Excerpt.{Excerpt}
 use Rattle.conode_stats_text.specs.declared.finding.Finding.{Finding}
-use Rattle.conode_stats_text.specs.declared.finding.Finding.TheVariants.{Silent, Late, Lost, Restarted, Failed, Open, Emergency}
+use Rattle.conode_stats_text.specs.declared.finding.Finding.TheVariants.{Silent, Late, Lost, Restarted, Failed, Open, Emergency, Counted}
 use Rattle.conode_stats_text.specs.declared.finding.Kind.{Kind}
-use Rattle.conode_stats_text.specs.declared.finding.Kind.TheVariants.{Silence, Lateness, Loss, Restarts, Failures, Emergencies}
+use Rattle.conode_stats_text.specs.declared.finding.Kind.TheVariants.{Silence, Lateness, Loss, Restarts, Failures, Emergencies, StepsBack, ErrorFrames, MoreFailures, MoreEmergencies, MoreIdentifiers}
 use Rattle.conode_stats_text.specs.declared.pace.Pace.{Pace}
 use Rattle.conode_stats_text.specs.FailureLines.{emergency_line, failure_line, is_waiting, open_line}
 use Rattle.conode_stats_text.specs.NodeLines.{restart_line}
+use Rattle.conode_stats_text.specs.StatsLines.{counts_line}
 use Rattle.conode_stats_text.specs.Paces.{late_line, lost_gap, lost_line, pace_of, silent_line, silent_since, usual_pace}
 
 -- ---- what looks wrong
@@ -60,6 +61,18 @@ abbrev pub open_finding : ℕ → Option Ended → Option Finding
 open_finding end None = None
 open_finding end (Some transfer) = if is_waiting end transfer then Some (Open transfer.key transfer.newest) else None
 
+-- how many there are of a kind on a bus, if there are any
+abbrev pub counted_in : Kind → ℕ → Option Finding
+counted_in kind count = if count == 0 then None else Some (Counted kind count)
+
+abbrev pub counted_words : Kind → List ℕ
+counted_words StepsBack = codes "stamps that step back"
+counted_words ErrorFrames = codes "error frames"
+counted_words MoreFailures = codes "SDO transfers that failed with further nodes and codes"
+counted_words MoreEmergencies = codes "EMCY messages of further nodes and codes"
+counted_words MoreIdentifiers = codes "frames of more than 4,096 identifiers, not in the table"
+counted_words _ = []
+
 -- ---- its line
 
 abbrev pub finding_line : List ℕ → ℕ → Finding → List ℕ
@@ -70,6 +83,7 @@ finding_line interface node (Restarted count last) = restart_line interface node
 finding_line interface node (Failed row) = failure_line interface row
 finding_line interface node (Open key since) = open_line interface node key since
 finding_line interface node (Emergency row) = emergency_line interface row
+finding_line interface node (Counted kind count) = counts_line interface (counted_words kind) count
 
 -- ---- which are listed
 

@@ -5,8 +5,7 @@ use Rattle.co_value.specs.KeyTexts.{key_text}
 use Rattle.conode_stats_text.specs.declared.cells.Cell.{Cell}
 use Rattle.conode_stats_text.specs.declared.cells.Cell.TheVariants.{Column, Id, Count, Tenths as TenthsCell, Millis as MillisCell, Gap}
 use Rattle.conode_stats_text.specs.declared.pieces.Piece.{Piece}
-use Rattle.conode_stats_text.specs.declared.pieces.Piece.TheVariants.{Words, Name, Node, Number, Seconds, Millis, Load, Long, Short, Entry, Span}
-use Rattle.conode_stats_text.specs.FailureLines.{span_text}
+use Rattle.conode_stats_text.specs.declared.pieces.Piece.TheVariants.{Words, Name, Node, Number, Seconds, Millis, Load, Long, Short, Entry}
 use Rattle.conode_stats_text.specs.Cells.{left, name_text, or_none, right, seconds, tenths, thousandths}
 use Rattle.conode_stats_text.specs.StatsLines.{id_text, load_tenths, node_front}
 
@@ -21,7 +20,6 @@ piece_text (Load bits room) = load_tenths bits room
 piece_text (Long number) = digits_text 16 8 number
 piece_text (Short number) = digits_text 16 4 number
 piece_text (Entry key) = key_text key
-piece_text (Span first last) = span_text first last
 
 -- what a cell shows
 abbrev pub shown_text : Cell → List ℕ

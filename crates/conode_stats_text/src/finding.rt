@@ -1,8 +1,10 @@
-//! What looks wrong with a node.
+//! What looks wrong with a node, or a bus.
 
 ghost use Rattle.std.specs.Prelude.{◌≡◌, ◌-◌, ◌<◌};
 ghost use Rattle.conode_stats_text.specs.FailureLines.{is_waiting};
 ghost use Rattle.conode_stats_text.specs.Findings.{
+  counted_in,
+  counted_words,
   late_in,
   lost_in,
   node_finding,
@@ -15,10 +17,15 @@ ghost use Rattle.conode_stats_text.specs.Findings.{
 use crate::pace::{Pace, lost_gap, silent_since};
 use co_value::Key;
 use conode_explain_transfers::Ended;
-use conode_stats_counts::{FailureRow, Heartbeats, Node};
+use conode_stats_counts::{Bus, FailureRow, Heartbeats, Node, Row};
 
 /// A transfer that is open at the end is named if it had no frame for so long, in microseconds.
 const ANSWER_TIME: u64 = 1_000_000;
+
+/// Bits 29 and 31 of the number of an identifier: an error frame, and one of 29 bits.
+const ERROR_FRAME: u32 = 0x2000_0000;
+
+const EXTENDED: u32 = 0x8000_0000;
 
 /// A kind of what looks wrong.
 #[derive(Clone, Copy)]
@@ -37,9 +44,19 @@ pub enum Kind {
     Waits,
     /// EMCY messages.
     Emergencies,
+    /// Stamps that step back.
+    StepsBack,
+    /// Error frames.
+    ErrorFrames,
+    /// SDO transfers that failed, of further nodes and codes.
+    MoreFailures,
+    /// EMCY messages of further nodes and codes.
+    MoreEmergencies,
+    /// Frames of further identifiers.
+    MoreIdentifiers,
 }
 
-/// What looks wrong with a node. Stamps and times are in microseconds.
+/// What looks wrong with a node, or a bus. Stamps and times are in microseconds.
 #[derive(Clone, Copy)]
 pub(crate) enum Finding {
     /// It is silent since this stamp, at this pace.
@@ -56,6 +73,8 @@ pub(crate) enum Finding {
     Open(Key, u64),
     /// It sent EMCY messages.
     Emergency(FailureRow),
+    /// There are so many of a kind on the bus.
+    Counted(Kind, u64),
 }
 
 fn silent_in(end: u64, sheet: Option<u16>, heartbeats: &Heartbeats) -> Option<Finding>
@@ -98,6 +117,33 @@ fn restarted_in(node: &Node) -> Option<Finding>
     }
 }
 
+// so many of these, if there are any
+fn counted_in(kind: Kind, count: u64) -> Option<Finding>
+    ensures { result ≡ counted_in kind count }
+{
+    if count == 0 {
+        None
+    } else {
+        Some(Finding::Counted(kind, count))
+    }
+}
+
+// whether a row is of error frames
+fn is_of_errors(row: &Row) -> bool {
+    row.can_id >= ERROR_FRAME && row.can_id < EXTENDED
+}
+
+// how many error frames there are
+fn error_frames(rows: &[Row]) -> u64 {
+    let mut count: u64 = 0;
+    for row in rows {
+        if is_of_errors(row) {
+            count = count.saturating_add(row.tally.frames);
+        }
+    }
+    count
+}
+
 impl Kind {
     /// What a node shows of this kind. `end` is the stamp of the bus's last frame, in microseconds;
     /// `sheet` is the node's producer heartbeat time in ms, if a sheet has one.
@@ -124,6 +170,33 @@ impl Kind {
         }
     }
 
+    /// What a bus shows of this kind.
+    pub(crate) fn of_bus(self, bus: &Bus) -> Option<Finding> {
+        let count = match self {
+            Kind::StepsBack => bus.all().steps_back,
+            Kind::ErrorFrames => error_frames(bus.rows()),
+            Kind::MoreFailures => bus.transfers().left_out(),
+            Kind::MoreEmergencies => bus.emergencies().left_out(),
+            Kind::MoreIdentifiers => bus.left_out(),
+            _ => 0,
+        };
+        counted_in(self, count)
+    }
+
+    /// The words of how many there are on a bus.
+    pub(crate) fn counted(self) -> &'static str
+        ensures { result.now ≡ counted_words self }
+    {
+        match self {
+            Kind::StepsBack => "stamps that step back",
+            Kind::ErrorFrames => "error frames",
+            Kind::MoreFailures => "SDO transfers that failed with further nodes and codes",
+            Kind::MoreEmergencies => "EMCY messages of further nodes and codes",
+            Kind::MoreIdentifiers => "frames of more than 4,096 identifiers, not in the table",
+            _ => "",
+        }
+    }
+
     /// The words about findings of this kind that aren't among the first.
     pub(crate) fn further(self) -> &'static str {
         match self {
@@ -134,6 +207,7 @@ impl Kind {
             Kind::Failures => "further nodes and abort codes, at the end of the page",
             Kind::Waits => "further open SDO transfers, at the end of the page",
             Kind::Emergencies => "further nodes and EMCY codes, at the end of the page",
+            _ => "further interfaces with this, at the end of the page",
         }
     }
 }

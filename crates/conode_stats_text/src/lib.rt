@@ -13,7 +13,7 @@ mod pieces;
 mod sheet_times;
 mod wrong;
 
-pub use cells::{push_id, push_name};
+pub use cells::push_id;
 pub use finding::{Kind, is_waiting};
 pub use nodes::{is_shown, state_word};
 pub use pace::{Pace, lost_gap, median, silent_since};

@@ -3,14 +3,14 @@
 
 ghost use Rattle.std.specs.Prelude.{◌≡◌, ◌++◌, OnOk, string_bytes};
 ghost use Rattle.std.specs.List.{flat_map};
-ghost use Rattle.conode_stats_text.specs.FailureLines.{span_text};
 ghost use Rattle.conode_stats_text.specs.Pieces.{piece_text};
 ghost use Rattle.conode_stats_text.specs.StatsLines.{node_front};
 
-use crate::cells::{push_name, push_seconds, push_tenths_in, push_thousandths};
+use crate::cells::{push_seconds, push_tenths_in, push_thousandths};
 use crate::figures::ratio;
 use co_text::{push_decimal, push_u16, push_u32};
 use co_value::Key;
+use conode_explain_text::push_name;
 use std::alloc::AllocError;
 
 /// A piece of a line.
@@ -35,8 +35,6 @@ pub(crate) enum Piece<'a> {
     Short(u16),
     /// The key of an entry.
     Entry(Key),
-    /// The stamps of the first and the last of something, in microseconds.
-    Span(u64, u64),
 }
 
 #[tactic(auto, unfolding(crate::specs::StatsLines::node_front))]
@@ -48,21 +46,6 @@ fn push_node(text: &mut String, interface: &[u8], node: u32) -> Result<(), Alloc
     push_name(text, interface)?;
     text.push_str(": node ")?;
     push_decimal(text, u64::from(node))
-}
-
-#[tactic(auto, unfolding(crate::specs::FailureLines::span_text))]
-fn push_span(text: &mut String, first: u64, last: u64) -> Result<(), AllocError>
-    ensures { OnOk result (string_bytes text.new
-        ≡ string_bytes text.old ++ span_text first last) }
-{
-    if first == last {
-        text.push_str(", at ")?;
-    } else {
-        text.push_str(", the first at ")?;
-        push_seconds(text, first)?;
-        text.push_str(", the last at ")?;
-    }
-    push_seconds(text, last)
 }
 
 fn push_piece(text: &mut String, piece: &Piece<'_>) -> Result<(), AllocError>
@@ -80,7 +63,6 @@ fn push_piece(text: &mut String, piece: &Piece<'_>) -> Result<(), AllocError>
         Piece::Long(number) => push_u32(text, number),
         Piece::Short(number) => push_u16(text, number),
         Piece::Entry(key) => text.push_str(key.text().as_str()),
-        Piece::Span(first, last) => push_span(text, first, last),
     }
 }
 

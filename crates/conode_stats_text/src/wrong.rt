@@ -2,14 +2,20 @@
 //! text may be there.
 
 ghost use Rattle.std.specs.Prelude.{◌≡◌, ◌++◌, ◌%◌, OnOk, string_bytes};
-ghost use Rattle.conode_stats_text.specs.FailureLines.{counted_line, emergency_line, failure_line, open_line};
-ghost use Rattle.conode_stats_text.specs.Findings.{finding_line, listed, passed};
+ghost use Rattle.conode_stats_text.specs.FailureLines.{
+  counted_line,
+  emergency_line,
+  failure_line,
+  open_line,
+};
+ghost use Rattle.conode_stats_text.specs.Findings.{counted_words, finding_line, listed, passed};
 ghost use Rattle.conode_stats_text.specs.NodeLines.{restart_line};
 ghost use Rattle.conode_stats_text.specs.Paces.{late_line, lost_line, silent_line};
 ghost use Rattle.conode_stats_text.specs.Pieces.{piece_text};
+ghost use Rattle.conode_stats_text.specs.StatsLines.{counts_line};
 
 use crate::excerpt::Excerpt;
-use crate::finding::Finding;
+use crate::finding::{Finding, Kind};
 use crate::pace::Pace;
 use crate::pieces::{Piece, push_pieces};
 use co_value::Key;
@@ -131,22 +137,40 @@ fn push_counted<'p>(
         ++ counted_line interface.entry.now row.now front.entry.now (piece_text code.entry)
         after.entry.now) }
 {
+    let node = u32::from(row.cause.node);
+    if row.first == row.last {
+        return push_pieces(
+            text,
+            &[
+                Piece::Node(interface, node),
+                Piece::Words(front),
+                code,
+                Piece::Words(after),
+                Piece::Number(row.count),
+                Piece::Words(", at "),
+                Piece::Seconds(row.last),
+                Piece::Words("\n"),
+            ],
+        );
+    }
     push_pieces(
         text,
         &[
-            Piece::Node(interface, u32::from(row.cause.node)),
+            Piece::Node(interface, node),
             Piece::Words(front),
             code,
             Piece::Words(after),
             Piece::Number(row.count),
-            Piece::Span(row.first, row.last),
+            Piece::Words(", the first at "),
+            Piece::Seconds(row.first),
+            Piece::Words(", the last at "),
+            Piece::Seconds(row.last),
             Piece::Words("\n"),
         ],
     )
 }
 
 // the transfers of a node that failed in one way
-#[tactic(auto, unfolding(crate::specs::FailureLines::failure_line))]
 fn push_failure(text: &mut String, interface: &[u8], row: &FailureRow) -> Result<(), AllocError>
     ensures { OnOk result (string_bytes text.new
         ≡ string_bytes text.old ++ failure_line interface.now row.now) }
@@ -164,7 +188,6 @@ fn push_failure(text: &mut String, interface: &[u8], row: &FailureRow) -> Result
 }
 
 // the EMCY messages of a node with one error code
-#[tactic(auto, unfolding(crate::specs::FailureLines::emergency_line))]
 fn push_emergency(text: &mut String, interface: &[u8], row: &FailureRow) -> Result<(), AllocError>
     ensures { OnOk result (string_bytes text.new
         ≡ string_bytes text.old ++ emergency_line interface.now row.now) }
@@ -206,6 +229,31 @@ fn push_open(
     )
 }
 
+// how many of these are on a bus
+#[tactic(auto, unfolding(crate::specs::StatsLines::counts_line))]
+fn push_counts(
+    text: &mut String,
+    interface: &[u8],
+    kind: Kind,
+    count: u64,
+) -> Result<(), AllocError>
+    ensures { OnOk result (string_bytes text.new
+        ≡ string_bytes text.old ++ counts_line interface.now (counted_words kind) count) }
+{
+    push_pieces(
+        text,
+        &[
+            Piece::Words("  "),
+            Piece::Name(interface),
+            Piece::Words(": "),
+            Piece::Words(kind.counted()),
+            Piece::Words(": "),
+            Piece::Number(count),
+            Piece::Words("\n"),
+        ],
+    )
+}
+
 fn push_finding(
     text: &mut String,
     interface: &[u8],
@@ -223,11 +271,12 @@ fn push_finding(
         Finding::Failed(row) => push_failure(text, interface, row),
         Finding::Open(key, since) => push_open(text, interface, node, *key, *since),
         Finding::Emergency(row) => push_emergency(text, interface, row),
+        Finding::Counted(kind, count) => push_counts(text, interface, *kind, *count),
     }
 }
 
-/// Appends the line of what looks wrong with a node on an interface, if there is something and it is
-/// among those listed.
+/// Appends the line of what looks wrong with a node on an interface, or with the interface, if there
+/// is something and it is among those listed.
 pub(crate) fn push_listed(
     text: &mut String,
     excerpt: &mut Excerpt,
