@@ -9,65 +9,57 @@ use Rattle.conode_explain_transfers.specs.declared.ended.Ended.{Ended}
 use Rattle.conode_stats_counts.specs.declared.failure.FailureRow.{FailureRow}
 use Rattle.conode_stats_text.specs.declared.finding.Kind.TheVariants.{Failures, Emergencies}
 use Rattle.conode_stats_text.specs.Paces.{median}
-use Rattle.conode_stats_text.proofs.NodeExamples.{heartbeats, last, no_heartbeats, node, server, times}
+use Rattle.conode_stats_text.proofs.NodeExamples.{heartbeats, no_heartbeats, node, server}
 use Rattle.conode_stats.specs.FailureTokens.{counted_tokens, failure_tokens, key_members, open_tokens, open_tokens_in}
-use Rattle.conode_stats.specs.NodeTokens.{answer_tokens, count_tokens, heartbeat_members, node_tokens, state_members, times_tokens, tokens_in, verdict_members, wait_members}
+use Rattle.conode_stats.specs.NodeTokens.{node_front, node_rest, node_tokens, tokens_in}
 
 -- ---- nodes
 
-five_times : times_tokens times
-    ≡ key (codes "times") ∷ begin_object ∷ key (codes "bootUp") ∷ number (codes "1999") ∷ key (codes "preOperational") ∷ number (codes "2000000")
+-- a node with two restarts, and five different times
+front : node_front 6 (node 2)
+    ≡ begin_object ∷ key (codes "node") ∷ number (codes "6") ∷ key (codes "bootUps") ∷ number (codes "3")
+    ∷ key (codes "restartsWithoutCommand") ∷ number (codes "2") ∷ key (codes "lastRestart") ∷ number (codes "1130000")
+    ∷ key (codes "state") ∷ string (codes "stopped") ∷ key (codes "last") ∷ number (codes "40000000")
+    ∷ key (codes "times") ∷ begin_object ∷ key (codes "bootUp") ∷ number (codes "1999") ∷ key (codes "preOperational") ∷ number (codes "2000000")
     ∷ key (codes "operational") ∷ number (codes "30000000") ∷ key (codes "stopped") ∷ number (codes "400")
     ∷ key (codes "unknown") ∷ number (codes "5000") ∷ end_object ∷ []
-unfolding times_tokens object_begin number_member digits
-five_times = refl
+unfolding node_front object_begin number_member text_member digits
+front = refl
 
-counts : count_tokens 6 (node 2)
-    ≡ begin_object ∷ key (codes "node") ∷ number (codes "6") ∷ key (codes "bootUps") ∷ number (codes "3")
-    ∷ key (codes "restartsWithoutCommand") ∷ number (codes "2") ∷ key (codes "lastRestart") ∷ number (codes "1130000") ∷ []
-unfolding count_tokens number_member digits
-counts = refl
+-- without a restart there is no stamp of the last one, and without a frame no state
+front_without : node_front 7 (server None)
+    ≡ begin_object ∷ key (codes "node") ∷ number (codes "7") ∷ key (codes "bootUps") ∷ number (codes "3")
+    ∷ key (codes "restartsWithoutCommand") ∷ number (codes "0")
+    ∷ key (codes "times") ∷ begin_object ∷ key (codes "bootUp") ∷ number (codes "1999") ∷ key (codes "preOperational") ∷ number (codes "2000000")
+    ∷ key (codes "operational") ∷ number (codes "30000000") ∷ key (codes "stopped") ∷ number (codes "400")
+    ∷ key (codes "unknown") ∷ number (codes "5000") ∷ end_object ∷ []
+unfolding node_front object_begin number_member digits
+front_without = refl
 
--- without a restart there is no stamp of the last one
-counts_without : count_tokens 6 (node 0)
-    ≡ begin_object ∷ key (codes "node") ∷ number (codes "6") ∷ key (codes "bootUps") ∷ number (codes "3")
-    ∷ key (codes "restartsWithoutCommand") ∷ number (codes "0") ∷ []
-unfolding count_tokens number_member digits
-counts_without = refl
-
-state : state_members last ≡ key (codes "state") ∷ string (codes "stopped") ∷ key (codes "last") ∷ number (codes "40000000") ∷ []
-unfolding state_members number_member text_member digits
-state = refl
-
-all_heartbeats : heartbeat_members 41000000 None heartbeats
+all_heartbeats : node_rest 41000000 None heartbeats (Some 1200)
     ≡ key (codes "heartbeatTime") ∷ number (codes "100") ∷ key (codes "lateHeartbeats") ∷ number (codes "2")
     ∷ key (codes "longestLateGap") ∷ number (codes "151000") ∷ key (codes "longestGap") ∷ number (codes "800000")
     ∷ key (codes "medianGap") ∷ number (codes "210000") ∷ key (codes "lostGap") ∷ number (codes "800000")
-    ∷ key (codes "silentSince") ∷ number (codes "40000000") ∷ []
-unfolding heartbeat_members wait_members verdict_members number_member median digits
+    ∷ key (codes "silentSince") ∷ number (codes "40000000") ∷ key (codes "longestAnswer") ∷ number (codes "1200") ∷ end_object ∷ []
+unfolding node_rest number_member median digits
 all_heartbeats = refl
 
--- by a sheet's 600 ms no wait is too long; 150 ms after the last heartbeat, by the download, it isn't silent
-none_wrong : heartbeat_members 40150000 (Some 600) heartbeats
+-- by a sheet's 600 ms no wait is too long; 150 ms after the last heartbeat, by the recording, it isn't silent
+none_wrong : node_rest 40150000 (Some 600) heartbeats None
     ≡ key (codes "heartbeatTime") ∷ number (codes "100") ∷ key (codes "lateHeartbeats") ∷ number (codes "2")
     ∷ key (codes "longestLateGap") ∷ number (codes "151000") ∷ key (codes "longestGap") ∷ number (codes "800000")
-    ∷ key (codes "medianGap") ∷ number (codes "210000") ∷ []
-unfolding heartbeat_members wait_members verdict_members number_member median digits
+    ∷ key (codes "medianGap") ∷ number (codes "210000") ∷ end_object ∷ []
+unfolding node_rest number_member median digits
 none_wrong = refl
 
 -- what isn't there isn't written
-of_no_heartbeats : heartbeat_members 41000000 None no_heartbeats ≡ key (codes "lateHeartbeats") ∷ number (codes "0") ∷ []
-unfolding heartbeat_members wait_members verdict_members number_member median digits
+of_no_heartbeats : node_rest 41000000 None no_heartbeats None ≡ key (codes "lateHeartbeats") ∷ number (codes "0") ∷ end_object ∷ []
+unfolding node_rest number_member median digits
 of_no_heartbeats = refl
 
-object : tokens_in 41000000 None 6 (node 2)
-    ≡ count_tokens 6 (node 2) ++ state_members last ++ times_tokens times ++ heartbeat_members 41000000 None heartbeats ++ answer_tokens (node 2)
+object : tokens_in 41000000 None 6 (node 2) ≡ node_front 6 (node 2) ++ node_rest 41000000 None heartbeats (Some 1200)
 unfolding node_tokens
 object = refl
-
-answer : answer_tokens (node 2) ≡ key (codes "longestAnswer") ∷ number (codes "1200") ∷ end_object ∷ []
-unfolding answer_tokens number_member digits
-answer = refl
 
 no_object : tokens_in 41000000 None 6 (server None) ≡ []
 no_object = refl

@@ -3,45 +3,24 @@
 
 ghost use Rattle.std.specs.Prelude.{◌≡◌, ◌++◌, OnOk};
 ghost use Rattle.conode_stats.specs.NodeTokens.{
-  answer_tokens,
-  count_tokens,
   gap_in,
-  heartbeat_members,
+  last_in,
   late_gap_in,
+  node_front,
+  node_rest,
   restart_in,
-  shown_members,
-  times_tokens,
+  state_member,
   tokens_in,
-  verdict_members,
-  wait_members,
 };
+ghost use Rattle.conode_stats.specs.Parts.{part_tokens};
 
 use crate::parts::{Part, put_parts};
 use conode_json::JsonWriter;
-use conode_stats_counts::{Bus, Heartbeats, Node, Shown, StateTimes};
+use conode_stats_counts::{Bus, Heartbeats, Node, Shown};
 use conode_stats_text::{
     Pace, SheetTime, is_shown, lost_gap, median, sheet_time, silent_since, state_word,
 };
 use std::alloc::{AllocError, Global};
-
-#[tactic(auto, unfolding(crate::specs::NodeTokens::times_tokens))]
-fn put_times(alloc: Global, writer: &mut JsonWriter, times: &StateTimes) -> Result<(), AllocError>
-    ensures { OnOk result (writer.new ≡ writer.old ++ times_tokens times.now) }
-{
-    put_parts(
-        alloc,
-        writer,
-        &[
-            Part::Object("times"),
-            Part::Number("bootUp", times.boot_up),
-            Part::Number("preOperational", times.pre_operational),
-            Part::Number("operational", times.operational),
-            Part::Number("stopped", times.stopped),
-            Part::Number("unknown", times.unknown),
-            Part::EndObject,
-        ],
-    )
-}
 
 fn restart_in(node: &Node) -> Option<u64>
     ensures { result ≡ restart_in node.now }
@@ -53,20 +32,22 @@ fn restart_in(node: &Node) -> Option<u64>
     }
 }
 
-#[tactic(auto, unfolding(crate::specs::NodeTokens::state_members))]
-fn put_shown(alloc: Global, writer: &mut JsonWriter, last: Option<Shown>) -> Result<(), AllocError>
-    ensures { OnOk result (writer.new ≡ writer.old ++ shown_members last) }
+// the state at the end, if it shows one
+fn state_part(last: Option<Shown>) -> Part<'static>
+    ensures { part_tokens result ≡ state_member last }
 {
     match last {
-        Some(last) => put_parts(
-            alloc,
-            writer,
-            &[
-                Part::Text("state", state_word(last.state)),
-                Part::Number("last", last.micros),
-            ],
-        ),
-        None => Ok(()),
+        Some(last) => Part::Text("state", state_word(last.state)),
+        None => Part::Nothing,
+    }
+}
+
+fn last_in(last: Option<Shown>) -> Option<u64>
+    ensures { result ≡ last_in last }
+{
+    match last {
+        Some(last) => Some(last.micros),
+        None => None,
     }
 }
 
@@ -99,73 +80,17 @@ fn late_gap_in(heartbeats: &Heartbeats) -> Option<u64>
     }
 }
 
-#[tactic(auto, unfolding(crate::specs::NodeTokens::wait_members))]
-fn put_waits(
-    alloc: Global,
-    writer: &mut JsonWriter,
-    heartbeats: &Heartbeats,
-) -> Result<(), AllocError>
-    ensures { OnOk result (writer.new ≡ writer.old ++ wait_members heartbeats.now) }
-{
-    put_parts(
-        alloc,
-        writer,
-        &[
-            Part::NumberIf("heartbeatTime", time_in(heartbeats.written)),
-            Part::Number("lateHeartbeats", heartbeats.late),
-            Part::NumberIf("longestLateGap", late_gap_in(heartbeats)),
-            Part::NumberIf("longestGap", gap_in(heartbeats)),
-            Part::NumberIf("medianGap", median(heartbeats.first.as_slice())),
-        ],
-    )
-}
-
-#[tactic(auto, unfolding(crate::specs::NodeTokens::verdict_members))]
-fn put_verdicts(
-    alloc: Global,
-    writer: &mut JsonWriter,
-    end: u64,
-    sheet: Option<u16>,
-    heartbeats: &Heartbeats,
-) -> Result<(), AllocError>
-    ensures { OnOk result (writer.new ≡ writer.old ++ verdict_members end sheet heartbeats.now) }
-{
-    let lost = lost_gap(Pace::usual(sheet, heartbeats), heartbeats.longest);
-    let silent = silent_since(end, Pace::of(sheet, heartbeats), heartbeats.since);
-    put_parts(
-        alloc,
-        writer,
-        &[
-            Part::NumberIf("lostGap", lost),
-            Part::NumberIf("silentSince", silent),
-        ],
-    )
-}
-
-#[tactic(auto, unfolding(crate::specs::NodeTokens::heartbeat_members))]
-fn put_heartbeats(
-    alloc: Global,
-    writer: &mut JsonWriter,
-    end: u64,
-    sheet: Option<u16>,
-    heartbeats: &Heartbeats,
-) -> Result<(), AllocError>
-    ensures { OnOk result (writer.new
-        ≡ writer.old ++ heartbeat_members end sheet heartbeats.now) }
-{
-    put_waits(alloc, writer, heartbeats)?;
-    put_verdicts(alloc, writer, end, sheet, heartbeats)
-}
-
-#[tactic(auto, unfolding(crate::specs::NodeTokens::count_tokens))]
-fn put_counts(
+// the counts of a node, its state at the end, and its times
+#[tactic(auto, unfolding(crate::specs::NodeTokens::node_front))]
+fn put_front(
     alloc: Global,
     writer: &mut JsonWriter,
     number: u32,
     node: &Node,
 ) -> Result<(), AllocError>
-    ensures { OnOk result (writer.new ≡ writer.old ++ count_tokens number node.now) }
+    ensures { OnOk result (writer.new ≡ writer.old ++ node_front number node.now) }
 {
+    let times = &node.times;
     put_parts(
         alloc,
         writer,
@@ -175,19 +100,46 @@ fn put_counts(
             Part::Number("bootUps", node.boot_ups),
             Part::Number("restartsWithoutCommand", node.restarts),
             Part::NumberIf("lastRestart", restart_in(node)),
+            state_part(node.last),
+            Part::NumberIf("last", last_in(node.last)),
+            Part::Object("times"),
+            Part::Number("bootUp", times.boot_up),
+            Part::Number("preOperational", times.pre_operational),
+            Part::Number("operational", times.operational),
+            Part::Number("stopped", times.stopped),
+            Part::Number("unknown", times.unknown),
+            Part::EndObject,
         ],
     )
 }
 
-#[tactic(auto, unfolding(crate::specs::NodeTokens::answer_tokens))]
-fn put_answer(alloc: Global, writer: &mut JsonWriter, node: &Node) -> Result<(), AllocError>
-    ensures { OnOk result (writer.new ≡ writer.old ++ answer_tokens node.now) }
+// its heartbeats, its longest answer, and the end
+#[tactic(auto, unfolding(crate::specs::NodeTokens::node_rest))]
+fn put_rest(
+    alloc: Global,
+    writer: &mut JsonWriter,
+    end: u64,
+    sheet: Option<u16>,
+    heartbeats: &Heartbeats,
+    answer: Option<u64>,
+) -> Result<(), AllocError>
+    ensures { OnOk result (writer.new
+        ≡ writer.old ++ node_rest end sheet heartbeats.now answer) }
 {
+    let lost = lost_gap(Pace::usual(sheet, heartbeats), heartbeats.longest);
+    let silent = silent_since(end, Pace::of(sheet, heartbeats), heartbeats.since);
     put_parts(
         alloc,
         writer,
         &[
-            Part::NumberIf("longestAnswer", node.longest_answer),
+            Part::NumberIf("heartbeatTime", time_in(heartbeats.written)),
+            Part::Number("lateHeartbeats", heartbeats.late),
+            Part::NumberIf("longestLateGap", late_gap_in(heartbeats)),
+            Part::NumberIf("longestGap", gap_in(heartbeats)),
+            Part::NumberIf("medianGap", median(heartbeats.first.as_slice())),
+            Part::NumberIf("lostGap", lost),
+            Part::NumberIf("silentSince", silent),
+            Part::NumberIf("longestAnswer", answer),
             Part::EndObject,
         ],
     )
@@ -208,11 +160,15 @@ fn put_node_in(
     if !is_shown(node) {
         return Ok(());
     }
-    put_counts(alloc, writer, number, node)?;
-    put_shown(alloc, writer, node.last)?;
-    put_times(alloc, writer, &node.times)?;
-    put_heartbeats(alloc, writer, end, sheet, &node.heartbeats)?;
-    put_answer(alloc, writer, node)
+    put_front(alloc, writer, number, node)?;
+    put_rest(
+        alloc,
+        writer,
+        end,
+        sheet,
+        &node.heartbeats,
+        node.longest_answer,
+    )
 }
 
 /// Writes the nodes of a bus that have a line on the page, by node-ID.
