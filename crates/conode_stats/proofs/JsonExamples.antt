@@ -11,7 +11,7 @@ use Rattle.conode_stats_text.specs.declared.finding.Kind.TheVariants.{Failures, 
 use Rattle.conode_stats_text.specs.Paces.{median}
 use Rattle.conode_stats_text.proofs.NodeExamples.{heartbeats, no_heartbeats, node, server}
 use Rattle.conode_stats.specs.FailureTokens.{counted_tokens, failure_tokens, key_members, open_tokens, open_tokens_in}
-use Rattle.conode_stats.specs.NodeTokens.{node_front, node_rest, node_tokens, tokens_in}
+use Rattle.conode_stats.specs.NodeTokens.{node_end, node_front, node_tokens, tokens_in, wait_members}
 
 -- ---- nodes
 
@@ -36,28 +36,31 @@ front_without : node_front 7 (server None)
 unfolding node_front object_begin number_member digits
 front_without = refl
 
-all_heartbeats : node_rest 41000000 None heartbeats (Some 1200)
+all_waits : wait_members heartbeats
     ≡ key (codes "heartbeatTime") ∷ number (codes "100") ∷ key (codes "lateHeartbeats") ∷ number (codes "2")
     ∷ key (codes "longestLateGap") ∷ number (codes "151000") ∷ key (codes "longestGap") ∷ number (codes "800000")
-    ∷ key (codes "medianGap") ∷ number (codes "210000") ∷ key (codes "lostGap") ∷ number (codes "800000")
-    ∷ key (codes "silentSince") ∷ number (codes "40000000") ∷ key (codes "longestAnswer") ∷ number (codes "1200") ∷ end_object ∷ []
-unfolding node_rest number_member median digits
-all_heartbeats = refl
-
--- by a sheet's 600 ms no wait is too long; 150 ms after the last heartbeat, by the recording, it isn't silent
-none_wrong : node_rest 40150000 (Some 600) heartbeats None
-    ≡ key (codes "heartbeatTime") ∷ number (codes "100") ∷ key (codes "lateHeartbeats") ∷ number (codes "2")
-    ∷ key (codes "longestLateGap") ∷ number (codes "151000") ∷ key (codes "longestGap") ∷ number (codes "800000")
-    ∷ key (codes "medianGap") ∷ number (codes "210000") ∷ end_object ∷ []
-unfolding node_rest number_member median digits
-none_wrong = refl
+    ∷ key (codes "medianGap") ∷ number (codes "210000") ∷ []
+unfolding wait_members number_member median digits
+all_waits = refl
 
 -- what isn't there isn't written
-of_no_heartbeats : node_rest 41000000 None no_heartbeats None ≡ key (codes "lateHeartbeats") ∷ number (codes "0") ∷ end_object ∷ []
-unfolding node_rest number_member median digits
+of_no_heartbeats : wait_members no_heartbeats ≡ key (codes "lateHeartbeats") ∷ number (codes "0") ∷ []
+unfolding wait_members number_member median digits
 of_no_heartbeats = refl
 
-object : tokens_in 41000000 None 6 (node 2) ≡ node_front 6 (node 2) ++ node_rest 41000000 None heartbeats (Some 1200)
+all_wrong : node_end 41000000 None heartbeats (Some 1200)
+    ≡ key (codes "lostGap") ∷ number (codes "800000") ∷ key (codes "silentSince") ∷ number (codes "40000000")
+    ∷ key (codes "longestAnswer") ∷ number (codes "1200") ∷ end_object ∷ []
+unfolding node_end number_member median digits
+all_wrong = refl
+
+-- by a sheet's 600 ms no wait is too long; 150 ms after the last heartbeat, by the recording, it isn't silent
+none_wrong : node_end 40150000 (Some 600) heartbeats None ≡ end_object ∷ []
+unfolding node_end median
+none_wrong = refl
+
+object : tokens_in 41000000 None 6 (node 2)
+    ≡ node_front 6 (node 2) ++ wait_members heartbeats ++ node_end 41000000 None heartbeats (Some 1200)
 unfolding node_tokens
 object = refl
 

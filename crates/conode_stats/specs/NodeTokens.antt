@@ -40,21 +40,25 @@ abbrev pub late_gap_in : Heartbeats → Option ℕ
 late_gap_in heartbeats = if heartbeats.late == 0 then None else Some heartbeats.longest_late
 
 -- its heartbeats: the time that a transfer shows, in ms, how many were later than 1.5 times that, and
--- the longest wait for one of these; the longest wait while no transfer shows it, and the median; what
--- the page says of them, if the bus's last frame has this stamp, and a sheet this time. Then its
--- longest answer, and the end
-unfoldable pub node_rest : ℕ → Option ℕ → Heartbeats → Option ℕ → List Token
-node_rest end sheet heartbeats answer =
+-- the longest wait for one of these; the longest wait while no transfer shows it, and the median
+unfoldable pub wait_members : Heartbeats → List Token
+wait_members heartbeats =
     joined (number_in (codes "heartbeatTime") heartbeats.written ∷ number_of (codes "lateHeartbeats") heartbeats.late
     ∷ number_in (codes "longestLateGap") (late_gap_in heartbeats) ∷ number_in (codes "longestGap") (gap_in heartbeats)
-    ∷ number_in (codes "medianGap") (median heartbeats.first)
-    ∷ number_in (codes "lostGap") (lost_gap (usual_pace sheet heartbeats) heartbeats.longest)
+    ∷ number_in (codes "medianGap") (median heartbeats.first) ∷ [])
+
+-- what the page says of them, if the bus's last frame has this stamp, and a sheet this time; then its
+-- longest answer, and the end
+unfoldable pub node_end : ℕ → Option ℕ → Heartbeats → Option ℕ → List Token
+node_end end sheet heartbeats answer =
+    joined (number_in (codes "lostGap") (lost_gap (usual_pace sheet heartbeats) heartbeats.longest)
     ∷ number_in (codes "silentSince") (silent_since end (pace_of sheet heartbeats) heartbeats.since)
     ∷ number_in (codes "longestAnswer") answer ∷ (end_object ∷ []) ∷ [])
 
 -- a node
 unfoldable pub node_tokens : ℕ → Option ℕ → ℕ → Node → List Token
-node_tokens end sheet number node = node_front number node ++ node_rest end sheet node.heartbeats node.longest_answer
+node_tokens end sheet number node =
+    node_front number node ++ wait_members node.heartbeats ++ node_end end sheet node.heartbeats node.longest_answer
 
 -- nothing of a node without a line
 abbrev pub tokens_in : ℕ → Option ℕ → ℕ → Node → List Token

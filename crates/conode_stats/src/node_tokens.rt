@@ -6,11 +6,12 @@ ghost use Rattle.conode_stats.specs.NodeTokens.{
   gap_in,
   last_in,
   late_gap_in,
+  node_end,
   node_front,
-  node_rest,
   restart_in,
   state_member,
   tokens_in,
+  wait_members,
 };
 ghost use Rattle.conode_stats.specs.Parts.{part_tokens};
 
@@ -113,21 +114,15 @@ fn put_front(
     )
 }
 
-// its heartbeats, its longest answer, and the end
-#[tactic(auto, unfolding(crate::specs::NodeTokens::node_rest))]
-fn put_rest(
+// its heartbeats
+#[tactic(auto, unfolding(crate::specs::NodeTokens::wait_members))]
+fn put_waits(
     alloc: Global,
     writer: &mut JsonWriter,
-    end: u64,
-    sheet: Option<u16>,
     heartbeats: &Heartbeats,
-    answer: Option<u64>,
 ) -> Result<(), AllocError>
-    ensures { OnOk result (writer.new
-        ≡ writer.old ++ node_rest end sheet heartbeats.now answer) }
+    ensures { OnOk result (writer.new ≡ writer.old ++ wait_members heartbeats.now) }
 {
-    let lost = lost_gap(Pace::usual(sheet, heartbeats), heartbeats.longest);
-    let silent = silent_since(end, Pace::of(sheet, heartbeats), heartbeats.since);
     put_parts(
         alloc,
         writer,
@@ -137,6 +132,29 @@ fn put_rest(
             Part::NumberIf("longestLateGap", late_gap_in(heartbeats)),
             Part::NumberIf("longestGap", gap_in(heartbeats)),
             Part::NumberIf("medianGap", median(heartbeats.first.as_slice())),
+        ],
+    )
+}
+
+// what looks wrong with them, its longest answer, and the end
+#[tactic(auto, unfolding(crate::specs::NodeTokens::node_end))]
+fn put_end(
+    alloc: Global,
+    writer: &mut JsonWriter,
+    end: u64,
+    sheet: Option<u16>,
+    heartbeats: &Heartbeats,
+    answer: Option<u64>,
+) -> Result<(), AllocError>
+    ensures { OnOk result (writer.new
+        ≡ writer.old ++ node_end end sheet heartbeats.now answer) }
+{
+    let lost = lost_gap(Pace::usual(sheet, heartbeats), heartbeats.longest);
+    let silent = silent_since(end, Pace::of(sheet, heartbeats), heartbeats.since);
+    put_parts(
+        alloc,
+        writer,
+        &[
             Part::NumberIf("lostGap", lost),
             Part::NumberIf("silentSince", silent),
             Part::NumberIf("longestAnswer", answer),
@@ -161,7 +179,8 @@ fn put_node_in(
         return Ok(());
     }
     put_front(alloc, writer, number, node)?;
-    put_rest(
+    put_waits(alloc, writer, &node.heartbeats)?;
+    put_end(
         alloc,
         writer,
         end,
