@@ -32,7 +32,7 @@ use Rattle.conode_compare_rules.specs.Answers.{answer_finding, confirmed_finding
 use Rattle.conode_compare_transfers.specs.Dialogues.{dialogue_heard, given_up, interrupted, nothing_asked, nothing_left, exchange_in}
 use Rattle.conode_compare_held.specs.HeldNumbers.{is_kept, nothing_written, written_heard}
 use Rattle.conode_compare_rules.specs.EmergencyRules.{emergency_finding, length_finding}
-use Rattle.conode_compare_rules.specs.EntriesInForce.{asked_to_write, ended_entries, reset_entries}
+use Rattle.conode_compare_rules.specs.EntriesInForce.{asked_to_write, ended_entries, reset_entries, shares_id, with_sharing}
 use Rattle.conode_compare_rules.specs.Heartbeats.{after_byte, after_transfer, early_remark, follows_closely, late_finding, no_heartbeat, is_gap}
 use Rattle.conode_compare_rules.specs.States as states
 use Rattle.conode_compare_rules.specs.States.{boot_finding, control_finding, is_reset, is_settled, nothing_commanded, restart_remark}
@@ -252,7 +252,7 @@ channel_heard subject progress micros side frame =
     let ended = (exchange_at subject progress micros side frame).heard.ended in
     record progress {
       heartbeats = after_transfer progress.heartbeats ended micros;
-      entries = entries_heard progress.entries ended next.asked;
+      entries = with_sharing (shares_id subject.node side frame) (entries_heard progress.entries ended next.asked);
       pdos = pdos_heard progress.pdos ended next.asked micros;
       dialogue = next;
     }
@@ -389,3 +389,7 @@ kept_in subject written exchange = is_kept subject.held.entries.items written ex
 
 abbrev pub is_number_kept : Subject → Progress → Bool
 is_number_kept subject after = option_map_or (kept_in subject after.written) after.exchange false
+
+-- the recording begins with the newest frame, or begins anew; or that is an error frame
+abbrev pub is_begun : Progress → Bool
+is_begun progress = option_map_or (λ newest. newest == progress.started) progress.newest false
