@@ -7,6 +7,7 @@ pub mod Words
 pub mod Sending
 pub mod Queues
 pub mod EmergencyFrames
+pub mod Unjudged
 pub mod Begins
 pub mod Beats
 pub mod Heartbeats
