@@ -207,7 +207,7 @@ def outcome(how, what, found, at, reason):
     """Where the damage is found first, or why it can't be told; None: it should have been."""
     if found and found[0][0] == at:
         return "found at its line"
-    if found and (how in ("dropped", "delayed") or what == "identifier" or "heartbeat-state" in {name for _, name in found}):
+    if found and (how in ("dropped", "delayed") or what == "identifier" or {"heartbeat-state", "answer-state"} & {name for _, name in found}):
         return "found where it is noticed"
     if found and {"answer-size", "answer-crc", "heartbeat-late"} & {name for _, name in found}:
         return "found where the transfer ends, or by the value of 1017:00"

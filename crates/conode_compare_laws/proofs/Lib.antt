@@ -1,6 +1,7 @@
 pub mod Shown
 pub mod Frames
 pub mod Along
+pub mod Runs
 pub mod Inputs
 pub mod Heard
 pub mod Words
@@ -11,4 +12,6 @@ pub mod Unjudged
 pub mod Begins
 pub mod Beats
 pub mod Heartbeats
+pub mod Pauses
+pub mod Pausing
 mod Examples

@@ -8,6 +8,7 @@ use Rattle.co_value.specs.declared.key.Key.{Key}
 use Rattle.conode_explain_transfers.specs.declared.ended.Ended.{Ended}
 use Rattle.conode_explain_transfers.specs.declared.kinds.Side.TheVariants.{Client, Server}
 use Rattle.conode_compare_transfers.specs.declared.dialogue.Asked.{Asked}
+use Rattle.conode_compare_transfers.specs.Dialogues.{dialogue_heard}
 use Rattle.conode_compare_rules.specs.declared.entries.Entries.{Entries}
 use Rattle.conode_compare_rules.specs.declared.finding.Finding.{Finding}
 use Rattle.conode_compare_rules.specs.declared.kind.FrameKind.{FrameKind}
@@ -16,7 +17,7 @@ use Rattle.conode_compare_rules.specs.declared.limits.Subject.{Subject}
 use Rattle.conode_compare_rules.specs.declared.progress.Progress.{Progress}
 use Rattle.conode_compare_rules.specs.FrameKinds.{data_kind}
 use Rattle.conode_compare_rules.specs.EmergencyRules.{emergency_finding}
-use Rattle.conode_compare_rules.specs.EntriesInForce.{asked_to_write, shown_inhibit, shown_period, with_inhibit, with_period, with_sharing}
+use Rattle.conode_compare_rules.specs.EntriesInForce.{asked_to_write, shares_id, shown_inhibit, shown_period, with_inhibit, with_period, with_sharing}
 use Rattle.conode_compare_rules.specs.Progresses as progresses
 use Rattle.conode_compare_rules.specs.Progresses.{
   after_command,
@@ -125,7 +126,9 @@ odd_emergency_off subject p micros length off = off
 
 server_off : (subject : Subject) (p : Progress) (micros : ℕ) (frame : FrameContent) → IsOff p → IsOff (after_frame subject p micros (Sdo Server frame))
 unfolding channel_heard exchange_noted late_noted
-server_off subject p micros frame off = heard_off p.entries _ _ _ off
+server_off subject p micros frame off =
+    let noted : Progress = progresses.answer_noted subject p micros in
+    heard_off p.entries (progresses.exchange_at subject noted micros Server frame).heard.ended (dialogue_heard subject.limits.answer noted.started noted.dialogue micros Server frame).asked (shares_id subject.node Server frame) off
 
 client_off : (subject : Subject) (p : Progress) (micros : ℕ) (frame : FrameContent) → IsOff p → IsOff (after_frame subject p micros (Sdo Client frame))
 unfolding channel_heard exchange_noted
