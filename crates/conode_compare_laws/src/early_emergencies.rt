@@ -16,13 +16,14 @@ ghost use Rattle.conode_compare_laws.specs.Recordings.{AreUnhurried, Stamped, re
 
 use crate::aside::sends_aside;
 
-/// The recording of a device without transfers on its default SDO channel has no `emcy-inhibit` (CiA
-/// 301, 7.2.7), whatever the tolerance and the drift, with events of the application too. Conditions:
-/// `compare` has its node-ID; 1015:00 has one number (`AllHaveInhibit`), which the data sheet has, if
-/// it is known by it (`KnowsInhibit`); no stamp is earlier than the ticks have it (`AreUnhurried`); no
-/// other node sends on the identifiers of its error control and of its EMCY (`AreElsewhere`), none of
-/// its own SDO channels and TPDOs on the latter, 80h + node-ID (`AllSendWithout`), and no frame is one
-/// of its default SDO channel (`AreNoSdo`). This is a law: a call of it changes nothing.
+/// The recording of a device without transfers on its default SDO channel has no `emcy-inhibit`
+/// (CiA 301, 7.2.7), whatever the tolerance and the drift, with events of the application too.
+/// Conditions: `compare` has its node-ID; 1015:00 has one number (`AllHaveInhibit`), which the data
+/// sheet has, if it is known by it (`KnowsInhibit`); no stamp is earlier than the ticks have it
+/// (`AreUnhurried`); no other node sends on the identifiers of its error control and of its EMCY
+/// (`AreElsewhere`), none of its own SDO channels and TPDOs on the latter, 80h + node-ID
+/// (`AllSendWithout`), and no frame is one of its default SDO channel (`AreNoSdo`). This is a law: a
+/// call of it changes nothing.
 pub fn no_early_emergencies()
     ensures { (k : Constants) (subject : Subject) (rows : List Row) (inhibit : ℕ)
         (inputs : List Stamped) → subject.node ≡ k.description.node →
