@@ -254,9 +254,9 @@ other_revision : warning_text plain (OtherRevision key 0x10003 0x10002) ≡ code
 unfolding warning_text keyed_values shown_value hexadecimal digits_text
 other_revision = refl
 
-other_text : warning_text plain (OtherText key) ≡ codes "warning: other-version: 1018:01 has another text than the sheet"
+another_text : warning_text plain (OtherText key) ≡ codes "warning: other-version: 1018:01 has another text than the sheet"
 unfolding warning_text keyed
-other_text = refl
+another_text = refl
 
 odd_code : warning_text plain (OddCode 0xA123 1) ≡ codes "warning: emcy-code: code A123h with error register 01h, of a class that CiA 301 doesn't have"
 unfolding warning_text two_codes digits_text
