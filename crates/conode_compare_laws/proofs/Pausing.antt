@@ -1,6 +1,6 @@
 -- The EMCY that a device sends, over all its inputs: none within the inhibit time by what compare knows of it.
-use Rattle.std.proofs.Common.{◌≡◌, ◌≢◌, ℕ, ◌+◌, ◌≤◌, Bool, true, false, List, [], ◌∷◌, ◌++◌, map, Option, Some, None, refl, sym, ap, ◌∙◌, subst, arith}
-use Rattle.std.specs.Prelude.{if◌then◌else◌, ◌&&◌, not, slice_get, IfSome}
+use Rattle.std.proofs.Common.{◌≡◌, ℕ, ◌+◌, ◌≤◌, Bool, true, false, List, [], ◌∷◌, ◌++◌, map, Option, Some, None, refl, sym, ap, ◌∙◌, subst}
+use Rattle.std.specs.Prelude.{if◌then◌else◌, ◌&&◌, not, slice_get}
 use Rattle.std.specs.List.{AllByRecursion, list_all}
 use Rattle.co_value.specs.declared.key.Key.{Key}
 use Rattle.co_frame.specs.FrameContent.{FrameContent}
@@ -28,7 +28,7 @@ use Rattle.co_node_model.specs.declared.address.Address.TheVariants.{ErrorContro
 use Rattle.co_node_model.specs.Addresses.{address_at}
 use Rattle.co_node_model.specs.AppEvents.{event_refusal, with_app_event}
 use Rattle.co_node_model.specs.Device.{moment, moments, prescribed, state_of, with_frame}
-use Rattle.co_node_model.specs.Emergencies.{emergency_frames, emergency_log, unsent_log}
+use Rattle.co_node_model.specs.Emergencies.{emergency_frames, emergency_log}
 use Rattle.co_node_model.specs.Heartbeats.{boot_up, is_heartbeat, life_frames, producer_event, producer_log}
 use Rattle.co_node_model.specs.Inputs.{AppView, Applied, ChangedAt, Cleared, EventOn, Framed, Inputs, InputView, Raised, Ticked, Written}
 use Rattle.co_node_model.specs.Marks.{command_mark, marked_tick, marked_time_out, written_mark}

@@ -1,6 +1,6 @@
 -- EMCY that aren't judged: by the data sheet a TPDO may have their identifier.
 use Rattle.std.proofs.Common.{◌≡◌, ℕ, Bool, true, false, List, [], ◌∷◌, ◌++◌, Option, Some, None, refl, ap, ◌∙◌}
-use Rattle.std.specs.Prelude.{if◌then◌else◌, ◌==◌, ◌&&◌, ◌||◌, not}
+use Rattle.std.specs.Prelude.{if◌then◌else◌, ◌==◌, ◌&&◌, not}
 use Rattle.co_frame.specs.FrameContent.{FrameContent}
 use Rattle.co_frame.specs.declared.nmt.NmtService.{NmtService}
 use Rattle.co_sheet.specs.Content.{Row}

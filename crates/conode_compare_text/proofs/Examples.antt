@@ -255,7 +255,7 @@ unfolding warning_text keyed_values shown_value hexadecimal digits_text
 other_revision = refl
 
 another_text : warning_text plain (OtherText key) ≡ codes "warning: other-version: 1018:01 has another text than the sheet"
-unfolding warning_text keyed
+unfolding warning_text keyed digits_text
 another_text = refl
 
 odd_code : warning_text plain (OddCode 0xA123 1) ≡ codes "warning: emcy-code: code A123h with error register 01h, of a class that CiA 301 doesn't have"
