@@ -27,7 +27,7 @@ use Rattle.conode_compare_values.specs.declared.mismatch.Mismatch.TheVariants.{V
 use Rattle.conode_compare_rules.specs.declared.limits.Subject.{Subject}
 use Rattle.conode_compare_rules.specs.declared.verdict.Findings.{Findings}
 use Rattle.conode_compare_notes.specs.declared.warning.Warning.{Warning}
-use Rattle.conode_compare_notes.specs.declared.warning.Warning.TheVariants.{Restarted, Stored, Changed, SteppedBack}
+use Rattle.conode_compare_notes.specs.declared.warning.Warning.TheVariants.{Restarted, Stored, Changed, SteppedBack, OtherRevision, OtherText, OddCode}
 use Rattle.conode_compare_rules.specs.declared.kind.FrameKind.{FrameKind}
 use Rattle.conode_compare_rules.specs.declared.progress.Progress.{Progress}
 use Rattle.conode_compare_rules.specs.FrameKinds.{kind_of}
@@ -83,7 +83,10 @@ abbrev pub warned_type : Comparison → Warning → ValueType
 warned_type c Restarted = Plain Unsigned32
 warned_type c (Stored key shown sheet) = type_at c key
 warned_type c (Changed mismatch) = type_at c mismatch.key
+warned_type c (OtherRevision key shown sheet) = type_at c key
 warned_type c (SteppedBack micros) = Plain Unsigned32
+warned_type c (OtherText key) = Plain Unsigned32
+warned_type c (OddCode code register) = Plain Unsigned32
 
 abbrev pub warning_lines : Comparison → ℕ → Option Warning → List (List ℕ)
 warning_lines c number None = []

@@ -2,10 +2,10 @@
 use Rattle.std.specs.Prelude.{ℕ, ◌+◌, ◌-◌, ◌^◌, min, Bool, if◌then◌else◌, List, [], ◌∷◌, Option, Some, None}
 use Rattle.std.specs.Option.{option_or}
 use Rattle.co_sheet.specs.Content.{Row}
-use Rattle.conode_compare_notes.specs.declared.choice.Choice.{Choice}
+use Rattle.conode_compare_choices.specs.declared.choice.Choice.{Choice}
 use Rattle.conode_compare_notes.specs.declared.learned.Shown.{Shown}
-use Rattle.conode_compare_notes.specs.declared.choosing.Choosing.{Choosing}
-use Rattle.conode_compare_notes.specs.Choosings.{choosing_with, chosen_at, nothing_chosen}
+use Rattle.conode_compare_choices.specs.declared.choosing.Choosing.{Choosing}
+use Rattle.conode_compare_choices.specs.Choosings.{choosing_with, chosen_at, nothing_chosen}
 use Rattle.conode_compare_notes.specs.LearnedValues.{learned_with}
 use Rattle.conode_compare_notes.specs.Warnings.{nothing_watched, stepped_back, warning_at, watched_with}
 use Rattle.conode_compare_rules.specs.declared.kind.FrameKind.{FrameKind}

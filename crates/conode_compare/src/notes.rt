@@ -20,7 +20,8 @@ ghost use Rattle.conode_compare.specs.Views.{comparison_view};
 
 use crate::writes::Settings;
 use co_sheet::EntryRow;
-use conode_compare_notes::{Choice, Choosing, Learned, Warning, Watched, stepped_back};
+use conode_compare_choices::{Choice, Choosing};
+use conode_compare_notes::{Learned, Warning, Watched, stepped_back};
 use conode_compare_rules::{FrameKind, Progress, Subject};
 use conode_compare_text::set_choice_line;
 use conode_compare_transfers::Exchange;

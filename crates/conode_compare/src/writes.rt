@@ -124,10 +124,12 @@ fn warned_type(settings: &Settings<'_, '_>, warning: Warning) -> ValueType
     ensures { result ≡ warned_type (comparison_view settings.now) warning }
 {
     match warning {
-        Warning::Restarted => ValueType::Plain(DataType::Unsigned32),
-        Warning::SteppedBack(_) => ValueType::Plain(DataType::Unsigned32),
-        Warning::Stored(key, _, _) => type_at(settings, key),
+        Warning::Stored(key, _, _) | Warning::OtherRevision(key, _, _) => type_at(settings, key),
         Warning::Changed(mismatch) => type_at(settings, mismatch.key),
+        Warning::Restarted
+        | Warning::SteppedBack(_)
+        | Warning::OtherText(_)
+        | Warning::OddCode(_, _) => ValueType::Plain(DataType::Unsigned32),
     }
 }
 

@@ -1,5 +1,5 @@
 -- The heartbeats of a device in its recording, and what compare knows of them.
-use Rattle.std.proofs.Common.{◌≡◌, ◌≢◌, ℕ, ◌+◌, ◌*◌, ◌-◌, ◌%◌, ◌<◌, ◌≤◌, Bool, true, false, List, [], ◌∷◌, ◌++◌, length, Option, Some, None, refl, sym, ap, ◌∙◌, subst, arith, ◌⊎◌, inl, inr, add-one}
+use Rattle.std.proofs.Common.{◌≡◌, ◌≢◌, ℕ, ◌+◌, ◌*◌, ◌-◌, ◌%◌, ◌<◌, ◌≤◌, Bool, true, false, List, [], ◌∷◌, length, Option, Some, None, refl, sym, ap, ◌∙◌, subst, arith, ◌⊎◌, inl, inr, add-one}
 use Rattle.std.specs.Prelude.{if◌then◌else◌, ◌==◌, ◌||◌, nat_le, nat_lt, option_map, IfSome}
 use Rattle.std.specs.List.{AllByRecursion}
 use Rattle.std.specs.Option.{option_to_list}
@@ -20,7 +20,6 @@ use Rattle.co_sheet.specs.Content.{Row}
 use Rattle.conode_explain_transfers.specs.declared.kinds.Side.TheVariants.{Client, Server}
 use Rattle.conode_compare_pdos.specs.Followed as tpdos
 use Rattle.conode_compare_pdos.specs.declared.pdos.Sighting.{Sighting}
-use Rattle.conode_compare_rules.specs.declared.finding.Finding.{Finding}
 use Rattle.conode_compare_rules.specs.declared.finding.Finding.TheVariants.{HeartbeatLate}
 use Rattle.conode_compare_rules.specs.declared.kind.FrameKind.{FrameKind}
 use Rattle.conode_compare_rules.specs.declared.kind.FrameKind.TheVariants.{Command, CommandToAll, Control, Emergency as Emcy, OddEmergency, Other, Process, Sdo}
@@ -55,10 +54,10 @@ use Rattle.conode_compare_rules.specs.Progresses.{
 use Rattle.conode_compare_rules.specs.Times.{drift_of}
 use Rattle.conode_compare_transfers.specs.Times.{micros_of}
 use Rattle.conode_compare_rules.specs.Verdicts.{found}
-use Rattle.conode_compare_laws.specs.Differences.{differences_from, late_differences}
+use Rattle.conode_compare_laws.specs.Differences.{late_differences}
 use Rattle.conode_compare_laws.specs.Periods.{KnowsPeriod}
-use Rattle.conode_compare_laws.specs.Recordings.{Recorded, stamped}
 use Rattle.conode_compare_laws.proofs.Frames.{life_kind}
+use Rattle.conode_compare_laws.proofs.Runs.{AllRun}
 
 -- what compare has of the heartbeats at a time: the bus was free then or before; the period, if it is known; and the last heartbeat,
 -- if it is known, so long ago at most
@@ -208,28 +207,8 @@ heartbeat_passes subject rows p micros byte period ago after other few h =
 
 -- ---- frames one after another, at one time
 
--- no heartbeat is late at any of them, and what holds after the last one
-abbrev pub AllRun : Subject → List Row → ℕ → Progress → List FrameContent → (Progress → Type 0) → Type 0
-AllRun subject rows micros p [] after = after p
-AllRun subject rows micros p (frame ∷ later) after =
-    (late_differences (data_kind subject.node frame) (findings_at subject rows p micros (data_kind subject.node frame)) ≡ [])
-    × AllRun subject rows micros (progress_with subject p micros (data_kind subject.node frame)) later after
-
-pub joined : (subject : Subject) (rows : List Row) (micros : ℕ) (xs ys : List FrameContent) (p : Progress) (between after : Progress → Type 0) → AllRun subject rows micros p xs between
-    → ((q : Progress) → between q → AllRun subject rows micros q ys after) → AllRun subject rows micros p (xs ++ ys) after
-joined subject rows micros [] ys p between after h f = f p h
-joined subject rows micros (x ∷ xs) ys p between after h f = (h.0, joined subject rows micros xs ys (progress_with subject p micros (data_kind subject.node x)) between after h.1 f)
-
-pub then_none : (subject : Subject) (rows : List Row) (micros : ℕ) (frames : List FrameContent) (rest : List Recorded) (p : Progress) (after : Progress → Type 0) → AllRun subject rows micros p frames after
-    → ((q : Progress) → after q → differences_from late_differences subject rows q rest ≡ [])
-    → differences_from late_differences subject rows p (stamped micros frames ++ rest) ≡ []
-then_none subject rows micros [] rest p after h f = f p h
-then_none subject rows micros (frame ∷ later) rest p after h f =
-    ap (λ (x : List Finding). x ++ differences_from late_differences subject rows (progress_with subject p micros (data_kind subject.node frame)) (stamped micros later ++ rest)) h.0
-    ∙ then_none subject rows micros later rest (progress_with subject p micros (data_kind subject.node frame)) after h.1 f
-
 one : (subject : Subject) (rows : List Row) (micros : ℕ) (p : Progress) (frame : FrameContent) (kind : FrameKind) (period after : ℕ) → data_kind subject.node frame ≡ kind
-    → Passes subject rows (begun subject p micros) micros kind period after → AllRun subject rows micros p (frame ∷ []) (Beats period micros after)
+    → Passes subject rows (begun subject p micros) micros kind period after → AllRun late_differences subject rows micros p (frame ∷ []) (Beats period micros after)
 unfolding findings_at progress_with
 one subject rows micros p frame kind period after is h =
     let pass : Passes subject rows (begun subject p micros) micros (data_kind subject.node frame) period after = subst (λ other. Passes subject rows (begun subject p micros) micros other period after) (sym is) h in
@@ -271,10 +250,10 @@ still_kind node frame h =
     by false false false false false p q r = refl
 
 pub stills : (subject : Subject) (rows : List Row) (micros : ℕ) (frames : List FrameContent) (p : Progress) (period ago : ℕ) → KnowsPeriod period subject → AllByRecursion (λ frame. IsStill subject.node frame.id) frames
-    → Beats period micros ago p → AllRun subject rows micros p frames (Beats period micros ago)
+    → Beats period micros ago p → AllRun late_differences subject rows micros p frames (Beats period micros ago)
 stills subject rows micros [] p period ago knows are h = h
 stills subject rows micros (frame ∷ later) p period ago knows are h =
-    let first : AllRun subject rows micros p (frame ∷ []) (Beats period micros ago) =
+    let first : AllRun late_differences subject rows micros p (frame ∷ []) (Beats period micros ago) =
     one subject rows micros p frame (data_kind subject.node frame) period ago refl
     (still_passes subject rows (begun subject p micros) micros (data_kind subject.node frame) period ago (still_kind subject.node frame are.0) (begun_beats subject period micros ago p knows h)) in
     (first.0, stills subject rows micros later (progress_with subject p micros (data_kind subject.node frame)) period ago knows are.1 first.1)
@@ -287,7 +266,7 @@ byte_of heartbeat.PreOperational b is = inl refl
 
 -- the boot-up or a heartbeat of the device: from then on so much may pass
 pub life_runs : (subject : Subject) (rows : List Row) (micros : ℕ) (p : Progress) (life : Heartbeat) (period ago after : ℕ) → KnowsPeriod period subject → (period ≡ 0) ⊎ (ago ≤ period * 1000) → Beats period micros ago p
-    → AllRun subject rows micros p (record { id = 0x700 + subject.node; bytes = heartbeat_bytes life } ∷ []) (Beats period micros after)
+    → AllRun late_differences subject rows micros p (record { id = 0x700 + subject.node; bytes = heartbeat_bytes life } ∷ []) (Beats period micros after)
 life_runs subject rows micros p life period ago after knows few h =
     one subject rows micros p (record { id = 0x700 + subject.node; bytes = heartbeat_bytes life }) (Control (state_byte life)) period after (life_kind subject.node life)
     (elim (byte_of life (state_byte life == 0) refl) [

@@ -1,9 +1,13 @@
 -- A recording of a small device, and that the conditions of the laws are needed: what compare finds where another sender, or the
 -- device itself, uses an identifier a second time.
-use Rattle.std.proofs.Common.{◌≡◌, ℕ, true, false, List, [], ◌∷◌, Some, None, refl}
+use Rattle.std.specs.Prelude.{pos}
+use Rattle.std.proofs.Common.{◌≡◌, ℕ, ◌+◌, true, false, List, [], ◌∷◌, map, Some, None, refl}
 use Rattle.co_frame.specs.FrameContent.{FrameContent}
 use Rattle.co_profile.specs.declared.access.Access.TheVariants.{Rw}
 use Rattle.co_dict.specs.FreeIds.{is_good_word}
+use Rattle.co_sheet.specs.Content.{Row}
+use Rattle.co_sheet.specs.Limits.{Default, number, node_id}
+use Rattle.co_value.specs.declared.data_type.DataType.TheVariants.{Unsigned32}
 use Rattle.co_node_model.specs.Inputs.{InputView, Ticked}
 use Rattle.co_node_model.proofs.ExampleNode.{device, device_with, frame, reset_node, searches, start, u16, u32}
 use Rattle.conode_record.specs.declared.content.Content.TheVariants.{Data}
@@ -11,16 +15,20 @@ use Rattle.conode_record.specs.declared.fields.Identifier.TheVariants.{Base}
 use Rattle.conode_compare_pdos.specs.Followed.{unknown_pdos}
 use Rattle.conode_compare_rules.specs.declared.entries.Entries.{Entries}
 use Rattle.conode_compare_rules.specs.declared.finding.Finding.{Finding}
-use Rattle.conode_compare_rules.specs.declared.finding.Finding.TheVariants.{EmergencyLength, HeartbeatLength, SecondBootUp, WrongState}
+use Rattle.conode_compare_rules.specs.declared.finding.Finding.TheVariants.{EmergencyInhibit, EmergencyLength, HeartbeatLength, SecondBootUp, WrongState}
 use Rattle.conode_compare_rules.specs.declared.finding.NmtState.TheVariants.{Operational, PreOperational}
 use Rattle.conode_compare_rules.specs.declared.limits.Subject.{Subject}
+use Rattle.conode_compare_rules.specs.EmergencyRules.{emergency_finding, inhibit_finding}
+use Rattle.conode_compare_rules.specs.EntriesInForce.{facts_of, initial_entries, sheet_entries}
 use Rattle.conode_compare_rules.specs.FrameKinds.{data_kind, kind_of}
-use Rattle.conode_compare_rules.specs.Progresses.{after_command, begun, booted, control_findings, findings_at, heartbeat_findings, progress_with}
+use Rattle.conode_compare_rules.specs.Progresses.{after_command, after_emergency, begun, booted, control_findings, emergency_findings, findings_at, heartbeat_findings, progress_with}
 use Rattle.conode_compare_rules.specs.States as states
 use Rattle.conode_compare_rules.specs.States.{after_boot_up, after_other, awaits_boot_up, boot_finding, control_finding, is_settled, second_boot_up, state_finding}
 use Rattle.conode_compare_rules.specs.Verdicts.{found}
-use Rattle.conode_compare_laws.specs.Differences.{differences_in, emergency_differences, state_differences}
+use Rattle.conode_compare_laws.specs.Differences.{differences_in, emergency_differences, inhibit_differences, state_differences}
+use Rattle.conode_compare_laws.specs.Identifiers.{JudgesNone}
 use Rattle.conode_compare_laws.specs.Recordings.{Recorded, Stamped, recording, with_stamp}
+use Rattle.conode_compare_laws.proofs.Unjudged.{none_judged}
 
 abbrev at : ℕ → InputView → Stamped
 at micros input = record { micros = micros; input = input }
@@ -83,10 +91,49 @@ permitted = refl
 abbrev twice : List Recorded
 twice = recording (device_with (u32 Rw 0x1800 1 0x85 ∷ u16 Rw 0x1800 5 1 ∷ [])) (at 1000 start ∷ at 2000 Ticked ∷ [])
 
-twice_heard : twice ≡ with_stamp 1000 (frame 0x705 1 0) ∷ with_stamp 1000 (frame 0 2 0x0105) ∷ with_stamp 2000 (frame 0x85 4 0) ∷ []
+abbrev shared : List Recorded
+shared = with_stamp 1000 (frame 0x705 1 0) ∷ with_stamp 1000 (frame 0 2 0x0105) ∷ with_stamp 2000 (frame 0x85 4 0) ∷ []
+
+twice_heard : twice ≡ shared
 unfolding searches
 twice_heard = refl
 
-taken_for_emergency : differences_in emergency_differences subject [] (with_stamp 1000 (frame 0x705 1 0) ∷ with_stamp 1000 (frame 0 2 0x0105) ∷ with_stamp 2000 (frame 0x85 4 0) ∷ []) ≡ EmergencyLength 4 ∷ []
+taken_for_emergency : differences_in emergency_differences subject [] shared ≡ EmergencyLength 4 ∷ []
 unfolding findings_at progress_with begun booted found states.after_control after_boot_up after_command states.after_command
 taken_for_emergency = refl
+
+-- not where its data sheet has it: compare judges no EMCY then
+abbrev row : ℕ → ℕ → Default → Row
+row index sub default = record {
+  key = record { index = index; sub = sub };
+  data_type = Unsigned32;
+  access = Rw;
+  low = None;
+  high = None;
+  default = default;
+  mappable = false;
+  name = None;
+  line = 1;
+}
+
+abbrev sharing : Subject
+sharing = record subject { facts = facts_of (row 0x1014 0 (node_id 0x80) ∷ row 0x1800 1 (number (pos 0x85)) ∷ []) 5 false }
+
+judges_none : JudgesNone sharing
+unfolding facts_of initial_entries sheet_entries
+judges_none = record { before = refl; booted = refl }
+
+not_taken : differences_in emergency_differences sharing [] shared ≡ []
+not_taken = none_judged sharing [] shared judges_none
+
+-- ---- two EMCY, with an inhibit time of 100 ms: 89 ms are as prescribed, by 10 ms of tolerance and 1 % of drift
+
+abbrev pausing : Subject
+pausing = record subject { facts = record subject.facts { booted = record sheet { inhibit = Some 1000 } } }
+
+abbrev pause_found : ℕ → List Finding
+pause_found micros = differences_in inhibit_differences pausing [] (with_stamp 0 (frame 0x705 1 0) ∷ with_stamp 5000 (frame 0x85 8 0x118130) ∷ with_stamp (5000 + micros) (frame 0x85 8 0x118130) ∷ [])
+
+pauses : map pause_found (88999 ∷ 89000 ∷ []) ≡ (EmergencyInhibit 88999 1000 ∷ []) ∷ [] ∷ []
+unfolding findings_at progress_with begun booted found states.after_control after_boot_up emergency_findings emergency_finding inhibit_finding after_emergency is_settled
+pauses = refl

@@ -30,32 +30,33 @@ use Rattle.conode_compare_laws.specs.Differences.{differences_from, differences_
 use Rattle.conode_compare_laws.specs.Identifiers.{AllSendAside, AreAside, AreElsewhere, AreNoSdo, IsElsewhere, SendsAside}
 use Rattle.conode_compare_laws.specs.Periods.{AllKeepPeriod, KeepsPeriod, KnowsPeriod}
 use Rattle.conode_compare_laws.specs.Recordings.{AreInTime, AreTimed, Recorded, Stamped, elapsed, frame_of, heard_from, recording, stamped}
-use Rattle.conode_compare_laws.proofs.Beats.{AllRun, Beats, IsStill, joined, later, life_runs, more_ago, next_rest, stills, then_none}
+use Rattle.conode_compare_laws.proofs.Beats.{Beats, IsStill, later, life_runs, more_ago, next_rest, stills}
+use Rattle.conode_compare_laws.proofs.Runs.{AllRun, joined, then_none}
 use Rattle.conode_compare_laws.proofs.Heard.{of_device}
 
 -- ---- which frames these are
 
 -- no frame of a recording is one of the default SDO channel: so none of those that it is made of
-first_part : (node : ℕ) (xs ys : List Recorded) → AreNoSdo node (xs ++ ys) → AreNoSdo node xs
+pub first_part : (node : ℕ) (xs ys : List Recorded) → AreNoSdo node (xs ++ ys) → AreNoSdo node xs
 first_part node [] ys h = tt
 first_part node (x ∷ xs) ys h = (h.0, first_part node xs ys h.1)
 
-last_part : (node : ℕ) (xs ys : List Recorded) → AreNoSdo node (xs ++ ys) → AreNoSdo node ys
+pub last_part : (node : ℕ) (xs ys : List Recorded) → AreNoSdo node (xs ++ ys) → AreNoSdo node ys
 last_part node [] ys h = h
 last_part node (x ∷ xs) ys h = last_part node xs ys h.1
 
-abbrev NoSdo : ℕ → List FrameContent → Type 0
+abbrev pub NoSdo : ℕ → List FrameContent → Type 0
 NoSdo node frames = AllByRecursion (λ frame. (frame.id ≢ 0x580 + node) × (frame.id ≢ 0x600 + node)) frames
 
-unstamped : (node micros : ℕ) (frames : List FrameContent) → AreNoSdo node (stamped micros frames) → NoSdo node frames
+pub unstamped : (node micros : ℕ) (frames : List FrameContent) → AreNoSdo node (stamped micros frames) → NoSdo node frames
 unstamped node micros [] h = tt
 unstamped node micros (frame ∷ frames) h = (h.0, unstamped node micros frames h.1)
 
-before_these : (node : ℕ) (xs ys : List FrameContent) → NoSdo node (xs ++ ys) → NoSdo node xs
+pub before_these : (node : ℕ) (xs ys : List FrameContent) → NoSdo node (xs ++ ys) → NoSdo node xs
 before_these node [] ys h = tt
 before_these node (x ∷ xs) ys h = (h.0, before_these node xs ys h.1)
 
-after_those : (node : ℕ) (xs ys : List FrameContent) → NoSdo node (xs ++ ys) → NoSdo node ys
+pub after_those : (node : ℕ) (xs ys : List FrameContent) → NoSdo node (xs ++ ys) → NoSdo node ys
 after_those node [] ys h = h
 after_those node (x ∷ xs) ys h = after_those node xs ys h.1
 
@@ -77,7 +78,7 @@ ago_of period log = (ticks log % period) * 1000
 -- after the boot-up or a heartbeat any time may be said; else it is longer ago by what the input took
 life_steps : (subject : Subject) (rows : List Row) (micros more period : ℕ) (p : Progress) (log : ProducerLog) (reset tick : Bool) (number : ℕ) (final : NodeState) → KnowsPeriod period subject
     → 0 < period → period_of log ≡ period → more ≤ 1000 → (tick ≡ false → more ≡ 0) → Beats period micros (ago_of period log + more) p
-    → AllRun subject rows micros p
+    → AllRun late_differences subject rows micros p
     (life_frames subject.node (if reset then Some BootUp else (if is_heartbeat_due (if reset || false then producer.Begin number else (if tick then producer.Tick else producer.Quiet)) log then Some (heartbeat_of final) else None)))
     (Beats period micros (ago_of period ((if reset || false then producer.Begin number else (if tick then producer.Tick else producer.Quiet)) ∷ log)))
 life_steps subject rows micros more period p log true tick number final knows some same few none h =
@@ -94,13 +95,13 @@ life_steps subject rows micros more period p log false true number final knows s
     due = ap (λ b. b && ((ticks log + 1) % period_of log == 0)) positive ∙ ap (λ n. (ticks log + 1) % n == 0) same
 
     by : (b : Bool) → ((ticks log + 1) % period == 0) ≡ b
-        → AllRun subject rows micros p (life_frames subject.node (if is_heartbeat_due producer.Tick log then Some (heartbeat_of final) else None)) (Beats period micros (((ticks log + 1) % period) * 1000))
+        → AllRun late_differences subject rows micros p (life_frames subject.node (if is_heartbeat_due producer.Tick log then Some (heartbeat_of final) else None)) (Beats period micros (((ticks log + 1) % period) * 1000))
     by true is =
-        subst (λ b. AllRun subject rows micros p (life_frames subject.node (if b then Some (heartbeat_of final) else None)) (Beats period micros (((ticks log + 1) % period) * 1000))) (sym (due ∙ is))
+        subst (λ b. AllRun late_differences subject rows micros p (life_frames subject.node (if b then Some (heartbeat_of final) else None)) (Beats period micros (((ticks log + 1) % period) * 1000))) (sym (due ∙ is))
         (life_runs subject rows micros p (heartbeat_of final) period (ago_of period log + more) (((ticks log + 1) % period) * 1000) knows (inr (omega (arith, mod-lt (ticks log) some))) h)
     by false is =
         let next : (ticks log + 1) % period ≡ ticks log % period + 1 = elim (next_rest (ticks log) period some) [ inl on ↦ absurd (cc) | inr e ↦ e ] in
-        subst (λ b. AllRun subject rows micros p (life_frames subject.node (if b then Some (heartbeat_of final) else None)) (Beats period micros (((ticks log + 1) % period) * 1000))) (sym (due ∙ is))
+        subst (λ b. AllRun late_differences subject rows micros p (life_frames subject.node (if b then Some (heartbeat_of final) else None)) (Beats period micros (((ticks log + 1) % period) * 1000))) (sym (due ∙ is))
         (subst (λ n. Beats period micros n p) (ap (λ r. r * 1000) (sym next)) (more_ago period micros (ago_of period log + more) ((ticks log % period + 1) * 1000) p (omega arith) h))
 
 -- ---- an input
@@ -128,12 +129,12 @@ no_time k history (Applied event) off = refl
 life_at : (k : Constants) (subject : Subject) (rows : List Row) (micros more period : ℕ) (history : History) (input : InputView) (p : Progress) → KnowsPeriod period subject → 0 < period
     → period_of (producer_log k history) ≡ period → is_set (marked_key (moment k history input).mark) producer_key ≡ false → more ≤ 1000 → (marked_tick (moment k history input).mark ≡ false → more ≡ 0)
     → Beats period micros (ago_of period (producer_log k history) + more) p
-    → AllRun subject rows micros p (life_frames subject.node (moment k history input).life) (Beats period micros (ago_of period (producer_log k (moment k history input ∷ history))))
+    → AllRun late_differences subject rows micros p (life_frames subject.node (moment k history input).life) (Beats period micros (ago_of period (producer_log k (moment k history input ∷ history))))
 life_at k subject rows micros more period history input p knows some same off few none h =
     let m : Moment = moment k history input in
     let log : ProducerLog = producer_log k history in
     let final : NodeState = state_at (m ∷ history) in
-    subst (λ set. AllRun subject rows micros p
+    subst (λ set. AllRun late_differences subject rows micros p
     (life_frames subject.node (if is_reset m.mark then Some BootUp
     else (if is_heartbeat_due (if is_reset m.mark || set then producer.Begin (number_at m.contents producer_key) else (if marked_tick m.mark then producer.Tick else producer.Quiet)) log then Some (heartbeat_of final) else None)))
     (Beats period micros (ago_of period ((if is_reset m.mark || set then producer.Begin (number_at m.contents producer_key) else (if marked_tick m.mark then producer.Tick else producer.Quiet)) ∷ log))))
@@ -144,7 +145,7 @@ input_runs : (k : Constants) (subject : Subject) (rows : List Row) (micros last 
     → period_of (producer_log k (moments k before)) ≡ period → KeepsPeriod period (moment k (moments k before) input) → micros ≤ last + elapsed input
     → IsElsewhere (0x700 + k.description.node) input → SendsAside k (moment k (moments k before) input) → NoSdo k.description.node (frame_of input ++ prescribed k before input)
     → Beats period last (ago_of period (producer_log k (moments k before))) p
-    → AllRun (of_device k subject) rows micros p (frame_of input ++ prescribed k before input) (Beats period micros (ago_of period (producer_log k (moments k (input ∷ before)))))
+    → AllRun late_differences (of_device k subject) rows micros p (frame_of input ++ prescribed k before input) (Beats period micros (ago_of period (producer_log k (moments k (input ∷ before)))))
 input_runs k subject rows micros last period before input p knows some same keeps time control aside none h =
     let s : Subject = of_device k subject in
     let n : ℕ = k.description.node in
@@ -163,13 +164,13 @@ input_runs k subject rows micros last period before input p knows some same keep
     let sent_c : NoSdo n (a ++ b ++ c) = before_these n (a ++ b ++ c) d sent_d in
     let sent_b : NoSdo n (a ++ b) = before_these n (a ++ b) c sent_c in
     let now : Beats period micros ago p = later period last micros (ago_of period log) (elapsed input) p time h in
-    joined s rows micros (frame_of input) (a ++ b ++ c ++ d ++ e) p (Beats period micros ago) (Beats period micros after)
+    joined late_differences s rows micros (frame_of input) (a ++ b ++ c ++ d ++ e) p (Beats period micros ago) (Beats period micros after)
     (stills s rows micros (frame_of input) p period ago known (came_still n input (before_these n (frame_of input) (prescribed k before input) none) control) now)
     (λ q0 g0.
-    joined s rows micros (a ++ b ++ c ++ d) e q0 (Beats period micros after) (Beats period micros after)
-    (joined s rows micros (a ++ b ++ c) d q0 (Beats period micros ago) (Beats period micros after)
-    (joined s rows micros (a ++ b) c q0 (Beats period micros ago) (Beats period micros ago)
-    (joined s rows micros a b q0 (Beats period micros ago) (Beats period micros ago)
+    joined late_differences s rows micros (a ++ b ++ c ++ d) e q0 (Beats period micros after) (Beats period micros after)
+    (joined late_differences s rows micros (a ++ b ++ c) d q0 (Beats period micros ago) (Beats period micros after)
+    (joined late_differences s rows micros (a ++ b) c q0 (Beats period micros ago) (Beats period micros ago)
+    (joined late_differences s rows micros a b q0 (Beats period micros ago) (Beats period micros ago)
     (stills s rows micros a q0 period ago known (still n a (before_these n a b sent_b) aside.answers) g0)
     (λ q g. stills s rows micros b q period ago known (still n b (after_those n a b sent_b) aside.time_out) g))
     (λ q g. stills s rows micros c q period ago known (still n c (after_those n (a ++ b) c sent_c) aside.emergency) g))
@@ -186,13 +187,13 @@ all_none k subject rows period [] before last p knows some same keep time contro
 all_none k subject rows period (s ∷ others) before last p knows some same keep time control aside none h =
     let frames : List FrameContent = frame_of s.input ++ prescribed k before s.input in
     let rest : List Recorded = heard_from k (s.input ∷ before) others in
-    then_none (of_device k subject) rows s.micros frames rest p (Beats period s.micros (ago_of period (producer_log k (moments k (s.input ∷ before)))))
+    then_none late_differences (of_device k subject) rows s.micros frames rest p (Beats period s.micros (ago_of period (producer_log k (moments k (s.input ∷ before)))))
     (input_runs k subject rows s.micros last period before s.input p knows some same keep.0 time.0 control.0 aside.0 (unstamped k.description.node s.micros frames (first_part k.description.node (stamped s.micros frames) rest none)) h)
     (λ q g. all_none k subject rows period others (s.input ∷ before) s.micros q knows some (keeps k (moments k before) (moment k (moments k before) s.input) period keep.0 same) keep.1 time.1 control.1 aside.1
     (last_part k.description.node (stamped s.micros frames) rest none) g)
 
 begins : (k : Constants) (subject : Subject) (rows : List Row) (micros period : ℕ) → KnowsPeriod period subject → 0 < period
-    → AllRun (of_device k subject) rows micros (before_recording (of_device k subject)) (boot_up k ∷ []) (Beats period micros (ago_of period (producer.Begin period ∷ [])))
+    → AllRun late_differences (of_device k subject) rows micros (before_recording (of_device k subject)) (boot_up k ∷ []) (Beats period micros (ago_of period (producer.Begin period ∷ [])))
 begins k subject rows micros period knows some =
     let s : Subject = of_device k subject in
     life_runs s rows micros (before_recording s) BootUp period 0 _ (record { before = knows.before; booted = knows.booted }) (inr (omega arith)) (record { fresh = tt; known = knows.before; since = tt })
@@ -203,7 +204,7 @@ of_recording : (k : Constants) (subject : Subject) (rows : List Row) (period : �
 of_recording k subject rows period [] knows some start keep time control aside none = refl
 of_recording k subject rows period (s ∷ others) knows some start keep time control aside none =
     let subj : Subject = of_device k subject in
-    then_none subj rows s.micros (boot_up k ∷ []) (heard_from k [] (s ∷ others)) (before_recording subj) (Beats period s.micros (ago_of period (producer.Begin period ∷ [])))
+    then_none late_differences subj rows s.micros (boot_up k ∷ []) (heard_from k [] (s ∷ others)) (before_recording subj) (Beats period s.micros (ago_of period (producer.Begin period ∷ [])))
     (begins k subject rows s.micros period knows some)
     (λ q g. all_none k subject rows period (s ∷ others) [] s.micros q knows some start keep (omega arith, time) control aside none.1 g)
 

@@ -55,6 +55,15 @@ emergency_differences (Emergency code register) found = besides_inhibit found.fr
 emergency_differences (OddEmergency length) found = besides_inhibit found.frame
 emergency_differences kind found = []
 
+-- `emcy-inhibit` alone
+abbrev pub only_inhibit : Option Finding → List Finding
+only_inhibit (Some (EmergencyInhibit passed inhibit)) = EmergencyInhibit passed inhibit ∷ []
+only_inhibit finding = []
+
+abbrev pub inhibit_differences : FrameKind → Findings → List Finding
+inhibit_differences (Emergency code register) found = only_inhibit found.frame
+inhibit_differences kind found = []
+
 -- ---- heartbeats (CiA 301, 7.2.8.3.2)
 
 -- `heartbeat-late`, at whatever frame it is found

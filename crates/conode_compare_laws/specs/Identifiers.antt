@@ -1,5 +1,5 @@
 -- Whose frames have which identifiers in a recording.
-use Rattle.std.specs.Prelude.{◌≡◌, ℕ, ◌+◌, ◌≢◌, ◌<◌, ◌≤◌, true, List, [], ◌∷◌, map}
+use Rattle.std.specs.Prelude.{◌≡◌, ℕ, ◌+◌, ◌≢◌, ◌<◌, ◌≤◌, true, false, List, [], ◌∷◌, map}
 use Rattle.std.specs.List.{AllByRecursion}
 use Rattle.co_frame.specs.FrameContent.{FrameContent}
 use Rattle.co_profile.specs.Keys.{emergency_key}
@@ -12,6 +12,7 @@ use Rattle.co_node_model.specs.Moments.{Constants, Moment, channels}
 use Rattle.co_node_model.specs.Device.{moment, moments}
 use Rattle.co_node_model.specs.Emergencies.{emergency_frames}
 use Rattle.co_node_model.specs.Tpdos.{tpdo_frame}
+use Rattle.conode_compare_rules.specs.declared.limits.Subject.{Subject}
 use Rattle.conode_compare_laws.specs.Recordings.{Recorded, Stamped}
 
 -- ---- what comes to a device
@@ -77,6 +78,13 @@ pub record SendsWithout (id : ℕ) (k : Constants) (m : Moment) : Type 0 where
 abbrev pub AllSendWithout : ℕ → Constants → Inputs → List Stamped → Type 0
 AllSendWithout id k before [] = Unit {0}
 AllSendWithout id k before (s ∷ later) = SendsWithout id k (moment k (moments k before) s.input) × AllSendWithout id k (s.input ∷ before) later
+
+-- ---- what is known of a device
+
+-- no EMCY is judged: by the data sheet 1014:00 may have another COB-ID, or a TPDO that of EMCY
+pub record JudgesNone (subject : Subject) : Type 0 where
+  pub before : subject.facts.before.emergencies ≡ false
+  pub booted : subject.facts.booted.emergencies ≡ false
 
 -- ---- a device that keeps to them
 

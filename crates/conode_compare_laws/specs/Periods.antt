@@ -1,6 +1,6 @@
--- Heartbeats of one period: what the laws about them ask of a device, of its data sheet, and of the stamps.
+-- Heartbeats of one period, and EMCY of one inhibit time: what the laws about them ask of a device and of its data sheet.
 use Rattle.std.specs.Prelude.{◌≡◌, ℕ, false, List, [], ◌∷◌, IfSome}
-use Rattle.co_profile.specs.Keys.{producer_key}
+use Rattle.co_profile.specs.Keys.{emergency_inhibit_key, producer_key}
 use Rattle.co_dict.specs.Rows.{number_at}
 use Rattle.co_node_model.specs.Inputs.{Inputs}
 use Rattle.co_node_model.specs.Keys.{is_set}
@@ -24,3 +24,16 @@ AllKeepPeriod period k before (s ∷ later) = KeepsPeriod period (moment k (mome
 pub record KnowsPeriod (period : ℕ) (subject : Subject) : Type 0 where
   pub before : IfSome subject.facts.before.period (λ known. known ≡ period)
   pub booted : IfSome subject.facts.booted.period (λ known. known ≡ period)
+
+-- ---- the inhibit time of EMCY
+
+-- 1015:00 has this number after each of these inputs, which come after those before
+abbrev pub AllHaveInhibit : ℕ → Constants → Inputs → List Stamped → Type 0
+AllHaveInhibit inhibit k before [] = Unit {0}
+AllHaveInhibit inhibit k before (s ∷ later) =
+    (number_at (moment k (moments k before) s.input).contents emergency_inhibit_key ≡ inhibit) × AllHaveInhibit inhibit k (s.input ∷ before) later
+
+-- what is known of 1015:00 by the data sheet, before a boot-up and after one, is nothing or this
+pub record KnowsInhibit (inhibit : ℕ) (subject : Subject) : Type 0 where
+  pub before : IfSome subject.facts.before.inhibit (λ known. known ≡ inhibit)
+  pub booted : IfSome subject.facts.booted.inhibit (λ known. known ≡ inhibit)

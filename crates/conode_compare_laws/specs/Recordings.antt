@@ -58,7 +58,17 @@ abbrev pub AreInTime : ℕ → List Stamped → Type 0
 AreInTime last [] = Unit {0}
 AreInTime last (s ∷ later) = (s.micros ≤ last + elapsed s.input) × AreInTime s.micros later
 
--- from the first input on
+-- from the first input on, no stamp is later than the ticks have it
 abbrev pub AreTimed : List Stamped → Type 0
 AreTimed [] = Unit {0}
 AreTimed (s ∷ later) = AreInTime s.micros later
+
+-- after a stamp none comes earlier than the ticks since have it
+abbrev pub AreSpaced : ℕ → List Stamped → Type 0
+AreSpaced last [] = Unit {0}
+AreSpaced last (s ∷ later) = (last + elapsed s.input ≤ s.micros) × AreSpaced s.micros later
+
+-- from the first input on, no stamp is earlier than the ticks have it
+abbrev pub AreUnhurried : List Stamped → Type 0
+AreUnhurried [] = Unit {0}
+AreUnhurried (s ∷ later) = AreSpaced s.micros later

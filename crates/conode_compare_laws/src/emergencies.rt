@@ -1,6 +1,6 @@
 //! EMCY.
 
-ghost use Rattle.std.specs.Prelude.{◌≡◌, ◌+◌, List, []};
+ghost use Rattle.std.specs.Prelude.{◌≡◌, ◌⊎◌, ◌+◌, List, []};
 ghost use Rattle.co_sheet.specs.Content.{Row};
 ghost use Rattle.co_node_model.specs.Moments.{Constants};
 ghost use Rattle.conode_compare_rules.specs.declared.limits.Subject.{Subject};
@@ -10,6 +10,7 @@ ghost use Rattle.conode_compare_laws.specs.Identifiers.{
   AreElsewhere,
   AreNoEvents,
   BeginsAside,
+  JudgesNone,
 };
 ghost use Rattle.conode_compare_laws.specs.Recordings.{Stamped, recording};
 
@@ -20,14 +21,15 @@ use crate::aside::sends_aside;
 /// while stopped, each with bit 0 of the error register, and of eight bytes. Conditions: `compare`
 /// has its node-ID; no other node sends on the identifiers of its error control and of its EMCY
 /// (`AreElsewhere`), and none of its own SDO channels and TPDOs sends on the latter, 80h + node-ID
-/// (`AllSendWithout`). CiA 301 doesn't restrict that one, and the dictionary permits it: of a device
-/// with such a TPDO the law isn't true. This is a law: a call of it changes nothing.
+/// (`AllSendWithout`). CiA 301 doesn't restrict that one, and the dictionary permits it: where a TPDO
+/// has it by the data sheet, `compare` judges no EMCY, and nothing is asked of the device's frames
+/// (`JudgesNone`). This is a law: a call of it changes nothing.
 pub fn no_emergency_differences()
     ensures { (k : Constants) (subject : Subject) (rows : List Row) (inputs : List Stamped) →
         subject.node ≡ k.description.node → AreNoEvents inputs →
         AreElsewhere (0x700 + k.description.node) inputs →
         AreElsewhere (0x80 + k.description.node) inputs → BeginsAside k →
-        AllSendWithout (0x80 + k.description.node) k [] inputs →
+        JudgesNone subject ⊎ AllSendWithout (0x80 + k.description.node) k [] inputs →
         differences_in emergency_differences subject rows (recording k inputs) ≡ [] }
 {
     sends_aside();

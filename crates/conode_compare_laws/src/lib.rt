@@ -4,12 +4,14 @@
 
 mod aside;
 mod built_devices;
+mod early_emergencies;
 mod emergencies;
 mod late_heartbeats;
 mod states;
 
 pub use aside::sends_aside;
 pub use built_devices::{begins_aside, built_no_state_differences};
+pub use early_emergencies::no_early_emergencies;
 pub use emergencies::no_emergency_differences;
 pub use late_heartbeats::no_late_heartbeats;
 pub use states::no_state_differences;

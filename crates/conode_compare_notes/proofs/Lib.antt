@@ -1,2 +1,1 @@
-mod ChoosingExamples
 mod Examples

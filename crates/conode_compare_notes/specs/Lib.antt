@@ -1,9 +1,4 @@
-pub mod Choices
-pub mod Choosings
 pub mod LearnedValues
-pub mod LengthErrors
-pub mod Phases
-pub mod RefusalCodes
-pub mod Requests
+pub mod Versions
 pub mod Warnings
 pub mod WrittenNumbers

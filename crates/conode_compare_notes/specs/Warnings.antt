@@ -1,7 +1,7 @@
 -- What a user may want to know of a device, though it is no difference: that it restarted by itself,
--- that it may have stored values, that a value changed after it was written.
+-- that it may have stored values, that a value changed after it was written; and what `Versions` has.
 use Rattle.std.specs.Prelude.{ℕ, ◌-◌, ◌==◌, nat_le, nat_lt, Bool, true, false, not, ◌&&◌, ◌||◌, if◌then◌else◌, List, [], Option, Some, None, is_some, option_map, option_and_then}
-use Rattle.std.specs.Option.{option_map_or}
+use Rattle.std.specs.Option.{option_map_or, option_or}
 use Rattle.co_frame.specs.FrameContent.{FrameContent}
 use Rattle.co_sheet.specs.Content.{Row}
 use Rattle.co_value.specs.declared.key.Key.{Key}
@@ -23,14 +23,16 @@ use Rattle.conode_compare_held.specs.HeldWords.{entry_of, held_width}
 use Rattle.conode_compare_rules.specs.declared.finding.Remark.{Remark}
 use Rattle.conode_compare_rules.specs.declared.finding.Remark.TheVariants.{Restarted as RestartedRemark, EarlyHeartbeat}
 use Rattle.conode_compare_rules.specs.declared.kind.FrameKind.{FrameKind}
-use Rattle.conode_compare_rules.specs.declared.kind.FrameKind.TheVariants.{Command, CommandToAll, Control, Sdo}
+use Rattle.conode_compare_rules.specs.declared.kind.FrameKind.TheVariants.{Command, CommandToAll, Control, Emergency, Sdo}
 use Rattle.conode_compare_rules.specs.declared.limits.Subject.{Subject}
 use Rattle.conode_compare_rules.specs.declared.progress.Progress.{Progress}
+use Rattle.conode_compare_rules.specs.Progresses.{is_begun}
 use Rattle.conode_compare_rules.specs.States.{is_reset}
 use Rattle.conode_compare_notes.specs.declared.warning.Warning.{Warning}
 use Rattle.conode_compare_notes.specs.declared.warning.Warning.TheVariants.{Restarted, Stored, Changed, SteppedBack}
 use Rattle.conode_compare_notes.specs.declared.watched.Watched.{Watched}
 use Rattle.conode_compare_notes.specs.declared.writes.Wrote.{Wrote}
+use Rattle.conode_compare_notes.specs.Versions.{code_warning, version_warning}
 use Rattle.conode_compare_notes.specs.WrittenNumbers.{number_of, with_number}
 
 -- ---- entries
@@ -152,10 +154,6 @@ with_request rows watched Server what frame = watched
 
 -- ---- every frame
 
--- the recording begins with the newest frame, or begins anew; or that is an error frame
-abbrev pub is_begun : Progress → Bool
-is_begun progress = option_map_or (λ newest. newest == progress.started) progress.newest false
-
 -- before a frame, by what the recording shows with it
 abbrev pub watched_before : Watched → Progress → Watched
 watched_before watched progress = if is_begun progress then nothing_watched else watched
@@ -197,21 +195,30 @@ remark_warning None = None
 remark_warning (Some RestartedRemark) = Some Restarted
 remark_warning (Some (EarlyHeartbeat passed period)) = None
 
+-- of an EMCY, or by the remark
+abbrev pub other_warning : Bool → FrameKind → Option Remark → Option Warning
+other_warning emergencies (Emergency code register) remark = code_warning emergencies code register
+other_warning emergencies kind remark = remark_warning remark
+
+-- by the end of a transfer
+abbrev pub end_warning : Subject → List Row → Watched → Bool → Ended → Option Warning
+end_warning subject rows watched certain ended =
+    option_or (ended_warning subject rows watched certain ended) (version_warning subject.node rows certain ended)
+
 abbrev pub exchange_warning : Subject → List Row → Watched → Exchange → Option Warning
 exchange_warning subject rows watched exchange =
-    option_and_then (ended_warning subject rows watched exchange.certain) exchange.heard.ended
+    option_and_then (end_warning subject rows watched exchange.certain) exchange.heard.ended
 
 abbrev pub heard_warning : Subject → List Row → Watched → Option Exchange → Option Warning
 heard_warning subject rows watched exchange = option_and_then (exchange_warning subject rows watched) exchange
 
-abbrev pub warning_in : Subject → List Row → Watched → FrameKind → Option Exchange → Option Remark → Option Warning
-warning_in subject rows watched (Sdo side frame) exchange remark = heard_warning subject rows watched exchange
-warning_in subject rows watched kind exchange remark = remark_warning remark
+abbrev pub warning_in : Subject → List Row → Watched → FrameKind → Progress → Option Warning
+warning_in subject rows watched (Sdo side frame) progress = heard_warning subject rows watched progress.exchange
+warning_in subject rows watched kind progress = other_warning progress.entries.emergencies kind progress.remark
 
 -- by what the recording shows with it
 unfoldable pub warning_at : Subject → List Row → Watched → FrameKind → Progress → Option Warning
-warning_at subject rows watched kind progress =
-    warning_in subject rows (watched_before watched progress) kind progress.exchange progress.remark
+warning_at subject rows watched kind progress = warning_in subject rows (watched_before watched progress) kind progress
 
 -- ---- the clock of the recording
 

@@ -14,4 +14,11 @@ pub enum Warning {
     Changed(HeldMismatch),
     /// `stepped-back`: the stamp of a frame is so many microseconds before that of the last one.
     SteppedBack(u64),
+    /// `other-version`: an upload of this entry shows the first number, and the data sheet has the
+    /// second.
+    OtherRevision(Key, u64, u64),
+    /// `other-version`: an upload of this entry shows another text than the data sheet has.
+    OtherText(Key),
+    /// `emcy-code`: the code of an EMCY has no class; with its error register.
+    OddCode(u16, u8),
 }

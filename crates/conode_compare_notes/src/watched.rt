@@ -1,5 +1,5 @@
 //! Warnings: that a device restarted by itself, that it may have stored values, that a value changed
-//! after it was written.
+//! after it was written; and those of versions and codes.
 
 ghost use Rattle.std.specs.Prelude.{◌≡◌, IfOk, OnOk, true, map};
 ghost use Rattle.std.specs.List.{AllPairs};
@@ -11,16 +11,17 @@ ghost use Rattle.conode_compare_notes.specs.Warnings.{
   after_request,
   changed_warning,
   downloaded,
+  end_warning,
   ended_warning,
   exchange_warning,
   exchanged,
-  is_begun,
   is_kept,
   is_plain,
   is_setting,
   is_stored,
   nothing_watched,
   number_warning,
+  other_warning,
   remark_warning,
   row_warning,
   stepped_back,
@@ -31,6 +32,7 @@ ghost use Rattle.conode_compare_notes.specs.Warnings.{
   writes_of,
 };
 
+use crate::versions::{code_warning, version_warning};
 use crate::warning::Warning;
 use crate::writes::Writes;
 use co_frame::Frame;
@@ -131,6 +133,19 @@ fn remark_warning(remark: Option<Remark>) -> Option<Warning>
     }
 }
 
+// of a frame that isn't one of the SDO channel
+fn other_warning(kind: &FrameKind, progress: &Progress) -> Option<Warning>
+    ensures { result
+        ≡ other_warning progress.now.entries.emergencies kind.now progress.now.remark }
+{
+    match kind {
+        FrameKind::Emergency(code, register) => {
+            code_warning(progress.entries().emergencies, *code, *register)
+        }
+        _ => remark_warning(progress.remark),
+    }
+}
+
 /// Whether the stamp of a frame is before that of the last one.
 pub fn stepped_back(last: Option<u64>, micros: Option<u64>) -> Option<Warning>
     ensures { result ≡ stepped_back last micros }
@@ -138,16 +153,6 @@ pub fn stepped_back(last: Option<u64>, micros: Option<u64>) -> Option<Warning>
     match (last, micros) {
         (Some(last), Some(micros)) if micros < last => Some(Warning::SteppedBack(last - micros)),
         _ => None,
-    }
-}
-
-/// Whether the recording begins with the newest frame, or begins anew; or that is an error frame.
-pub(crate) fn is_begun(progress: &Progress) -> bool
-    ensures { result ≡ is_begun progress.now }
-{
-    match progress.newest {
-        Some(newest) => newest == progress.started,
-        None => false,
     }
 }
 
@@ -261,14 +266,14 @@ impl Watched {
     ) -> Result<Option<Warning>, AllocError>
         requires { AllPairs (λ e f. is_key_before e.key f.key ≡ true) rows.now }
         ensures warning { IfOk result (λ warning. warning
-            ≡ ended_warning subject.now (map row_view rows.now) self.old certain ended.now) }
+            ≡ end_warning subject.now (map row_view rows.now) self.old certain ended.now) }
         ensures next { OnOk result (self.new
             ≡ after_end subject.now (map row_view rows.now) self.old certain ended.now) }
     {
         let warning = self.ended_warning(subject, rows, certain, ended);
         self.note_end(rows, certain, ended)?;
         self.fresh = self.fresh && !is_stored(warning);
-        Ok(warning)
+        Ok(warning.or(version_warning(subject.node, rows, certain, ended)))
     }
 
     // A download is requested.
@@ -346,7 +351,7 @@ impl Watched {
         ensures next { OnOk result (self.new ≡ watched_with
             subject.now (map row_view rows.now) self.old kind.now progress.now) }
     {
-        if is_begun(progress) {
+        if progress.is_begun() {
             self.forget();
         }
         match (kind, &progress.exchange) {
@@ -356,7 +361,7 @@ impl Watched {
             (FrameKind::Sdo(_, _), None) => Ok(None),
             _ => {
                 self.take_other(subject, kind);
-                Ok(remark_warning(progress.remark))
+                Ok(other_warning(kind, progress))
             }
         }
     }

@@ -1,9 +1,9 @@
 -- What a TPDO is otherwise than prescribed and what it isn't, on both sides of each edge, computed from the definitions.
-use Rattle.std.proofs.Common.{◌≡◌, ℕ, true, false, List, [], ◌∷◌, Some, None, refl}
+use Rattle.std.proofs.Common.{◌≡◌, ℕ, Bool, true, false, List, [], ◌∷◌, map, Option, Some, None, refl}
 use Rattle.std.specs.Prelude.{pos}
-use Rattle.co_profile.specs.declared.access.Access.TheVariants.{Rw}
+use Rattle.co_profile.specs.declared.access.Access.TheVariants.{Constant, Rw}
 use Rattle.co_sheet.specs.Content.{Row}
-use Rattle.co_sheet.specs.Limits.{Default, number, node_id}
+use Rattle.co_sheet.specs.Limits.{Default, absent, number, node_id}
 use Rattle.co_value.specs.declared.data_type.DataType.TheVariants.{Unsigned32}
 use Rattle.conode_compare_pdos.specs.declared.deviation.Deviation.TheVariants.{Length, NotOperational, WithoutSync, Inhibit, Timer}
 use Rattle.conode_compare_pdos.specs.declared.deviation.Moment.{Moment}
@@ -11,6 +11,7 @@ use Rattle.conode_compare_pdos.specs.declared.parameters.Parameters.{Parameters}
 use Rattle.conode_compare_pdos.specs.declared.tpdo.Tpdo.{Tpdo}
 use Rattle.conode_compare_pdos.specs.Deviations.{deviation_at, is_judged, time_deviation}
 use Rattle.conode_compare_pdos.specs.Followed.{sighting, unknown_pdos}
+use Rattle.conode_compare_pdos.specs.Identifiers.{is_cob_id, may_change, may_get, may_have}
 use Rattle.conode_compare_pdos.specs.PdoParameters.{asked_to_write, counted_bytes, identifier_of, length_of, mapped_bytes, parameters_of, shown}
 use Rattle.conode_compare_pdos.specs.Tpdos.{after_frame, after_gap, after_poll, after_request, after_sync, booted_tpdo}
 
@@ -263,3 +264,36 @@ not_its = refl
 third : sighting (at 5) (record unknown_pdos { third = tpdo }) 0x188 4 ≡ Some (record { number = 3; deviation = None; judged = true })
 unfolding sighting deviation_at time_deviation
 third = refl
+
+-- ---- an identifier that a TPDO may have
+
+-- 1800:01 to 19FF:01, of all 512
+cob_ids : map is_cob_id (record { index = 0x17FF; sub = 1 } ∷ record { index = 0x1800; sub = 1 } ∷ record { index = 0x1800; sub = 2 } ∷ record { index = 0x19FF; sub = 1 } ∷ record { index = 0x1A00; sub = 1 } ∷ [])
+    ≡ false ∷ true ∷ false ∷ true ∷ false ∷ []
+cob_ids = refl
+
+-- 85h, of node 5: by its node-ID and as a number; where bit 31 or bit 29 is set it has none; one that isn't known may have it
+abbrev may_have_85 : ℕ → ℕ → Default → Bool
+may_have_85 index sub default = may_have (row 0x1017 0 (number (pos 0x85)) ∷ row index sub default ∷ []) 5 0x85
+
+of_sheets : map (may_have_85 0x1800 1) (node_id 0x80 ∷ number (pos 0x85) ∷ number (pos 0x40000085) ∷ number (pos 0x80000085) ∷ number (pos 0x20000085) ∷ number (pos 0x185) ∷ absent ∷ [])
+    ≡ true ∷ true ∷ true ∷ false ∷ false ∷ false ∷ true ∷ []
+of_sheets = refl
+
+-- beyond the first four too, of TPDOs alone
+of_others : may_have_85 0x1804 1 (number (pos 0x85)) ∷ may_have_85 0x1800 3 (number (pos 0x85)) ∷ may_have_85 0x1400 1 (number (pos 0x85)) ∷ may_have [] 5 0x85 ∷ [] ≡ true ∷ false ∷ false ∷ false ∷ []
+of_others = refl
+
+-- a COB-ID that isn't constant may change
+abbrev constant : Row
+constant = record (row 0x1800 1 (node_id 0x180)) { access = Constant }
+
+changes : map may_change ((constant ∷ []) ∷ (constant ∷ row 0x1801 1 (node_id 0x280) ∷ []) ∷ (row 0x1801 2 (number (pos 254)) ∷ []) ∷ []) ≡ false ∷ true ∷ false ∷ []
+changes = refl
+
+-- what is written to 1801:01, and what isn't known of it; and to another entry
+written : map (may_get 0x85 (record { index = 0x1801; sub = 1 })) (Some 0x85 ∷ Some 0x185 ∷ Some 0x80000085 ∷ None ∷ []) ≡ true ∷ false ∷ false ∷ true ∷ []
+written = refl
+
+written_elsewhere : may_get 0x85 (record { index = 0x1801; sub = 2 }) (Some 0x85) ∷ may_get 0x85 (record { index = 0x1401; sub = 1 }) None ∷ [] ≡ false ∷ false ∷ []
+written_elsewhere = refl

@@ -1,3 +1,4 @@
+pub mod Identifiers
 pub mod SheetNumbers
 pub mod PdoParameters
 pub mod Tpdos

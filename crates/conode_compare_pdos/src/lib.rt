@@ -4,12 +4,14 @@
 #![tactic(auto)]
 
 mod deviation;
+mod identifiers;
 mod numbers;
 mod parameters;
 mod pdos;
 mod tpdo;
 
 pub use deviation::{Deviation, Moment};
+pub use identifiers::{may_change, may_get, may_have};
 pub use numbers::{first_word, number_of, preset_at, small};
 pub use parameters::{Parameters, identifier_of, length_of};
 pub use pdos::{Pdos, Sighting, pdos_of};

@@ -17,7 +17,8 @@ use Rattle.conode_explain_transfers.specs.declared.kinds.Direction.{Direction}
 use Rattle.conode_explain_transfers.specs.declared.kinds.Direction.TheVariants.{Download, Upload}
 use Rattle.conode_explain_transfers.specs.declared.kinds.Protocol.{Protocol}
 use Rattle.conode_explain_transfers.specs.declared.kinds.Protocol.TheVariants.{Expedited, Segmented}
-use Rattle.conode_explain_transfers.specs.declared.kinds.Side.TheVariants.{Client}
+use Rattle.conode_explain_transfers.specs.declared.kinds.Side.{Side}
+use Rattle.conode_explain_transfers.specs.declared.kinds.Side.TheVariants.{Client, Server}
 use Rattle.conode_explain_transfers.specs.declared.kinds.What.TheVariants.{Part}
 use Rattle.conode_compare_transfers.specs.declared.breach.Breach.TheVariants.{Toggle}
 use Rattle.conode_compare_transfers.specs.declared.dialogue.Exchange.{Exchange}
@@ -34,7 +35,7 @@ use Rattle.conode_compare_rules.specs.Answers.{confirmed_finding, stopped_findin
 use Rattle.conode_compare_transfers.specs.Dialogues.{dialogue_heard, is_certain, nothing_asked}
 use Rattle.conode_compare_transfers.specs.NewestFrames.{newest_after, newest_with}
 use Rattle.conode_compare_rules.specs.EmergencyRules.{emergency_finding, inhibit_finding}
-use Rattle.conode_compare_rules.specs.EntriesInForce.{ended_entries, facts_of, initial_entries, sheet_entries, shown_inhibit, shown_period}
+use Rattle.conode_compare_rules.specs.EntriesInForce.{ended_entries, facts_of, initial_entries, shares_id, sheet_entries, shown_inhibit, shown_period, with_sharing}
 use Rattle.conode_compare_rules.specs.FrameKinds.{command_kind}
 use Rattle.conode_compare_rules.specs.Heartbeats.{after_byte, after_transfer, early_remark, follows_closely, late_finding, overdue_by, is_gap}
 use Rattle.conode_compare_rules.specs.Progresses.{free_at, still_awaited}
@@ -570,3 +571,33 @@ confirmed = refl
 confirmed_in_doubt : confirmed_finding (answered_in false) ≡ None
 unfolding confirmed_finding
 confirmed_in_doubt = refl
+
+-- ---- a TPDO that may have the identifier of EMCY
+
+abbrev booted_emergencies : List Row → Bool
+booted_emergencies more = (facts_of (row 0x1014 0 Unsigned32 Rw (node_id 0x80) ∷ more) 5 false).booted.emergencies
+
+-- by the sheet, valid or not
+with_tpdos : map booted_emergencies ((row 0x1800 1 Unsigned32 Rw (node_id 0x180) ∷ []) ∷ (row 0x1800 1 Unsigned32 Rw (number (pos 0x85)) ∷ []) ∷ (row 0x19FF 1 Unsigned32 Rw (number (pos 0x80000085)) ∷ []) ∷ [])
+    ≡ true ∷ false ∷ true ∷ []
+unfolding facts_of initial_entries sheet_entries
+with_tpdos = refl
+
+-- before a boot-up where neither COB-ID changes
+abbrev known_emergencies : Access → Access → Bool
+known_emergencies own other = (facts_of (row 0x1014 0 Unsigned32 own (node_id 0x80) ∷ row 0x1800 1 Unsigned32 other (node_id 0x180) ∷ []) 5 false).before.emergencies
+
+known : known_emergencies Constant Constant ∷ known_emergencies Constant Rw ∷ known_emergencies Rw Constant ∷ [] ≡ true ∷ false ∷ false ∷ []
+unfolding facts_of initial_entries sheet_entries
+known = refl
+
+-- by a request of a client: an identifier, bit 31; in segments; of the mapping; an upload
+abbrev asks : Side → ℕ → ℕ → ℕ → ℕ → Bool
+asks side first high low last = shares_id 5 side (record { id = 0x605; bytes = first ∷ low ∷ high ∷ 1 ∷ 0x85 ∷ 0 ∷ 0 ∷ last ∷ [] })
+
+asked : asks Client 0x23 0x18 3 0 ∷ asks Client 0x23 0x18 3 0x80 ∷ asks Client 0x21 0x18 3 0x80 ∷ asks Client 0x23 0x1A 3 0 ∷ asks Client 0x40 0x18 3 0 ∷ asks Server 0x23 0x18 3 0 ∷ []
+    ≡ true ∷ false ∷ true ∷ false ∷ false ∷ false ∷ []
+asked = refl
+
+shared : map (λ shares. (with_sharing shares entries).emergencies) (false ∷ true ∷ []) ≡ true ∷ false ∷ []
+shared = refl

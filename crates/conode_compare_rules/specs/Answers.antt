@@ -1,5 +1,6 @@
 -- Answers of a device on its default SDO channel (CiA 301, 7.2.4.3).
 use Rattle.std.specs.Prelude.{ℕ, ◌-◌, ◌/◌, ◌%◌, ◌==◌, Bool, true, false, not, ◌&&◌, if◌then◌else◌, List, Option, Some, None, option_map, option_and_then}
+use Rattle.std.specs.Option.{option_or}
 use Rattle.co_frame.specs.FrameContent.{FrameContent}
 use Rattle.co_sheet.specs.Content.{Row}
 use Rattle.co_value.specs.Keys.{same_key}
@@ -82,11 +83,6 @@ finding_of subject rows exchange frame what = None
 unfoldable pub what_finding : Subject → List Row → Exchange → FrameContent → Option Finding
 what_finding subject rows exchange frame = finding_of subject rows exchange frame exchange.heard.what
 
--- the first of the two
-abbrev pub first_of : Option Finding → Option Finding → Option Finding
-first_of (Some finding) other = Some finding
-first_of None other = other
-
 -- an answer that took too long, to a request that it is owed
 abbrev pub overdue_answer : Limits → Exchange → ℕ → Option Finding
 overdue_answer limits exchange micros = if exchange.owed then late_answer limits exchange.asked micros else None
@@ -96,12 +92,12 @@ abbrev pub breach_finding : Option Breach → Option Finding
 breach_finding breach = option_map (λ b. Transfer b) breach
 
 abbrev pub known_answer : Subject → List Row → Exchange → FrameContent → Option Finding
-known_answer subject rows exchange frame = first_of (what_finding subject rows exchange frame) (breach_finding exchange.breach)
+known_answer subject rows exchange frame = option_or (what_finding subject rows exchange frame) (breach_finding exchange.breach)
 
 -- the difference of an answer, where no earlier request can be answered
 unfoldable pub answer_finding : Subject → List Row → ℕ → Exchange → FrameContent → Option Finding
 answer_finding subject rows micros exchange frame =
-    if exchange.certain then first_of (overdue_answer subject.limits exchange micros) (known_answer subject rows exchange frame)
+    if exchange.certain then option_or (overdue_answer subject.limits exchange micros) (known_answer subject rows exchange frame)
     else None
 
 -- `answer-state`: the answer to a request that came while the device was stopped, once the

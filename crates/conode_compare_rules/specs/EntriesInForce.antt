@@ -2,8 +2,7 @@
 -- 7.5.2.18 and 7.5.2.20), and by what a recording shows.
 use Rattle.std.specs.Prelude.{ℕ, ◌+◌, ◌==◌, Bool, true, false, not, ◌&&◌, ◌||◌, if◌then◌else◌, List, Option, Some, None, is_some}
 use Rattle.std.specs.Option.{option_map_or}
-use Rattle.co_profile.specs.declared.access.Access.{Access}
-use Rattle.co_profile.specs.declared.access.Access.TheVariants.{Constant}
+use Rattle.co_frame.specs.FrameContent.{FrameContent}
 use Rattle.co_profile.specs.Indices.{store_parameters}
 use Rattle.co_profile.specs.Keys.{producer_key, emergency_key, emergency_inhibit_key}
 use Rattle.co_sheet.specs.Content.{Row}
@@ -15,8 +14,13 @@ use Rattle.conode_explain_transfers.specs.declared.ended.Ending.{Ending}
 use Rattle.conode_explain_transfers.specs.declared.ended.Ending.TheVariants.{Done}
 use Rattle.conode_explain_transfers.specs.declared.kinds.Protocol.{Protocol}
 use Rattle.conode_explain_transfers.specs.declared.kinds.Protocol.TheVariants.{Expedited}
+use Rattle.conode_explain_transfers.specs.declared.kinds.Side.{Side}
+use Rattle.conode_explain_transfers.specs.declared.kinds.Side.TheVariants.{Client, Server}
 use Rattle.conode_compare_pdos.specs.Followed.{pdos_of, unknown_pdos}
+use Rattle.conode_compare_pdos.specs.Identifiers.{is_constant_access, may_change, may_get, may_have}
 use Rattle.conode_compare_pdos.specs.SheetNumbers.{first_word, number_of, preset_at, small}
+use Rattle.conode_compare_transfers.specs.Breaches.{key_in}
+use Rattle.conode_compare_transfers.specs.Dialogues.{asks_to_write, word_written}
 use Rattle.conode_compare_rules.specs.declared.entries.Entries.{Entries}
 use Rattle.conode_compare_rules.specs.declared.entries.Facts.{Facts}
 
@@ -25,10 +29,6 @@ use Rattle.conode_compare_rules.specs.declared.entries.Facts.{Facts}
 -- an object that has a sub-index 0
 abbrev pub has_object : List Row → ℕ → Bool
 has_object rows index = is_some (row_at rows (record { index = index; sub = 0 }))
-
-abbrev pub is_constant_access : Access → Bool
-is_constant_access Constant = true
-is_constant_access other = false
 
 -- an entry that isn't there doesn't change either
 abbrev pub is_constant : List Row → Key → Bool
@@ -42,11 +42,16 @@ abbrev pub is_number : Option ℕ → ℕ → Bool
 is_number (Some n) other = n == other
 is_number None other = false
 
--- what a data sheet has, where nothing was stored
+-- the default identifier of EMCY (CiA 301, 7.3.5)
+abbrev pub emergency_id : ℕ → ℕ
+emergency_id node = 0x80 + node
+
+-- What a data sheet has, where nothing was stored. CiA 301 doesn't restrict the identifier of EMCY: a
+-- frame with it may be of a TPDO that has it too.
 unfoldable pub sheet_entries : List Row → ℕ → Entries
 sheet_entries rows node = record {
   period = small (preset_at rows node producer_key);
-  emergencies = is_number (preset_at rows node emergency_key) (0x80 + node);
+  emergencies = is_number (preset_at rows node emergency_key) (emergency_id node) && not (may_have rows node (emergency_id node));
   inhibit = inhibit_of rows node;
   inhibit_shown = None;
 }
@@ -55,7 +60,7 @@ sheet_entries rows node = record {
 unfoldable pub initial_entries : List Row → Entries → Entries
 initial_entries rows sheet = record {
   period = if is_constant rows producer_key then sheet.period else None;
-  emergencies = is_constant rows emergency_key && sheet.emergencies;
+  emergencies = is_constant rows emergency_key && (not (may_change rows) && sheet.emergencies);
   inhibit = if is_constant rows emergency_inhibit_key then sheet.inhibit else None;
   inhibit_shown = None;
 }
@@ -93,6 +98,15 @@ asked_to_write entries key = record {
   inhibit = if same_key key emergency_inhibit_key then None else entries.inhibit;
   inhibit_shown = entries.inhibit_shown;
 }
+
+-- a client asks to write what may give a TPDO the identifier of EMCY, whatever its frame is in the
+-- transfers of the channel: a server may have given up the one that was open
+abbrev pub shares_id : ℕ → Side → FrameContent → Bool
+shares_id node Client frame = asks_to_write frame && may_get (emergency_id node) (key_in frame) (word_written frame)
+shares_id node Server frame = false
+
+abbrev pub with_sharing : Bool → Entries → Entries
+with_sharing shares entries = record entries { emergencies = not shares && entries.emergencies }
 
 -- after a reset command the inhibit time isn't known until the boot-up
 abbrev pub reset_entries : Entries → Entries

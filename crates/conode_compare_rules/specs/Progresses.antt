@@ -1,6 +1,6 @@
 -- What a recording shows of a device, frame by frame, and where it differs from CiA 301.
 use Rattle.std.specs.Prelude.{ℕ, ◌==◌, nat_lt, Bool, true, false, not, ◌&&◌, ◌||◌, if◌then◌else◌, List, Option, Some, None, is_some, option_map}
-use Rattle.std.specs.Option.{option_map_or}
+use Rattle.std.specs.Option.{option_map_or, option_or}
 use Rattle.co_frame.specs.FrameContent.{FrameContent}
 use Rattle.co_frame.specs.declared.nmt.NmtService.{NmtService}
 use Rattle.co_sheet.specs.Content.{Row}
@@ -28,11 +28,11 @@ use Rattle.conode_compare_rules.specs.declared.limits.Subject.{Subject}
 use Rattle.conode_compare_rules.specs.declared.kind.FrameKind.{FrameKind}
 use Rattle.conode_compare_rules.specs.declared.kind.FrameKind.TheVariants.{Command, CommandToAll, Guarding, Control, OddControl, Emergency, OddEmergency, Sdo, Process, Polled, Fault, Other}
 use Rattle.conode_compare_rules.specs.declared.verdict.Findings.{Findings}
-use Rattle.conode_compare_rules.specs.Answers.{answer_finding, confirmed_finding, first_of, held_finding, silence_finding, stopped_finding}
+use Rattle.conode_compare_rules.specs.Answers.{answer_finding, confirmed_finding, held_finding, silence_finding, stopped_finding}
 use Rattle.conode_compare_transfers.specs.Dialogues.{dialogue_heard, given_up, interrupted, nothing_asked, nothing_left, exchange_in}
 use Rattle.conode_compare_held.specs.HeldNumbers.{is_kept, nothing_written, written_heard}
 use Rattle.conode_compare_rules.specs.EmergencyRules.{emergency_finding, length_finding}
-use Rattle.conode_compare_rules.specs.EntriesInForce.{asked_to_write, ended_entries, reset_entries}
+use Rattle.conode_compare_rules.specs.EntriesInForce.{asked_to_write, ended_entries, reset_entries, shares_id, with_sharing}
 use Rattle.conode_compare_rules.specs.Heartbeats.{after_byte, after_transfer, early_remark, follows_closely, late_finding, no_heartbeat, is_gap}
 use Rattle.conode_compare_rules.specs.States as states
 use Rattle.conode_compare_rules.specs.States.{boot_finding, control_finding, is_reset, is_settled, nothing_commanded, restart_remark}
@@ -252,7 +252,7 @@ channel_heard subject progress micros side frame =
     let ended = (exchange_at subject progress micros side frame).heard.ended in
     record progress {
       heartbeats = after_transfer progress.heartbeats ended micros;
-      entries = entries_heard progress.entries ended next.asked;
+      entries = with_sharing (shares_id subject.node side frame) (entries_heard progress.entries ended next.asked);
       pdos = pdos_heard progress.pdos ended next.asked micros;
       dialogue = next;
     }
@@ -291,8 +291,8 @@ answer_findings subject rows progress micros frame =
     let noted = answer_noted subject progress micros in
     let exchange = exchange_at subject noted micros Server frame in
     found (boot_finding subject.limits progress.nmt micros) (late_at subject progress micros) None
-    (first_of (stopped_finding subject.limits noted.started noted.nmt exchange)
-    (first_of (answer_finding subject rows micros exchange frame) (held_finding subject noted.written exchange)))
+    (option_or (stopped_finding subject.limits noted.started noted.nmt exchange)
+    (option_or (answer_finding subject rows micros exchange frame) (held_finding subject noted.written exchange)))
     (is_judged exchange)
 
 abbrev pub after_answer : Subject → Progress → ℕ → FrameContent → Progress
@@ -389,3 +389,7 @@ kept_in subject written exchange = is_kept subject.held.entries.items written ex
 
 abbrev pub is_number_kept : Subject → Progress → Bool
 is_number_kept subject after = option_map_or (kept_in subject after.written) after.exchange false
+
+-- the recording begins with the newest frame, or begins anew; or that is an error frame
+abbrev pub is_begun : Progress → Bool
+is_begun progress = option_map_or (λ newest. newest == progress.started) progress.newest false

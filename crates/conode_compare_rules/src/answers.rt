@@ -9,7 +9,6 @@ ghost use Rattle.conode_compare_rules.specs.Answers.{
   breach_finding,
   confirmed_finding,
   ended_finding,
-  first_of,
   held_finding,
   is_abort,
   is_indicated,
@@ -121,16 +120,6 @@ fn overdue_answer(limits: &Limits, exchange: &Exchange, micros: u64) -> Option<F
     }
 }
 
-/// The first of the two.
-pub(crate) fn first_of(first: Option<Finding>, second: Option<Finding>) -> Option<Finding>
-    ensures { result ≡ first_of first second }
-{
-    match first {
-        Some(first) => Some(first),
-        None => second,
-    }
-}
-
 fn breach_finding(breach: Option<Breach>) -> Option<Finding>
     ensures { result ≡ breach_finding breach }
 {
@@ -150,10 +139,7 @@ fn known_answer(
     requires { AllPairs (λ e f. is_key_before e.key f.key ≡ true) rows.now }
     ensures { result ≡ known_answer subject.now (map row_view rows.now) exchange.now frame.now }
 {
-    first_of(
-        what_finding(subject, rows, exchange, frame),
-        breach_finding(exchange.breach),
-    )
+    what_finding(subject, rows, exchange, frame).or(breach_finding(exchange.breach))
 }
 
 /// `answer-state`: the answer to a request that came while the device was stopped, once the
@@ -220,10 +206,9 @@ pub(crate) fn answer_finding(
     if !exchange.certain {
         return None;
     }
-    match overdue_answer(&subject.limits, exchange, micros) {
-        Some(late) => Some(late),
-        None => known_answer(subject, rows, exchange, frame),
-    }
+    overdue_answer(&subject.limits, exchange, micros).or(known_answer(
+        subject, rows, exchange, frame,
+    ))
 }
 
 /// The difference of a heartbeat while a request isn't answered in time: the device lives, and

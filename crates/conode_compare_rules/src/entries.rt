@@ -16,24 +16,30 @@ ghost use Rattle.conode_compare_rules.specs.EntriesInForce.{
   is_constant,
   reset_entries,
   sheet_entries,
+  shares_id,
   shown_inhibit,
   shown_period,
 };
 
+use co_frame::Frame;
 use co_profile::keys::{EMERGENCY_COB_ID, EMERGENCY_INHIBIT_TIME, PRODUCER_HEARTBEAT};
 use co_profile::{Access, STORE_PARAMETERS};
 use co_sheet::EntryRow;
 use co_sheet_names::row_at;
 use co_value::Key;
-use conode_compare_pdos::{Pdos, first_word, number_of, pdos_of, preset_at, small};
-use conode_explain_transfers::{Ended, Ending, Protocol};
+use conode_compare_pdos::{
+    Pdos, first_word, may_change, may_get, may_have, number_of, pdos_of, preset_at, small,
+};
+use conode_compare_transfers::{asks_to_write, key_in, word_written};
+use conode_explain_transfers::{Ended, Ending, Protocol, Side};
 
 /// What is known of the entries that say what a device sends by itself.
 #[derive(Clone, Copy)]
 pub struct Entries {
     /// 1017:00, the period of its heartbeats in ms; 0: none.
     pub period: Option<u16>,
-    /// Whether its EMCY have the default identifier, 80h + node-ID (1014:00).
+    /// Whether its EMCY have the default identifier, 80h + node-ID (1014:00), and no TPDO may have
+    /// it.
     pub emergencies: bool,
     /// 1015:00, the inhibit time of EMCY in 100 µs.
     pub inhibit: Option<u16>,
@@ -102,9 +108,11 @@ fn sheet_entries(rows: &[EntryRow<'_>], node: u8) -> Entries
     requires { AllPairs (λ e f. is_key_before e.key f.key ≡ true) rows.now }
     ensures { result ≡ sheet_entries (map row_view rows.now) node }
 {
+    let id = 0x80 + u16::from(node);
+    let has_default = preset_at(rows, node, EMERGENCY_COB_ID) == Some(u64::from(id));
     Entries {
         period: small(preset_at(rows, node, PRODUCER_HEARTBEAT)),
-        emergencies: preset_at(rows, node, EMERGENCY_COB_ID) == Some(0x80 + u64::from(node)),
+        emergencies: has_default && !may_have(rows, node, id),
         inhibit: inhibit_of(rows, node),
         inhibit_shown: None,
     }
@@ -120,7 +128,7 @@ fn initial_entries(rows: &[EntryRow<'_>], sheet: Entries) -> Entries
     let inhibit = is_constant(rows, EMERGENCY_INHIBIT_TIME);
     Entries {
         period: if period { sheet.period } else { None },
-        emergencies: is_constant(rows, EMERGENCY_COB_ID) && sheet.emergencies,
+        emergencies: is_constant(rows, EMERGENCY_COB_ID) && !may_change(rows) && sheet.emergencies,
         inhibit: if inhibit { sheet.inhibit } else { None },
         inhibit_shown: None,
     }
@@ -199,6 +207,19 @@ impl Entries {
             entries.inhibit_shown = Some(ended.end);
         }
         entries
+    }
+}
+
+/// Whether a client asks to write what may give a TPDO the identifier of EMCY, whatever its frame is
+/// in the transfers of the channel: a server may have given up the one that was open.
+pub(crate) fn shares_id(node: u8, side: Side, frame: &Frame) -> bool
+    ensures { result ≡ shares_id node side frame.now }
+{
+    match side {
+        Side::Client if asks_to_write(frame) => {
+            may_get(0x80 + u16::from(node), key_in(frame), word_written(frame))
+        }
+        _ => false,
     }
 }
 

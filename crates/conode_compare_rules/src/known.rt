@@ -1,6 +1,7 @@
 //! What a recording shows of a device so far, for a report.
 
 ghost use Rattle.std.specs.Prelude.{◌≡◌};
+ghost use Rattle.conode_compare_rules.specs.Progresses.{is_begun};
 
 use crate::entries::Entries;
 use crate::finding::NmtState;
@@ -27,5 +28,15 @@ impl Progress {
         ensures { result.now ≡ self.now.pdos }
     {
         &self.pdos
+    }
+
+    /// Whether the recording begins with the newest frame, or begins anew; or that is an error frame.
+    pub fn is_begun(&self) -> bool
+        ensures { result ≡ is_begun self.now }
+    {
+        match self.newest {
+            Some(newest) => newest == self.started,
+            None => false,
+        }
     }
 }

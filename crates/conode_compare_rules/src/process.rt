@@ -3,7 +3,6 @@
 ghost use Rattle.std.specs.Prelude.{◌≡◌};
 ghost use Rattle.conode_compare_rules.specs.Progresses.{
   after_process,
-  is_idle,
   moment_at,
   process_findings,
   sighting_findings,
@@ -14,17 +13,6 @@ use crate::limits::Subject;
 use crate::progress::Progress;
 use crate::verdict::Findings;
 use conode_compare_pdos::{Moment, Sighting};
-
-// a state in which no PDO is sent
-fn is_idle(starts_itself: bool, state: NmtState) -> bool
-    ensures { result ≡ is_idle starts_itself state }
-{
-    match state {
-        NmtState::PreOperational => !starts_itself,
-        NmtState::Stopped => true,
-        _ => false,
-    }
-}
 
 fn sighting_findings(sighting: Option<Sighting>) -> Findings
     ensures { result ≡ sighting_findings sighting }
@@ -51,12 +39,17 @@ impl Progress {
             .nmt
             .is_settled(&subject.limits, self.started, self.free);
         let is_known = !matches!(self.nmt.state, NmtState::Unknown | NmtState::Initialising);
+        let is_idle = match self.nmt.state {
+            NmtState::PreOperational => !subject.facts.starts_itself,
+            NmtState::Stopped => true,
+            _ => false,
+        };
         Moment {
             micros,
             free: self.free,
             tolerance: subject.limits.tolerance,
             drift: subject.limits.drift,
-            idle: settled && is_idle(subject.facts.starts_itself, self.nmt.state),
+            idle: settled && is_idle,
             known: settled && is_known,
         }
     }

@@ -44,10 +44,10 @@ ghost use Rattle.conode_compare_rules.specs.Progresses.{
 };
 
 use crate::answers::{
-    answer_finding, confirmed_finding, first_of, held_finding, silence_finding, stopped_finding,
+    answer_finding, confirmed_finding, held_finding, silence_finding, stopped_finding,
 };
 use crate::emergencies::{emergency_finding, length_finding};
-use crate::entries::Entries;
+use crate::entries::{Entries, shares_id};
 use crate::finding::{Finding, NmtState, Remark};
 use crate::heartbeats::{Heartbeats, follows_closely, is_gap};
 use crate::kind::FrameKind;
@@ -394,6 +394,9 @@ impl Progress {
             .dialogue
             .hear(subject.limits.answer, self.started, micros, side, frame);
         self.entries = entries_heard(self.entries, &exchange.heard.ended, self.dialogue.asked);
+        if shares_id(subject.node, side, frame) {
+            self.entries.emergencies = false;
+        }
         self.heartbeats = self.heartbeats.heard(&exchange.heard.ended, micros);
         hear_pdos(
             &mut self.pdos,
@@ -449,12 +452,8 @@ impl Progress {
         let started = self.started;
         let exchange = self.hear(subject, micros, Side::Server, frame);
         let held = held_finding(subject, &self.written, &exchange);
-        let difference = first_of(
-            stopped_finding(&subject.limits, started, &nmt, &exchange),
-            first_of(
-                answer_finding(subject, rows, micros, &exchange, frame),
-                held,
-            ),
+        let difference = stopped_finding(&subject.limits, started, &nmt, &exchange).or(
+            answer_finding(subject, rows, micros, &exchange, frame).or(held),
         );
         let judged = is_judged(&exchange);
         self.note_exchange(subject, exchange);

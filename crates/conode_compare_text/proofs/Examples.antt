@@ -13,9 +13,9 @@ use Rattle.conode_compare_transfers.specs.declared.breach.Breach.TheVariants.{To
 use Rattle.conode_compare_values.specs.declared.mismatch.Mismatch.TheVariants.{ValueLength, ValueConst, ReadRefused, Written, AboveLimit, BelowLimit}
 use Rattle.conode_compare_rules.specs.declared.finding.Finding.TheVariants.{BootMissing, SecondBootUp, HeartbeatLength, NoState, WrongState, HeartbeatLate, EmergencyLength, EmergencyRegister, EmergencyInhibit, NoAnswer, AnswerKey, AnswerForm, AnswerStopped, Transfer, Value, Held, Pdo}
 use Rattle.conode_compare_rules.specs.declared.finding.NmtState.TheVariants.{PreOperational, Operational}
-use Rattle.conode_compare_notes.specs.declared.choice.Choice.TheVariants.{Segments, NoSize, ShortSegment, NoCrc, BlockSize, Switched, Code, Timeout, Heartbeat, Phase, NoEmergency, OtherEmergency}
-use Rattle.conode_compare_notes.specs.declared.length_error.LengthError.TheVariants.{ShortRpdo, LongRpdo, OddSync}
-use Rattle.conode_compare_notes.specs.declared.warning.Warning.TheVariants.{Changed, Restarted, SteppedBack, Stored}
+use Rattle.conode_compare_choices.specs.declared.choice.Choice.TheVariants.{Segments, NoSize, ShortSegment, NoCrc, BlockSize, Switched, Code, Timeout, Heartbeat, Phase, NoEmergency, OtherEmergency}
+use Rattle.conode_compare_choices.specs.declared.length_error.LengthError.TheVariants.{ShortRpdo, LongRpdo, OddSync}
+use Rattle.conode_compare_notes.specs.declared.warning.Warning.TheVariants.{Changed, OddCode, OtherRevision, OtherText, Restarted, SteppedBack, Stored}
 use Rattle.conode_compare_text.specs.ChoiceTexts.{choice_line, choice_text, choices_summary}
 use Rattle.conode_compare_text.specs.FindingTexts.{coded, finding_line, finding_text, hexadecimal, keyed, keyed_code, keyed_codes, keyed_number, keyed_numbers, keyed_time, keyed_values, millis_text, mismatch_text, named, numbered, numbered_time, numbered_times, pdo_text, shown_value, three_numbers, timed, timed_number, transfer_text, two_codes, two_times}
 use Rattle.conode_compare_text.specs.LearnedTexts.{learned_line, other_text, typed_text}
@@ -249,6 +249,18 @@ stepped_back = refl
 changed : warning_text plain (Changed (record { key = key; shown = 0x5; written = 0x12345678 })) ≡ codes "warning: changed-after-write: 1018:01 has 00000005h, written was 12345678h"
 unfolding warning_text keyed_values shown_value hexadecimal digits_text
 changed = refl
+
+other_revision : warning_text plain (OtherRevision key 0x10003 0x10002) ≡ codes "warning: other-version: 1018:01 has 00010003h, the sheet 00010002h"
+unfolding warning_text keyed_values shown_value hexadecimal digits_text
+other_revision = refl
+
+another_text : warning_text plain (OtherText key) ≡ codes "warning: other-version: 1018:01 has another text than the sheet"
+unfolding warning_text keyed digits_text
+another_text = refl
+
+odd_code : warning_text plain (OddCode 0xA123 1) ≡ codes "warning: emcy-code: code A123h with error register 01h, of a class that CiA 301 doesn't have"
+unfolding warning_text two_codes digits_text
+odd_code = refl
 
 -- ---- learned values
 

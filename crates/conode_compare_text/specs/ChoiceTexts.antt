@@ -1,9 +1,9 @@
 -- The line of a choice, and the last line with their number.
 use Rattle.std.specs.Prelude.{ℕ, List, [], ◌∷◌, ◌++◌, codes}
-use Rattle.conode_compare_notes.specs.declared.choice.Choice.{Choice}
-use Rattle.conode_compare_notes.specs.declared.choice.Choice.TheVariants.{Segments, NoSize, ShortSegment, NoCrc, BlockSize, Switched, Code, Timeout, Heartbeat, Phase, NoEmergency, OtherEmergency}
-use Rattle.conode_compare_notes.specs.declared.length_error.LengthError.{LengthError}
-use Rattle.conode_compare_notes.specs.declared.length_error.LengthError.TheVariants.{ShortRpdo, LongRpdo, OddSync}
+use Rattle.conode_compare_choices.specs.declared.choice.Choice.{Choice}
+use Rattle.conode_compare_choices.specs.declared.choice.Choice.TheVariants.{Segments, NoSize, ShortSegment, NoCrc, BlockSize, Switched, Code, Timeout, Heartbeat, Phase, NoEmergency, OtherEmergency}
+use Rattle.conode_compare_choices.specs.declared.length_error.LengthError.{LengthError}
+use Rattle.conode_compare_choices.specs.declared.length_error.LengthError.TheVariants.{ShortRpdo, LongRpdo, OddSync}
 use Rattle.conode_compare_text.specs.declared.tally.Tally.{Tally}
 use Rattle.conode_compare_text.specs.FindingTexts.{keyed, keyed_codes, keyed_number, numbered, three_numbers, timed, timed_number}
 use Rattle.conode_compare_text.specs.Tallies.{tally_text}

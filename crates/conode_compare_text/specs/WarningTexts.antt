@@ -2,8 +2,8 @@
 use Rattle.std.specs.Prelude.{ℕ, List, [], ◌∷◌, ◌++◌, codes}
 use Rattle.conode_explain_values.specs.declared.value_type.ValueType.{ValueType}
 use Rattle.conode_compare_notes.specs.declared.warning.Warning.{Warning}
-use Rattle.conode_compare_notes.specs.declared.warning.Warning.TheVariants.{Restarted, Stored, Changed, SteppedBack}
-use Rattle.conode_compare_text.specs.FindingTexts.{keyed_values, numbered, timed}
+use Rattle.conode_compare_notes.specs.declared.warning.Warning.TheVariants.{Restarted, Stored, Changed, SteppedBack, OtherRevision, OtherText, OddCode}
+use Rattle.conode_compare_text.specs.FindingTexts.{keyed, keyed_values, numbered, timed, two_codes}
 
 -- the name of the kind, and what was seen, where the values of the entry have this type
 unfoldable pub warning_text : ValueType → Warning → List ℕ
@@ -14,6 +14,12 @@ warning_text t (Changed mismatch) =
     keyed_values (codes "warning: changed-after-write: ") mismatch.key (codes " has ") t mismatch.shown (codes ", written was ")
     mismatch.written
 warning_text t (SteppedBack micros) = timed (codes "warning: stepped-back: the stamp is ") micros (codes " before the last one")
+warning_text t (OtherRevision key shown sheet) =
+    keyed_values (codes "warning: other-version: ") key (codes " has ") t shown (codes ", the sheet ") sheet
+warning_text t (OtherText key) = keyed (codes "warning: other-version: ") key (codes " has another text than the sheet")
+warning_text t (OddCode code register) =
+    two_codes (codes "warning: emcy-code: code ") code (codes "h with error register ") register
+    (codes "h, of a class that CiA 301 doesn't have")
 
 -- `recording.log:123: warning: restarted: ..`
 unfoldable pub warning_line : List ℕ → ℕ → ValueType → Warning → List ℕ

@@ -14,7 +14,7 @@ use crate::parts::{
     push_time_number, push_words,
 };
 use crate::tally::{Tally, push_tally};
-use conode_compare_notes::{Choice, LengthError};
+use conode_compare_choices::{Choice, LengthError};
 use std::alloc::AllocError;
 
 // what came, and that its EMCY didn't

@@ -3,7 +3,7 @@
 ghost use Rattle.std.specs.Prelude.{◌≡◌, ◌++◌, OnOk, string_bytes};
 ghost use Rattle.conode_compare_text.specs.WarningTexts.{warning_line, warning_text};
 
-use crate::parts::{push_key_values, push_number, push_time, push_words};
+use crate::parts::{push_codes, push_key, push_key_values, push_number, push_time, push_words};
 use conode_compare_notes::Warning;
 use conode_explain_values::ValueType;
 use std::alloc::AllocError;
@@ -48,6 +48,30 @@ fn push_warning(
             "warning: stepped-back: the stamp is ",
             micros,
             " before the last one",
+        ),
+        Warning::OtherRevision(key, shown, sheet) => push_key_values(
+            text,
+            "warning: other-version: ",
+            key,
+            " has ",
+            value_type,
+            shown,
+            ", the sheet ",
+            sheet,
+        ),
+        Warning::OtherText(key) => push_key(
+            text,
+            "warning: other-version: ",
+            key,
+            " has another text than the sheet",
+        ),
+        Warning::OddCode(code, register) => push_codes(
+            text,
+            "warning: emcy-code: code ",
+            code,
+            "h with error register ",
+            register,
+            "h, of a class that CiA 301 doesn't have",
         ),
     }
 }

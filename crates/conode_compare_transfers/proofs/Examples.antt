@@ -21,7 +21,7 @@ use Rattle.conode_compare_transfers.specs.declared.dialogue.Dialogue.{Dialogue}
 use Rattle.conode_compare_transfers.specs.declared.left.Left.{Left}
 use Rattle.conode_compare_transfers.specs.declared.newest.Newest.TheVariants.{Acknowledge, AllAcknowledged, Answer, Data, LastData, LaterAcknowledge, LaterData, Request}
 use Rattle.conode_compare_transfers.specs.Breaches.{breach_at, server_breach}
-use Rattle.conode_compare_transfers.specs.Dialogues.{dialogue_heard, exchange_in, is_certain, is_late_answer, is_timed, is_awaited, is_in_turn, leaves_slow, left_after, left_after_answer, may_switch, nothing_asked, nothing_left, owes}
+use Rattle.conode_compare_transfers.specs.Dialogues.{dialogue_heard, exchange_in, is_certain, is_late_answer, is_timed, is_awaited, is_in_turn, leaves_slow, left_after, left_after_answer, may_switch, nothing_asked, nothing_left, owes, word_written}
 use Rattle.conode_compare_transfers.specs.NewestFrames.{newest_after, newest_with}
 
 abbrev key : Key
@@ -531,3 +531,13 @@ still_awaited = refl
 answered_anew : (sent asked_anew 5001000 Server (0x43 ∷ 0 ∷ 0x10 ∷ 0 ∷ 1 ∷ 0 ∷ 0 ∷ 0 ∷ [])).slow ≡ nothing_left
 unfolding dialogue_heard is_certain newest_after newest_with request_row_in response_row_in
 answered_anew = refl
+
+-- ---- what a request writes
+
+-- initiate of a download of 1800:01, its last four bytes 85h, 1, 0, 80h
+abbrev number_written : ℕ → Option ℕ
+number_written first = word_written (record { id = 0x605; bytes = first ∷ 0 ∷ 0x18 ∷ 1 ∷ 0x85 ∷ 1 ∷ 0 ∷ 0x80 ∷ [] })
+
+-- of four bytes, with its size and without; of three; in segments; in blocks; an upload
+numbers_written : map number_written (0x23 ∷ 0x22 ∷ 0x27 ∷ 0x21 ∷ 0xC2 ∷ 0x40 ∷ []) ≡ Some 0x80000185 ∷ Some 0x80000185 ∷ None ∷ None ∷ None ∷ None ∷ []
+numbers_written = refl

@@ -1,11 +1,12 @@
 -- The default SDO channel of a device (CiA 301, 7.2.4): which request a frame answers. The
 -- transfers in it are those of `followed`.
-use Rattle.std.specs.Prelude.{ℕ, ◌+◌, ◌-◌, ◌/◌, ◌==◌, nat_le, nat_lt, Bool, true, false, not, ◌&&◌, ◌||◌, if◌then◌else◌, Option, Some, None, is_some}
+use Rattle.std.specs.Prelude.{ℕ, ◌+◌, ◌-◌, ◌/◌, ◌==◌, nat_le, nat_lt, Bool, true, false, not, ◌&&◌, ◌||◌, if◌then◌else◌, [], ◌∷◌, Option, Some, None, is_some}
 use Rattle.std.specs.Option.{option_map_or}
 use Rattle.co_frame.specs.FrameContent.{FrameContent}
 use Rattle.co_profile.specs.Indices.{store_parameters, restore_parameters}
 use Rattle.co_value.specs.declared.key.Key.{Key}
 use Rattle.co_value.specs.Keys.{same_key}
+use Rattle.co_value.specs.Numbers.{unsigned_of}
 use Rattle.conode_explain_transfers.specs.declared.channel.Heard.{Heard}
 use Rattle.conode_explain_transfers.specs.declared.ended.Ended.{Ended}
 use Rattle.conode_explain_transfers.specs.declared.ended.Ending.{Ending}
@@ -39,6 +40,13 @@ nothing_asked = record { channel = nothing_heard; asked = None; doubted = None; 
 -- initiate of a download, ccs = 1, or of a block download, ccs = 6
 abbrev pub asks_to_write : FrameContent → Bool
 asks_to_write frame = (byte_at frame 0 / 32 == 1) || (byte_at frame 0 / 32 == 6)
+
+-- the number in the last four bytes of an initiate request of a download that has four: ccs = 1, n = 0,
+-- e = 1; s = 0, the size isn't indicated, or 1
+abbrev pub word_written : FrameContent → Option ℕ
+word_written frame =
+    if byte_at frame 0 / 2 == 0x11
+    then Some (unsigned_of (byte_at frame 4 ∷ byte_at frame 5 ∷ byte_at frame 6 ∷ byte_at frame 7 ∷ [])) else None
 
 -- initiate of a block upload, ccs = 5, with a protocol switch threshold
 abbrev pub may_switch : FrameContent → Bool

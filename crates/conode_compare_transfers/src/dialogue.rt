@@ -32,6 +32,7 @@ ghost use Rattle.conode_compare_transfers.specs.Dialogues.{
   continues,
   exchange_in,
   has_key,
+  word_written,
 };
 
 use crate::breach::{Breach, breach_at, byte_at, key_in};
@@ -40,7 +41,7 @@ use crate::newest::{Newest, newest_with};
 use crate::times::is_past;
 use co_frame::Frame;
 use co_profile::{RESTORE_PARAMETERS, STORE_PARAMETERS};
-use co_value::Key;
+use co_value::{Key, unsigned_of};
 use conode_explain_transfers::{Channel, Ended, Ending, Heard, Protocol, Side, What};
 
 /// An initiate request that is not answered yet.
@@ -209,6 +210,23 @@ pub fn asks_to_write(frame: &Frame) -> bool
 {
     let specifier = byte_at(frame, 0) / 32;
     specifier == 1 || specifier == 6
+}
+
+/// The number that an initiate request of a download has in its last four bytes, where it has all
+/// four (expedited, n = 0).
+pub fn word_written(frame: &Frame) -> Option<u64>
+    ensures { result ≡ word_written frame.now }
+{
+    if byte_at(frame, 0) / 2 != 0x11 {
+        return None;
+    }
+    let bytes = [
+        byte_at(frame, 4),
+        byte_at(frame, 5),
+        byte_at(frame, 6),
+        byte_at(frame, 7),
+    ];
+    Some(unsigned_of(&bytes))
 }
 
 // whether an initiate request is one of a block upload that may be answered by another protocol: ccs

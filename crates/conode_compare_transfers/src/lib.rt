@@ -10,7 +10,7 @@ mod newest;
 mod times;
 
 pub use breach::{Breach, breach_at, byte_at, key_in};
-pub use dialogue::{Asked, Dialogue, Exchange, asks_to_write, is_timed};
+pub use dialogue::{Asked, Dialogue, Exchange, asks_to_write, is_timed, word_written};
 pub use left::Left;
 pub use newest::{Newest, newest_with};
 pub use times::{is_past, micros_of};

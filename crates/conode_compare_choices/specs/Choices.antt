@@ -23,10 +23,10 @@ use Rattle.conode_compare_rules.specs.declared.finding.Remark.{Remark}
 use Rattle.conode_compare_rules.specs.declared.finding.Remark.TheVariants.{Restarted, EarlyHeartbeat}
 use Rattle.conode_compare_rules.specs.declared.kind.FrameKind.{FrameKind}
 use Rattle.conode_compare_rules.specs.declared.kind.FrameKind.TheVariants.{Sdo}
-use Rattle.conode_compare_notes.specs.declared.choice.Choice.{Choice}
-use Rattle.conode_compare_notes.specs.declared.choice.Choice.TheVariants.{Segments, NoSize, ShortSegment, NoCrc, BlockSize, Switched, Timeout, Heartbeat}
-use Rattle.conode_compare_notes.specs.declared.request.Request.{Request}
-use Rattle.conode_compare_notes.specs.RefusalCodes.{code_choice}
+use Rattle.conode_compare_choices.specs.declared.choice.Choice.{Choice}
+use Rattle.conode_compare_choices.specs.declared.choice.Choice.TheVariants.{Segments, NoSize, ShortSegment, NoCrc, BlockSize, Switched, Timeout, Heartbeat}
+use Rattle.conode_compare_choices.specs.declared.request.Request.{Request}
+use Rattle.conode_compare_choices.specs.RefusalCodes.{code_choice}
 
 -- ---- the end of a transfer
 

@@ -5,7 +5,7 @@ ghost use Rattle.std.specs.Prelude.{◌≡◌, true, map};
 ghost use Rattle.std.specs.List.{AllPairs};
 ghost use Rattle.co_sheet.specs.SheetViews.{row_view};
 ghost use Rattle.co_value.specs.Keys.{is_key_before};
-ghost use Rattle.conode_compare_notes.specs.LengthErrors.{
+ghost use Rattle.conode_compare_choices.specs.LengthErrors.{
   after_control,
   after_data,
   after_exchange,

@@ -14,7 +14,7 @@ use Rattle.conode_compare_transfers.specs.Breaches.{byte_at}
 use Rattle.conode_compare_values.specs.declared.mismatch.Mismatch.{Mismatch}
 use Rattle.conode_compare_values.specs.declared.mismatch.Mismatch.TheVariants.{AboveLimit, BelowLimit}
 use Rattle.conode_compare_values.specs.SheetValues.{beyond_mismatch}
-use Rattle.conode_compare_notes.specs.declared.request.Request.{Request}
+use Rattle.conode_compare_choices.specs.declared.request.Request.{Request}
 
 abbrev pub nothing_requested : Request
 nothing_requested = record { first = 0; rest = 0 ∷ 0 ∷ 0 ∷ 0 ∷ [] }

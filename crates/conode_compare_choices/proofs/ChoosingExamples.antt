@@ -21,20 +21,20 @@ use Rattle.conode_compare_rules.specs.declared.kind.FrameKind.TheVariants.{Comma
 use Rattle.conode_compare_rules.specs.declared.limits.Subject.{Subject}
 use Rattle.conode_compare_rules.specs.declared.progress.Progress.{Progress}
 use Rattle.conode_compare_rules.specs.Progresses.{before_recording}
-use Rattle.conode_compare_notes.specs.declared.choice.Choice.{Choice}
-use Rattle.conode_compare_notes.specs.declared.choice.Choice.TheVariants.{NoEmergency, OtherEmergency, Phase as PhaseChoice}
-use Rattle.conode_compare_notes.specs.declared.length_error.LengthError.TheVariants.{ShortRpdo, LongRpdo, OddSync}
-use Rattle.conode_compare_notes.specs.declared.length_errors.Awaited.{Awaited}
-use Rattle.conode_compare_notes.specs.declared.length_errors.LengthErrors.{LengthErrors}
-use Rattle.conode_compare_notes.specs.declared.phases.Phase.{Phase}
-use Rattle.conode_compare_notes.specs.declared.phases.Phases.{Phases}
-use Rattle.conode_compare_notes.specs.declared.request.Request.{Request}
-use Rattle.conode_compare_notes.specs.LengthErrors as errors
-use Rattle.conode_compare_notes.specs.LengthErrors.{answers, awaited_after, awaited_with, booted_errors, code_of, error_choice, error_in, errors_with, is_missing, is_taken, length_error, may_send, no_errors, sync_error, sync_length}
-use Rattle.conode_compare_notes.specs.Phases as phases
-use Rattle.conode_compare_notes.specs.Phases.{early, is_open, no_phase, no_phases, phase_choice, phases_with, seen_in, synced}
-use Rattle.conode_compare_notes.specs.RefusalCodes.{also_fits}
-use Rattle.conode_compare_notes.specs.Requests.{indicated_size, request_code, word_code}
+use Rattle.conode_compare_choices.specs.declared.choice.Choice.{Choice}
+use Rattle.conode_compare_choices.specs.declared.choice.Choice.TheVariants.{NoEmergency, OtherEmergency, Phase as PhaseChoice}
+use Rattle.conode_compare_choices.specs.declared.length_error.LengthError.TheVariants.{ShortRpdo, LongRpdo, OddSync}
+use Rattle.conode_compare_choices.specs.declared.length_errors.Awaited.{Awaited}
+use Rattle.conode_compare_choices.specs.declared.length_errors.LengthErrors.{LengthErrors}
+use Rattle.conode_compare_choices.specs.declared.phases.Phase.{Phase}
+use Rattle.conode_compare_choices.specs.declared.phases.Phases.{Phases}
+use Rattle.conode_compare_choices.specs.declared.request.Request.{Request}
+use Rattle.conode_compare_choices.specs.LengthErrors as errors
+use Rattle.conode_compare_choices.specs.LengthErrors.{answers, awaited_after, awaited_with, booted_errors, code_of, error_choice, error_in, errors_with, is_missing, is_taken, length_error, may_send, no_errors, sync_error, sync_length}
+use Rattle.conode_compare_choices.specs.Phases as phases
+use Rattle.conode_compare_choices.specs.Phases.{early, is_open, no_phase, no_phases, phase_choice, phases_with, seen_in, synced}
+use Rattle.conode_compare_choices.specs.RefusalCodes.{also_fits}
+use Rattle.conode_compare_choices.specs.Requests.{indicated_size, request_code, word_code}
 
 -- ---- a device
 

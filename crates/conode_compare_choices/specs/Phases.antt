@@ -27,10 +27,10 @@ use Rattle.conode_compare_rules.specs.declared.kind.FrameKind.{FrameKind}
 use Rattle.conode_compare_rules.specs.declared.kind.FrameKind.TheVariants.{Command, CommandToAll, Control, Polled, Process, Sdo}
 use Rattle.conode_compare_rules.specs.declared.limits.Subject.{Subject}
 use Rattle.conode_compare_rules.specs.declared.progress.Progress.{Progress}
-use Rattle.conode_compare_notes.specs.declared.choice.Choice.{Choice}
-use Rattle.conode_compare_notes.specs.declared.choice.Choice.TheVariants.{Phase as PhaseChoice}
-use Rattle.conode_compare_notes.specs.declared.phases.Phase.{Phase}
-use Rattle.conode_compare_notes.specs.declared.phases.Phases.{Phases}
+use Rattle.conode_compare_choices.specs.declared.choice.Choice.{Choice}
+use Rattle.conode_compare_choices.specs.declared.choice.Choice.TheVariants.{Phase as PhaseChoice}
+use Rattle.conode_compare_choices.specs.declared.phases.Phase.{Phase}
+use Rattle.conode_compare_choices.specs.declared.phases.Phases.{Phases}
 
 abbrev pub no_phase : Phase
 no_phase = record { free = false; awaited = false }

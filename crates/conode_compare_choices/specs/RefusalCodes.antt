@@ -14,10 +14,10 @@ use Rattle.conode_explain_transfers.specs.declared.kinds.Direction.TheVariants.{
 use Rattle.conode_compare_transfers.specs.declared.dialogue.Asked.{Asked}
 use Rattle.conode_compare_transfers.specs.Breaches.{key_in}
 use Rattle.conode_compare_values.specs.SheetValues.{is_readable, is_read_only}
-use Rattle.conode_compare_notes.specs.declared.choice.Choice.{Choice}
-use Rattle.conode_compare_notes.specs.declared.choice.Choice.TheVariants.{Code}
-use Rattle.conode_compare_notes.specs.declared.request.Request.{Request}
-use Rattle.conode_compare_notes.specs.Requests.{missing_code, request_code}
+use Rattle.conode_compare_choices.specs.declared.choice.Choice.{Choice}
+use Rattle.conode_compare_choices.specs.declared.choice.Choice.TheVariants.{Code}
+use Rattle.conode_compare_choices.specs.declared.request.Request.{Request}
+use Rattle.conode_compare_choices.specs.Requests.{missing_code, request_code}
 
 -- ---- the code by the data sheet
 

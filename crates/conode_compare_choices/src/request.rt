@@ -5,7 +5,7 @@ ghost use Rattle.std.specs.Prelude.{◌≡◌, true, map};
 ghost use Rattle.std.specs.List.{AllPairs};
 ghost use Rattle.co_sheet.specs.SheetViews.{row_view};
 ghost use Rattle.co_value.specs.Keys.{is_key_before};
-ghost use Rattle.conode_compare_notes.specs.Requests.{
+ghost use Rattle.conode_compare_choices.specs.Requests.{
   block_size,
   download_size,
   has_width,

@@ -11,14 +11,14 @@ use Rattle.conode_compare_rules.specs.declared.kind.FrameKind.{FrameKind}
 use Rattle.conode_compare_rules.specs.declared.kind.FrameKind.TheVariants.{Sdo}
 use Rattle.conode_compare_rules.specs.declared.limits.Subject.{Subject}
 use Rattle.conode_compare_rules.specs.declared.progress.Progress.{Progress}
-use Rattle.conode_compare_notes.specs.declared.choice.Choice.{Choice}
-use Rattle.conode_compare_notes.specs.declared.choosing.Choosing.{Choosing}
-use Rattle.conode_compare_notes.specs.declared.request.Request.{Request}
-use Rattle.conode_compare_notes.specs.Choices.{choice_at}
-use Rattle.conode_compare_notes.specs.LengthErrors.{error_choice, errors_with, no_errors}
-use Rattle.conode_compare_notes.specs.Phases.{no_phases, phase_choice, phases_with}
-use Rattle.conode_compare_notes.specs.Requests.{nothing_requested, request_of}
-use Rattle.conode_compare_notes.specs.Warnings.{is_begun}
+use Rattle.conode_compare_rules.specs.Progresses.{is_begun}
+use Rattle.conode_compare_choices.specs.declared.choice.Choice.{Choice}
+use Rattle.conode_compare_choices.specs.declared.choosing.Choosing.{Choosing}
+use Rattle.conode_compare_choices.specs.declared.request.Request.{Request}
+use Rattle.conode_compare_choices.specs.Choices.{choice_at}
+use Rattle.conode_compare_choices.specs.LengthErrors.{error_choice, errors_with, no_errors}
+use Rattle.conode_compare_choices.specs.Phases.{no_phases, phase_choice, phases_with}
+use Rattle.conode_compare_choices.specs.Requests.{nothing_requested, request_of}
 
 abbrev pub nothing_chosen : Choosing
 nothing_chosen = record { request = nothing_requested; phases = no_phases; errors = no_errors }

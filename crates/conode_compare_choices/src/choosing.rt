@@ -4,7 +4,7 @@ ghost use Rattle.std.specs.Prelude.{◌≡◌, true, map};
 ghost use Rattle.std.specs.List.{AllPairs};
 ghost use Rattle.co_sheet.specs.SheetViews.{row_view};
 ghost use Rattle.co_value.specs.Keys.{is_key_before};
-ghost use Rattle.conode_compare_notes.specs.Choosings.{
+ghost use Rattle.conode_compare_choices.specs.Choosings.{
   choice_in,
   choosing_before,
   choosing_with,
@@ -19,7 +19,6 @@ use crate::choices::choice_at;
 use crate::length_errors::LengthErrors;
 use crate::phases::Phases;
 use crate::request::Request;
-use crate::watched::is_begun;
 use co_sheet::EntryRow;
 use conode_compare_rules::{FrameKind, Progress, Subject};
 use conode_compare_transfers::Exchange;
@@ -65,7 +64,7 @@ impl Choosing {
     fn begin(&mut self, progress: &Progress)
         ensures { self.new ≡ choosing_before self.old progress.now }
     {
-        if is_begun(progress) {
+        if progress.is_begun() {
             *self = Choosing::new();
         }
     }

@@ -1,0 +1,2 @@
+mod ChoosingExamples
+mod Examples

@@ -1,0 +1,328 @@
+-- The inhibit time of EMCY: what compare knows of the last EMCY at each frame of a device's recording, and of the frames at one input.
+use Rattle.std.proofs.Common.{◌≡◌, ◌≢◌, ℕ, ◌+◌, ◌*◌, ◌-◌, ◌/◌, ◌≤◌, Bool, true, false, List, [], ◌∷◌, length, map, Option, Some, None, refl, sym, ap, subst, arith}
+use Rattle.std.specs.Prelude.{if◌then◌else◌, ◌==◌, ◌&&◌, ◌||◌, not, nat_lt, IfSome}
+use Rattle.std.specs.List.{AllByRecursion, list_all}
+use Rattle.std.proofs.lemmas.Bool.{le-ltb, leb-true, ne_eqb}
+use Rattle.co_frame.specs.FrameContent.{FrameContent}
+use Rattle.co_frame.specs.Emergencies.{emergency_in}
+use Rattle.co_frame.specs.Heartbeats.{heartbeat_bytes, state_byte}
+use Rattle.co_frame.specs.InhibitTimes.{in_ms}
+use Rattle.co_frame.specs.Nmt.{nmt_command_in}
+use Rattle.co_frame.specs.declared.emergency.Emergency.{Emergency}
+use Rattle.co_frame.specs.declared.heartbeat.Heartbeat.{Heartbeat}
+use Rattle.co_frame.specs.declared.nmt.NmtCommand.{NmtCommand}
+use Rattle.co_frame.specs.declared.nmt.NmtService.{NmtService}
+use Rattle.co_frame.specs.declared.nmt.NmtService.TheVariants.{Start, Stop, EnterPreOperational, ResetNode, ResetCommunication}
+use Rattle.co_node_parts.specs.EmergencyQueues.{Sending, is_past, older}
+use Rattle.co_sheet.specs.Content.{Row}
+use Rattle.conode_explain_transfers.specs.declared.kinds.Side.TheVariants.{Client, Server}
+use Rattle.conode_compare_rules.specs.declared.entries.Entries.{Entries}
+use Rattle.conode_compare_rules.specs.declared.finding.Finding.{Finding}
+use Rattle.conode_compare_rules.specs.declared.finding.Finding.TheVariants.{EmergencyInhibit, EmergencyRegister, EmergencyStopped}
+use Rattle.conode_compare_rules.specs.declared.finding.NmtState.{NmtState}
+use Rattle.conode_compare_rules.specs.declared.kind.FrameKind.{FrameKind}
+use Rattle.conode_compare_rules.specs.declared.kind.FrameKind.TheVariants.{Command, CommandToAll, Control, Emergency as Emcy, OddEmergency, Other, Process, Sdo}
+use Rattle.conode_compare_rules.specs.declared.limits.Limits.{Limits}
+use Rattle.conode_compare_rules.specs.declared.limits.Subject.{Subject}
+use Rattle.conode_compare_rules.specs.declared.progress.Progress.{Progress}
+use Rattle.conode_compare_rules.specs.EmergencyRules.{emergency_finding, gap_finding, has_register, inhibit_finding, inhibit_with, is_in_force, is_stopped, least_gap}
+use Rattle.conode_compare_rules.specs.FrameKinds.{command_kind, command_to, control_kind, data_kind, emergency_kind, emergency_with, length_of}
+use Rattle.conode_compare_rules.specs.Progresses as progresses
+use Rattle.conode_compare_rules.specs.Progresses.{
+  after_command,
+  after_emergency,
+  after_frame,
+  after_process,
+  begins_anew,
+  begun,
+  booted,
+  emergency_findings,
+  findings_at,
+  findings_in,
+  progress_with,
+  with_gap,
+}
+use Rattle.conode_compare_rules.specs.States.{is_initialising, is_settled}
+use Rattle.conode_compare_rules.specs.Times.{drift_of}
+use Rattle.conode_compare_rules.specs.Verdicts.{found}
+use Rattle.conode_compare_transfers.specs.Times.{micros_of}
+use Rattle.conode_compare_laws.specs.Differences.{inhibit_differences, only_inhibit}
+use Rattle.conode_compare_laws.specs.Periods.{KnowsInhibit}
+use Rattle.conode_compare_laws.proofs.Frames.{life_kind}
+use Rattle.conode_compare_laws.proofs.Runs.{AllRun}
+
+-- the device sent its newest EMCY as long after this stamp as its age is ago, with this inhibit time
+abbrev pub IsSince : ℕ → ℕ → ℕ → List Sending → Type 0
+IsSince inhibit micros last [] = ⊥
+IsSince inhibit micros last (s ∷ before) = (last + s.age * 1000 ≤ micros) × (s.inhibit ≡ inhibit)
+
+-- what compare has of EMCY at a time: their inhibit time, if it is known, and the last one, if it is known
+pub record Calm (inhibit micros : ℕ) (sent : List Sending) (p : Progress) : Type 0 where
+  pub known : IfSome p.entries.inhibit (λ n. n ≡ inhibit)
+  pub since : IfSome p.emergency (λ last. IsSince inhibit micros last sent)
+
+-- ---- time passes
+
+later_since : (inhibit last now : ℕ) (emergency : Option ℕ) (sent : List Sending) → last ≤ now → IfSome emergency (λ e. IsSince inhibit last e sent) → IfSome emergency (λ e. IsSince inhibit now e sent)
+later_since inhibit last now None sent less h = tt
+later_since inhibit last now (Some e) [] less h = h
+later_since inhibit last now (Some e) (s ∷ sent) less h = (let first : e + s.age * 1000 ≤ last = h.0 in omega arith, h.1)
+
+older_since : (inhibit last now : ℕ) (emergency : Option ℕ) (sent : List Sending) → last + 1000 ≤ now → IfSome emergency (λ e. IsSince inhibit last e sent) → IfSome emergency (λ e. IsSince inhibit now e (map older sent))
+older_since inhibit last now None sent less h = tt
+older_since inhibit last now (Some e) [] less h = h
+older_since inhibit last now (Some e) (s ∷ sent) less h = (let first : e + s.age * 1000 ≤ last = h.0 in omega arith, h.1)
+
+-- after an input, which may be a tick
+pub later : (inhibit last now : ℕ) (tick : Bool) (sent : List Sending) (p : Progress) → last + (if tick then 1000 else 0) ≤ now → Calm inhibit last sent p → Calm inhibit now (if tick then map older sent else sent) p
+later inhibit last now true sent p less h = record { known = h.known; since = older_since inhibit last now p.emergency sent less h.since }
+later inhibit last now false sent p less h = record { known = h.known; since = later_since inhibit last now p.emergency sent (omega arith) h.since }
+
+-- ---- a recording that begins anew at a frame
+
+pub begun_calm : (subject : Subject) (inhibit micros : ℕ) (sent : List Sending) (p : Progress) → KnowsInhibit inhibit subject → Calm inhibit micros sent p → Calm inhibit micros sent (begun subject p micros)
+unfolding begun
+begun_calm subject inhibit micros sent p knows h = by (begins_anew subject.limits p micros) _ _ (record { known = knows.before; since = tt }) (record { known = h.known; since = h.since })
+  where
+    by : (b : Bool) (x y : Progress) → Calm inhibit micros sent x → Calm inhibit micros sent y → Calm inhibit micros sent (if b then x else y)
+    by true x y f g = f
+    by false x y f g = g
+
+-- ---- frames that are no EMCY
+
+-- what a frame may be: no SDO, no EMCY, no error control
+abbrev is_quiet : FrameKind → Bool
+is_quiet (Command service) = true
+is_quiet (CommandToAll service) = true
+is_quiet (Process id length) = true
+is_quiet Other = true
+is_quiet _ = false
+
+abbrev pub IsQuiet : ℕ → ℕ → Type 0
+IsQuiet node id = (id ≢ 0x80 + node) × (id ≢ 0x580 + node) × (id ≢ 0x600 + node) × (id ≢ 0x700 + node)
+
+quiet_command : (node : ℕ) (command : Option NmtCommand) → is_quiet (command_to node command) ≡ true
+quiet_command node None = refl
+quiet_command node (Some command) = by (command.node == 0) (command.node == node)
+  where
+    by : (a b : Bool) → is_quiet (if a then CommandToAll command.service else (if b then Command command.service else Other)) ≡ true
+    by true b = refl
+    by false true = refl
+    by false false = refl
+
+quiet_kind : (node : ℕ) (frame : FrameContent) → IsQuiet node frame.id → is_quiet (data_kind node frame) ≡ true
+quiet_kind node frame h =
+    by (frame.id == 0) (frame.id == 0x80 + node) (frame.id == 0x580 + node) (frame.id == 0x600 + node) (frame.id == 0x700 + node)
+    (ne_eqb frame.id (0x80 + node) h.0) (ne_eqb frame.id (0x580 + node) h.1) (ne_eqb frame.id (0x600 + node) h.2) (ne_eqb frame.id (0x700 + node) h.3)
+  where
+    by : (a b c d e : Bool) → b ≡ false → c ≡ false → d ≡ false → e ≡ false
+        → is_quiet (if a then command_kind node frame
+        else (if b then emergency_kind frame
+        else (if c then Sdo Server frame
+        else (if d then Sdo Client frame
+        else (if e then control_kind frame else Process frame.id (length_of frame)))))) ≡ true
+    by true b c d e o p q r = quiet_command node (nmt_command_in frame)
+    by false true c d e o p q r = absurd (cc)
+    by false false true d e o p q r = absurd (cc)
+    by false false false true e o p q r = absurd (cc)
+    by false false false false true o p q r = absurd (cc)
+    by false false false false false o p q r = refl
+
+-- nothing is found at a frame of these kinds, and what compare has then
+record Passes (inhibit micros : ℕ) (sent : List Sending) (subject : Subject) (rows : List Row) (p : Progress) (kind : FrameKind) : Type 0 where
+  none : inhibit_differences kind (findings_in subject rows p micros kind) ≡ []
+  calm : Calm inhibit micros sent (after_frame subject p micros kind)
+
+command_calm : (inhibit micros : ℕ) (sent : List Sending) (p : Progress) (service : NmtService) (own : Bool) → Calm inhibit micros sent p → Calm inhibit micros sent (after_command p service own micros)
+unfolding after_command with_gap
+command_calm inhibit micros sent p Start own h = record { known = h.known; since = h.since }
+command_calm inhibit micros sent p Stop own h = record { known = h.known; since = h.since }
+command_calm inhibit micros sent p EnterPreOperational own h = record { known = h.known; since = h.since }
+command_calm inhibit micros sent p ResetNode own h = record { known = tt; since = tt }
+command_calm inhibit micros sent p ResetCommunication own h = record { known = tt; since = tt }
+
+quiet_passes : (inhibit micros : ℕ) (sent : List Sending) (subject : Subject) (rows : List Row) (p : Progress) (kind : FrameKind) → is_quiet kind ≡ true → Calm inhibit micros sent p → Passes inhibit micros sent subject rows p kind
+unfolding after_process
+quiet_passes inhibit micros sent subject rows p (Command service) is h = record { none = refl; calm = command_calm inhibit micros sent p service false h }
+quiet_passes inhibit micros sent subject rows p (CommandToAll service) is h = record { none = refl; calm = command_calm inhibit micros sent p service subject.facts.starts_itself h }
+quiet_passes inhibit micros sent subject rows p (Process id length) is h = record { none = refl; calm = record { known = h.known; since = h.since } }
+quiet_passes inhibit micros sent subject rows p Other is h = record { none = refl; calm = h }
+quiet_passes inhibit micros sent subject rows p _ is h = absurd (cc)
+
+one : (inhibit micros : ℕ) (sent : List Sending) (subject : Subject) (rows : List Row) (p : Progress) (frame : FrameContent) (kind : FrameKind) → data_kind subject.node frame ≡ kind
+    → Passes inhibit micros sent subject rows (begun subject p micros) kind → AllRun inhibit_differences subject rows micros p (frame ∷ []) (Calm inhibit micros sent)
+unfolding findings_at progress_with
+one inhibit micros sent subject rows p frame kind is h =
+    let pass : Passes inhibit micros sent subject rows (begun subject p micros) (data_kind subject.node frame) = subst (λ other. Passes inhibit micros sent subject rows (begun subject p micros) other) (sym is) h in
+    (pass.none, pass.calm)
+
+pub quiets : (inhibit micros : ℕ) (sent : List Sending) (subject : Subject) (rows : List Row) (frames : List FrameContent) (p : Progress) → KnowsInhibit inhibit subject → AllByRecursion (λ frame. IsQuiet subject.node frame.id) frames
+    → Calm inhibit micros sent p → AllRun inhibit_differences subject rows micros p frames (Calm inhibit micros sent)
+quiets inhibit micros sent subject rows [] p knows are h = h
+quiets inhibit micros sent subject rows (frame ∷ frames) p knows are h =
+    let first : AllRun inhibit_differences subject rows micros p (frame ∷ []) (Calm inhibit micros sent) =
+    one inhibit micros sent subject rows p frame (data_kind subject.node frame) refl
+    (quiet_passes inhibit micros sent subject rows (begun subject p micros) (data_kind subject.node frame) (quiet_kind subject.node frame are.0) (begun_calm subject inhibit micros sent p knows h)) in
+    (first.0, quiets inhibit micros sent subject rows frames (progress_with subject p micros (data_kind subject.node frame)) knows are.1 first.1)
+
+-- ---- the boot-up, and heartbeats
+
+boot_passes : (inhibit micros : ℕ) (sent : List Sending) (subject : Subject) (rows : List Row) (p : Progress) → KnowsInhibit inhibit subject → Passes inhibit micros sent subject rows p (Control 0)
+unfolding booted
+boot_passes inhibit micros sent subject rows p knows = record { none = refl; calm = record { known = knows.booted; since = tt } }
+
+-- whatever was sent before it
+pub boots : (inhibit micros : ℕ) (sent after : List Sending) (subject : Subject) (rows : List Row) (p : Progress) (life : Heartbeat) → state_byte life ≡ 0 → KnowsInhibit inhibit subject
+    → AllRun inhibit_differences subject rows micros p (record { id = 0x700 + subject.node; bytes = heartbeat_bytes life } ∷ []) (Calm inhibit micros after)
+boots inhibit micros sent after subject rows p life is knows =
+    one inhibit micros after subject rows p (record { id = 0x700 + subject.node; bytes = heartbeat_bytes life }) (Control (state_byte life)) (life_kind subject.node life)
+    (subst (λ byte. Passes inhibit micros after subject rows (begun subject p micros) (Control byte)) (sym is) (boot_passes inhibit micros after subject rows (begun subject p micros) knows))
+
+control_passes : (inhibit micros byte : ℕ) (sent : List Sending) (subject : Subject) (rows : List Row) (p : Progress) → KnowsInhibit inhibit subject → Calm inhibit micros sent p → Passes inhibit micros sent subject rows p (Control byte)
+unfolding booted progresses.after_control
+control_passes inhibit micros byte sent subject rows p knows h = record { none = refl; calm = by (byte == 0) _ _ (record { known = knows.booted; since = tt }) (record { known = h.known; since = h.since }) }
+  where
+    by : (b : Bool) (x y : Progress) → Calm inhibit micros sent x → Calm inhibit micros sent y → Calm inhibit micros sent (if b then x else y)
+    by true x y f g = f
+    by false x y f g = g
+
+pub lives : (inhibit micros : ℕ) (sent : List Sending) (subject : Subject) (rows : List Row) (p : Progress) (life : Heartbeat) → KnowsInhibit inhibit subject → Calm inhibit micros sent p
+    → AllRun inhibit_differences subject rows micros p (record { id = 0x700 + subject.node; bytes = heartbeat_bytes life } ∷ []) (Calm inhibit micros sent)
+lives inhibit micros sent subject rows p life knows h =
+    one inhibit micros sent subject rows p (record { id = 0x700 + subject.node; bytes = heartbeat_bytes life }) (Control (state_byte life)) (life_kind subject.node life)
+    (control_passes inhibit micros (state_byte life) sent subject rows (begun subject p micros) knows (begun_calm subject inhibit micros sent p knows h))
+
+-- ---- an EMCY, where the inhibit time of the one before has elapsed
+
+long_ago : (last micros age n inhibit tolerance drift : ℕ) → last + age * 1000 ≤ micros → n ≡ inhibit → (inhibit + 9) / 10 ≤ age → (n * 100 - tolerance) - drift ≤ micros - last
+long_ago last micros age n inhibit tolerance drift past same elapsed =
+    let tenfold : inhibit ≤ age * 10 = omega arith in
+    omega arith
+
+gap_none : (limits : Limits) (last micros age n inhibit : ℕ) → last + age * 1000 ≤ micros → n ≡ inhibit → (inhibit + 9) / 10 ≤ age → gap_finding limits n (micros - last) ≡ None
+gap_none limits last micros age n inhibit past same elapsed =
+    by (nat_lt (micros - last) (least_gap limits n)) (le-ltb (micros - last) (least_gap limits n) (long_ago last micros age n inhibit (micros_of limits.tolerance) (drift_of limits (n / 10)) past same elapsed))
+  where
+    by : (b : Bool) → b ≡ false → (if b then Some (EmergencyInhibit (micros - last) n) else None) ≡ None
+    by true h = absurd (cc)
+    by false h = refl
+
+head_past : (s : Sending) (sent : List Sending) → list_all is_past (s ∷ sent) ≡ true → in_ms s.inhibit ≤ s.age
+head_past s sent over = leb-true (in_ms s.inhibit) s.age (first (is_past s) (list_all is_past sent) over)
+  where
+    first : (a b : Bool) → (a && b) ≡ true → a ≡ true
+    first true b h = refl
+    first false b h = absurd (cc)
+
+force_none : (limits : Limits) (last micros age n inhibit : ℕ) (b : Bool) → last + age * 1000 ≤ micros → n ≡ inhibit → (inhibit + 9) / 10 ≤ age → (if b then gap_finding limits n (micros - last) else None) ≡ None
+force_none limits last micros age n inhibit true past same elapsed = gap_none limits last micros age n inhibit past same elapsed
+force_none limits last micros age n inhibit false past same elapsed = refl
+
+with_none : (limits : Limits) (known shown : Option ℕ) (last micros inhibit : ℕ) (sent : List Sending) → IfSome known (λ n. n ≡ inhibit) → IsSince inhibit micros last sent → list_all is_past sent ≡ true
+    → inhibit_with limits known shown last micros ≡ None
+with_none limits None shown last micros inhibit sent known since over = refl
+with_none limits (Some n) shown last micros inhibit [] known since over = absurd since
+with_none limits (Some n) shown last micros inhibit (s ∷ sent) known since over =
+    force_none limits last micros s.age n inhibit (is_in_force limits shown last) since.0 known (subst (λ x. in_ms x ≤ s.age) since.1 (head_past s sent over))
+
+inhibit_none : (limits : Limits) (entries : Entries) (emergency : Option ℕ) (micros inhibit : ℕ) (sent : List Sending) → IfSome entries.inhibit (λ n. n ≡ inhibit) → IfSome emergency (λ last. IsSince inhibit micros last sent)
+    → list_all is_past sent ≡ true → inhibit_finding limits entries emergency micros ≡ None
+unfolding inhibit_finding
+inhibit_none limits entries None micros inhibit sent known since over = refl
+inhibit_none limits entries (Some last) micros inhibit sent known since over = with_none limits entries.inhibit entries.inhibit_shown last micros inhibit sent known since over
+
+finding_none : (limits : Limits) (entries : Entries) (state : NmtState) (settled : Bool) (last : Option ℕ) (micros code register : ℕ) → inhibit_finding limits entries last micros ≡ None
+    → only_inhibit (emergency_finding limits entries state settled last micros code register) ≡ []
+unfolding emergency_finding
+finding_none limits entries state settled last micros code register h =
+    by (not entries.emergencies || is_initialising state) (settled && is_stopped state) (has_register code register) (inhibit_finding limits entries last micros) h
+  where
+    by : (unknown stopped has : Bool) (f : Option Finding) → f ≡ None → only_inhibit (if unknown then None else (if stopped then Some EmergencyStopped else (if not has then Some (EmergencyRegister code register) else f))) ≡ []
+    by true stopped has f h = refl
+    by false true has f h = refl
+    by false false false f h = refl
+    by false false true f h = ap only_inhibit h
+
+-- what compare has then: the device sent this one just now
+abbrev pub just_now : ℕ → Sending
+just_now inhibit = record { age = 0; inhibit = inhibit }
+
+now_since : (inhibit micros : ℕ) (sent : List Sending) (emergency : Option ℕ) → IfSome emergency (λ last. IsSince inhibit micros last sent) → IfSome emergency (λ last. IsSince inhibit micros last (just_now inhibit ∷ sent))
+now_since inhibit micros sent None h = tt
+now_since inhibit micros [] (Some last) h = absurd h
+now_since inhibit micros (s ∷ sent) (Some last) h = (let first : last + s.age * 1000 ≤ micros = h.0 in omega arith, refl)
+
+emergency_passes : (inhibit micros code register : ℕ) (sent : List Sending) (subject : Subject) (rows : List Row) (p : Progress) → list_all is_past sent ≡ true → Calm inhibit micros sent p
+    → Passes inhibit micros (just_now inhibit ∷ sent) subject rows p (Emcy code register)
+unfolding emergency_findings found after_emergency
+emergency_passes inhibit micros code register sent subject rows p over h = record {
+  none = finding_none subject.limits p.entries p.nmt.state (is_settled subject.limits p.started p.nmt.commanded micros) p.emergency micros code register
+      (inhibit_none subject.limits p.entries p.emergency micros inhibit sent h.known h.since over);
+  calm = record { known = h.known; since = (omega arith, refl) };
+}
+
+odd_passes : (inhibit micros length : ℕ) (sent : List Sending) (subject : Subject) (rows : List Row) (p : Progress) → Calm inhibit micros sent p → Passes inhibit micros (just_now inhibit ∷ sent) subject rows p (OddEmergency length)
+unfolding after_emergency
+odd_passes inhibit micros length sent subject rows p h = record { none = refl; calm = record { known = h.known; since = (omega arith, refl) } }
+
+-- on another identifier than compare has for EMCY
+other_passes : (inhibit micros : ℕ) (sent : List Sending) (subject : Subject) (rows : List Row) (p : Progress) (kind : FrameKind) → is_quiet kind ≡ true → Calm inhibit micros sent p
+    → Passes inhibit micros (just_now inhibit ∷ sent) subject rows p kind
+other_passes inhibit micros sent subject rows p kind is h =
+    let now : Calm inhibit micros (just_now inhibit ∷ sent) p = record { known = h.known; since = now_since inhibit micros sent p.emergency h.since } in
+    quiet_passes inhibit micros (just_now inhibit ∷ sent) subject rows p kind is now
+
+-- what a frame of EMCY may be
+abbrev is_own : FrameKind → Bool
+is_own (Emcy code register) = true
+is_own (OddEmergency length) = true
+is_own kind = is_quiet kind
+
+own_passes : (inhibit micros : ℕ) (sent : List Sending) (subject : Subject) (rows : List Row) (p : Progress) (kind : FrameKind) → is_own kind ≡ true → list_all is_past sent ≡ true → Calm inhibit micros sent p
+    → Passes inhibit micros (just_now inhibit ∷ sent) subject rows p kind
+own_passes inhibit micros sent subject rows p (Emcy code register) is over h = emergency_passes inhibit micros code register sent subject rows p over h
+own_passes inhibit micros sent subject rows p (OddEmergency length) is over h = odd_passes inhibit micros length sent subject rows p h
+own_passes inhibit micros sent subject rows p (Command service) is over h = other_passes inhibit micros sent subject rows p (Command service) refl h
+own_passes inhibit micros sent subject rows p (CommandToAll service) is over h = other_passes inhibit micros sent subject rows p (CommandToAll service) refl h
+own_passes inhibit micros sent subject rows p (Process id length) is over h = other_passes inhibit micros sent subject rows p (Process id length) refl h
+own_passes inhibit micros sent subject rows p Other is over h = other_passes inhibit micros sent subject rows p Other refl h
+own_passes inhibit micros sent subject rows p _ is over h = absurd (cc)
+
+quiet_own : (kind : FrameKind) → is_quiet kind ≡ true → is_own kind ≡ true
+quiet_own (Command service) h = refl
+quiet_own (CommandToAll service) h = refl
+quiet_own (Process id length) h = refl
+quiet_own Other h = refl
+quiet_own _ h = absurd (cc)
+
+own_emergency : (length : ℕ) (o : Option Emergency) → is_own (emergency_with length o) ≡ true
+own_emergency length None = refl
+own_emergency length (Some emergency) = refl
+
+-- identifiers that an EMCY of the device may have
+abbrev pub IsFree : ℕ → ℕ → Type 0
+IsFree node id = (id ≢ 0x580 + node) × (id ≢ 0x600 + node) × (id ≢ 0x700 + node)
+
+own_kind : (node : ℕ) (frame : FrameContent) → IsFree node frame.id → is_own (data_kind node frame) ≡ true
+own_kind node frame h =
+    by (frame.id == 0) (frame.id == 0x80 + node) (frame.id == 0x580 + node) (frame.id == 0x600 + node) (frame.id == 0x700 + node)
+    (ne_eqb frame.id (0x580 + node) h.0) (ne_eqb frame.id (0x600 + node) h.1) (ne_eqb frame.id (0x700 + node) h.2)
+  where
+    by : (a b c d e : Bool) → c ≡ false → d ≡ false → e ≡ false
+        → is_own (if a then command_kind node frame
+        else (if b then emergency_kind frame
+        else (if c then Sdo Server frame
+        else (if d then Sdo Client frame
+        else (if e then control_kind frame else Process frame.id (length_of frame)))))) ≡ true
+    by true b c d e p q r = quiet_own (command_to node (nmt_command_in frame)) (quiet_command node (nmt_command_in frame))
+    by false true c d e p q r = own_emergency (length_of frame) (emergency_in frame.bytes)
+    by false false true d e p q r = absurd (cc)
+    by false false false true e p q r = absurd (cc)
+    by false false false false true p q r = absurd (cc)
+    by false false false false false p q r = refl
+
+pub emergency_runs : (inhibit micros : ℕ) (sent : List Sending) (subject : Subject) (rows : List Row) (frame : FrameContent) (p : Progress) → KnowsInhibit inhibit subject → IsFree subject.node frame.id
+    → list_all is_past sent ≡ true → Calm inhibit micros sent p → AllRun inhibit_differences subject rows micros p (frame ∷ []) (Calm inhibit micros (just_now inhibit ∷ sent))
+emergency_runs inhibit micros sent subject rows frame p knows free over h =
+    one inhibit micros (just_now inhibit ∷ sent) subject rows p frame (data_kind subject.node frame) refl
+    (own_passes inhibit micros sent subject rows (begun subject p micros) (data_kind subject.node frame) (own_kind subject.node frame free) over (begun_calm subject inhibit micros sent p knows h))

@@ -1,0 +1,270 @@
+-- The EMCY that a device sends, over all its inputs: none within the inhibit time by what compare knows of it.
+use Rattle.std.proofs.Common.{◌≡◌, ℕ, ◌+◌, ◌≤◌, Bool, true, false, List, [], ◌∷◌, ◌++◌, map, Option, Some, None, refl, sym, ap, ◌∙◌, subst}
+use Rattle.std.specs.Prelude.{if◌then◌else◌, ◌&&◌, not, slice_get}
+use Rattle.std.specs.List.{AllByRecursion, list_all}
+use Rattle.co_value.specs.declared.key.Key.{Key}
+use Rattle.co_frame.specs.FrameContent.{FrameContent}
+use Rattle.co_frame.specs.Emergencies.{emergency_bytes}
+use Rattle.co_frame.specs.Heartbeats.{heartbeat_in}
+use Rattle.co_frame.specs.Nmt.{nmt_command_in}
+use Rattle.co_frame.specs.declared.emergency.Emergency.{Emergency}
+use Rattle.co_frame.specs.declared.heartbeat.Heartbeat.TheVariants.{BootUp}
+use Rattle.co_frame.specs.declared.nmt.NmtService.{NmtService}
+use Rattle.co_profile.specs.Keys.{emergency_inhibit_key, emergency_key}
+use Rattle.co_dict.specs.CobIds.{identifier_of, is_valid}
+use Rattle.co_dict.specs.Rows.{Contents, number_at}
+use Rattle.co_dict.specs.Stores.{Description}
+use Rattle.co_sdo.specs.Completed.{key_set}
+use Rattle.co_sdo_bank.specs.Events.{frames_at, set_of}
+use Rattle.co_sheet.specs.Content.{Row}
+use Rattle.co_node_parts.specs.EmergencyQueues.{EmergencyLog, Noted, Sending, is_inhibit_over, is_past, older, queue_of, sendings, with_queued, with_sending}
+use Rattle.co_node_parts.specs.NmtStates.{heartbeat_of, is_state}
+use Rattle.co_node_parts.specs.Producers.{is_heartbeat_due}
+use Rattle.co_node_parts.specs.declared.emergencies.EmergencyEvent.TheVariants.{Queue, Empty, Tick, Quiet}
+use Rattle.co_node_parts.specs.declared.nmt_state.NodeState.{NodeState}
+use Rattle.co_node_parts.specs.declared.nmt_state.NodeState.TheVariants.{Operational, Stopped}
+use Rattle.co_node_model.specs.declared.address.Address.{Address}
+use Rattle.co_node_model.specs.declared.address.Address.TheVariants.{ErrorControl, Nobody, Rpdo, Channel, Nmt, Sync}
+use Rattle.co_node_model.specs.Addresses.{address_at}
+use Rattle.co_node_model.specs.AppEvents.{event_refusal, with_app_event}
+use Rattle.co_node_model.specs.Device.{moment, moments, prescribed, state_of, with_frame}
+use Rattle.co_node_model.specs.Emergencies.{emergency_frames, emergency_log}
+use Rattle.co_node_model.specs.Heartbeats.{boot_up, is_heartbeat, life_frames, producer_event, producer_log}
+use Rattle.co_node_model.specs.Inputs.{AppView, Applied, ChangedAt, Cleared, EventOn, Framed, Inputs, InputView, Raised, Ticked, Written}
+use Rattle.co_node_model.specs.Marks.{command_mark, marked_tick, marked_time_out, written_mark}
+use Rattle.co_node_model.specs.Moments.{Constants, History, Moment, channels, contents_at, nothing_of}
+use Rattle.co_node_model.specs.Nmt.{is_reset, service_for, state_at}
+use Rattle.co_node_model.specs.Sdo.{channel_logs}
+use Rattle.co_node_model.specs.Tpdos.{tpdo_frame}
+use Rattle.conode_compare_rules.specs.declared.limits.Subject.{Subject}
+use Rattle.conode_compare_rules.specs.declared.progress.Progress.{Progress}
+use Rattle.conode_compare_rules.specs.Progresses.{before_recording}
+use Rattle.conode_compare_laws.specs.Differences.{differences_from, differences_in, inhibit_differences}
+use Rattle.conode_compare_laws.specs.Identifiers.{AllSendAside, AllSendWithout, AreAside, AreElsewhere, AreNoSdo, AreWithout, IsElsewhere, SendsAside, SendsWithout}
+use Rattle.conode_compare_laws.specs.Periods.{AllHaveInhibit, KnowsInhibit}
+use Rattle.conode_compare_laws.specs.Recordings.{AreSpaced, AreUnhurried, Recorded, Stamped, elapsed, frame_of, heard_from, recording, stamped}
+use Rattle.conode_compare_laws.proofs.Heard.{of_device}
+use Rattle.conode_compare_laws.proofs.Heartbeats.{NoSdo, after_those, before_these, first_part, last_part, unstamped}
+use Rattle.conode_compare_laws.proofs.Pauses.{Calm, IsFree, IsQuiet, boots, emergency_runs, later, lives, quiets}
+use Rattle.conode_compare_laws.proofs.Runs.{AllRun, joined, then_none}
+
+-- ---- which frames these are
+
+quiet : (node : ℕ) (frames : List FrameContent) → NoSdo node frames → AreAside node frames → AreWithout (0x80 + node) frames → AllByRecursion (λ frame. IsQuiet node frame.id) frames
+quiet node [] none aside without = tt
+quiet node (frame ∷ frames) none aside without = ((without.0, none.0.0, none.0.1, aside.0.1), quiet node frames none.1 aside.1 without.1)
+
+came_quiet : (node : ℕ) (input : InputView) → NoSdo node (frame_of input) → IsElsewhere (0x700 + node) input → IsElsewhere (0x80 + node) input → AllByRecursion (λ frame. IsQuiet node frame.id) (frame_of input)
+came_quiet node (Framed frame) none control emergency = ((emergency, none.0.0, none.0.1, control), tt)
+came_quiet node Ticked none control emergency = tt
+came_quiet node (Applied event) none control emergency = tt
+
+free : (node : ℕ) (frames : List FrameContent) → NoSdo node frames → AreAside node frames → AllByRecursion (λ frame. IsFree node frame.id) frames
+free node [] none aside = tt
+free node (frame ∷ frames) none aside = ((none.0.0, none.0.1, aside.0.1), free node frames none.1 aside.1)
+
+-- ---- the log of an input
+
+queued_same : (es : List Emergency) (log : EmergencyLog) → sendings (with_queued es log) ≡ sendings log
+queued_same [] log = refl
+queued_same (e ∷ es) log = queued_same es (Noted (Queue e) ∷ log)
+
+-- what was queued at an input
+abbrev queued : Moment → EmergencyLog → EmergencyLog
+queued m log = with_queued m.raised_by_pdo (with_queued m.raised_by_loss (with_queued m.raised_by_app log))
+
+all_same : (m : Moment) (log : EmergencyLog) → sendings (queued m log) ≡ sendings log
+all_same m log =
+    queued_same m.raised_by_pdo (with_queued m.raised_by_loss (with_queued m.raised_by_app log))
+    ∙ queued_same m.raised_by_loss (with_queued m.raised_by_app log)
+    ∙ queued_same m.raised_by_app log
+
+-- only a tick is marked as one
+command_off : (service : Option NmtService) → marked_tick (command_mark service) ≡ false
+command_off None = refl
+command_off (Some service) = refl
+
+written_off : (key : Option Key) → marked_tick (written_mark key) ≡ false
+written_off None = refl
+written_off (Some key) = refl
+
+either_off : (b : Bool) (x y : Moment) → marked_tick x.mark ≡ false → marked_tick y.mark ≡ false → marked_tick (if b then x else y).mark ≡ false
+either_off true x y p q = p
+either_off false x y p q = q
+
+frame_off : (k : Constants) (history : History) (address : Address) (frame : FrameContent) (input : InputView) (c : Contents) → marked_tick (with_frame k history address frame (nothing_of input c)).mark ≡ false
+frame_off k history Nmt frame input c = command_off (service_for k.description.node (nmt_command_in frame))
+frame_off k history Sync frame input c = either_off (is_state Stopped (state_at history)) _ _ refl refl
+frame_off k history (Channel j) frame input c = either_off (is_state Stopped (state_at history)) _ _ refl (written_off (key_set (set_of (channels k) k.description c (channel_logs history) frame)))
+frame_off k history (Rpdo n) frame input c = either_off (is_state Operational (state_at history)) _ _ refl refl
+frame_off k history (ErrorControl node) frame input c = either_off (is_heartbeat (heartbeat_in frame.bytes)) _ _ refl refl
+frame_off k history Nobody frame input c = refl
+
+event_off : (d : Description) (event : AppView) (refusal : Option ℕ) (input : InputView) (c : Contents) → marked_tick (with_app_event d event refusal (nothing_of input c)).mark ≡ false
+event_off d event (Some code) input c = refl
+event_off d (Written key bytes) None input c = refl
+event_off d (EventOn n) None input c = refl
+event_off d (ChangedAt key) None input c = refl
+event_off d (Raised code bits manufacturer) None input c = refl
+event_off d (Cleared bits) None input c = refl
+
+took : (k : Constants) (history : History) (input : InputView) → (if marked_tick (moment k history input).mark then 1000 else 0) ≡ elapsed input
+took k history (Framed frame) = ap (λ b. if b then 1000 else 0) (frame_off k history (address_at k history frame.id) frame (Framed frame) (contents_at k history))
+took k history Ticked = refl
+took k history (Applied event) = ap (λ b. if b then 1000 else 0) (event_off k.description event (event_refusal k.description (contents_at k history) event) (Applied event) (contents_at k history))
+
+-- ---- the EMCY that is sent at an input, then the boot-up or a heartbeat
+
+front_runs : (inhibit micros : ℕ) (subject : Subject) (rows : List Row) (p : Progress) (c : Contents) (front : Option Emergency) (log : EmergencyLog) → KnowsInhibit inhibit subject → number_at c emergency_inhibit_key ≡ inhibit
+    → AllByRecursion (λ frame. IsFree subject.node frame.id) (emergency_frames c front) → list_all is_past (sendings log) ≡ true → Calm inhibit micros (sendings log) p
+    → AllRun inhibit_differences subject rows micros p (emergency_frames c front) (Calm inhibit micros (sendings (with_sending front (number_at c emergency_inhibit_key) log)))
+front_runs inhibit micros subject rows p c None log knows same ids over h = h
+front_runs inhibit micros subject rows p c (Some e) log knows same ids over h =
+    let frame : FrameContent = record { id = identifier_of (number_at c emergency_key); bytes = emergency_bytes e } in
+    subst (λ n. AllRun inhibit_differences subject rows micros p (frame ∷ []) (Calm inhibit micros (record { age = 0; inhibit = n } ∷ sendings log))) (sym same)
+    (emergency_runs inhibit micros (sendings log) subject rows frame p knows ids.0 over h)
+
+due_runs : (inhibit micros : ℕ) (subject : Subject) (rows : List Row) (p : Progress) (c : Contents) (may : Bool) (log : EmergencyLog) → KnowsInhibit inhibit subject → number_at c emergency_inhibit_key ≡ inhibit
+    → AllByRecursion (λ frame. IsFree subject.node frame.id) (emergency_frames c (if may && is_inhibit_over log then slice_get (queue_of log) 0 else None)) → Calm inhibit micros (sendings log) p
+    → AllRun inhibit_differences subject rows micros p (emergency_frames c (if may && is_inhibit_over log then slice_get (queue_of log) 0 else None))
+    (Calm inhibit micros (sendings (with_sending (if may && is_inhibit_over log then slice_get (queue_of log) 0 else None) (number_at c emergency_inhibit_key) log)))
+due_runs inhibit micros subject rows p c false log knows same ids h = h
+due_runs inhibit micros subject rows p c true log knows same ids h = by (is_inhibit_over log) refl ids
+  where
+    by : (b : Bool) → is_inhibit_over log ≡ b → AllByRecursion (λ frame. IsFree subject.node frame.id) (emergency_frames c (if b then slice_get (queue_of log) 0 else None))
+        → AllRun inhibit_differences subject rows micros p (emergency_frames c (if b then slice_get (queue_of log) 0 else None))
+        (Calm inhibit micros (sendings (with_sending (if b then slice_get (queue_of log) 0 else None) (number_at c emergency_inhibit_key) log)))
+    by true is free_ids = front_runs inhibit micros subject rows p c (slice_get (queue_of log) 0) log knows same free_ids is h
+    by false is free_ids = h
+
+-- a reset empties the queue, and no EMCY is sent; so what compare has changes with the boot-up
+abbrev event_log : Bool → Bool → EmergencyLog → EmergencyLog
+event_log reset tick log = Noted (if reset then Empty else (if tick then Tick else Quiet)) ∷ log
+
+abbrev due_in : Bool → EmergencyLog → Option Emergency
+due_in may log = if may && is_inhibit_over log then slice_get (queue_of log) 0 else None
+
+abbrev aged : Bool → EmergencyLog → List Sending
+aged tick log = if tick then map older (sendings log) else sendings log
+
+-- between the EMCY and the boot-up
+abbrev Between : ℕ → ℕ → Contents → Bool → Bool → Bool → EmergencyLog → Progress → Type 0
+Between inhibit micros c may true tick log p = Calm inhibit micros (aged tick log) p
+Between inhibit micros c may false tick log p =
+    Calm inhibit micros (sendings (with_sending (due_in may (event_log false tick log)) (number_at c emergency_inhibit_key) (event_log false tick log))) p
+
+emergency_part : (inhibit micros : ℕ) (subject : Subject) (rows : List Row) (p : Progress) (c : Contents) (may reset tick : Bool) (log : EmergencyLog) → KnowsInhibit inhibit subject → number_at c emergency_inhibit_key ≡ inhibit
+    → AllByRecursion (λ frame. IsFree subject.node frame.id) (emergency_frames c (due_in may (event_log reset tick log))) → Calm inhibit micros (aged tick log) p
+    → AllRun inhibit_differences subject rows micros p (emergency_frames c (due_in may (event_log reset tick log))) (Between inhibit micros c may reset tick log)
+emergency_part inhibit micros subject rows p c true true tick log knows same ids h = h
+emergency_part inhibit micros subject rows p c false true tick log knows same ids h = h
+emergency_part inhibit micros subject rows p c may false true log knows same ids h = due_runs inhibit micros subject rows p c may (Noted Tick ∷ log) knows same ids h
+emergency_part inhibit micros subject rows p c may false false log knows same ids h = due_runs inhibit micros subject rows p c may (Noted Quiet ∷ log) knows same ids h
+
+life_part : (inhibit micros : ℕ) (subject : Subject) (rows : List Row) (p : Progress) (c : Contents) (may reset tick due : Bool) (log : EmergencyLog) (final : NodeState) → KnowsInhibit inhibit subject
+    → Between inhibit micros c may reset tick log p
+    → AllRun inhibit_differences subject rows micros p (life_frames subject.node (if reset then Some BootUp else (if due then Some (heartbeat_of final) else None)))
+    (Calm inhibit micros (sendings (with_sending (due_in may (event_log reset tick log)) (number_at c emergency_inhibit_key) (event_log reset tick log))))
+life_part inhibit micros subject rows p c may true tick due log final knows h =
+    boots inhibit micros (aged tick log) (sendings (with_sending (due_in may (event_log true tick log)) (number_at c emergency_inhibit_key) (event_log true tick log))) subject rows p BootUp refl knows
+life_part inhibit micros subject rows p c may false tick false log final knows h = h
+life_part inhibit micros subject rows p c may false tick true log final knows h =
+    lives inhibit micros (sendings (with_sending (due_in may (event_log false tick log)) (number_at c emergency_inhibit_key) (event_log false tick log))) subject rows p (heartbeat_of final) knows h
+
+-- ---- an input
+
+input_runs : (k : Constants) (subject : Subject) (rows : List Row) (micros inhibit : ℕ) (before : Inputs) (input : InputView) (p : Progress) → KnowsInhibit inhibit subject
+    → number_at (moment k (moments k before) input).contents emergency_inhibit_key ≡ inhibit
+    → IsElsewhere (0x700 + k.description.node) input → IsElsewhere (0x80 + k.description.node) input
+    → SendsAside k (moment k (moments k before) input) → SendsWithout (0x80 + k.description.node) k (moment k (moments k before) input) → NoSdo k.description.node (frame_of input ++ prescribed k before input)
+    → Calm inhibit micros (aged (marked_tick (moment k (moments k before) input).mark) (emergency_log (moments k before))) p
+    → AllRun inhibit_differences (of_device k subject) rows micros p (frame_of input ++ prescribed k before input) (Calm inhibit micros (sendings (emergency_log (moments k (input ∷ before)))))
+input_runs k subject rows micros inhibit before input p knows same control emergency aside without none h =
+    let s : Subject = of_device k subject in
+    let n : ℕ = k.description.node in
+    let m : Moment = moment k (moments k before) input in
+    let old : EmergencyLog = emergency_log (moments k before) in
+    let log : EmergencyLog = queued m old in
+    let tick : Bool = marked_tick m.mark in
+    let reset : Bool = is_reset m.mark in
+    let final : NodeState = state_of k (input ∷ before) in
+    let may : Bool = not (is_state Stopped final) && is_valid (number_at m.contents emergency_key) && not (marked_time_out m.mark) in
+    let due : Bool = is_heartbeat_due (producer_event m.mark m.contents) (producer_log k (moments k before)) in
+    let a : List FrameContent = frames_at m.exchange in
+    let b : List FrameContent = frames_at m.timed_out in
+    let c : List FrameContent = emergency_frames m.contents m.emergency in
+    let d : List FrameContent = life_frames n m.life in
+    let e : List FrameContent = map (tpdo_frame k.description m.contents) m.due in
+    let known : KnowsInhibit inhibit s = record { before = knows.before; booted = knows.booted } in
+    let sent : NoSdo n (a ++ b ++ c ++ d ++ e) = after_those n (frame_of input) (prescribed k before input) none in
+    let sent_d : NoSdo n (a ++ b ++ c ++ d) = before_these n (a ++ b ++ c ++ d) e sent in
+    let sent_c : NoSdo n (a ++ b ++ c) = before_these n (a ++ b ++ c) d sent_d in
+    let sent_b : NoSdo n (a ++ b) = before_these n (a ++ b) c sent_c in
+    let came : Progress → Type 0 = Calm inhibit micros (aged tick log) in
+    let middle : Progress → Type 0 = Between inhibit micros m.contents may reset tick log in
+    let after : Progress → Type 0 = Calm inhibit micros (sendings (emergency_log (m ∷ moments k before))) in
+    let now : Calm inhibit micros (aged tick log) p = subst (λ sendings_then. Calm inhibit micros (if tick then map older sendings_then else sendings_then) p) (sym (all_same m old)) h in
+    joined inhibit_differences s rows micros (frame_of input) (a ++ b ++ c ++ d ++ e) p came after
+    (quiets inhibit micros (aged tick log) s rows (frame_of input) p known (came_quiet n input (before_these n (frame_of input) (prescribed k before input) none) control emergency) now)
+    (λ q0 g0.
+    joined inhibit_differences s rows micros (a ++ b ++ c ++ d) e q0 after after
+    (joined inhibit_differences s rows micros (a ++ b ++ c) d q0 middle after
+    (joined inhibit_differences s rows micros (a ++ b) c q0 came middle
+    (joined inhibit_differences s rows micros a b q0 came came
+    (quiets inhibit micros (aged tick log) s rows a q0 known (quiet n a (before_these n a b sent_b) aside.answers without.answers) g0)
+    (λ q g. quiets inhibit micros (aged tick log) s rows b q known (quiet n b (after_those n a b sent_b) aside.time_out without.time_out) g))
+    (λ q g. emergency_part inhibit micros s rows q m.contents may reset tick log known same (free n c (after_those n (a ++ b) c sent_c) aside.emergency) g))
+    (λ q g. life_part inhibit micros s rows q m.contents may reset tick due log final known g))
+    (λ q g. quiets inhibit micros (sendings (emergency_log (m ∷ moments k before))) s rows e q known (quiet n e (after_those n (a ++ b ++ c ++ d) e sent) aside.tpdos without.tpdos) g))
+
+-- ---- all inputs
+
+-- after an input nothing is found at those that follow it
+step : (k : Constants) (subject : Subject) (rows : List Row) (inhibit : ℕ) (s : Stamped) (others : List Stamped) (before : Inputs) (p : Progress) → KnowsInhibit inhibit subject → AllHaveInhibit inhibit k before (s ∷ others)
+    → AreElsewhere (0x700 + k.description.node) (s ∷ others) → AreElsewhere (0x80 + k.description.node) (s ∷ others) → AllSendAside k before (s ∷ others) → AllSendWithout (0x80 + k.description.node) k before (s ∷ others)
+    → AreNoSdo k.description.node (heard_from k before (s ∷ others)) → Calm inhibit s.micros (aged (marked_tick (moment k (moments k before) s.input).mark) (emergency_log (moments k before))) p
+    → ((q : Progress) → Calm inhibit s.micros (sendings (emergency_log (moments k (s.input ∷ before)))) q → AreNoSdo k.description.node (heard_from k (s.input ∷ before) others)
+    → differences_from inhibit_differences (of_device k subject) rows q (heard_from k (s.input ∷ before) others) ≡ [])
+    → differences_from inhibit_differences (of_device k subject) rows p (heard_from k before (s ∷ others)) ≡ []
+step k subject rows inhibit s others before p knows same control emergency aside without none h rest_none =
+    let frames : List FrameContent = frame_of s.input ++ prescribed k before s.input in
+    let rest : List Recorded = heard_from k (s.input ∷ before) others in
+    then_none inhibit_differences (of_device k subject) rows s.micros frames rest p (Calm inhibit s.micros (sendings (emergency_log (moments k (s.input ∷ before)))))
+    (input_runs k subject rows s.micros inhibit before s.input p knows same.0 control.0 emergency.0 aside.0 without.0 (unstamped k.description.node s.micros frames (first_part k.description.node (stamped s.micros frames) rest none)) h)
+    (λ q g. rest_none q g (last_part k.description.node (stamped s.micros frames) rest none))
+
+all_none : (k : Constants) (subject : Subject) (rows : List Row) (inhibit : ℕ) (inputs : List Stamped) (before : Inputs) (last : ℕ) (p : Progress) → KnowsInhibit inhibit subject → AllHaveInhibit inhibit k before inputs
+    → AreSpaced last inputs → AreElsewhere (0x700 + k.description.node) inputs → AreElsewhere (0x80 + k.description.node) inputs → AllSendAside k before inputs → AllSendWithout (0x80 + k.description.node) k before inputs
+    → AreNoSdo k.description.node (heard_from k before inputs) → Calm inhibit last (sendings (emergency_log (moments k before))) p
+    → differences_from inhibit_differences (of_device k subject) rows p (heard_from k before inputs) ≡ []
+all_none k subject rows inhibit [] before last p knows same time control emergency aside without none h = refl
+all_none k subject rows inhibit (s ∷ others) before last p knows same time control emergency aside without none h =
+    let history : History = moments k before in
+    step k subject rows inhibit s others before p knows same control emergency aside without none
+    (later inhibit last s.micros (marked_tick (moment k history s.input).mark) (sendings (emergency_log history)) p (subst (λ more. last + more ≤ s.micros) (sym (took k history s.input)) time.0) h)
+    (λ q g rest. all_none k subject rows inhibit others (s.input ∷ before) s.micros q knows same.1 time.1 control.1 emergency.1 aside.1 without.1 rest g)
+
+-- before the first one no EMCY was sent
+none_aged : (inhibit micros : ℕ) (tick : Bool) (p : Progress) → Calm inhibit micros [] p → Calm inhibit micros (aged tick []) p
+none_aged inhibit micros true p h = h
+none_aged inhibit micros false p h = h
+
+of_recording : (k : Constants) (subject : Subject) (rows : List Row) (inhibit : ℕ) (inputs : List Stamped) → KnowsInhibit inhibit subject → AllHaveInhibit inhibit k [] inputs → AreUnhurried inputs
+    → AreElsewhere (0x700 + k.description.node) inputs → AreElsewhere (0x80 + k.description.node) inputs → AllSendAside k [] inputs → AllSendWithout (0x80 + k.description.node) k [] inputs
+    → AreNoSdo k.description.node (recording k inputs) → differences_in inhibit_differences (of_device k subject) rows (recording k inputs) ≡ []
+of_recording k subject rows inhibit [] knows same time control emergency aside without none = refl
+of_recording k subject rows inhibit (s ∷ others) knows same time control emergency aside without none =
+    let subj : Subject = of_device k subject in
+    let known : KnowsInhibit inhibit subj = record { before = knows.before; booted = knows.booted } in
+    then_none inhibit_differences subj rows s.micros (boot_up k ∷ []) (heard_from k [] (s ∷ others)) (before_recording subj) (Calm inhibit s.micros [])
+    (boots inhibit s.micros [] [] subj rows (before_recording subj) BootUp refl known)
+    (λ q g. step k subject rows inhibit s others [] q knows same control emergency aside without none.1
+    (none_aged inhibit s.micros (marked_tick (moment k [] s.input).mark) q g)
+    (λ q2 g2 rest. all_none k subject rows inhibit others (s.input ∷ []) s.micros q2 knows same.1 time control.1 emergency.1 aside.1 without.1 rest g2))
+
+pub no_early_emergencies : (k : Constants) (subject : Subject) (rows : List Row) (inhibit : ℕ) (inputs : List Stamped) → subject.node ≡ k.description.node → KnowsInhibit inhibit subject → AllHaveInhibit inhibit k [] inputs
+    → AreUnhurried inputs → AreElsewhere (0x700 + k.description.node) inputs → AreElsewhere (0x80 + k.description.node) inputs → AllSendAside k [] inputs → AllSendWithout (0x80 + k.description.node) k [] inputs
+    → AreNoSdo k.description.node (recording k inputs) → differences_in inhibit_differences subject rows (recording k inputs) ≡ []
+no_early_emergencies k subject rows inhibit inputs is knows same time control emergency aside without none =
+    subst (λ n. differences_in inhibit_differences (record subject { node = n }) rows (recording k inputs) ≡ []) (sym is)
+    (of_recording k subject rows inhibit inputs knows same time control emergency aside without none)
