@@ -50,7 +50,6 @@ fn put_front<'p>(
 
 // the end of an entry: the default, the value of a device configuration file, the limits, and
 // whether it may be mapped
-#[tactic(auto, unfolding(crate::specs::JsonForm::value_members))]
 fn put_end<'p>(
     alloc: Global,
     writer: &mut JsonWriter,

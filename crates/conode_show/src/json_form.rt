@@ -76,6 +76,7 @@ fn node_number(node: Option<u8>) -> Option<i128>
     Some(i128::from(node?))
 }
 
+#[tactic(auto, unfolding(crate::specs::JsonForm::document_tokens))]
 fn put_document<'p>(
     alloc: Global,
     writer: &mut JsonWriter,
