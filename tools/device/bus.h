@@ -4,9 +4,6 @@
 #define RETRY_MS 100  /* an interface that is down is looked at again at least so often */
 #define PASSIVE_BITS (CAN_ERR_CRTL_RX_PASSIVE | CAN_ERR_CRTL_TX_PASSIVE)
 
-/* Sends the frames that the last call gave. */
-static void send_frames(struct device *device, size_t count);
-
 /* The bus is now like this to a device. An interface that was down has recovered, as from bus-off. */
 static void become(struct device *device, enum health health)
 {

@@ -41,19 +41,17 @@ static bool answer(const struct request *at, size_t count)
     return is_done;
 }
 
-/* Says the value of an entry, unless it is the one that was said last. False: there is no such entry. */
-static bool say_value(struct client *client, struct watch *at)
+/* Says the value of an entry, unless it is the one that was said last. */
+static void say_value(struct client *client, struct watch *at)
 {
     static char text[MOST_TEXT];
     bafokun_entry_info *entry = &at->entry;
-    if (!bafokun_value(&at->device->node, entry->index, entry->sub_index, bytes, sizeof bytes, &length)) return false;
-    if (at->said && length == entry->length && memcmp(bytes, at->said, length) == 0) return true;
+    bafokun_value(&at->device->node, entry->index, entry->sub_index, bytes, sizeof bytes, &length);
+    if (at->said && length == entry->length && memcmp(bytes, at->said, length) == 0) return;
     write_value(entry, bytes, length, text);
     say(client, ANSWER, "%04X:%02X %s", entry->index, entry->sub_index, *text ? text : "-");
-    at->said = realloc(at->said, length + 1);
     if (at->said) memcpy(at->said, bytes, length);
     entry->length = length;
-    return true;
 }
 
 /* Does a command. False where it wasn't done, and that was said, or where something else than ok was. */
@@ -67,7 +65,6 @@ static bool act(const struct request *at, enum action action)
     bafokun_node *node = &device->node;
     uint16_t index = at->entry.index;
     uint8_t sub_index = at->entry.sub_index;
-    struct watch *watch = &client->watches[action == WATCH ? client->watched : MOST_WATCHES];
     if (action <= CLEAR && is_crowded(device))
         return say(client, TROUBLE, "error: %zu frames wait for %s", device->waiting, device->interface);
     switch (action) {
@@ -78,8 +75,9 @@ static bool act(const struct request *at, enum action action)
     case RAISE: return answer(at, bafokun_raise(node, (uint16_t)at->code, (uint8_t)at->bits, bytes, FRAMES));
     case CLEAR: return answer(at, bafokun_clear(node, (uint8_t)at->bits, FRAMES));
     case TICK:
-        if (client != player && !by_stamps) return say(client, TROUBLE, "error: here time passes by itself");
-        (client == player ? player : standard)->due += at->number;
+        if (client == player) client->due += at->number;
+        else if (by_stamps) elapse(elapsed + at->number);
+        else return say(client, TROUBLE, "error: here time passes by itself");
         return true;
     case STATE:
         return say(client, ANSWER, "node %d %s, %s %s, %zu frames wait, %zu thrown away", bafokun_node_id(node),
@@ -91,9 +89,12 @@ static bool act(const struct request *at, enum action action)
     default:
         if (action == WATCH && client->watched == MOST_WATCHES)
             return say(client, TROUBLE, "error: %d entries are watched already", MOST_WATCHES);
-        free(watch->said);
-        *watch = (struct watch){ device, at->entry, NULL };
-        if (!say_value(client, watch)) return say(client, TROUBLE, "error: there is no entry %04X:%02X", index, sub_index);
+        if (!bafokun_value(node, index, sub_index, bytes, 0, &length))
+            return say(client, TROUBLE, "error: there is no entry %04X:%02X", index, sub_index);
+        struct watch *watch = &client->watches[client->watched];
+        *watch = (struct watch){ device, at->entry, action == WATCH ? malloc(at->entry.capacity + 1) : NULL };
+        watch->entry.length = SIZE_MAX; /* nothing was said of it */
+        say_value(client, watch);
         client->watched += action == WATCH;
         return false;
     }
@@ -124,35 +125,29 @@ static bool read_words(struct request *at, char *rest)
     return say(at->client, TROUBLE, "error: %s", at->command->form);
 }
 
-/* The device that a line begins with, as 5 or can0:5, which is cut off, or the only one; or says why not. */
-static struct device *read_device(struct client *client, char **line)
-{
-    struct device *found = devices_end - 1;
-    size_t size = strcspn(*line, BLANKS), count = 0;
-    bool has_name = **line != '!' && size > 0 && isdigit((unsigned char)(*line)[size - 1]);
-    const char *name = has_name ? cut(line, size) : NULL;
-    bool is_for_all = strncmp(*line, "!tick ", 6) == 0 || strcmp(*line, "help") == 0;
-    for (struct device *at = devices; at < devices_end; at++) {
-        if (name && strcmp(name, at->name) != 0 && strcmp(name, strchr(at->name, ':') + 1) != 0) continue;
-        found = at;
-        count++;
-    }
-    if (count == 1 || (count > 1 && is_for_all)) return found;
-    say(client, TROUBLE, count > 1 ? "error: the node comes first, as %s" : "error: there is no such node, as %s is one", found->name);
-    return NULL;
-}
-
+/* Does a line. A node comes first, as 5 or can0:5, unless there is one alone, or the command is for all. */
 static void do_line(struct client *client, char *line)
 {
-    struct request at = { .client = client, .command = commands, .bits = 0xFF };
-    if (*line == 0 || *line == ';' || !(at.device = read_device(client, &line))) return;
+    struct request at = { .client = client, .command = commands, .device = devices_end - 1, .bits = 0xFF };
+    size_t size = strcspn(line, BLANKS), count = 0;
+    if (*line == 0 || *line == ';') return;
+    bool has_node = *line != '!' && size > 0 && isdigit((unsigned char)line[size - 1]);
+    const char *name = has_node ? cut(&line, size) : NULL;
+    bool is_for_all = strncmp(line, "!tick ", 6) == 0 || strcmp(line, "help") == 0;
+    for (struct device *each = devices; each < devices_end; each++) {
+        if (name && strcmp(name, each->name) != 0 && strcmp(name, strchr(each->name, ':') + 1) != 0) continue;
+        at.device = each;
+        count++;
+    }
     bool is_loose = strstr(line, "  ") || strchr(line, '\t') || line[strlen(line) - (*line != 0)] == ' ';
     char *rest = trimmed(line);
-    size_t size = strcspn(rest, BLANKS);
-    const char *name = cut(&rest, size);
+    size = strcspn(rest, BLANKS);
+    name = cut(&rest, size);
     for (; at.command < commands_end; at.command++)
         if (strcspn(at.command->form, " ") == size && strncmp(at.command->form, name, size) == 0) break;
-    if (at.command == commands_end || (*name == '!' && is_loose))
+    if (count == 0 || (count > 1 && !is_for_all))
+        say(client, TROUBLE, count > 1 ? "error: the node comes first, as %s" : "error: there is no such node, as %s is one", at.device->name);
+    else if (at.command == commands_end || (*name == '!' && is_loose))
         say(client, TROUBLE, "error: this is no command; help has them");
     else if (read_words(&at, rest) && act(&at, at.command->action) && !client->numbered)
         say(client, ANSWER, "ok");

@@ -12,7 +12,6 @@
 #include <linux/can/raw.h>
 #include <net/if.h>
 #include <poll.h>
-#include <signal.h>
 #include <stdarg.h>
 #include <stdio.h>
 #include <stdlib.h>
@@ -54,7 +53,10 @@ static struct device {
 
 static bafokun_frame frames[BAFOKUN_MOST_FRAMES]; /* those that the last call of the library gave */
 static int in_stdio, by_stamps;                   /* options, and those that take a word: */
-enum { CAN = 1, SOCKET, PLAY, STRINGS, DOMAINS, TIME, OPTIONS };
+enum { CAN = 1, SOCKET, PLAY, STRINGS, DOMAINS, TIME, WRONG = '?', OPTIONS };
 static const char *given[OPTIONS] = { [CAN] = "", [PLAY] = "/dev/null", [STRINGS] = "16", [DOMAINS] = "889", [TIME] = "1000" };
 static uint64_t elapsed;                          /* ms since the start */
 static bool is_over, is_bad;                      /* it ends, with status 1 */
+
+static void send_frames(struct device *device, size_t count); /* those that the last call gave; in bus.h */
+static void elapse(uint64_t until);                           /* time passes; in lines.h */
