@@ -1,20 +1,21 @@
 /* SocketCAN: a socket for each device, what waits, and trouble: said once, given to the device and mended. */
 
-#define MOST_TAKEN 64 /* frames that are read in one turn of the loop */
-#define RETRY_MS 100  /* an interface that is down is looked at again at least so often */
+#define RETRY_MS 100 /* an interface that is down is looked at again at least so often */
 #define PASSIVE_BITS (CAN_ERR_CRTL_RX_PASSIVE | CAN_ERR_CRTL_TX_PASSIVE)
 
-/* The bus is now like this to a device. An interface that was down has recovered, as from bus-off. */
+/* The bus is now like this to a device; the first of an interface says so. One that was down has recovered, as from bus-off. */
 static void become(struct device *device, enum health health)
 {
     enum health was = device->health;
+    struct device *first = devices;
     if (health == DOWN) {
         close(device->bus);
         device->bus = -1;
     }
     if (health == was) return;
     device->health = health;
-    if (device->speaks) fprintf(stderr, "%s: %s\n", device->interface, health_names[health]);
+    while (strcmp(first->interface, device->interface) != 0) first++;
+    if (first == device) fprintf(stderr, "%s: %s\n", device->interface, health_names[health]);
     if (health == ACTIVE && was != PASSIVE) send_frames(device, bafokun_bus(&device->node, BAFOKUN_BUS_RECOVERED, FRAMES));
     if (health != DOWN) send_frames(device, bafokun_bus(&device->node, (uint8_t)health, FRAMES));
 }
@@ -67,12 +68,11 @@ static void put_on_bus(struct device *device, const bafokun_frame *frame)
         if (!same && at->frame.id == frame->id && at->is_tpdo == new.is_tpdo) same = at;
         if (at->is_tpdo) oldest = at;
     }
-    bool is_heartbeat = frame->id > 0x700 && frame->bytes[0] != 0; /* and no boot-up */
+    bool is_heartbeat = frame->length == 1 && frame->bytes[0] != 0; /* and no boot-up */
     bool replaces = same && (new.is_tpdo || (is_heartbeat && same->frame.bytes[0] == frame->bytes[0]));
-    if (!replaces && device->waiting >= MOST_WAITING && oldest) {
-        forget(device, oldest);
-        device->thrown++;
-    }
+    bool throws = !replaces && device->waiting >= MOST_WAITING && oldest;
+    if (throws) forget(device, oldest);
+    device->thrown += throws;
     *(replaces ? same : &device->queue[device->waiting++]) = new;
     device->others += !replaces && !new.is_tpdo;
 }
@@ -92,19 +92,6 @@ static void catch_up(struct device *device)
         send_frames(device, bafokun_ticks(&device->node, MIN(elapsed - device->ticks, DAY_MS), &done, FRAMES));
 }
 
-static void take_frame(struct device *device, const struct can_frame *in)
-{
-    bafokun_frame frame = { (uint16_t)in->can_id, in->can_dlc, { 0 } };
-    canid_t error = in->can_id & CAN_ERR_FLAG ? in->can_id : 0;
-    int controller = error & CAN_ERR_CRTL ? in->data[1] & ~(CAN_ERR_CRTL_RX_OVERFLOW | CAN_ERR_CRTL_TX_OVERFLOW) : 0;
-    if (error & CAN_ERR_BUSOFF) become(device, BUS_OFF);
-    if (error & CAN_ERR_RESTARTED) become(device, ACTIVE);
-    if (device->health != BUS_OFF && controller) become(device, controller & PASSIVE_BITS ? PASSIVE : ACTIVE);
-    if (in->can_id > CAN_SFF_MASK || in->can_dlc > 8) return;
-    memcpy(frame.bytes, in->data, in->can_dlc);
-    send_frames(device, bafokun_take(&device->node, &frame, FRAMES));
-}
-
 /* At each turn of the loop: what is down or waits is tried again, what came is taken. True: more may have. */
 static bool tend_bus(struct device *device)
 {
@@ -119,7 +106,14 @@ static bool tend_bus(struct device *device)
         ssize_t size = read(device->bus, &in, sizeof in);
         if (size < 0 && errno != EAGAIN) become(device, DOWN);
         if (size < 0) break;
-        take_frame(device, &in);
+        canid_t error = in.can_id & CAN_ERR_FLAG ? in.can_id : 0;
+        int state = error & CAN_ERR_CRTL ? in.data[1] & ~(CAN_ERR_CRTL_RX_OVERFLOW | CAN_ERR_CRTL_TX_OVERFLOW) : 0;
+        if (error & CAN_ERR_BUSOFF) become(device, BUS_OFF);
+        if (error & CAN_ERR_RESTARTED) become(device, ACTIVE);
+        if (device->health != BUS_OFF && state) become(device, state & PASSIVE_BITS ? PASSIVE : ACTIVE);
+        bafokun_frame frame = { in.can_id > CAN_SFF_MASK ? UINT16_MAX : (uint16_t)in.can_id, in.can_dlc, { 0 } };
+        memcpy(frame.bytes, in.data, sizeof frame.bytes);
+        send_frames(device, bafokun_take(&device->node, &frame, FRAMES)); /* none is for an identifier above 7FFh */
     }
     return taken == MOST_TAKEN;
 }

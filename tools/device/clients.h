@@ -1,7 +1,6 @@
 /* Clients: who gives lines, and how they are answered. */
 
 #define MOST_CLIENTS 34                /* with the file of --play and standard input; more wait until one leaves */
-#define MOST_LINES 256                 /* of a client that are done in one turn of the loop */
 #define MOST_LINE 8191                 /* bytes of a line */
 #define PIECE 4096                     /* bytes that are read or written at once */
 #define MOST_TEXT (4 * UINT16_MAX + 1) /* bytes of a value that people read: each may be \xHH */
@@ -32,21 +31,18 @@ static bool wake_by(int fd, uint32_t events)
     return epoll_ctl(epoll, EPOLL_CTL_ADD, fd, &event) == 0 || errno == EPERM;
 }
 
-/* Whether there is something to read, or room to write. If it waits, that ends a second after a signal. */
-static bool is_ready(int fd, short events, bool waits)
-{
-    struct pollfd either[] = { { fd, events, 0 }, { signals, POLLIN, 0 } };
-    if (waits) poll(either, 2, -1);
-    return poll(either, 1, waits ? LAST_MS : 0) > 0;
-}
+/* Whether there is something to read, or room to write, within so many ms. */
+static bool is_ready(int fd, short events, int ms) { return poll(&(struct pollfd){ fd, events, 0 }, 1, ms) > 0; }
 
 /* Writes what can be written without a wait, or all of a trace, unless nobody reads it and a signal came. True: there is room for more. */
 static bool flush(struct client *client)
 {
     bool is_trace = client == standard && in_stdio;
     size_t done = 0;
-    while (done < client->unread && !client->is_broken && is_ready(client->out, POLLOUT, is_trace)) {
-        ssize_t size = write(client->out, client->answers + done, MIN(client->unread - done, PIECE));
+    while (done < client->unread && !client->is_broken) {
+        bool is_room = is_ready(client->out, POLLOUT, is_trace ? LAST_MS : 0);
+        if (!is_room && (!is_trace || is_ready(signals, POLLIN, 0))) break;
+        ssize_t size = is_room ? write(client->out, client->answers + done, MIN(client->unread - done, PIECE)) : 0;
         client->is_broken = size < 0 && errno != EAGAIN && errno != EINTR;
         done += (size_t)MAX(size, 0);
     }

@@ -27,6 +27,7 @@
 #include <unistd.h>
 
 #define MOST_WAITING 1024 /* frames of a device that wait, before TPDOs or inputs yield */
+#define MOST_TAKEN 64     /* frames of a device, or lines of a client, in one turn of the loop */
 #define DAY_MS 86400000   /* most ms of a !tick */
 #define DIGITS "0123456789ABCDEFabcdef"
 #define BLANKS " \t"
@@ -40,7 +41,7 @@ static struct device {
     bafokun_node node;
     char interface[16], name[48];         /* can0, can0:5 */
     char *objects[UINT16_MAX + 1];        /* the names of objects by their index, or NULL */
-    bool hears_all, speaks;               /* frames of each interface in --stdio; of trouble, for its interface */
+    bool hears_all;                       /* frames of each interface, in --stdio */
     int bus;                              /* its socket, -1 while the interface is down */
     enum health health;
     uint64_t ticks;                       /* of the ms elapsed those that it had */

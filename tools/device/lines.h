@@ -10,16 +10,14 @@ static void say_changes(void)
 /* Reads a piece. True: there was one, or the end. */
 static bool read_piece(struct client *client)
 {
-    if (client->in < 0 || !is_ready(client->in, POLLIN, false)) return false;
+    if (client->in < 0 || !is_ready(client->in, POLLIN, 0)) return false;
     client->to = MIN(client->to - client->from, MOST_LINE + 2); /* of a line that is too long the rest isn't kept */
     memmove(client->text, client->text + client->from, client->to);
     client->from = 0;
     ssize_t size = read(client->in, client->text + client->to, PIECE);
     if (size < 0 && (errno == EAGAIN || errno == EINTR)) return false;
-    if (size < 0 && client->numbered) {
-        warn("%s", client == player ? given[PLAY] : "standard input");
-        is_over = is_bad = true;
-    }
+    if (size < 0 && client->numbered) warn("%s", client == player ? given[PLAY] : "standard input");
+    if (size < 0 && client->numbered) is_over = is_bad = true;
     client->to += (size_t)MAX(size, 0);
     if (size > 0) return true;
     if (client->to > 0) client->text[client->to++] = '\n'; /* a last line needs no end */
@@ -39,10 +37,7 @@ static bool take_line(struct client *client)
     const char *error = last > line + MOST_LINE ? "the line has more than 8191 bytes"
         : line + strlen(line) < last ? "the line has a byte 0"
         : client->numbered && *line == '(' ? read_stamp(client, &line) : NULL;
-    if (client->due > elapsed) {
-        *last = cut;
-        return false;
-    }
+    if (client->due > elapsed) return *last = cut, false;
     if (error) say(client, TROUBLE, "error: %s", error);
     else do_line(client, line);
     deliver();
@@ -52,10 +47,10 @@ static bool take_line(struct client *client)
     return true;
 }
 
-/* The next ms at which something happens but what comes from outside: a device is due, or a line of --play. */
-static uint64_t next_ms(void)
+/* The next ms, up to a last one, at which something happens but what comes from outside: a device or a line of --play is due. */
+static uint64_t next_ms(uint64_t next)
 {
-    uint64_t next = player->due > elapsed ? player->due : elapsed + DAY_MS;
+    if (player->due > elapsed) next = MIN(next, player->due);
     for (struct device *at = devices; at < devices_end; at++) {
         uint64_t retry = at->bus < 0 ? RETRY_MS : at->waiting > 0 ? 1 : DAY_MS;
         uint64_t due = is_crowded(at) ? DAY_MS : bafokun_idle(&at->node) + UINT64_C(1);
@@ -68,8 +63,7 @@ static uint64_t next_ms(void)
 static void elapse(uint64_t until)
 {
     while (elapsed < until) {
-        uint64_t next = next_ms();
-        elapsed = MIN(next, until);
+        elapsed = next_ms(until);
         for (struct device *at = devices; at < devices_end; at++) catch_up(at);
         deliver();
         while (take_line(player)) { }
@@ -121,8 +115,8 @@ static bool tend_clients(void)
         bool stays = client == player || client == standard;
         int taken = 0;
         if (client->out == 0 && !(may_come = may_come && let_in(client))) continue;
-        while (taken < MOST_LINES && take_line(client)) taken++;
-        is_busy |= taken == MOST_LINES;
+        while (taken < MOST_TAKEN && take_line(client)) taken++;
+        is_busy |= taken == MOST_TAKEN;
         bool is_full = !flush(client), is_lost = is_full || client->is_broken;
         if (is_full) fprintf(stderr, "%s isn't read, and is dropped\n", stays ? "standard output" : "a client");
         if (is_lost) client->unread = 0;

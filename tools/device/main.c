@@ -50,13 +50,10 @@ static void build(struct device *device, const char *word)
     if (!sheet || !read_number(number, 10, 1, 127, &node_id) || !*interface || strlen(interface) > 15)
         errx(1, "%s: [INTERFACE:]N=SHEET, with N from 1 to 127, and --can without INTERFACE", word);
     device->hears_all = in_stdio && !own;
-    device->speaks = true;
     strcpy(device->interface, interface);
     sprintf(device->name, "%s:%d", interface, (int)node_id);
-    for (struct device *at = devices; at < device; at++) {
+    for (struct device *at = devices; at < device; at++)
         if (strcmp(at->name, device->name) == 0) errx(1, "%s: there is a node %d on %s already", word, (int)node_id, interface);
-        device->speaks &= strcmp(at->interface, interface) != 0;
-    }
     char *text = calloc(1, MOST_SHEET + 1); /* names stay in it */
     FILE *file = fopen(sheet, "re");
     size_t length = text && file ? fread(text, 1, MOST_SHEET, file) : 0;
@@ -81,8 +78,8 @@ static void run_loop(void)
         deliver();
         bool is_busy = tend_clients();
         for (struct device *at = devices; at < devices_end; at++) is_busy |= tend_bus(at);
-        if (is_over || is_ready(signals, POLLIN, false)) return;
-        uint64_t next = begin + next_ms() * 1000;
+        if (is_over || is_ready(signals, POLLIN, 0)) return;
+        uint64_t next = begin + next_ms(elapsed + DAY_MS) * 1000;
         struct itimerspec once = { { 0, 0 }, { (time_t)(next / 1000000), (long)(next % 1000000 * 1000) } };
         if (!by_stamps) timerfd_settime(timer, TFD_TIMER_ABSTIME, &once, NULL);
         epoll_wait(epoll, events, 16, is_busy ? 0 : -1);
