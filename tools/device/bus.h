@@ -20,7 +20,7 @@ static void become(struct device *device, enum health health)
     if (health != DOWN) send_frames(device, bafokun_bus(&device->node, (uint8_t)health, FRAMES));
 }
 
-/* Opens the socket of a device. False, with errno: there is no such interface, or it is down. */
+/* Opens the socket of a device, if its interface is up. False, with errno: there is no such interface. */
 static bool open_bus(struct device *device)
 {
     static const can_err_mask_t errors = CAN_ERR_BUSOFF | CAN_ERR_CRTL | CAN_ERR_RESTARTED;
@@ -30,10 +30,9 @@ static bool open_bus(struct device *device)
     if (fd >= 0 && setsockopt(fd, SOL_CAN_RAW, CAN_RAW_ERR_FILTER, &errors, sizeof errors) == 0
         && bind(fd, (struct sockaddr *)&at, sizeof at) == 0 && wake_by(fd, EPOLLIN)
         && getsockopt(fd, SOL_SOCKET, SO_ERROR, &errno, &(socklen_t){ sizeof errno }) == 0 && errno == 0) return true;
-    int reason = errno;
+    if (errno != ENETDOWN && device->health != DOWN) return false;
     become(device, DOWN);
-    errno = reason;
-    return false;
+    return true;
 }
 
 /* Whether the frame was sent; else it has to wait. */
@@ -68,8 +67,8 @@ static void put_on_bus(struct device *device, const bafokun_frame *frame)
         if (!same && at->frame.id == frame->id && at->is_tpdo == new.is_tpdo) same = at;
         if (at->is_tpdo) oldest = at;
     }
-    bool is_heartbeat = frame->length == 1 && frame->bytes[0] != 0; /* and no boot-up */
-    bool replaces = same && (new.is_tpdo || (is_heartbeat && same->frame.bytes[0] == frame->bytes[0]));
+    /* a heartbeat is one byte, and that of a boot-up is 0 */
+    bool replaces = same && (new.is_tpdo || (frame->length == 1 && frame->bytes[0] && same->frame.bytes[0] == frame->bytes[0]));
     bool throws = !replaces && device->waiting >= MOST_WAITING && oldest;
     if (throws) forget(device, oldest);
     device->thrown += throws;
@@ -97,7 +96,6 @@ static bool tend_bus(struct device *device)
 {
     struct can_frame in;
     int taken = 0;
-    if (in_stdio) return false;
     if (device->bus < 0) open_bus(device);
     while (device->waiting > 0 && send_now(device, &device->queue[0].frame)) forget(device, device->queue);
     if (device->bus >= 0 && device->health == DOWN && !is_crowded(device)) become(device, ACTIVE);

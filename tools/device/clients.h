@@ -13,6 +13,7 @@ static struct client {
     int in, out;               /* in is -1 where no line comes any more; out is 0 where the place of a connection is free */
     bool is_broken, has_first; /* no answer can be written; there was a stamp, */
     uint64_t first, due;       /* and which; when the next line of --play is due, in ms since the start */
+    char interface[16];        /* of its last frame */
     const char *numbered;      /* "line" where lines may have stamps, and errors their number; else NULL */
     size_t number, from, to, unread, watched; /* of lines that are done; where text is that wasn't read yet; of answers; of watches */
     struct watch { /* an entry whose changes it is told; the bytes that were said last */
@@ -27,8 +28,7 @@ static int epoll, timer, signals, listener;
 /* A descriptor wakes the loop when it becomes ready. epoll doesn't take a file, which always is. */
 static bool wake_by(int fd, uint32_t events)
 {
-    struct epoll_event event = { .events = events | EPOLLET };
-    return epoll_ctl(epoll, EPOLL_CTL_ADD, fd, &event) == 0 || errno == EPERM;
+    return epoll_ctl(epoll, EPOLL_CTL_ADD, fd, &(struct epoll_event){ .events = events | EPOLLET }) == 0 || errno == EPERM;
 }
 
 /* Whether there is something to read, or room to write, within so many ms. */

@@ -5,10 +5,9 @@ static const struct command {
     const char *form;
     enum action { SET, WRITE, CHANGED, EVENT, RAISE, CLEAR, GET, WATCH, STATE, TICK, HELP } action; /* events first */
 } commands[] = {
-    { "set KEY VALUE", SET }, { "get KEY", GET }, { "watch KEY", WATCH }, { "event TPDO", EVENT },
-    { "raise CODE [BITS [EXTRA]]", RAISE }, { "clear [BITS]", CLEAR }, { "state", STATE }, { "!write KEY HEX", WRITE },
-    { "!changed KEY", CHANGED }, { "!event K", EVENT }, { "!raise CODE BITS EXTRA", RAISE }, { "!clear BITS", CLEAR },
-    { "!tick N", TICK }, { "help", HELP },
+    { "set KEY VALUE", SET }, { "get KEY", GET }, { "watch KEY", WATCH }, { "event TPDO", EVENT }, { "raise CODE [BITS [EXTRA]]", RAISE },
+    { "clear [BITS]", CLEAR }, { "state", STATE }, { "!write KEY HEX", WRITE }, { "!changed KEY", CHANGED }, { "!event K", EVENT },
+    { "!raise CODE BITS EXTRA", RAISE }, { "!clear BITS", CLEAR }, { "!tick N", TICK }, { "help", HELP },
 }, *const commands_end = commands + sizeof commands / sizeof *commands;
 
 /* What the words of a line say; the bytes of its value. */
@@ -99,7 +98,7 @@ static bool read_words(struct client *client, struct device *device, const struc
         if (size == 0) return false;
         const char *word = cut(&rest, size), *value = strcmp(word, "-") == 0 ? "" : word; /* - for none */
         if (kind == 'C') is_right = size == 4 && read_number(word, 16, 0, UINT16_MAX, &code);
-        if (kind == 'C') bits = kinds_of_error[code >> 12];
+        if (kind == 'C') bits = kinds_of_error[code >> 12 & 0xF];
         if (kind == 'B') is_right = size == 2 && read_number(word, 16, 0, UINT8_MAX, &bits);
         if (kind == 'T') is_right = read_number(word, 10, 1, UINT16_MAX + 1, &number) && number-- > 0; /* that of 1800h is 1 */
         if (kind == 'K' && !form[2]) is_right = read_number(word, 10, 0, UINT16_MAX, &number);

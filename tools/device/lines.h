@@ -52,9 +52,8 @@ static uint64_t next_ms(uint64_t next)
 {
     if (player->due > elapsed) next = MIN(next, player->due);
     for (struct device *at = devices; at < devices_end; at++) {
-        uint64_t retry = at->bus < 0 ? RETRY_MS : at->waiting > 0 ? 1 : DAY_MS;
         uint64_t due = is_crowded(at) ? DAY_MS : bafokun_idle(&at->node) + UINT64_C(1);
-        next = MIN(next, elapsed + MIN(due, retry));
+        next = MIN(next, elapsed + MIN(due, at->bus < 0 ? RETRY_MS : at->waiting > 0 ? 1 : DAY_MS));
     }
     return next;
 }
@@ -77,7 +76,7 @@ static bool let_in(struct client *client)
     int fd = accept4(listener, NULL, NULL, SOCK_NONBLOCK | SOCK_CLOEXEC);
     bool is_trouble = fd < 0 && errno != EAGAIN && errno != ECONNABORTED;
     if (is_trouble && !is_said) warn("%s: no client can be let in", given[SOCKET]);
-    is_said = is_trouble;
+    if (fd < 0) is_said = is_trouble;
     client->in = client->out = MAX(fd, 0);
     return fd >= 0 && wake_by(fd, EPOLLIN | EPOLLOUT);
 }
@@ -113,10 +112,8 @@ static bool tend_clients(void)
     say_changes();
     for (struct client *client = clients; client < clients_end; client++) {
         bool stays = client == player || client == standard;
-        int taken = 0;
         if (client->out == 0 && !(may_come = may_come && let_in(client))) continue;
-        while (taken < MOST_TAKEN && take_line(client)) taken++;
-        is_busy |= taken == MOST_TAKEN;
+        for (int taken = 0; taken < MOST_TAKEN && take_line(client); ) is_busy |= ++taken == MOST_TAKEN;
         bool is_full = !flush(client), is_lost = is_full || client->is_broken;
         if (is_full) fprintf(stderr, "%s isn't read, and is dropped\n", stays ? "standard output" : "a client");
         if (is_lost) client->unread = 0;

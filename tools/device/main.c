@@ -43,11 +43,11 @@ static bool read_options(int count, char **words)
 /* Builds the device of a word [INTERFACE:]N=SHEET. */
 static void build(struct device *device, const char *word)
 {
-    char *sheet = strdupa(word), *number = strsep(&sheet, "="), what[128];
-    const char *own = strchr(number, ':') ? strsep(&number, ":") : NULL, *interface = own ? own : in_stdio ? "can0" : given[CAN];
+    char *sheet = strdupa(word), *node = strsep(&sheet, "="), what[128];
+    const char *own = strchr(node, ':') ? strsep(&node, ":") : NULL, *interface = own ? own : in_stdio ? "can0" : given[CAN];
     uint64_t node_id;
     bafokun_fault fault;
-    if (!sheet || !read_number(number, 10, 1, 127, &node_id) || !*interface || strlen(interface) > 15)
+    if (!sheet || !read_number(node, 10, 1, 127, &node_id) || !*interface || strlen(interface) > 15)
         errx(1, "%s: [INTERFACE:]N=SHEET, with N from 1 to 127, and --can without INTERFACE", word);
     device->hears_all = in_stdio && !own;
     strcpy(device->interface, interface);
@@ -77,7 +77,7 @@ static void run_loop(void)
     for (;;) {
         deliver();
         bool is_busy = tend_clients();
-        for (struct device *at = devices; at < devices_end; at++) is_busy |= tend_bus(at);
+        for (struct device *at = devices; !in_stdio && at < devices_end; at++) is_busy |= tend_bus(at);
         if (is_over || is_ready(signals, POLLIN, 0)) return;
         uint64_t next = begin + next_ms(elapsed + DAY_MS) * 1000;
         struct itimerspec once = { { 0, 0 }, { (time_t)(next / 1000000), (long)(next % 1000000 * 1000) } };
@@ -93,14 +93,11 @@ int main(int count, char **words)
     for (int fd = 0; fd <= 2; fd++)
         if (fcntl(fd, F_GETFD) < 0) open("/dev/null", O_RDONLY);
     if (!read_options(count, words)) return fputs(usage, stderr), 2;
-    devices_end = devices = calloc((size_t)(count - optind), sizeof *devices);
-    if (!devices) err(1, "canopen-device");
+    if (!(devices_end = devices = calloc((size_t)(count - optind), sizeof *devices))) err(1, "canopen-device");
     while (optind < count) build(devices_end++, words[optind++]);
     sigset_t ends;
     sigemptyset(&ends);
-    sigaddset(&ends, SIGTERM);
-    sigaddset(&ends, SIGINT);
-    sigaddset(&ends, SIGHUP);
+    for (const int *end = (int[]){ SIGTERM, SIGINT, SIGHUP, 0 }; *end; end++) sigaddset(&ends, *end);
     sigprocmask(SIG_BLOCK, &ends, NULL);
     signal(SIGPIPE, SIG_IGN);
     signal(SIGTTIN, SIG_IGN); /* in the background a terminal isn't read */
@@ -109,12 +106,12 @@ int main(int count, char **words)
     signals = signalfd(-1, &ends, SFD_CLOEXEC);
     if (!wake_by(timer, EPOLLIN) || !wake_by(signals, EPOLLIN)) err(1, "canopen-device");
     for (struct device *at = devices; !in_stdio && at < devices_end; at++)
-        if (!open_bus(at) && errno != ENETDOWN) err(1, "%s", at->interface);
+        if (!open_bus(at)) err(1, "%s", at->interface);
     open_clients();
     for (struct device *at = devices; at < devices_end; at++) send_frames(at, bafokun_boot(&at->node, FRAMES));
     run_loop();
     say_changes(); /* those of the last ticks */
-    if (in_stdio) say(standard, ANSWER, "in %lu, out %lu, ticks %" PRIu64, frames_in, frames_out, elapsed);
+    if (in_stdio) say(standard, ANSWER, "in %zu, out %zu, ticks %" PRIu64, frames_in, frames_out, elapsed);
     flush(standard);
     if (given[SOCKET]) unlink(given[SOCKET]);
     return is_bad;

@@ -2,8 +2,7 @@
 
 #define MOST_HEARD 8192
 
-static unsigned long frames_in, frames_out;
-static size_t heard_count;
+static size_t frames_in, frames_out, heard_count;
 static struct heard { /* a frame of a device, or from outside, which the other devices of the interface will hear */
     struct device *from;
     const char *interface;
@@ -38,26 +37,18 @@ static void print_frame(struct device *device, const bafokun_frame *frame)
     if (heard_count < MOST_HEARD) heard[heard_count++] = (struct heard){ device, device->interface, *frame };
 }
 
-/* Reads what follows the interface of a frame, as docs/TRACES.md has it: whether it is right. No device takes id 0xFFFF. */
-static bool read_frame(const char *id, const char *data, const char *mark, bafokun_frame *frame)
-{
-    bool is_remote = data[1] == 'R' && (!data[2] || (isdigit((unsigned char)data[2]) && !data[3])), is_fd = data[1] == '#';
-    bool is_extended = strlen(id) == 8;
-    size_t size;
-    frame->id = is_remote || is_fd || is_extended ? UINT16_MAX : (uint16_t)strtoul(id, NULL, 16);
-    frame->length = (uint16_t)(strlen(data) / 2);
-    return *data == '#' && (is_extended || (strlen(id) == 3 && *id <= '7')) && strchr("RT", *mark) && !mark[1]
-        && (is_remote || is_fd || (strlen(data) <= 17 && bytes_of(&plain, data + 1, frame->bytes, &size)));
-}
-
 /* Cuts a stamp off a line, and a frame that follows. Time passes until then, or the line of --play is due then. Gives what is wrong. */
 static const char *read_stamp(struct client *client, char **line)
 {
-    char seconds[13], micros[7] = "", interface[16], id[9], data[MOST_LINE + 1], mark[3] = "";
-    bafokun_frame frame = { 0 };
+    char seconds[13], micros[7] = "", id[9], data[MOST_LINE + 1], mark[3] = "";
     int end = 0, count = sscanf(*line, "(%12[0-9].%6[0-9])%*[ \t]%n%15[^ \t]%*[ \t]%8[" DIGITS "]%8191[^ \t]%*[ \t]%2[^\n]",
-                                seconds, micros, &end, interface, id, data, mark);
-    bool has_stamp = end > 0 && strlen(micros) == 6, is_frame = has_stamp && count >= 5 && read_frame(id, data, mark, &frame);
+                                seconds, micros, &end, client->interface, id, data, mark);
+    bool has_stamp = end > 0 && strlen(micros) == 6, is_frame = has_stamp && count >= 5 && *data == '#';
+    bool is_fd = is_frame && data[1] == '#', is_extended = is_frame && strlen(id) == 8;
+    bool is_remote = is_frame && data[1] == 'R' && (!data[2] || (isdigit((unsigned char)data[2]) && !data[3]));
+    bafokun_frame frame = { is_frame ? (uint16_t)strtoul(id, NULL, 16) : 0, is_frame ? (uint16_t)(strlen(data) / 2) : 0, { 0 } };
+    is_frame = is_frame && (is_extended || (strlen(id) == 3 && *id <= '7')) && strchr("RT", *mark) && !mark[1]
+        && (is_remote || is_fd || (strlen(data) <= 17 && bytes_of(&plain, data + 1, frame.bytes, &(size_t){ 0 })));
     if (client == player && !has_stamp) return "this is no stamp, as (0.250000)";
     if (client != player && !is_frame) return "this is no frame of a trace";
     uint64_t ms = strtoull(seconds, NULL, 10) * 1000 + strtoull(micros, NULL, 10) / 1000;
@@ -68,9 +59,8 @@ static const char *read_stamp(struct client *client, char **line)
     else if (by_stamps && ms > last) elapse(ms - client->first);
     client->has_first = true;
     *line += is_frame ? strlen(*line) : (size_t)end;
-    if (!is_frame || client == player) return NULL;
-    frames_in += frame.id != UINT16_MAX;
-    heard[heard_count++] = (struct heard){ NULL, interface, frame };
-    deliver();
+    if (!is_frame || client == player || is_extended || is_remote || is_fd) return NULL; /* which no device takes */
+    heard[heard_count++] = (struct heard){ NULL, client->interface, frame };
+    frames_in++;
     return NULL;
 }

@@ -103,12 +103,11 @@ static bool bytes_of(const bafokun_entry_info *entry, const char *text, uint8_t 
 static void write_value(const bafokun_entry_info *entry, const uint8_t *bytes, size_t length, char *text)
 {
     char kind = kinds[MIN(entry->type, sizeof kinds - 2)];
-    int unused = 64 - 8 * (int)length;
     uint64_t number = 0;
     *text = 0;
     if (kind == 'u' || kind == 'i') memcpy(&number, bytes, length);
     if (kind == 'u') sprintf(text, "%" PRIu64, number);
-    if (kind == 'i') sprintf(text, "%" PRId64, (int64_t)(number << unused) >> unused);
+    if (kind == 'i') sprintf(text, "%" PRId64, (int64_t)(number << (64 - 8 * length)) >> (64 - 8 * length));
     for (const uint8_t *at = bytes; at < bytes + length && (kind == 't' || kind == '-'); at++) {
         bool is_char = kind == 't' && *at >= ' ' && *at != 127 && *at != '\\' && (length > 1 || *at != '-');
         text += sprintf(text, kind == '-' ? "%02X" : is_char ? "%c" : "\\x%02X", *at);
