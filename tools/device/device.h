@@ -40,7 +40,7 @@ static const char *const health_names[] = { "error active", "error passive", "bu
 static struct device {
     bafokun_node node;
     char interface[16], name[48];         /* can0, can0:5 */
-    char *objects[UINT16_MAX + 1];        /* the names of objects by their index, or NULL */
+    char *text, *objects[UINT16_MAX + 1]; /* its sheet; the names of objects in it, by their index, or NULL */
     bool hears_all;                       /* frames of each interface, in --stdio */
     int bus;                              /* its socket, -1 while the interface is down */
     enum health health;

@@ -54,13 +54,12 @@ static void build(struct device *device, const char *word)
     sprintf(device->name, "%s:%d", interface, (int)node_id);
     for (struct device *at = devices; at < device; at++)
         if (strcmp(at->name, device->name) == 0) errx(1, "%s: there is a node %d on %s already", word, (int)node_id, interface);
-    char *text = calloc(1, MOST_SHEET + 1); /* names stay in it */
+    char *text = calloc(1, MOST_SHEET + 1);
     FILE *file = fopen(sheet, "re");
     size_t length = text && file ? fread(text, 1, MOST_SHEET, file) : 0;
-    if (!text || !file || ferror(file) || !(text = realloc(text, length + 1))) err(1, "%s", sheet);
+    if (!text || !file || ferror(file) || !(device->text = text = realloc(text, length + 1))) err(1, "%s", sheet);
     fclose(file);
     if (!bafokun_build(&device->node, text, length, (uint8_t)node_id, &config, &fault)) {
-        free(text);
         bafokun_fault_text(&fault, what, sizeof what);
         if (fault.stage == BAFOKUN_FAULT_DEVICE)
             errx(1, "%s: build fault %u %04X:%02X: %s", word, fault.number, fault.index, fault.sub_index, what);
