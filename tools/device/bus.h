@@ -111,7 +111,7 @@ static bool tend_bus(struct device *device)
         if (device->health != BUS_OFF && state) become(device, state & PASSIVE_BITS ? PASSIVE : ACTIVE);
         bafokun_frame frame = { in.can_id > CAN_SFF_MASK ? UINT16_MAX : (uint16_t)in.can_id, in.can_dlc, { 0 } };
         memcpy(frame.bytes, in.data, sizeof frame.bytes);
-        send_frames(device, bafokun_take(&device->node, &frame, FRAMES)); /* none is for an identifier above 7FFh */
+        send_frames(device, bafokun_take(&device->node, &frame, FRAMES)); /* not one of 29 bits */
     }
     return taken == MOST_TAKEN;
 }

@@ -13,7 +13,7 @@ static struct client {
     int in, out;               /* in is -1 where no line comes any more; out is 0 where the place of a connection is free */
     bool is_broken, has_first; /* no answer can be written; there was a stamp, */
     uint64_t first, due;       /* and which; when the next line of --play is due, in ms since the start */
-    char interface[16];        /* of its last frame */
+    char interface[16];        /* that of its last frame */
     const char *numbered;      /* "line" where lines may have stamps, and errors their number; else NULL */
     size_t number, from, to, unread, watched; /* of lines that are done; where text is that wasn't read yet; of answers; of watches */
     struct watch { /* an entry whose changes it is told; the bytes that were said last */

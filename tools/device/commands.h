@@ -1,6 +1,6 @@
 /* A line of the application: an event line of a trace (docs/TRACES.md), or one that people write. */
 
-/* The commands: how each is written, and what it does. The first letter of a word in capitals, or KEY, says what it is: see read_words. */
+/* The commands: how each is written, and what it does. read_words knows a word in capitals by its first letter, and KEY. */
 static const struct command {
     const char *form;
     enum action { SET, WRITE, CHANGED, EVENT, RAISE, CLEAR, GET, WATCH, STATE, TICK, HELP } action; /* events first */
@@ -100,7 +100,8 @@ static bool read_words(struct client *client, struct device *device, const struc
         if (kind == 'C') is_right = size == 4 && read_number(word, 16, 0, UINT16_MAX, &code);
         if (kind == 'C') bits = kinds_of_error[code >> 12 & 0xF];
         if (kind == 'B') is_right = size == 2 && read_number(word, 16, 0, UINT8_MAX, &bits);
-        if (kind == 'T') is_right = read_number(word, 10, 1, UINT16_MAX + 1, &number) && number-- > 0; /* that of 1800h is 1 */
+        if (kind == 'T') is_right = read_number(word, 10, 1, UINT16_MAX + 1, &number);
+        if (kind == 'T') number--; /* TPDO1 is number 0 of the library */
         if (kind == 'K' && !form[2]) is_right = read_number(word, 10, 0, UINT16_MAX, &number);
         if (kind == 'N') is_right = read_number(word, 10, 1, DAY_MS, &number);
         if (kind == 'H' || kind == 'E') is_right = bytes_of(&plain, value, bytes, &length) && (kind == 'H' || length == 5);
