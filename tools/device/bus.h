@@ -3,7 +3,7 @@
 #define RETRY_MS 100 /* an interface that is down is looked at again at least so often */
 #define PASSIVE_BITS (CAN_ERR_CRTL_RX_PASSIVE | CAN_ERR_CRTL_TX_PASSIVE)
 
-/* The bus is now like this to a device; the first of an interface says so. One that was down has recovered, as from bus-off. */
+/* The bus is now like this to a device, and the first of its interface says so. One that was down has recovered, as from bus-off. */
 static void become(struct device *device, enum health health)
 {
     enum health was = device->health;

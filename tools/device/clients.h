@@ -15,7 +15,7 @@ static struct client {
     uint64_t first, due;       /* and which; when the next line of --play is due, in ms since the start */
     char interface[16];        /* that of its last frame */
     const char *numbered;      /* "line" where lines may have stamps, and errors their number; else NULL */
-    size_t number, from, to, unread, watched; /* of lines that are done; where text is that wasn't read yet; of answers; of watches */
+    size_t number, from, to, unread, watched; /* lines done; where unread text is; bytes of answers; watches */
     struct watch { /* an entry whose changes it is told; the bytes that were said last */
         struct device *device;
         bafokun_entry_info entry;
@@ -34,7 +34,7 @@ static bool wake_by(int fd, uint32_t events)
 /* Whether there is something to read, or room to write, within so many ms. */
 static bool is_ready(int fd, short events, int ms) { return poll(&(struct pollfd){ fd, events, 0 }, 1, ms) > 0; }
 
-/* Writes what can be written without a wait, or all of a trace, unless nobody reads it and a signal came. True: there is room for more. */
+/* Writes what goes without a wait, or all of a trace, unless nobody reads it and a signal came. False: too much waits. */
 static bool flush(struct client *client)
 {
     bool is_trace = client == standard && in_stdio;

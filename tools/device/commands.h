@@ -5,9 +5,10 @@ static const struct command {
     const char *form;
     enum action { SET, WRITE, CHANGED, EVENT, RAISE, CLEAR, GET, WATCH, STATE, TICK, HELP } action; /* events first */
 } commands[] = {
-    { "set KEY VALUE", SET }, { "get KEY", GET }, { "watch KEY", WATCH }, { "event TPDO", EVENT }, { "raise CODE [BITS [EXTRA]]", RAISE },
-    { "clear [BITS]", CLEAR }, { "state", STATE }, { "!write KEY HEX", WRITE }, { "!changed KEY", CHANGED }, { "!event K", EVENT },
-    { "!raise CODE BITS EXTRA", RAISE }, { "!clear BITS", CLEAR }, { "!tick N", TICK }, { "help", HELP },
+    { "set KEY VALUE", SET }, { "get KEY", GET }, { "watch KEY", WATCH }, { "event TPDO", EVENT },
+    { "raise CODE [BITS [EXTRA]]", RAISE }, { "clear [BITS]", CLEAR }, { "state", STATE }, { "!write KEY HEX", WRITE },
+    { "!changed KEY", CHANGED }, { "!event K", EVENT }, { "!raise CODE BITS EXTRA", RAISE }, { "!clear BITS", CLEAR },
+    { "!tick N", TICK }, { "help", HELP },
 }, *const commands_end = commands + sizeof commands / sizeof *commands;
 
 /* What the words of a line say; the bytes of its value. */

@@ -19,9 +19,8 @@ static bool read_piece(struct client *client)
     if (size < 0 && client->numbered) warn("%s", client == player ? given[PLAY] : "standard input");
     if (size < 0 && client->numbered) is_over = is_bad = true;
     client->to += (size_t)MAX(size, 0);
-    if (size > 0) return true;
-    if (client->to > 0) client->text[client->to++] = '\n'; /* a last line needs no end */
-    client->in = -1;
+    if (size <= 0 && client->to > 0) client->text[client->to++] = '\n'; /* a last line needs no end */
+    if (size <= 0) client->in = -1;
     return true;
 }
 
@@ -47,7 +46,7 @@ static bool take_line(struct client *client)
     return true;
 }
 
-/* The next ms, up to a last one, at which something happens but what comes from outside: a device or a line of --play is due. */
+/* The next ms, up to the given one, at which a device or a line of --play is due. */
 static uint64_t next_ms(uint64_t next)
 {
     if (player->due > elapsed) next = MIN(next, player->due);

@@ -37,7 +37,7 @@ static void print_frame(struct device *device, const bafokun_frame *frame)
     if (heard_count < MOST_HEARD) heard[heard_count++] = (struct heard){ device, device->interface, *frame };
 }
 
-/* Cuts a stamp off a line, and a frame that follows. Time passes until then, or the line of --play is due then. Gives what is wrong. */
+/* Takes a stamp, and a frame that follows, off a line. Time passes until then, or a line of --play waits. Gives what is wrong. */
 static const char *read_stamp(struct client *client, char **line)
 {
     char seconds[13], micros[7] = "", id[9], data[MOST_LINE + 1], mark[3] = "";
