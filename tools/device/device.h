@@ -53,7 +53,7 @@ static struct device {
 } *devices, *devices_end;
 
 static bafokun_frame frames[BAFOKUN_MOST_FRAMES]; /* those that the last call of the library gave */
-static int in_stdio, by_stamps;                   /* options, and those that take a word: */
+static int in_stdio, by_stamps, wants_help;       /* options, and those that take a word: */
 enum { CAN = 1, SOCKET, PLAY, STRINGS, DOMAINS, TIME, WRONG = '?', OPTIONS };
 static const char *given[OPTIONS] = { [CAN] = "", [PLAY] = "/dev/null", [STRINGS] = "16", [DOMAINS] = "889", [TIME] = "1000" };
 static uint64_t elapsed;                          /* ms since the start */

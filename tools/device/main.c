@@ -20,7 +20,6 @@ static const char usage[] =
     "  --strings N, --domains N, --time N   as with conode replay; 16, 889 and 1000 if not given\n"
     "Standard input and clients say what the application does: help lists it.\n";
 
-static int wants_help;
 static bafokun_config config;
 static const struct option options[] = {
     { "can", 1, NULL, CAN }, { "stdio", 0, &in_stdio, 1 }, { "stamps", 0, &by_stamps, 1 }, { "socket", 1, NULL, SOCKET },
@@ -62,7 +61,8 @@ static void build(struct device *device, const char *word)
     if (!bafokun_build(&device->node, text, length, (uint8_t)node_id, &config, &fault)) {
         bafokun_fault_text(&fault, what, sizeof what);
         if (fault.stage == BAFOKUN_FAULT_DEVICE)
-            errx(1, "%s: build fault %u %04X:%02X: %s", word, fault.number, fault.index, fault.sub_index, what);
+            errx(1, "%s: build fault %u %04X:%02X: %s; `conode adapt --force %s` may mend it", word, fault.number, fault.index,
+                 fault.sub_index, what, sheet);
         errx(1, "%s: fault %u line %" PRIu64 ": %s; `conode adapt %s` may mend it", word, fault.number, fault.line, what, sheet);
     }
     name_objects(device, text);
