@@ -55,10 +55,10 @@ static void build(struct device *device, const char *word)
         if (strcmp(at->name, device->name) == 0) errx(1, "%s: there is a node %d on %s already", word, (int)node_id, interface);
     char *text = calloc(1, MOST_SHEET + 1);
     FILE *file = fopen(sheet, "re");
-    size_t length = text && file ? fread(text, 1, MOST_SHEET, file) : 0;
-    if (!text || !file || ferror(file) || !(device->text = text = realloc(text, length + 1))) err(1, "%s", sheet);
+    size_t size = text && file ? fread(text, 1, MOST_SHEET, file) : 0;
+    if (!text || !file || ferror(file) || !(device->text = text = realloc(text, size + 1))) err(1, "%s", sheet);
     fclose(file);
-    if (!bafokun_build(&device->node, text, length, (uint8_t)node_id, &config, &fault)) {
+    if (!bafokun_build(&device->node, text, size, (uint8_t)node_id, &config, &fault)) {
         bafokun_fault_text(&fault, what, sizeof what);
         if (fault.stage == BAFOKUN_FAULT_DEVICE)
             errx(1, "%s: build fault %u %04X:%02X: %s; `conode adapt --force %s` may mend it", word, fault.number, fault.index,
