@@ -1,28 +1,26 @@
 /* SocketCAN: a socket for each device, what waits, and trouble: said once, given to the device and mended. */
 
-#define MOST_TAKEN 64 /* frames that are read in one turn of the loop */
-#define RETRY_MS 100  /* an interface that is down is looked at again at least so often */
+#define RETRY_MS 100 /* an interface that is down is looked at again at least so often */
 #define PASSIVE_BITS (CAN_ERR_CRTL_RX_PASSIVE | CAN_ERR_CRTL_TX_PASSIVE)
 
-/* Sends the frames that the last call gave. */
-static void send_frames(struct device *device, size_t count);
-
-/* The bus is now like this to a device. An interface that was down has recovered, as from bus-off. */
+/* The bus is now like this to a device, and the first of its interface says so. One that was down has recovered, as from bus-off. */
 static void become(struct device *device, enum health health)
 {
     enum health was = device->health;
+    struct device *first = devices;
     if (health == DOWN) {
         close(device->bus);
         device->bus = -1;
     }
     if (health == was) return;
     device->health = health;
-    if (device->speaks) fprintf(stderr, "%s: %s\n", device->interface, health_names[health]);
+    while (strcmp(first->interface, device->interface) != 0) first++;
+    if (first == device) fprintf(stderr, "%s: %s\n", device->interface, health_names[health]);
     if (health == ACTIVE && was != PASSIVE) send_frames(device, bafokun_bus(&device->node, BAFOKUN_BUS_RECOVERED, FRAMES));
     if (health != DOWN) send_frames(device, bafokun_bus(&device->node, (uint8_t)health, FRAMES));
 }
 
-/* Opens the socket of a device. False, with errno: there is no such interface, or it is down. */
+/* Opens the socket of a device, if its interface is up. False, with errno: there is no such interface. */
 static bool open_bus(struct device *device)
 {
     static const can_err_mask_t errors = CAN_ERR_BUSOFF | CAN_ERR_CRTL | CAN_ERR_RESTARTED;
@@ -32,10 +30,9 @@ static bool open_bus(struct device *device)
     if (fd >= 0 && setsockopt(fd, SOL_CAN_RAW, CAN_RAW_ERR_FILTER, &errors, sizeof errors) == 0
         && bind(fd, (struct sockaddr *)&at, sizeof at) == 0 && wake_by(fd, EPOLLIN)
         && getsockopt(fd, SOL_SOCKET, SO_ERROR, &errno, &(socklen_t){ sizeof errno }) == 0 && errno == 0) return true;
-    int reason = errno;
+    if (errno != ENETDOWN && device->health != DOWN) return false;
     become(device, DOWN);
-    errno = reason;
-    return false;
+    return true;
 }
 
 /* Whether the frame was sent; else it has to wait. */
@@ -70,12 +67,11 @@ static void put_on_bus(struct device *device, const bafokun_frame *frame)
         if (!same && at->frame.id == frame->id && at->is_tpdo == new.is_tpdo) same = at;
         if (at->is_tpdo) oldest = at;
     }
-    bool is_heartbeat = frame->id > 0x700 && frame->bytes[0] != 0; /* and no boot-up */
-    bool replaces = same && (new.is_tpdo || (is_heartbeat && same->frame.bytes[0] == frame->bytes[0]));
-    if (!replaces && device->waiting >= MOST_WAITING && oldest) {
-        forget(device, oldest);
-        device->thrown++;
-    }
+    /* a heartbeat is one byte, and that of a boot-up is 0 */
+    bool replaces = same && (new.is_tpdo || (frame->length == 1 && frame->bytes[0] && same->frame.bytes[0] == frame->bytes[0]));
+    bool throws = !replaces && device->waiting >= MOST_WAITING && oldest;
+    if (throws) forget(device, oldest);
+    device->thrown += throws;
     *(replaces ? same : &device->queue[device->waiting++]) = new;
     device->others += !replaces && !new.is_tpdo;
 }
@@ -95,25 +91,11 @@ static void catch_up(struct device *device)
         send_frames(device, bafokun_ticks(&device->node, MIN(elapsed - device->ticks, DAY_MS), &done, FRAMES));
 }
 
-static void take_frame(struct device *device, const struct can_frame *in)
-{
-    bafokun_frame frame = { (uint16_t)in->can_id, in->can_dlc, { 0 } };
-    canid_t error = in->can_id & CAN_ERR_FLAG ? in->can_id : 0;
-    int controller = error & CAN_ERR_CRTL ? in->data[1] & ~(CAN_ERR_CRTL_RX_OVERFLOW | CAN_ERR_CRTL_TX_OVERFLOW) : 0;
-    if (error & CAN_ERR_BUSOFF) become(device, BUS_OFF);
-    if (error & CAN_ERR_RESTARTED) become(device, ACTIVE);
-    if (device->health != BUS_OFF && controller) become(device, controller & PASSIVE_BITS ? PASSIVE : ACTIVE);
-    if (in->can_id > CAN_SFF_MASK || in->can_dlc > 8) return;
-    memcpy(frame.bytes, in->data, in->can_dlc);
-    send_frames(device, bafokun_take(&device->node, &frame, FRAMES));
-}
-
 /* At each turn of the loop: what is down or waits is tried again, what came is taken. True: more may have. */
 static bool tend_bus(struct device *device)
 {
     struct can_frame in;
     int taken = 0;
-    if (in_stdio) return false;
     if (device->bus < 0) open_bus(device);
     while (device->waiting > 0 && send_now(device, &device->queue[0].frame)) forget(device, device->queue);
     if (device->bus >= 0 && device->health == DOWN && !is_crowded(device)) become(device, ACTIVE);
@@ -122,7 +104,14 @@ static bool tend_bus(struct device *device)
         ssize_t size = read(device->bus, &in, sizeof in);
         if (size < 0 && errno != EAGAIN) become(device, DOWN);
         if (size < 0) break;
-        take_frame(device, &in);
+        canid_t error = in.can_id & CAN_ERR_FLAG ? in.can_id : 0;
+        int state = error & CAN_ERR_CRTL ? in.data[1] & ~(CAN_ERR_CRTL_RX_OVERFLOW | CAN_ERR_CRTL_TX_OVERFLOW) : 0;
+        if (error & CAN_ERR_BUSOFF) become(device, BUS_OFF);
+        if (error & CAN_ERR_RESTARTED) become(device, ACTIVE);
+        if (device->health != BUS_OFF && state) become(device, state & PASSIVE_BITS ? PASSIVE : ACTIVE);
+        bafokun_frame frame = { in.can_id > CAN_SFF_MASK ? UINT16_MAX : (uint16_t)in.can_id, in.can_dlc, { 0 } };
+        memcpy(frame.bytes, in.data, sizeof frame.bytes);
+        send_frames(device, bafokun_take(&device->node, &frame, FRAMES)); /* not one of 29 bits */
     }
     return taken == MOST_TAKEN;
 }

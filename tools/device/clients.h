@@ -10,12 +10,12 @@
 
 /* The file of --play, standard input and output, and connections. */
 static struct client {
-    int in, out;               /* in isn't above 0 where the place of a connection is free */
-    bool has_ended, is_broken; /* no line comes any more; no answer can be written */
+    int in, out;               /* in is -1 where no line comes any more; out is 0 where the place of a connection is free */
+    bool is_broken, has_first; /* no answer can be written; there was a stamp, */
+    uint64_t first, due;       /* and which; when the next line of --play is due, in ms since the start */
+    char interface[16];        /* that of its last frame */
     const char *numbered;      /* "line" where lines may have stamps, and errors their number; else NULL */
-    bool has_first;            /* there was a stamp, */
-    uint64_t first, due;       /* and which; when the next line is due, in ms since the start */
-    size_t number, begin, used, unread, watched; /* of lines that are done; of text from where on how much; of answers; of watches */
+    size_t number, from, to, unread, watched; /* lines done; where unread text is; bytes of answers; watches */
     struct watch { /* an entry whose changes it is told; the bytes that were said last */
         struct device *device;
         bafokun_entry_info entry;
@@ -23,35 +23,32 @@ static struct client {
     } watches[MOST_WATCHES + 1]; /* the last is for a get */
     char text[MOST_LINE + PIECE + 4], answers[MOST_UNREAD + MOST_TEXT + 100];
 } clients[MOST_CLIENTS], *const player = clients, *const standard = clients + 1, *const clients_end = clients + MOST_CLIENTS;
-static int epoll, timer, signals;
+static int epoll, timer, signals, listener;
 
 /* A descriptor wakes the loop when it becomes ready. epoll doesn't take a file, which always is. */
 static bool wake_by(int fd, uint32_t events)
 {
-    struct epoll_event event = { .events = events | EPOLLET };
-    return epoll_ctl(epoll, EPOLL_CTL_ADD, fd, &event) == 0 || errno == EPERM;
+    return epoll_ctl(epoll, EPOLL_CTL_ADD, fd, &(struct epoll_event){ .events = events | EPOLLET }) == 0 || errno == EPERM;
 }
 
-/* Whether there is something to read, or room to write. If it waits, that ends a second after a signal. */
-static bool is_ready(int fd, short events, bool waits)
-{
-    struct pollfd either[] = { { fd, events, 0 }, { signals, POLLIN, 0 } };
-    if (waits) poll(either, 2, -1);
-    return poll(either, 1, waits ? LAST_MS : 0) > 0;
-}
+/* Whether there is something to read, or room to write, within so many ms. */
+static bool is_ready(int fd, short events, int ms) { return poll(&(struct pollfd){ fd, events, 0 }, 1, ms) > 0; }
 
-/* Writes what can be written without a wait, or all of a trace, unless nobody reads it and a signal came. */
-static void flush(struct client *client)
+/* Writes what goes without a wait, or all of a trace, unless nobody reads it and a signal came. False: too much waits. */
+static bool flush(struct client *client)
 {
     bool is_trace = client == standard && in_stdio;
     size_t done = 0;
-    while (done < client->unread && !client->is_broken && is_ready(client->out, POLLOUT, is_trace)) {
-        ssize_t size = write(client->out, client->answers + done, MIN(client->unread - done, PIECE));
+    while (done < client->unread && !client->is_broken) {
+        bool is_room = is_ready(client->out, POLLOUT, is_trace ? LAST_MS : 0);
+        if (!is_room && (!is_trace || is_ready(signals, POLLIN, 0))) break;
+        ssize_t size = is_room ? write(client->out, client->answers + done, MIN(client->unread - done, PIECE)) : 0;
         client->is_broken = size < 0 && errno != EAGAIN && errno != EINTR;
         done += (size_t)MAX(size, 0);
     }
-    client->is_broken |= is_trace && done < client->unread;
+    if (is_trace && done < client->unread) client->is_broken = is_over = is_bad = true;
     memmove(client->answers, client->answers + done, client->unread -= done);
+    return client->unread <= MOST_UNREAD;
 }
 
 /* Says a line: in a trace an answer is a comment; trouble has the number of the line. False, for callers. */
@@ -61,8 +58,7 @@ static bool say(struct client *client, enum kind kind, const char *format, ...)
 {
     struct client *reader = client == player ? standard : client;
     va_list values;
-    if (reader->unread > MOST_UNREAD) flush(reader);
-    if (reader->unread > MOST_UNREAD) return false;
+    if (reader->unread > MOST_UNREAD && !flush(reader)) return false;
     char *end = reader->answers + reader->unread;
     if (reader == standard && in_stdio && kind != FRAME) end = stpcpy(end, "; ");
     if (client->numbered && kind == TROUBLE) end += sprintf(end, "%s %zu ", client->numbered, client->number + 1);

@@ -1,89 +1,71 @@
 /* A line of the application: an event line of a trace (docs/TRACES.md), or one that people write. */
 
-/*
- * A command: how it is written, the kinds of its words, how many of these it needs, what it does, and the range of its number (d). Other
- * words are an entry (k), its value (v), bytes (h), five bytes (x), an error code (c), bits of the error register (b).
- */
+/* The commands: how each is written, and what it does. read_words knows a word in capitals by its first letter, and KEY. */
 static const struct command {
-    const char *form, *kinds;
-    int needed;
+    const char *form;
     enum action { SET, WRITE, CHANGED, EVENT, RAISE, CLEAR, GET, WATCH, STATE, TICK, HELP } action; /* events first */
-    uint64_t least, most;
 } commands[] = {
-    { "set KEY VALUE", "kv", 2, SET, 0, 0 }, { "get KEY", "k", 1, GET, 0, 0 }, { "watch KEY", "k", 1, WATCH, 0, 0 },
-    { "event TPDO", "d", 1, EVENT, 1, 65536 }, { "raise CODE [BITS [EXTRA]]", "cbx", 1, RAISE, 0, 0 },
-    { "clear [BITS]", "b", 0, CLEAR, 0, 0 }, { "state", "", 0, STATE, 0, 0 }, { "!write KEY HEX", "kh", 2, WRITE, 0, 0 },
-    { "!changed KEY", "k", 1, CHANGED, 0, 0 }, { "!event K", "d", 1, EVENT, 0, 65535 },
-    { "!raise CODE BITS EXTRA", "cbx", 3, RAISE, 0, 0 }, { "!clear BITS", "b", 1, CLEAR, 0, 0 },
-    { "!tick N", "d", 1, TICK, 1, DAY_MS }, { "help", "", 0, HELP, 0, 0 },
+    { "set KEY VALUE", SET }, { "get KEY", GET }, { "watch KEY", WATCH }, { "event TPDO", EVENT },
+    { "raise CODE [BITS [EXTRA]]", RAISE }, { "clear [BITS]", CLEAR }, { "state", STATE }, { "!write KEY HEX", WRITE },
+    { "!changed KEY", CHANGED }, { "!event K", EVENT }, { "!raise CODE BITS EXTRA", RAISE }, { "!clear BITS", CLEAR },
+    { "!tick N", TICK }, { "help", HELP },
 }, *const commands_end = commands + sizeof commands / sizeof *commands;
 
-/* A line that is done: what its words say, and the bytes of its value. */
-struct request {
-    struct client *client;
-    struct device *device;
-    const struct command *command;
-    bafokun_entry_info entry;
-    uint64_t number, code, bits;
-};
+/* What the words of a line say; the bytes of its value. */
+static bafokun_entry_info entry;
+static uint64_t number, code, bits;
 static uint8_t bytes[UINT16_MAX + 1];
 static size_t length;
 
 /* The answer to an event that gave so many frames. */
-static bool answer(const struct request *at, size_t count)
+static bool answer(struct client *client, struct device *device, size_t count)
 {
     char text[128] = "";
-    uint32_t code;
-    bool is_done = bafokun_answer(&at->device->node, &code) != BAFOKUN_REFUSED;
-    if (!in_stdio || !at->client->numbered) bafokun_abort_text(code, text, sizeof text);
-    if (!is_done) say(at->client, TROUBLE, "refused %08" PRIX32 "%s%s", code, *text ? " " : "", text);
-    send_frames(at->device, count);
+    uint32_t abort_code;
+    bool is_done = bafokun_answer(&device->node, &abort_code) != BAFOKUN_REFUSED;
+    if (!in_stdio || !client->numbered) bafokun_abort_text(abort_code, text, sizeof text);
+    if (!is_done) say(client, TROUBLE, "refused %08" PRIX32 "%s%s", abort_code, *text ? " " : "", text);
+    send_frames(device, count);
     return is_done;
 }
 
-/* Says the value of an entry, unless it is the one that was said last. False: there is no such entry. */
-static bool say_value(struct client *client, struct watch *at)
+/* Says the value of an entry, unless it is the one that was said last. */
+static void say_value(struct client *client, struct watch *at)
 {
     static char text[MOST_TEXT];
-    bafokun_entry_info *entry = &at->entry;
-    if (!bafokun_value(&at->device->node, entry->index, entry->sub_index, bytes, sizeof bytes, &length)) return false;
-    if (at->said && length == entry->length && memcmp(bytes, at->said, length) == 0) return true;
-    write_value(entry, bytes, length, text);
-    say(client, ANSWER, "%04X:%02X %s", entry->index, entry->sub_index, *text ? text : "-");
-    at->said = realloc(at->said, length + 1);
+    bafokun_entry_info *info = &at->entry;
+    bafokun_value(&at->device->node, info->index, info->sub_index, bytes, sizeof bytes, &length);
+    if (at->said && length == info->length && memcmp(bytes, at->said, length) == 0) return;
+    write_value(info, bytes, length, text);
+    say(client, ANSWER, "%04X:%02X %s", info->index, info->sub_index, *text ? text : "-");
     if (at->said) memcpy(at->said, bytes, length);
-    entry->length = length;
-    return true;
+    info->length = length;
 }
 
 /* Does a command. False where it wasn't done, and that was said, or where something else than ok was. */
-static bool act(const struct request *at, enum action action)
+static bool act(struct client *client, struct device *device, enum action action)
 {
-    static const char *const names[] = { [BAFOKUN_STOPPED] = "stopped", [BAFOKUN_OPERATIONAL] = "operational",
-                                         [BAFOKUN_PRE_OPERATIONAL] = "pre-operational" };
+    static const char *const states[] = { [BAFOKUN_STOPPED] = "stopped", [BAFOKUN_OPERATIONAL] = "operational",
+                                          [BAFOKUN_PRE_OPERATIONAL] = "pre-operational" };
     char forms[512] = "";
-    struct client *client = at->client;
-    struct device *device = at->device;
     bafokun_node *node = &device->node;
-    uint16_t index = at->entry.index;
-    uint8_t sub_index = at->entry.sub_index;
-    struct watch *watch = &client->watches[action == WATCH ? client->watched : MOST_WATCHES];
     if (action <= CLEAR && is_crowded(device))
         return say(client, TROUBLE, "error: %zu frames wait for %s", device->waiting, device->interface);
     switch (action) {
-    case SET: return act(at, WRITE) && act(at, CHANGED);
-    case WRITE: return answer(at, bafokun_write(node, index, sub_index, bytes, length, FRAMES));
-    case CHANGED: return answer(at, bafokun_changed(node, index, sub_index, FRAMES));
-    case EVENT: return answer(at, bafokun_event(node, (uint16_t)(at->number - at->command->least), FRAMES));
-    case RAISE: return answer(at, bafokun_raise(node, (uint16_t)at->code, (uint8_t)at->bits, bytes, FRAMES));
-    case CLEAR: return answer(at, bafokun_clear(node, (uint8_t)at->bits, FRAMES));
+    case SET: return act(client, device, WRITE) && act(client, device, CHANGED);
+    case WRITE: return answer(client, device, bafokun_write(node, entry.index, entry.sub_index, bytes, length, FRAMES));
+    case CHANGED: return answer(client, device, bafokun_changed(node, entry.index, entry.sub_index, FRAMES));
+    case EVENT: return answer(client, device, bafokun_event(node, (uint16_t)number, FRAMES));
+    case RAISE: return answer(client, device, bafokun_raise(node, (uint16_t)code, (uint8_t)bits, bytes, FRAMES));
+    case CLEAR: return answer(client, device, bafokun_clear(node, (uint8_t)bits, FRAMES));
     case TICK:
-        if (client != player && !by_stamps) return say(client, TROUBLE, "error: here time passes by itself");
-        (client == player ? player : standard)->due += at->number;
+        if (client == player) client->due += number;
+        else if (by_stamps) elapse(elapsed + number);
+        else return say(client, TROUBLE, "error: here time passes by itself");
         return true;
     case STATE:
         return say(client, ANSWER, "node %d %s, %s %s, %zu frames wait, %zu thrown away", bafokun_node_id(node),
-                   names[bafokun_state(node)], device->interface, health_names[device->health], device->waiting, device->thrown);
+                   states[bafokun_state(node)], device->interface, health_names[device->health], device->waiting, device->thrown);
     case HELP:
         for (const struct command *each = commands; each < commands_end; each++)
             strcat(strcat(forms, each > commands ? ", " : ""), each->form);
@@ -91,69 +73,69 @@ static bool act(const struct request *at, enum action action)
     default:
         if (action == WATCH && client->watched == MOST_WATCHES)
             return say(client, TROUBLE, "error: %d entries are watched already", MOST_WATCHES);
-        free(watch->said);
-        *watch = (struct watch){ device, at->entry, NULL };
-        if (!say_value(client, watch)) return say(client, TROUBLE, "error: there is no entry %04X:%02X", index, sub_index);
+        if (!bafokun_value(node, entry.index, entry.sub_index, bytes, 0, &length))
+            return say(client, TROUBLE, "error: there is no entry %04X:%02X", entry.index, entry.sub_index);
+        entry.length = SIZE_MAX; /* nothing was said of it */
+        client->watches[client->watched] = (struct watch){ device, entry, action == WATCH ? malloc(entry.capacity + 1) : NULL };
+        say_value(client, &client->watches[client->watched]);
         client->watched += action == WATCH;
         return false;
     }
 }
 
-/* Reads the words after a command. */
-static bool read_words(struct request *at, char *rest)
+/* Reads the words after a command, those that its form has. */
+static bool read_words(struct client *client, struct device *device, const struct command *command, char *rest)
 {
     /* what an error sets if not said: current, voltage, temperature, communication, the manufacturer's */
-    static const uint8_t bits[16] = { [2] = 0x02, [3] = 0x04, [4] = 0x08, [8] = 0x10, [15] = 0x80 };
-    const char *kind = at->command->kinds;
+    static const uint8_t kinds_of_error[16] = { [2] = 0x02, [3] = 0x04, [4] = 0x08, [8] = 0x10, [15] = 0x80 };
+    const char *form = strchr(command->form, ' ');
     bool is_right = true;
+    bits = 0xFF;
     memset(bytes, 0, 5);
-    for (; is_right && *kind && *rest; kind++) {
-        size_t size = *kind == 'k' ? find_entry(at->client, at->device, rest, &at->entry)
-            : *kind == 'v' ? strlen(rest) : strcspn(rest, BLANKS);
+    for (; is_right && form && *rest; form = strchr(form + 1, ' ')) {
+        char kind = form[form[1] == '[' ? 2 : 1];
+        size_t size = strncmp(form, " KEY", 4) == 0 ? find_entry(client, device, rest, &entry)
+            : kind == 'V' ? strlen(rest) : strcspn(rest, BLANKS);
         if (size == 0) return false;
         const char *word = cut(&rest, size), *value = strcmp(word, "-") == 0 ? "" : word; /* - for none */
-        if (*kind == 'c') is_right = size == 4 && read_number(word, 16, 0, UINT16_MAX, &at->code);
-        if (*kind == 'c') at->bits = bits[at->code >> 12 & 0xF];
-        if (*kind == 'b') is_right = size == 2 && read_number(word, 16, 0, UINT8_MAX, &at->bits);
-        if (*kind == 'd') is_right = read_number(word, 10, at->command->least, at->command->most, &at->number);
-        if (*kind == 'h' || *kind == 'x') is_right = bytes_of(&plain, value, bytes, &length) && (*kind == 'h' || length == 5);
-        if (*kind == 'v' && !bytes_of(&at->entry, value, bytes, &length))
-            return say(at->client, TROUBLE, "error: this is no value of data type %02Xh", at->entry.type);
+        if (kind == 'C') is_right = size == 4 && read_number(word, 16, 0, UINT16_MAX, &code);
+        if (kind == 'C') bits = kinds_of_error[code >> 12 & 0xF];
+        if (kind == 'B') is_right = size == 2 && read_number(word, 16, 0, UINT8_MAX, &bits);
+        if (kind == 'T') is_right = read_number(word, 10, 1, UINT16_MAX + 1, &number);
+        if (kind == 'T') number--; /* TPDO1 is number 0 of the library */
+        if (kind == 'K' && !form[2]) is_right = read_number(word, 10, 0, UINT16_MAX, &number);
+        if (kind == 'N') is_right = read_number(word, 10, 1, DAY_MS, &number);
+        if (kind == 'H' || kind == 'E') is_right = bytes_of(&plain, value, bytes, &length) && (kind == 'H' || length == 5);
+        if (kind == 'V' && !bytes_of(&entry, value, bytes, &length))
+            return say(client, TROUBLE, "error: this is no value of data type %02Xh", entry.type);
     }
-    if (is_right && !*rest && kind - at->command->kinds >= at->command->needed) return true;
-    return say(at->client, TROUBLE, "error: %s", at->command->form);
+    if (is_right && !*rest && (!form || form[1] == '[')) return true;
+    return say(client, TROUBLE, "error: %s", command->form);
 }
 
-/* The device that a line begins with, as 5 or can0:5, which is cut off, or the only one; or says why not. */
-static struct device *read_device(struct client *client, char **line)
-{
-    struct device *found = devices_end - 1;
-    size_t size = strcspn(*line, BLANKS), count = 0;
-    bool has_name = **line != '!' && size > 0 && isdigit((unsigned char)(*line)[size - 1]);
-    const char *name = has_name ? cut(line, size) : NULL;
-    bool is_for_all = strncmp(*line, "!tick ", 6) == 0 || strcmp(*line, "help") == 0;
-    for (struct device *at = devices; at < devices_end; at++) {
-        if (name && strcmp(name, at->name) != 0 && strcmp(name, strchr(at->name, ':') + 1) != 0) continue;
-        found = at;
-        count++;
-    }
-    if (count == 1 || (count > 1 && is_for_all)) return found;
-    say(client, TROUBLE, count > 1 ? "error: the node comes first, as %s" : "error: there is no such node, as %s is one", found->name);
-    return NULL;
-}
-
+/* Does a line. A node comes first, as 5 or can0:5, unless there is one alone, or the command is for all. */
 static void do_line(struct client *client, char *line)
 {
-    struct request at = { .client = client, .command = commands, .bits = 0xFF };
-    if (*line == 0 || *line == ';' || !(at.device = read_device(client, &line))) return;
+    struct device *device = devices_end - 1;
+    const struct command *command = commands;
+    size_t size = strcspn(line, BLANKS), count = 0;
+    if (*line == 0 || *line == ';') return;
+    bool has_node = *line != '!' && size > 0 && isdigit((unsigned char)line[size - 1]);
+    const char *name = has_node ? cut(&line, size) : NULL;
+    bool is_for_all = strncmp(line, "!tick ", 6) == 0 || strcmp(line, "help") == 0;
+    for (struct device *at = devices; at < devices_end; at++) {
+        if (name && strcmp(name, at->name) != 0 && strcmp(name, strchr(at->name, ':') + 1) != 0) continue;
+        device = at;
+        count++;
+    }
     bool is_loose = strstr(line, "  ") || strchr(line, '\t') || line[strlen(line) - (*line != 0)] == ' ';
     char *rest = trimmed(line);
-    size_t size = strcspn(rest, BLANKS);
-    const char *name = cut(&rest, size);
-    for (; at.command < commands_end; at.command++)
-        if (strcspn(at.command->form, " ") == size && strncmp(at.command->form, name, size) == 0) break;
-    if (at.command == commands_end || (*name == '!' && is_loose))
-        say(client, TROUBLE, "error: this is no command; help has them");
-    else if (read_words(&at, rest) && act(&at, at.command->action) && !client->numbered)
+    size = strcspn(rest, BLANKS);
+    name = cut(&rest, size);
+    while (command < commands_end && (strcspn(command->form, " ") != size || strncmp(command->form, name, size) != 0)) command++;
+    if (count == 0) say(client, TROUBLE, "error: there is no such node, as %s is one", device->name);
+    else if (count > 1 && !is_for_all) say(client, TROUBLE, "error: the node comes first, as %s", device->name);
+    else if (command == commands_end || (*name == '!' && is_loose)) say(client, TROUBLE, "error: this is no command; help has them");
+    else if (read_words(client, device, command, rest) && act(client, device, command->action) && !client->numbered)
         say(client, ANSWER, "ok");
 }

@@ -12,7 +12,6 @@
 #include <linux/can/raw.h>
 #include <net/if.h>
 #include <poll.h>
-#include <signal.h>
 #include <stdarg.h>
 #include <stdio.h>
 #include <stdlib.h>
@@ -28,6 +27,7 @@
 #include <unistd.h>
 
 #define MOST_WAITING 1024 /* frames of a device that wait, before TPDOs or inputs yield */
+#define MOST_TAKEN 64     /* frames of a device, or lines of a client, in one turn of the loop */
 #define DAY_MS 86400000   /* most ms of a !tick */
 #define DIGITS "0123456789ABCDEFabcdef"
 #define BLANKS " \t"
@@ -40,8 +40,8 @@ static const char *const health_names[] = { "error active", "error passive", "bu
 static struct device {
     bafokun_node node;
     char interface[16], name[48];         /* can0, can0:5 */
-    char *objects[UINT16_MAX + 1];        /* the names of objects by their index, or NULL */
-    bool hears_all, speaks;               /* frames of each interface in --stdio; of trouble, for its interface */
+    char *text, *objects[UINT16_MAX + 1]; /* its sheet; the names of objects in it, by their index, or NULL */
+    bool hears_all;                       /* frames of each interface, in --stdio */
     int bus;                              /* its socket, -1 while the interface is down */
     enum health health;
     uint64_t ticks;                       /* of the ms elapsed those that it had */
@@ -53,8 +53,11 @@ static struct device {
 } *devices, *devices_end;
 
 static bafokun_frame frames[BAFOKUN_MOST_FRAMES]; /* those that the last call of the library gave */
-static int in_stdio, by_stamps;                   /* options, and those that take a word: */
-enum { CAN = 1, SOCKET, PLAY, STRINGS, DOMAINS, TIME, OPTIONS };
+static int in_stdio, by_stamps, wants_help;       /* options, and those that take a word: */
+enum { CAN = 1, SOCKET, PLAY, STRINGS, DOMAINS, TIME, WRONG = '?', OPTIONS };
 static const char *given[OPTIONS] = { [CAN] = "", [PLAY] = "/dev/null", [STRINGS] = "16", [DOMAINS] = "889", [TIME] = "1000" };
 static uint64_t elapsed;                          /* ms since the start */
 static bool is_over, is_bad;                      /* it ends, with status 1 */
+
+static void send_frames(struct device *device, size_t count); /* those that the last call gave; in bus.h */
+static void elapse(uint64_t until);                           /* time passes; in lines.h */

@@ -1,4 +1,4 @@
-/* The words of canopen-device, and the devices that they name. */
+/* The words of canopen-device, the devices that they name, and the loop. */
 #include "device.h"
 #include "clients.h"
 #include "values.h"
@@ -6,7 +6,6 @@
 #include "bus.h"
 #include "commands.h"
 #include "lines.h"
-#include "loop.h"
 
 #define MOST_SHEET 1048577 /* a byte more than a sheet may have */
 
@@ -21,7 +20,6 @@ static const char usage[] =
     "  --strings N, --domains N, --time N   as with conode replay; 16, 889 and 1000 if not given\n"
     "Standard input and clients say what the application does: help lists it.\n";
 
-static int wants_help;
 static bafokun_config config;
 static const struct option options[] = {
     { "can", 1, NULL, CAN }, { "stdio", 0, &in_stdio, 1 }, { "stamps", 0, &by_stamps, 1 }, { "socket", 1, NULL, SOCKET },
@@ -33,66 +31,87 @@ static const struct option options[] = {
 static bool read_options(int count, char **words)
 {
     uint64_t numbers[OPTIONS];
-    bool is_right = true;
-    for (int option; (option = getopt_long(count, words, "", options, NULL)) != -1; ) {
-        if (option == '?') is_right = false;
-        else given[option] = optarg; /* those that take no word come here as 0 */
-    }
+    for (int option; (option = getopt_long(count, words, "", options, NULL)) != -1; ) given[option] = optarg ? optarg : "";
     if (wants_help) exit(fputs(usage, stdout) < 0 || fflush(stdout) != 0);
-    for (int i = STRINGS; i <= TIME; i++) is_right &= read_number(given[i], 10, 0, UINT16_MAX, &numbers[i]);
+    for (int i = STRINGS; i <= TIME; i++)
+        if (!read_number(given[i], 10, 0, UINT16_MAX, &numbers[i])) return false;
     config = (bafokun_config){ (uint16_t)numbers[STRINGS], (uint16_t)numbers[DOMAINS], (uint16_t)numbers[TIME] };
-    return is_right && optind < count && (in_stdio ? !*given[CAN] : !by_stamps);
+    return !given[WRONG] && optind < count && (in_stdio ? !*given[CAN] : !by_stamps);
 }
 
 /* Builds the device of a word [INTERFACE:]N=SHEET. */
 static void build(struct device *device, const char *word)
 {
-    char *sheet = strdupa(word), *number = strsep(&sheet, "="), what[128];
-    const char *own = strchr(number, ':') ? strsep(&number, ":") : NULL, *interface = own ? own : in_stdio ? "can0" : given[CAN];
+    char *sheet = strdupa(word), *node = strsep(&sheet, "="), what[128];
+    const char *own = strchr(node, ':') ? strsep(&node, ":") : NULL, *interface = own ? own : in_stdio ? "can0" : given[CAN];
     uint64_t node_id;
     bafokun_fault fault;
-    if (!sheet || !read_number(number, 10, 1, 127, &node_id) || !*interface || strlen(interface) > 15)
+    if (!sheet || !read_number(node, 10, 1, 127, &node_id) || !*interface || strlen(interface) > 15)
         errx(1, "%s: [INTERFACE:]N=SHEET, with N from 1 to 127, and --can without INTERFACE", word);
     device->hears_all = in_stdio && !own;
-    device->speaks = true;
     strcpy(device->interface, interface);
     sprintf(device->name, "%s:%d", interface, (int)node_id);
-    for (struct device *at = devices; at < device; at++) {
+    for (struct device *at = devices; at < device; at++)
         if (strcmp(at->name, device->name) == 0) errx(1, "%s: there is a node %d on %s already", word, (int)node_id, interface);
-        device->speaks &= strcmp(at->interface, interface) != 0;
-    }
-    char *text = calloc(1, MOST_SHEET + 1); /* names stay in it */
+    char *text = calloc(1, MOST_SHEET + 1);
     FILE *file = fopen(sheet, "re");
-    size_t length = text && file ? fread(text, 1, MOST_SHEET, file) : 0;
-    if (!text || !file || ferror(file) || !(text = realloc(text, length + 1))) err(1, "%s", sheet);
+    size_t size = text && file ? fread(text, 1, MOST_SHEET, file) : 0;
+    if (!text || !file || ferror(file) || !(device->text = text = realloc(text, size + 1))) err(1, "%s", sheet);
     fclose(file);
-    if (bafokun_build(&device->node, text, length, (uint8_t)node_id, &config, &fault)) {
-        name_objects(device, text);
-        return;
+    if (!bafokun_build(&device->node, text, size, (uint8_t)node_id, &config, &fault)) {
+        bafokun_fault_text(&fault, what, sizeof what);
+        if (fault.stage == BAFOKUN_FAULT_DEVICE)
+            errx(1, "%s: build fault %u %04X:%02X: %s; `conode adapt --force %s` may mend it", word, fault.number, fault.index,
+                 fault.sub_index, what, sheet);
+        errx(1, "%s: fault %u line %" PRIu64 ": %s; `conode adapt %s` may mend it", word, fault.number, fault.line, what, sheet);
     }
-    free(text);
-    bafokun_fault_text(&fault, what, sizeof what);
-    if (fault.stage == BAFOKUN_FAULT_DEVICE)
-        errx(1, "%s: build fault %u %04X:%02X: %s", word, fault.number, fault.index, fault.sub_index, what);
-    errx(1, "%s: fault %u line %" PRIu64 ": %s; `conode adapt %s` may mend it", word, fault.number, fault.line, what, sheet);
+    name_objects(device, text);
+}
+
+/* Each turn does all that is ready, until a signal comes or a trace ends. */
+static void run_loop(void)
+{
+    struct epoll_event events[16];
+    uint64_t begin = now(CLOCK_MONOTONIC);
+    for (;;) {
+        deliver();
+        bool is_busy = tend_clients();
+        for (struct device *at = devices; !in_stdio && at < devices_end; at++) is_busy |= tend_bus(at);
+        if (is_over || is_ready(signals, POLLIN, 0)) return;
+        uint64_t next = begin + next_ms(elapsed + DAY_MS) * 1000;
+        struct itimerspec once = { { 0, 0 }, { (time_t)(next / 1000000), (long)(next % 1000000 * 1000) } };
+        if (!by_stamps) timerfd_settime(timer, TFD_TIMER_ABSTIME, &once, NULL);
+        epoll_wait(epoll, events, 16, is_busy ? 0 : -1);
+        if (!by_stamps) elapse((now(CLOCK_MONOTONIC) - begin) / 1000);
+    }
 }
 
 int main(int count, char **words)
 {
-    int fd;
     /* where a standard stream is closed, no file of ours is taken for it: reads find the end, writes fail */
-    while ((fd = open("/dev/null", O_RDONLY)) >= 0 && fd <= 2) { }
-    close(fd);
+    for (int fd = 0; fd <= 2; fd++)
+        if (fcntl(fd, F_GETFD) < 0) open("/dev/null", O_RDONLY);
     if (!read_options(count, words)) return fputs(usage, stderr), 2;
-    devices_end = devices = calloc((size_t)(count - optind), sizeof *devices);
-    if (!devices) err(1, "canopen-device");
+    if (!(devices_end = devices = calloc((size_t)(count - optind), sizeof *devices))) err(1, "canopen-device");
     while (optind < count) build(devices_end++, words[optind++]);
-    start_loop();
+    sigset_t ends;
+    sigemptyset(&ends);
+    for (const int *end = (int[]){ SIGTERM, SIGINT, SIGHUP, 0 }; *end; end++) sigaddset(&ends, *end);
+    sigprocmask(SIG_BLOCK, &ends, NULL);
+    signal(SIGPIPE, SIG_IGN);
+    signal(SIGTTIN, SIG_IGN); /* in the background a terminal isn't read */
+    epoll = epoll_create1(EPOLL_CLOEXEC);
+    timer = timerfd_create(CLOCK_MONOTONIC, TFD_CLOEXEC);
+    signals = signalfd(-1, &ends, SFD_CLOEXEC);
+    if (!wake_by(timer, EPOLLIN) || !wake_by(signals, EPOLLIN)) err(1, "canopen-device");
     for (struct device *at = devices; !in_stdio && at < devices_end; at++)
-        if (!open_bus(at) && errno != ENETDOWN) err(1, "%s", at->interface);
+        if (!open_bus(at)) err(1, "%s", at->interface);
     open_clients();
     for (struct device *at = devices; at < devices_end; at++) send_frames(at, bafokun_boot(&at->node, FRAMES));
     run_loop();
-    close_clients();
+    say_changes(); /* those of the last ticks */
+    if (in_stdio) say(standard, ANSWER, "in %zu, out %zu, ticks %" PRIu64, frames_in, frames_out, elapsed);
+    flush(standard);
+    if (given[SOCKET]) unlink(given[SOCKET]);
     return is_bad;
 }

@@ -1,6 +1,8 @@
 /* Words, and names and values of entries as people write them: the library gives numbers and bytes. */
 
 static const bafokun_entry_info plain = { .type = 0x0F }; /* an entry of bytes: DOMAIN */
+/* What a value is by its data type: a number (u), one with a sign (i), a text (t), or else bytes. */
+static const char kinds[] = "-uiiiuuu-t------i-iiiiu-uuuu-";
 
 /* A number of digits alone. */
 static bool read_number(const char *word, int base, uint64_t least, uint64_t most, uint64_t *number)
@@ -73,20 +75,13 @@ static size_t find_entry(struct client *client, struct device *device, const cha
                found->index, found->sub_index);
 }
 
-/* What a value is by its data type: a number (u), one with a sign (i), a text (t), or else bytes. */
-static char kind_of(const bafokun_entry_info *entry)
-{
-    static const char kinds[] = "-uiiiuuu-t------i-iiiiu-uuuu";
-    return entry->type < sizeof kinds - 1 ? kinds[entry->type] : '-';
-}
-
 /*
  * The bytes of a value as write_value writes it, or of a number as 0x and as many bits as the entry has. False: it is no such value. Bytes
  * of a number are in the order of the machine, as the library is for little-endian machines alone.
  */
 static bool bytes_of(const bafokun_entry_info *entry, const char *text, uint8_t *bytes, size_t *length)
 {
-    char kind = kind_of(entry);
+    char kind = kinds[MIN(entry->type, sizeof kinds - 2)];
     bool is_number = kind == 'u' || kind == 'i', is_negative = kind == 'i' && *text == '-', is_hex = strncasecmp(text, "0x", 2) == 0;
     uint64_t number = 0, most = !is_number ? 0 : entry->type == 0x01 ? 1 : UINT64_MAX >> (64 - 8 * entry->capacity);
     if (kind == 'i' && !is_hex) most = most / 2 + is_negative;
@@ -107,13 +102,12 @@ static bool bytes_of(const bafokun_entry_info *entry, const char *text, uint8_t 
 /* Writes a number in decimal, a text where \xHH is any byte, else digits. */
 static void write_value(const bafokun_entry_info *entry, const uint8_t *bytes, size_t length, char *text)
 {
-    char kind = kind_of(entry);
-    int unused = 64 - 8 * (int)length;
+    char kind = kinds[MIN(entry->type, sizeof kinds - 2)];
     uint64_t number = 0;
     *text = 0;
     if (kind == 'u' || kind == 'i') memcpy(&number, bytes, length);
     if (kind == 'u') sprintf(text, "%" PRIu64, number);
-    if (kind == 'i') sprintf(text, "%" PRId64, (int64_t)(number << unused) >> unused);
+    if (kind == 'i') sprintf(text, "%" PRId64, (int64_t)(number << (64 - 8 * length)) >> (64 - 8 * length));
     for (const uint8_t *at = bytes; at < bytes + length && (kind == 't' || kind == '-'); at++) {
         bool is_char = kind == 't' && *at >= ' ' && *at != 127 && *at != '\\' && (length > 1 || *at != '-');
         text += sprintf(text, kind == '-' ? "%02X" : is_char ? "%c" : "\\x%02X", *at);
