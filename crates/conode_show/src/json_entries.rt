@@ -1,10 +1,7 @@
 //! Entries and objects as objects of JSON.
 
-ghost use Rattle.std.specs.Prelude.{◌≡◌, [], ◌∷◌, ◌++◌, codes, OnOk};
-ghost use Rattle.json.specs.Token.{begin_object, end_object};
+ghost use Rattle.std.specs.Prelude.{◌≡◌, ◌++◌, codes, OnOk};
 ghost use Rattle.co_sheet_text.specs.Views.{section_view};
-ghost use Rattle.conode_json.specs.Members.{flag_member};
-ghost use Rattle.conode_show_text.specs.Entries.{is_mappable};
 ghost use Rattle.conode_show.specs.JsonForm.{
   entry_tokens,
   key_members,
@@ -22,44 +19,16 @@ use conode_json::JsonWriter;
 use conode_show_text::{Content, has_sub_indices, is_mappable};
 use std::alloc::{AllocError, Global};
 
-// the beginning of an entry: its key, its name, type and access
-#[tactic(auto, unfolding(crate::specs::JsonForm::key_members, crate::specs::JsonForm::named_members))]
-fn put_front<'p>(
-    alloc: Global,
-    writer: &mut JsonWriter,
-    key: Key,
-    section: &'p TextSection<'p, 'p>,
-) -> Result<(), AllocError>
-    ensures { OnOk result (writer.new ≡ writer.old ++ begin_object
-        ∷ (key_members key ++ named_members (section_view section.entry.now)
-        ++ property_member (codes "access") (codes "AccessType") (section_view section.entry.now))) }
-{
-    put_parts(
-        alloc,
-        writer,
-        &[
-            Part::BeginObject,
-            Part::Number("index", Some(i128::from(key.index))),
-            Part::Number("subIndex", Some(i128::from(key.sub))),
-            Part::Property("name", b"ParameterName", section),
-            Part::Shown("type", None, Content::TypeOf(section)),
-            Part::Property("access", b"AccessType", section),
-        ],
-    )
-}
-
-// the end of an entry: the default, the value of a device configuration file, the limits, and
-// whether it may be mapped
-fn put_end<'p>(
+// the default, the value of a device configuration file, and the limits
+#[tactic(auto, unfolding(crate::specs::JsonForm::value_members))]
+fn put_values<'p>(
     alloc: Global,
     writer: &mut JsonWriter,
     node: Option<u8>,
     section: &'p TextSection<'p, 'p>,
 ) -> Result<(), AllocError>
-    ensures { OnOk result (writer.new ≡ writer.old
-        ++ value_members node (section_view section.entry.now)
-        ++ flag_member (codes "mappable") (is_mappable (section_view section.entry.now))
-        ++ end_object ∷ []) }
+    ensures { OnOk result
+        (writer.new ≡ writer.old ++ value_members node (section_view section.entry.now)) }
 {
     put_parts(
         alloc,
@@ -69,12 +38,36 @@ fn put_end<'p>(
             Part::Value("value", node, b"ParameterValue", section),
             Part::Limit("low", b"LowLimit", section),
             Part::Limit("high", b"HighLimit", section),
-            Part::Flag("mappable", is_mappable(section)),
-            Part::EndObject,
         ],
     )
 }
 
+// the key of an entry, its name, type and access
+#[tactic(auto, unfolding(crate::specs::JsonForm::key_members, crate::specs::JsonForm::named_members))]
+fn put_named<'p>(
+    alloc: Global,
+    writer: &mut JsonWriter,
+    key: Key,
+    section: &'p TextSection<'p, 'p>,
+) -> Result<(), AllocError>
+    ensures { OnOk result (writer.new ≡ writer.old
+        ++ key_members key ++ named_members (section_view section.entry.now)
+        ++ property_member (codes "access") (codes "AccessType") (section_view section.entry.now)) }
+{
+    put_parts(
+        alloc,
+        writer,
+        &[
+            Part::Number("index", Some(i128::from(key.index))),
+            Part::Number("subIndex", Some(i128::from(key.sub))),
+            Part::Property("name", b"ParameterName", section),
+            Part::Shown("type", None, Content::TypeOf(section)),
+            Part::Property("access", b"AccessType", section),
+        ],
+    )
+}
+
+#[tactic(auto, unfolding(crate::specs::JsonForm::entry_tokens))]
 fn put_entry<'p>(
     alloc: Global,
     writer: &mut JsonWriter,
@@ -85,8 +78,11 @@ fn put_entry<'p>(
     ensures { OnOk result
         (writer.new ≡ writer.old ++ entry_tokens node key (section_view section.entry.now)) }
 {
-    put_front(alloc, writer, key, section)?;
-    put_end(alloc, writer, node, section)
+    writer.begin_object()?;
+    put_named(alloc, writer, key, section)?;
+    put_values(alloc, writer, node, section)?;
+    writer.put_flag("mappable", is_mappable(section))?;
+    writer.end_object()
 }
 
 // an object with sub-indices

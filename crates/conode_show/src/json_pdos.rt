@@ -1,10 +1,8 @@
 //! PDOs as objects of JSON. Each function with a writer appends tokens. `Err`: out of memory; some
 //! tokens may be there.
 
-ghost use Rattle.std.specs.Prelude.{◌≡◌, ◌++◌, [], ◌∷◌, ◌≤◌, codes, map, OnOk};
+ghost use Rattle.std.specs.Prelude.{◌≡◌, ◌++◌, [], ◌≤◌, map, OnOk};
 ghost use Rattle.std.specs.Option.{option_map_or};
-ghost use Rattle.json.specs.Token.{begin_object};
-ghost use Rattle.conode_json.specs.Members.{array_begin};
 ghost use Rattle.co_sheet_text.specs.Views.{section_view};
 ghost use Rattle.conode_show.specs.JsonForm.{
   counted_tokens,
@@ -113,9 +111,9 @@ fn put_mapping<'p>(
     Ok(())
 }
 
-// the beginning of a PDO: its COB-ID, transmission type and timers
+// the COB-ID, transmission type and timers of a PDO
 #[tactic(auto, unfolding(crate::specs::JsonForm::pdo_members))]
-fn put_front<'p>(
+fn put_pdo_members<'p>(
     alloc: Global,
     writer: &mut JsonWriter,
     node: Option<u8>,
@@ -123,9 +121,8 @@ fn put_front<'p>(
     index: u16,
     section: &'p TextSection<'p, 'p>,
 ) -> Result<(), AllocError>
-    ensures { OnOk result (writer.new ≡ writer.old ++ begin_object
-        ∷ (pdo_members node (map section_view sections.entry.now) index
-        (section_view section.entry.now) ++ array_begin (codes "mapped"))) }
+    ensures { OnOk result (writer.new ≡ writer.old ++ pdo_members node
+        (map section_view sections.entry.now) index (section_view section.entry.now)) }
 {
     let transmission = Key { index, sub: 2 };
     let inhibit = Key { index, sub: 3 };
@@ -134,7 +131,6 @@ fn put_front<'p>(
         alloc,
         writer,
         &[
-            Part::BeginObject,
             Part::Shown("pdo", None, Content::Pdo(index)),
             Part::Number("index", Some(i128::from(index))),
             Part::Said("cobId", Meaning::PdoCobId, node, section),
@@ -147,11 +143,11 @@ fn put_front<'p>(
             ),
             Part::SaidAt("inhibitTime", Meaning::PdoInhibit, node, sections, inhibit),
             Part::SaidAt("eventTimer", Meaning::EventTimer, node, sections, timer),
-            Part::Array("mapped"),
         ],
     )
 }
 
+#[tactic(auto, unfolding(crate::specs::JsonForm::pdo_tokens))]
 fn put_pdo_tokens<'p>(
     alloc: Global,
     writer: &mut JsonWriter,
@@ -164,9 +160,12 @@ fn put_pdo_tokens<'p>(
     ensures { OnOk result (writer.new ≡ writer.old ++ pdo_tokens node
         (map section_view sections.entry.now) index (section_view section.entry.now)) }
 {
-    put_front(alloc, writer, node, sections, index, section)?;
+    writer.begin_object()?;
+    put_pdo_members(alloc, writer, node, sections, index, section)?;
+    writer.begin_array_of("mapped")?;
     put_mapping(alloc, writer, node, sections, index + 0x200)?;
-    put_parts(alloc, writer, &[Part::EndArray, Part::EndObject])
+    writer.end_array()?;
+    writer.end_object()
 }
 
 /// Appends a PDO, by the section of its COB-ID; nothing for any other section.

@@ -35,10 +35,6 @@ use std::alloc::{AllocError, Global};
 pub(crate) enum Part<'p> {
     BeginObject,
     EndObject,
-    /// The beginning of a member that is an array.
-    Array(&'static str),
-    EndArray,
-    Flag(&'static str, bool),
     /// A number, nothing for `None`.
     Number(&'static str, Option<i128>),
     /// The text of a property, nothing if the section doesn't have it.
@@ -223,9 +219,6 @@ fn put_part(alloc: Global, writer: &mut JsonWriter, part: &Part<'_>) -> Result<(
     match *part {
         Part::BeginObject => writer.begin_object(),
         Part::EndObject => writer.end_object(),
-        Part::Array(name) => writer.begin_array_of(name),
-        Part::EndArray => writer.end_array(),
-        Part::Flag(name, is) => writer.put_flag(name, is),
         Part::Number(name, number) => writer.put_number_if(alloc, name, number),
         Part::Property(name, property, section) => {
             put_property(alloc, writer, name, property, section)

@@ -1,7 +1,8 @@
 //! The sections of a sheet, with their original types if the sheet was adapted.
 
-ghost use Rattle.std.specs.Prelude.{◌≡◌, map, IfOk};
+ghost use Rattle.std.specs.Prelude.{◌≡◌, map, IfOk, OnOk};
 ghost use Rattle.std.specs.Option.{option_copied};
+ghost use Rattle.co_sheet_changes.specs.Originals.{original_at};
 ghost use Rattle.co_sheet_changes.specs.Views.{text_at};
 ghost use Rattle.co_sheet_text.specs.Views.{property_view, section_view};
 ghost use Rattle.conode_show.specs.Shown.{properties_with, retyped, retyped_property};
