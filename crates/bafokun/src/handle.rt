@@ -52,22 +52,15 @@ impl Handle {
         }
     }
 
-    fn into_box(self, alloc: Global) -> Option<Box<Held>>
-        ensures { option_map (λ b. b.value) result ≡ self.seal.value }
-    {
-        let Handle { built, seal } = self;
-        if built == 0 {
-            return None;
-        }
-        Some(seal.into_parts(alloc).into_box())
-    }
-
     /// Takes the device out; the place is then empty.
     pub(crate) fn take(&mut self, alloc: Global) -> Option<Box<Held>>
         ensures taken { option_map (λ b. b.value) result ≡ self.old.seal.value }
         ensures left { IsEmpty self.new }
     {
-        replace(self, Handle::empty(alloc)).into_box(alloc)
+        if self.is_empty() {
+            return None;
+        }
+        Some(self.take_out(alloc))
     }
 
     /// Whether there is no device.
