@@ -27,7 +27,7 @@ impl CanFrame {
         CanFrame {
             id: frame.id(),
             length: data.len() as u16,
-            bytes: packed(data).padded(),
+            bytes: packed_some(data).padded(),
         }
     }
 
@@ -44,23 +44,32 @@ impl CanFrame {
     }
 }
 
-// Packs at most eight bytes. Eight, as in SDO, are read in two halves: four bytes need no call. None,
-// as in most SYNCs, cost no call either.
+// Packs at most eight bytes. None, as in most SYNCs, cost no call.
 #[inline(always)]
 fn packed(bytes: &[u8]) -> PackedBytes
     requires { length bytes.now ≤ 8 }
     ensures { result ≡ bytes.now }
 {
-    if bytes.len() == 8 {
-        let mut packed = PackedBytes::new();
-        packed.append(&bytes[..4]);
-        packed.append(&bytes[4..]);
-        return packed;
-    }
     if bytes.is_empty() {
         return PackedBytes::new();
     }
-    packed_few(bytes)
+    packed_some(bytes)
+}
+
+// Packs bytes, some in most cases. Eight, as in SDO, are read in two halves: four bytes need no
+// call.
+#[inline(always)]
+fn packed_some(bytes: &[u8]) -> PackedBytes
+    requires { length bytes.now ≤ 8 }
+    ensures { result ≡ bytes.now }
+{
+    if bytes.len() != 8 {
+        return packed_few(bytes);
+    }
+    let mut packed = PackedBytes::new();
+    packed.append(&bytes[..4]);
+    packed.append(&bytes[4..]);
+    packed
 }
 
 // Packs bytes, fewer than eight in most cases.

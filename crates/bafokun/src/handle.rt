@@ -33,15 +33,6 @@ impl Handle {
     ghost use Rattle.bafokun.specs.Frames.{ArePut};
     ghost use Rattle.bafokun.specs.Happened.{and_input, events_of};
 
-    fn empty(alloc: Global) -> Handle
-        ensures { IsEmpty result }
-    {
-        Handle {
-            built: 0,
-            seal: Seal::none(alloc),
-        }
-    }
-
     /// The place of a device.
     pub(crate) fn of(held: Box<Held>) -> Handle
         ensures { result.seal.value ≡ Some held.value }
@@ -79,7 +70,11 @@ impl Handle {
         ensures taken { Some result.value ≡ self.old.seal.value }
         ensures left { IsEmpty self.new }
     {
-        let Handle { built: _, seal } = replace(self, Handle::empty(alloc));
+        let empty = Handle {
+            built: 0,
+            seal: Seal::none(alloc),
+        };
+        let Handle { built: _, seal } = replace(self, empty);
         seal.into_parts(alloc).into_box()
     }
 
