@@ -638,7 +638,7 @@ static void test_numbers(void)
     check(bafokun_find(&node, 0x1014, 0, &number), "numbers", "find 1014:00");
     check(bafokun_write_at(&node, number, (const uint8_t *)"\x85\0\0\x80", 4, frames, 2) == 0, "numbers", "write 1014:00");
     check(bafokun_answer(&node, &code) == BAFOKUN_DONE, "numbers", "EMCY is switched off");
-    check(bafokun_write_at(&node, number, (const uint8_t *)"\x80\0\0\0", 4, frames, 2) == 0, "numbers", "a restricted COB-ID");
+    check(bafokun_write_at(&node, number, (const uint8_t *)"\x01\0\0\0", 4, frames, 2) == 0, "numbers", "a restricted COB-ID");
     check(bafokun_answer(&node, &code) == BAFOKUN_REFUSED && code == 0x06090030, "numbers", "is refused by the rule of 1014h");
     bafokun_free(&node);
     check(!bafokun_value_at(&node, 0, by_number, 1, &of_number), "numbers", "none of an empty place");

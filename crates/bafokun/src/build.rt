@@ -63,17 +63,13 @@ pub struct Fault {
 }
 
 impl Fault {
-    fn none() -> Fault
-        ensures { result ≡ no_fault }
-    {
-        Fault {
-            line: 0,
-            stage: 0,
-            number: 0,
-            index: 0,
-            sub_index: 0,
-        }
-    }
+    const NONE: Fault = Fault {
+        line: 0,
+        stage: 0,
+        number: 0,
+        index: 0,
+        sub_index: 0,
+    };
 
     fn of_sheet(fault: SheetFault) -> Fault
         ensures { result ≡ sheet_fault fault }
@@ -247,7 +243,7 @@ pub extern "C" fn bafokun_build(
     match build(alloc, text, node_id, settings) {
         Ok(held) => {
             *node = Handle::of(held);
-            *fault = Fault::none();
+            *fault = Fault::NONE;
             true
         }
         Err(why) => {

@@ -1,7 +1,7 @@
 //! Changes of the CAN controller as inputs of a device: bus-off, error passive, and their ends
 //! (CiA 301, 7.2.7.1 and 7.5.2.32).
 
-ghost use Rattle.std.specs.Prelude.{◌≡◌, option_map, slice_index_or};
+ghost use Rattle.std.specs.Prelude.{◌≡◌, option_map};
 ghost use Rattle.co_profile.specs.Keys.{error_behaviour_key};
 ghost use Rattle.co_node_parts.specs.NmtStates.{after_loss, reaction_with};
 ghost use Rattle.co_node_model.specs.Inputs.{Inputs, input_view};
@@ -18,6 +18,7 @@ ghost use Rattle.bafokun.specs.Bus.{
   ended_bits,
 };
 
+use crate::happened::byte_in;
 use co_frame::{NmtCommand, NmtService};
 use co_node::{AppEvent, Input, Node, NodeState};
 use co_node_laws::state_by_kind;
@@ -25,23 +26,13 @@ use co_node_parts::LossReaction;
 use co_profile::keys;
 use co_value::Key;
 
-// The first byte; 0 if there is none.
-fn first_of(bytes: &[u8]) -> u8
-    ensures { result ≡ slice_index_or bytes.now 0 0 }
-{
-    match bytes.first() {
-        Some(byte) => *byte,
-        None => 0,
-    }
-}
-
 // The first byte of an entry; 0 if there is no such entry.
 fn byte_at(node: &Node, key: Key) -> u8
     ensures { (k : Constants) (before : Inputs) → Stands k node.now before →
         result ≡ byte_of (contents_of k before key) }
 {
     match node.value(key) {
-        Some(bytes) => first_of(bytes),
+        Some(bytes) => byte_in(bytes, 0),
         None => 0,
     }
 }

@@ -33,15 +33,6 @@ impl Handle {
     ghost use Rattle.bafokun.specs.Frames.{ArePut};
     ghost use Rattle.bafokun.specs.Happened.{and_input, events_of};
 
-    fn empty(alloc: Global) -> Handle
-        ensures { IsEmpty result }
-    {
-        Handle {
-            built: 0,
-            seal: Seal::none(alloc),
-        }
-    }
-
     /// The place of a device.
     pub(crate) fn of(held: Box<Held>) -> Handle
         ensures { result.seal.value ≡ Some held.value }
@@ -52,22 +43,15 @@ impl Handle {
         }
     }
 
-    fn into_box(self, alloc: Global) -> Option<Box<Held>>
-        ensures { option_map (λ b. b.value) result ≡ self.seal.value }
-    {
-        let Handle { built, seal } = self;
-        if built == 0 {
-            return None;
-        }
-        Some(seal.into_parts(alloc).into_box())
-    }
-
     /// Takes the device out; the place is then empty.
     pub(crate) fn take(&mut self, alloc: Global) -> Option<Box<Held>>
         ensures taken { option_map (λ b. b.value) result ≡ self.old.seal.value }
         ensures left { IsEmpty self.new }
     {
-        replace(self, Handle::empty(alloc)).into_box(alloc)
+        if self.is_empty() {
+            return None;
+        }
+        Some(self.take_out(alloc))
     }
 
     /// Whether there is no device.
@@ -86,7 +70,11 @@ impl Handle {
         ensures taken { Some result.value ≡ self.old.seal.value }
         ensures left { IsEmpty self.new }
     {
-        let Handle { built: _, seal } = replace(self, Handle::empty(alloc));
+        let empty = Handle {
+            built: 0,
+            seal: Seal::none(alloc),
+        };
+        let Handle { built: _, seal } = replace(self, empty);
         seal.into_parts(alloc).into_box()
     }
 

@@ -65,8 +65,8 @@ pub(crate) fn state_code(state: NodeState) -> u8
     }
 }
 
-// The byte at a place; 0 if there is none.
-fn byte_in(bytes: &[u8], place: usize) -> u8
+/// The byte at a place; 0 if there is none.
+pub(crate) fn byte_in(bytes: &[u8], place: usize) -> u8
     ensures { result ≡ slice_index bytes.now place }
 {
     bytes.get(place).copied().unwrap_or(0)

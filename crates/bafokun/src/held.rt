@@ -44,10 +44,8 @@ impl Held {
             self.new.events ≡ and_input k before (Framed frame.now) self.old.events }
     {
         let state = self.node.state();
-        // read before the call, where the compiler then knows of most receivers that it isn't 0
-        let id = frame.id();
         let seen = self.node.take_frame(frame, &mut self.sent);
-        if id == 0 {
+        if frame.id() == 0 {
             self.events.note(&self.node, state);
         } else {
             self.events.note_frame(seen);

@@ -8,4 +8,4 @@ returns-then-id-eq0-clause-events c = λ k before stands.
 
 pub returns-else-id-eq0-clause-events : goal.returns-else-id-eq0-clause-events
 returns-else-id-eq0-clause-events c = λ k before stands.
-    c.note_frame.ensures k before c.args.frame.now (λ e. c.if-id-eq0.false (c.id-id.ensures.id ∙ e)) (c.take_frame-seen.ensures.seen k before stands)
+    c.note_frame.ensures k before c.args.frame.now (λ e. c.if-id-eq0.false (c.id.ensures.id ∙ e)) (c.take_frame-seen.ensures.seen k before stands)
