@@ -41,7 +41,7 @@ extern "C" {
 
 #define BAFOKUN_VERSION "0.15.0"
 #define BAFOKUN_VERSION_MAJOR 0
-#define BAFOKUN_VERSION_MINOR 14
+#define BAFOKUN_VERSION_MINOR 15
 #define BAFOKUN_VERSION_PATCH 0
 
 /* No input gives more frames: an array of so many has room for all. */
