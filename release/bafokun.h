@@ -39,9 +39,9 @@
 extern "C" {
 #endif
 
-#define BAFOKUN_VERSION "0.14.0"
+#define BAFOKUN_VERSION "0.15.0"
 #define BAFOKUN_VERSION_MAJOR 0
-#define BAFOKUN_VERSION_MINOR 14
+#define BAFOKUN_VERSION_MINOR 15
 #define BAFOKUN_VERSION_PATCH 0
 
 /* No input gives more frames: an array of so many has room for all. */
@@ -192,6 +192,13 @@ size_t bafokun_ticks(bafokun_node *node, uint32_t most, uint32_t *elapsed, bafok
 size_t bafokun_write(bafokun_node *node, uint16_t index, uint8_t sub_index, const uint8_t *bytes, size_t length,
                      bafokun_frame *frames, size_t room);
 
+/*
+ * The same for the entry with a number, that of bafokun_find or bafokun_entry, without a search. If
+ * no entry has the number, the write is refused with the SDO abort code 06020000h.
+ */
+size_t bafokun_write_at(bafokun_node *node, size_t number, const uint8_t *bytes, size_t length,
+                        bafokun_frame *frames, size_t room);
+
 /* An event of a TPDO: number 0 is that of 1800h. */
 size_t bafokun_event(bafokun_node *node, uint16_t tpdo, bafokun_frame *frames, size_t room);
 
@@ -214,7 +221,9 @@ size_t bafokun_clear(bafokun_node *node, uint8_t bits, bafokun_frame *frames, si
  * each with bit 4 of the error register, communication error. BAFOKUN_BUS_ACTIVE clears that bit,
  * and bit 0 if no other is left. BAFOKUN_BUS_OFF changes the NMT state by 1029:01, as a lost
  * heartbeat does: 0, or a missing entry, leaves operational for pre-operational, 2 enters stopped,
- * any other value changes nothing. Any other number of a change does nothing.
+ * any other value changes nothing. A bus-off that changes nothing, and any other number of a change,
+ * is no input: it sends nothing, bafokun_sent then returns no frame, and bafokun_answer still
+ * returns the answer to the input before it.
  *
  * After bus-off come BAFOKUN_BUS_RECOVERED and BAFOKUN_BUS_ACTIVE. Call this only at a change: an
  * error that is raised again sends its emergency again.
@@ -235,9 +244,13 @@ size_t bafokun_sent(bafokun_node *node, size_t from, bafokun_frame *frames, size
  */
 bool bafokun_value(bafokun_node *node, uint16_t index, uint8_t sub_index, uint8_t *bytes, size_t room, size_t *length);
 
+/* The same for the entry with a number, that of bafokun_find or bafokun_entry, without a search. */
+bool bafokun_value_at(bafokun_node *node, size_t number, uint8_t *bytes, size_t room, size_t *length);
+
 /*
  * Entries by their number: from 0 on, by increasing index and sub-index. An entry keeps its number
- * until the device is freed.
+ * until the device is freed. A device that is built of the same EDS has the same numbers; in
+ * another device a number may be that of another entry.
  *
  *     for (number = 0; bafokun_entry(&node, number, &entry); number++)
  *         ...
