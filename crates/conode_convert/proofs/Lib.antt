@@ -1,3 +1,5 @@
 pub mod Converting
 mod Examples
 pub mod Seconds
+pub mod SheetWordLemmas
+mod WordExamples

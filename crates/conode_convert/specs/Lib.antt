@@ -1,3 +1,4 @@
 pub mod Converted
 pub mod Printed
+pub mod SheetWords
 pub mod Taking

@@ -1,5 +1,6 @@
-//! A log of another recorder converted to lines as `candump -L` writes them; a bad line is named,
-//! and the next line is read.
+//! What the commands over recordings share: a log of another recorder converted to lines as
+//! `candump -L` writes them, where a bad line is named, and the next line is read; and the words of
+//! a command line that name data sheets, `[INTERFACE:][NODE=]FILE`, with the texts of these.
 #![tactic(auto)]
 
 // As `?`, without a conversion of the error: a `match` is one step of a proof where `?` is three.
@@ -15,6 +16,8 @@ macro_rules! attempt {
 mod bad_lines;
 mod converted;
 mod log_file;
+mod sheet_text;
+mod sheet_word;
 mod step;
 mod text;
 
@@ -22,4 +25,6 @@ pub use bad_lines::{TOO_LONG, name_bad_line, read_fault};
 pub use conode_logs::Form;
 pub use converted::convert;
 pub use log_file::convert_file;
+pub use sheet_text::{SheetText, bad_sheet, bad_sheet_word, texts_of};
+pub use sheet_word::{SheetPart, SheetWord, SheetWordFault, sheet_words};
 pub use text::add_frame;

@@ -33,9 +33,9 @@ use Rattle.conode_explain_filter.specs.Changes.{Said}
 use Rattle.conode_explain_filter.specs.declared.kind.Kind.{Kind}
 use Rattle.conode_explain_filter.specs.declared.kind.Kind.TheVariants.{Sdo}
 use Rattle.conode_explain_filter.specs.declared.subject.Subject.{Subject}
-use Rattle.conode_explain_json.specs.JsonLines.{json_line}
-use Rattle.conode_explain_signals.specs.Fields.{field_of}
-use Rattle.conode_explain_signals.specs.Lines.{has_one, header, signal_line}
+use Rattle.conode_explain_forms.specs.JsonLines.{json_line}
+use Rattle.conode_explain_forms.specs.Fields.{field_of}
+use Rattle.conode_explain_forms.specs.Lines.{has_one, header, signal_line}
 use Rattle.conode_explain_text.specs.Lines.{Part, line_parts, line_text, own_parts}
 use Rattle.conode_explain_text.specs.SoFar.{SoFar, nothing_seen, seen_with, shows_interface, times_at}
 use Rattle.conode_explain.specs.declared.progress.Progress.{Progress}

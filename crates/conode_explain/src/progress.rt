@@ -10,7 +10,7 @@ use co_frame::Frame;
 use conode_explain_channels::{Channels, Told};
 use conode_explain_entries::Entries;
 use conode_explain_filter::{Filter, Lasts};
-use conode_explain_signals::Signal;
+use conode_explain_forms::Signal;
 use conode_explain_text::{Seen, StampForm};
 use conode_logs::Form;
 use conode_record::{Content, Identifier, Record};

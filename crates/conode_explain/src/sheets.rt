@@ -8,8 +8,8 @@ ghost use Rattle.conode_explain.specs.Sheets.{in_order, is_kind, node_for, of_ki
 use co_sheet::Sheet;
 use co_sheet_changes::Originals;
 use co_sheet_names::Names;
+use conode_convert::SheetWord;
 use conode_explain_pdo::KnownSheet;
-use conode_sheet_words::SheetWord;
 use std::alloc::{AllocError, Global};
 
 /// A data sheet that was read.

@@ -1,2 +1,3 @@
 pub mod Counting
+mod JsonExamples
 pub mod LogLemmas

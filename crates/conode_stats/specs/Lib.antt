@@ -1,2 +1,6 @@
+pub mod FailureTokens
 pub mod Frames
+pub mod NodeTokens
+pub mod Parts
+pub mod StatsTokens
 pub mod Taking

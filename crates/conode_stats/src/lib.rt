@@ -2,10 +2,14 @@
 #![tactic(auto)]
 
 mod bit_rate;
+mod failure_tokens;
+mod node_tokens;
+mod parts;
 mod recording;
 mod recording_file;
 mod sheet_time;
 mod step;
+mod tokens;
 
 pub use recording::{Recording, count};
 pub use recording_file::{StatsWords, stats_file};

@@ -1,17 +1,18 @@
 //! The file of a recording, and the page of its statistics.
 
-ghost use Rattle.std.specs.Prelude.{◌≡◌, ◌⊎◌, ◌≤◌, IfOk, IfErr, IfSome};
+ghost use Rattle.std.specs.Prelude.{◌≡◌, ◌⊎◌, ◌≤◌, IfErr, IfSome};
 ghost use Rattle.std.specs.Process.{exit_status};
 
 use crate::bit_rate::{bit_rate_in, rate_of};
 use crate::recording::{Recording, count};
 use crate::sheet_time::sheet_time;
+use crate::tokens::put_page;
 use co_sheet::{FaultKind, SheetFault, read};
+use conode_convert::{SheetText, SheetWord, bad_sheet, bad_sheet_word, sheet_words, texts_of};
 use conode_io::{CmdFault, cannot_read, flushed, hand_over, stopped};
 use conode_json::JsonWriter;
 use conode_logs::Form;
-use conode_sheet_words::{SheetText, SheetWord, bad_sheet, bad_sheet_word, sheet_words, texts_of};
-use conode_stats_text::{Page, SheetTime, put_page, set_page};
+use conode_stats_text::{Page, SheetTime, set_page};
 use std::alloc::{AllocError, Global};
 use std::fs;
 use std::io::{Input, Read, Write};
@@ -177,26 +178,24 @@ impl<'a> Taken<'a> {
     }
 }
 
-// What the texts of sheets have. On an `Err` one is at fault, or memory ran out, and it is said.
-fn taken_from<'a, O: Write, E: Write>(
+// Adds what the texts of sheets have. On an `Err` one is at fault, or memory ran out, and it is said.
+fn take_all<'a, O: Write, E: Write>(
     alloc: Global,
+    taken: &mut Taken<'a>,
     texts: &[SheetText<'a>],
     out: &mut O,
     err: &mut E,
-) -> Result<Taken<'a>, ExitCode>
-    ensures rate { IfOk result (λ taken. IfSome taken.bit_rate (λ rate. rate ≤ 1000000)) }
+) -> Result<(), ExitCode>
+    ensures rate { IfSome taken.old.bit_rate (λ rate. rate ≤ 1000000)
+        → IfSome taken.new.bit_rate (λ rate. rate ≤ 1000000) }
     ensures status { IfErr result (λ status. exit_status status ≡ 1) }
 {
-    let mut taken = Taken {
-        bit_rate: None,
-        times: Vec::new(alloc),
-    };
     for text in texts {
         if let Err(fault) = taken.add(alloc, text) {
             return Err(bad_sheet(fault, text.word.path, texts.len() > 1, out, err));
         }
     }
-    Ok(taken)
+    Ok(())
 }
 
 // the page with what the texts of sheets have
@@ -211,10 +210,13 @@ fn stats_with<R: Files + AllocGlobal + Input, O: Write, E: Write>(
     requires { IfSome settings.bit_rate (λ rate. rate ≤ 1000000) }
     ensures { (exit_status result ≡ 0) ⊎ (exit_status result ≡ 1) }
 {
-    let taken = match taken_from(rt.alloc(), texts, out, err) {
-        Ok(taken) => taken,
-        Err(status) => return status,
+    let mut taken = Taken {
+        bit_rate: None,
+        times: Vec::new(rt.alloc()),
     };
+    if let Err(status) = take_all(rt.alloc(), &mut taken, texts, out, err) {
+        return status;
+    }
     let bit_rate = match settings.bit_rate {
         Some(rate) => Some(rate),
         None => taken.bit_rate,

@@ -1,7 +1,7 @@
 //! The producer heartbeat time of a data sheet.
 
 use co_sheet::{EntryRow, Preset, Sheet};
-use conode_sheet_words::SheetWord;
+use conode_convert::SheetWord;
 use conode_stats_text::SheetTime;
 
 /// The index of the producer heartbeat time (CiA 301, 7.5.2.20).

@@ -4,13 +4,14 @@ use Rattle.std.specs.Prelude.{nat_lt, if◌then◌else◌}
 use Rattle.std.proofs.lemmas.Bool.Decides.{nat_tests}
 use Rattle.std.proofs.lemmas.List.{length-take-le, reverse-append}
 use Rattle.co_text.proofs.Tests.{by_test}
+use Rattle.conode_explain_transfers.specs.declared.kinds.Direction.{Direction}
 use Rattle.conode_stats_counts.specs.declared.heartbeats.Heartbeats.{Heartbeats}
 use Rattle.conode_stats_counts.specs.declared.sdo_frame.SdoFrame.{SdoFrame}
 use Rattle.conode_stats_counts.specs.declared.state.NmtState.{NmtState}
 use Rattle.conode_stats_counts.specs.declared.state.NmtState.TheVariants.{BootUp}
 use Rattle.conode_stats_counts.specs.Gaps.{counted, greatest}
-use Rattle.conode_stats_counts.specs.Heartbeats.{beat_with, confirmed, first_gaps, first_with, heartbeats_of, is_late, late_gaps, late_with, newer_time, other_gaps, other_with, pending, since, since_by, wait, wait_with, written_time, written_with}
-use Rattle.conode_stats_counts.specs.States.{NodeEvent, Commanded, Sent, Exchanged, same_state}
+use Rattle.conode_stats_counts.specs.Heartbeats.{beat_with, first_gaps, first_with, heartbeats_of, is_late, late_gaps, late_with, other_gaps, other_with, since, timed_with, wait, wait_with, written_time}
+use Rattle.conode_stats_counts.specs.States.{NodeEvent, Commanded, Sent, Exchanged, Timed, same_state}
 use Rattle.conode_stats_counts.proofs.Tallied.{counted_next}
 
 pub none : heartbeats_of [] ≡ record { written = None; since = None; late = 0; longest_late = 0; longest = 0; first = [] }
@@ -79,17 +80,14 @@ pub shown_more : (log : List NodeEvent) (state : NmtState) (micros : ℕ)
 unfolding heartbeats_of written_time since late_gaps other_gaps
 shown_more log state micros = beats (since log) micros (late_gaps log) (other_gaps log) (same_state state BootUp) (written_time log)
 
-module _ (w before : Option ℕ) (micros : ℕ) (late other : List ℕ) where
-  writes : (time : Option ℕ) → written_with time micros (kept w before late other)
-      ≡ kept (newer_time time w) (since_by time micros before) late other
-  writes None = refl
-  writes (Some time) = refl
-
-pub exchanged_more : (log : List NodeEvent) (frame : SdoFrame) (micros : ℕ)
-    → written_with (confirmed (pending log) frame) micros (heartbeats_of log) ≡ heartbeats_of (Exchanged frame micros ∷ log)
+pub exchanged_more : (log : List NodeEvent) (frame : SdoFrame) (micros : ℕ) → heartbeats_of log ≡ heartbeats_of (Exchanged frame micros ∷ log)
 unfolding heartbeats_of written_time since late_gaps other_gaps
-exchanged_more log frame micros =
-    writes (written_time log) (since log) micros (late_gaps log) (other_gaps log) (confirmed (pending log) frame)
+exchanged_more log frame micros = refl
+
+pub timed_more : (log : List NodeEvent) (direction : Direction) (time micros : ℕ)
+    → timed_with direction time micros (heartbeats_of log) ≡ heartbeats_of (Timed direction time micros ∷ log)
+unfolding heartbeats_of written_time since late_gaps other_gaps
+timed_more log direction time micros = refl
 
 pub commanded_more : (log : List NodeEvent) → heartbeats_of log ≡ heartbeats_of (Commanded ∷ log)
 unfolding heartbeats_of written_time since late_gaps other_gaps

@@ -10,7 +10,7 @@ use Rattle.conode_stats_counts.specs.declared.row.Row.{Row}
 use Rattle.conode_stats_counts.specs.declared.tally.Tally.{Tally}
 use Rattle.conode_stats_counts.specs.Buses.{BusCounts, Counted, bus_name, bus_of, bus_with, counts_of, counts_with, id_of, is_bus, is_row, most_buses, most_rows, row_of, row_with, same_id, stamps_of}
 use Rattle.conode_stats_counts.specs.Emergencies.{Emergent}
-use Rattle.conode_stats_counts.specs.Failures.{Transferred}
+use Rattle.conode_stats_counts.specs.Failures.{Transferred, transfers_of}
 use Rattle.conode_stats_counts.specs.Gaps.{counted}
 use Rattle.conode_stats_counts.specs.Groups.{keys_of, left_out, left_out_by}
 use Rattle.conode_stats_counts.proofs.EmergencyLaws as emergency
@@ -32,7 +32,7 @@ same_bus interface a a' l l' m m' t t' u u' r r' n n' e f k s v g h = cc
 
 -- a frame of a bus
 pub bus_more : (name : List ℕ) (frames : List Record) (frame : Record) → bus_with (bus_of name frames) frame ≡ bus_of name (frame ∷ frames)
-unfolding bus_with bus_of left_out
+unfolding bus_with bus_of transfers_of left_out
 bus_more name frames frame =
     let all = tally.one_more (stamps_of frames) frame.micros in
     let bits = load.one_more frames frame in

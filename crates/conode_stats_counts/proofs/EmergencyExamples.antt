@@ -2,7 +2,8 @@
 use Rattle.std.proofs.Common.{[], ◌∷◌, ◌≡◌, Some, None, refl}
 use Rattle.conode_record.specs.declared.content.Content.TheVariants.{Data, Remote}
 use Rattle.conode_record.specs.declared.fields.Identifier.TheVariants.{Base, Extended}
-use Rattle.conode_stats_counts.specs.Emergencies.{emergency_as, error_code}
+use Rattle.conode_stats_counts.specs.Emergencies.{emergency_as}
+use Rattle.conode_stats_counts.specs.ShownTimes.{first_word}
 
 -- 8110h: CAN overrun (CiA 301, table 26)
 overrun : emergency_as (Base 0x086) (Data (0x10 ∷ 0x81 ∷ 0x11 ∷ 0 ∷ 0 ∷ 0 ∷ 0 ∷ 0 ∷ [])) 40
@@ -10,13 +11,13 @@ overrun : emergency_as (Base 0x086) (Data (0x10 ∷ 0x81 ∷ 0x11 ∷ 0 ∷ 0 �
 overrun = refl
 
 -- an error is gone
-reset_error : error_code (0 ∷ 0 ∷ 0 ∷ 0 ∷ 0 ∷ 0 ∷ 0 ∷ 0 ∷ []) ≡ Some 0
+reset_error : first_word (0 ∷ 0 ∷ 0 ∷ 0 ∷ 0 ∷ 0 ∷ 0 ∷ 0 ∷ []) ≡ Some 0
 reset_error = refl
 
-greatest_code : error_code (0xFF ∷ 0xFF ∷ []) ≡ Some 0xFFFF
+greatest_code : first_word (0xFF ∷ 0xFF ∷ []) ≡ Some 0xFFFF
 greatest_code = refl
 
-one_byte : error_code (0x10 ∷ []) ≡ None
+one_byte : first_word (0x10 ∷ []) ≡ None
 one_byte = refl
 
 first_node : emergency_as (Base 0x081) (Data []) 40 ≡ Some (record { cause = record { node = 1; code = None }; micros = 40 })

@@ -8,11 +8,11 @@ use Rattle.conode_record.specs.declared.line.Record.{Record}
 use Rattle.conode_stats_counts.specs.declared.failure.Cause.{Cause}
 use Rattle.conode_stats_counts.specs.declared.failure.Failure.{Failure}
 use Rattle.conode_stats_counts.specs.declared.failure.FailureRow.{FailureRow}
-use Rattle.conode_stats_counts.specs.Failures.{Transferred, cause_of, channels_of, failure_added, failure_of, failure_row, failure_rows, failures_left_out, failures_of, failures_with, is_failure, more_left_out, most_failures, rows_with, same_cause, same_code, telling_of, transfers_of, transfers_with}
+use Rattle.conode_stats_counts.specs.Failures.{Transferred, cause_of, channels_of, failure_added, failure_of, failure_row, failure_rows, failures_left_out, failures_of, failures_with, first_failure, is_failure, more_left_out, most_failures, rows_with, same_cause, same_code, telling_of, transfers_of, transfers_with}
 use Rattle.conode_stats_counts.specs.Gaps.{counted}
 use Rattle.conode_stats_counts.specs.Groups.{grouped, keys_of, left_out, left_out_by}
 use Rattle.conode_stats_counts.proofs.Grouped as group
-use Rattle.conode_stats_counts.proofs.Tallied.{counted_more, counted_next}
+use Rattle.conode_stats_counts.proofs.Tallied.{counted_more, counted_next, some_counted}
 
 pub none : transfers_of [] ≡ record { channels = []; rows = []; left_out = 0 }
 unfolding transfers_of channels_of failure_rows failures_left_out failures_of grouped keys_of left_out
@@ -36,12 +36,15 @@ cause_decides a b =
 
 -- ---- rows
 
-same_row : (cause : Cause) (n m last : ℕ) → n ≡ m
-    → ◌≡◌ {A = FailureRow} (record { cause = cause; count = n; last = last }) (record { cause = cause; count = m; last = last })
-same_row cause n m last e = cc
+same_row : (cause : Cause) (n m first last : ℕ) → n ≡ m
+    → ◌≡◌ {A = FailureRow} (record { cause = cause; count = n; first = first; last = last }) (record { cause = cause; count = m; first = first; last = last })
+same_row cause n m first last e = cc
 
 row_adds : (cause : Cause) (failures : List Failure) (failure : Failure) → failure_added failure.micros (failure_row cause failures) ≡ failure_row cause (failure ∷ failures)
-row_adds cause failures failure = same_row cause _ _ failure.micros (counted_next (length failures))
+unfolding first_failure
+row_adds cause [] failure = refl
+row_adds cause (before ∷ older) failure =
+    rw (some_counted (length older)) (same_row cause _ _ _ failure.micros (counted_next (length (before ∷ older))))
 
 module _ (failures : List Failure) where
   abbrev pub rows : List Failure → List FailureRow

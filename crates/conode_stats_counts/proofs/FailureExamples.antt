@@ -5,7 +5,7 @@ use Rattle.conode_explain_transfers.specs.declared.kinds.Side.TheVariants.{Clien
 use Rattle.conode_record.specs.declared.content.Content.TheVariants.{Data, Remote}
 use Rattle.conode_record.specs.declared.fields.Identifier.TheVariants.{Base, Extended}
 use Rattle.conode_stats_counts.specs.declared.failure.Failure.{Failure}
-use Rattle.conode_stats_counts.specs.Failures.{cause_of, failure_by, failure_row, plain, same_cause}
+use Rattle.conode_stats_counts.specs.Failures.{cause_of, failure_by, failure_row, first_failure, plain, same_cause}
 use Rattle.conode_stats_counts.specs.Groups.{grouped, keys_of, left_out}
 
 -- ---- what failed
@@ -68,15 +68,15 @@ failures =
     ∷ record { cause = record { node = 5; code = Some 1 }; micros = 10 } ∷ []
 
 two_rows : grouped same_cause cause_of 2 failure_row failures
-    ≡ record { cause = record { node = 5; code = Some 1 }; count = 2; last = 30 }
-    ∷ record { cause = record { node = 5; code = None }; count = 1; last = 20 } ∷ []
-unfolding grouped keys_of
+    ≡ record { cause = record { node = 5; code = Some 1 }; count = 2; first = 10; last = 30 }
+    ∷ record { cause = record { node = 5; code = None }; count = 1; first = 20; last = 20 } ∷ []
+unfolding grouped keys_of first_failure
 two_rows = refl
 
 -- without room for a second
 one_row : grouped same_cause cause_of 1 failure_row failures
-    ≡ record { cause = record { node = 5; code = Some 1 }; count = 2; last = 30 } ∷ []
-unfolding grouped keys_of
+    ≡ record { cause = record { node = 5; code = Some 1 }; count = 2; first = 10; last = 30 } ∷ []
+unfolding grouped keys_of first_failure
 one_row = refl
 
 one_without : left_out same_cause cause_of 1 failures ≡ 1

@@ -2,18 +2,18 @@
 use Rattle.std.proofs.Common.{ℕ, Bool, false, List, ◌∷◌, ◌≡◌, ◌∙◌, ◌+◌, ◌-◌, Option, Some, None, refl, ap, arith}
 use Rattle.std.specs.Prelude.{is_some, not, ◌&&◌, if◌then◌else◌}
 use Rattle.co_text.proofs.Tests.{by_test}
+use Rattle.conode_explain_transfers.specs.declared.kinds.Direction.{Direction}
 use Rattle.conode_stats_counts.specs.declared.node.Node.{Node}
 use Rattle.conode_stats_counts.specs.declared.node.Shown.{Shown}
 use Rattle.conode_stats_counts.specs.declared.state.NmtState.{NmtState}
 use Rattle.conode_stats_counts.specs.declared.state.NmtState.TheVariants.{BootUp, PreOperational, Operational, Stopped, Unknown}
 use Rattle.conode_stats_counts.specs.declared.state.StateTimes.{StateTimes}
 use Rattle.conode_stats_counts.specs.declared.heartbeats.Heartbeats.{Heartbeats}
-use Rattle.conode_stats_counts.specs.declared.sdo_frame.Pending.{Pending}
 use Rattle.conode_stats_counts.specs.declared.sdo_frame.SdoFrame.{SdoFrame}
 use Rattle.conode_stats_counts.specs.Gaps.{counted}
 use Rattle.conode_stats_counts.specs.Heartbeats.{heartbeats_of, longest_answer, pending}
-use Rattle.conode_stats_counts.specs.NodeCounts.{booted_if, node_commanded, node_exchanged, node_of, node_with}
-use Rattle.conode_stats_counts.specs.States.{NodeEvent, Commanded, Sent, Exchanged, boot_ups, gap_if, is_commanded, last_restart, newest, restarts, same_state, time_in, time_since, times_of, times_since, times_with}
+use Rattle.conode_stats_counts.specs.NodeCounts.{booted_if, node_commanded, node_exchanged, node_of, node_timed, node_with}
+use Rattle.conode_stats_counts.specs.States.{NodeEvent, Commanded, Sent, Exchanged, Timed, boot_ups, gap_if, is_commanded, last_restart, newest, restarts, same_state, time_in, time_since, times_of, times_since, times_with}
 use Rattle.conode_stats_counts.proofs.Beaten as beaten
 use Rattle.conode_stats_counts.proofs.Tallied.{counted_more}
 
@@ -70,7 +70,7 @@ times_more log state micros =
 
 -- ---- the whole
 
-same_node : (last : Option Shown) (b b' r r' l l' : ℕ) (asked asked' : Bool) (t t' : StateTimes) (h h' : Heartbeats) (p p' : Option Pending) (a : Option ℕ)
+same_node : (last : Option Shown) (b b' r r' l l' : ℕ) (asked asked' : Bool) (t t' : StateTimes) (h h' : Heartbeats) (p p' : Option ℕ) (a : Option ℕ)
     → b ≡ b' → r ≡ r' → l ≡ l' → asked ≡ asked' → t ≡ t' → h ≡ h' → p ≡ p'
     → ◌≡◌ {A = Node}
     (record { last = last; boot_ups = b; restarts = r; last_restart = l; is_commanded = asked; times = t; heartbeats = h; pending = p; longest_answer = a })
@@ -78,7 +78,7 @@ same_node : (last : Option Shown) (b b' r r' l l' : ℕ) (asked asked' : Bool) (
 same_node last b b' r r' l l' asked asked' t t' h h' p p' a e f g i j k m = cc
 
 -- a node with these parts after a frame
-abbrev with_parts : NmtState → ℕ → Option Shown → ℕ → ℕ → ℕ → Bool → StateTimes → Heartbeats → Option Pending → Option ℕ → Heartbeats → Node
+abbrev with_parts : NmtState → ℕ → Option Shown → ℕ → ℕ → ℕ → Bool → StateTimes → Heartbeats → Option ℕ → Option ℕ → Heartbeats → Node
 with_parts state micros last b r l asked t h p a next =
     record (booted_if (same_state state BootUp) micros (record {
       last = last;
@@ -96,7 +96,7 @@ with_parts state micros last b r l asked t h p a next =
       heartbeats = next;
     }
 
-module _ (state : NmtState) (micros : ℕ) (last : Option Shown) (b r l : ℕ) (asked : Bool) (t more : StateTimes) (h next : Heartbeats) (p : Option Pending) (a : Option ℕ) (is : times_since last micros t ≡ more) where
+module _ (state : NmtState) (micros : ℕ) (last : Option Shown) (b r l : ℕ) (asked : Bool) (t more : StateTimes) (h next : Heartbeats) (p : Option ℕ) (a : Option ℕ) (is : times_since last micros t ≡ more) where
   abbrev after : Bool → Node
   after boots = record {
     last = Some (record { state = state; micros = micros });
@@ -132,3 +132,8 @@ pub exchanged_more : (log : List NodeEvent) (frame : SdoFrame) (micros : ℕ) �
 unfolding node_exchanged node_of newest boot_ups restarts last_restart is_commanded time_in pending longest_answer
 exchanged_more log frame micros =
     same_node (newest log) _ _ _ _ _ _ _ _ _ _ _ _ _ _ _ refl refl refl refl refl (beaten.exchanged_more log frame micros) refl
+
+pub timed_more : (log : List NodeEvent) (direction : Direction) (time micros : ℕ) → node_timed direction time micros (node_of log) ≡ node_of (Timed direction time micros ∷ log)
+unfolding node_timed node_of newest boot_ups restarts last_restart is_commanded time_in pending longest_answer
+timed_more log direction time micros =
+    same_node (newest log) _ _ _ _ _ _ _ _ _ _ _ _ _ _ (longest_answer log) refl refl refl refl refl (beaten.timed_more log direction time micros) refl

@@ -1,12 +1,17 @@
 -- What nodes show, evaluated.
 use Rattle.std.proofs.Common.{ℕ, List, [], ◌∷◌, ◌≡◌, Some, None, true, false, refl}
+use Rattle.conode_explain_transfers.specs.declared.ended.Ended.{Ended}
+use Rattle.conode_explain_transfers.specs.declared.ended.Ending.{Ending}
+use Rattle.conode_explain_transfers.specs.declared.ended.Ending.TheVariants.{Done, Irregular}
+use Rattle.conode_explain_transfers.specs.declared.kinds.Direction.TheVariants.{Upload}
 use Rattle.conode_record.specs.declared.content.Content.TheVariants.{Data, Remote}
 use Rattle.conode_record.specs.declared.fields.Identifier.TheVariants.{Base, Extended}
 use Rattle.conode_stats_counts.specs.declared.sdo_frame.SdoFrame.TheVariants.{Abort, Request, Response}
 use Rattle.conode_stats_counts.specs.declared.sign.Sign.TheVariants.{Reset, Shows, Exchanges, Other}
 use Rattle.conode_stats_counts.specs.declared.state.NmtState.TheVariants.{BootUp, PreOperational, Operational, Stopped, Unknown}
-use Rattle.conode_stats_counts.specs.Nodes.{log_with, sign_as, table}
-use Rattle.conode_stats_counts.specs.States.{NodeEvent, Commanded, Sent, boot_ups, is_commanded, last_restart, newest, restarts, state_of, time_in}
+use Rattle.conode_stats_counts.specs.Nodes.{log_timed, log_with, sign_as, table}
+use Rattle.conode_stats_counts.specs.ShownTimes.{time_by}
+use Rattle.conode_stats_counts.specs.States.{NodeEvent, Commanded, Sent, Timed, boot_ups, is_commanded, last_restart, newest, restarts, state_of, time_in}
 
 -- ---- what a byte of error control shows (CiA 301, 7.2.8.3.2)
 
@@ -81,40 +86,20 @@ extended_control = refl
 
 -- ---- SDO frames on default channels (CiA 301, 7.2.4.3)
 
--- 1017:00 gets 500 ms: 2Bh has two bytes, 22h no size
-writes_time : sign_as (Base 0x605) (Data (0x2B ∷ 0x17 ∷ 0x10 ∷ 0x00 ∷ 0xF4 ∷ 0x01 ∷ 0 ∷ 0 ∷ [])) ≡ Exchanges 5 (Request (Some 500))
-writes_time = refl
+downloads : sign_as (Base 0x605) (Data (0x2B ∷ 0x17 ∷ 0x10 ∷ 0x00 ∷ 0xF4 ∷ 0x01 ∷ 0 ∷ 0 ∷ [])) ≡ Exchanges 5 Request
+downloads = refl
 
-writes_without_size : sign_as (Base 0x67F) (Data (0x22 ∷ 0x17 ∷ 0x10 ∷ 0x00 ∷ 0xF4 ∷ 0x01 ∷ 0 ∷ 0 ∷ [])) ≡ Exchanges 127 (Request (Some 500))
-writes_without_size = refl
-
--- one byte, sub-index 1, 1018h, 1117h, and an upload are other requests
-writes_a_byte : sign_as (Base 0x605) (Data (0x2F ∷ 0x17 ∷ 0x10 ∷ 0x00 ∷ 0xF4 ∷ 0x01 ∷ 0 ∷ 0 ∷ [])) ≡ Exchanges 5 (Request None)
-writes_a_byte = refl
-
-writes_sub_index : sign_as (Base 0x605) (Data (0x2B ∷ 0x17 ∷ 0x10 ∷ 0x01 ∷ 0xF4 ∷ 0x01 ∷ 0 ∷ 0 ∷ [])) ≡ Exchanges 5 (Request None)
-writes_sub_index = refl
-
-writes_next_index : sign_as (Base 0x605) (Data (0x2B ∷ 0x18 ∷ 0x10 ∷ 0x00 ∷ 0xF4 ∷ 0x01 ∷ 0 ∷ 0 ∷ [])) ≡ Exchanges 5 (Request None)
-writes_next_index = refl
-
-writes_higher_index : sign_as (Base 0x605) (Data (0x2B ∷ 0x17 ∷ 0x11 ∷ 0x00 ∷ 0xF4 ∷ 0x01 ∷ 0 ∷ 0 ∷ [])) ≡ Exchanges 5 (Request None)
-writes_higher_index = refl
-
-reads_time : sign_as (Base 0x605) (Data (0x40 ∷ 0x17 ∷ 0x10 ∷ 0x00 ∷ 0 ∷ 0 ∷ 0 ∷ 0 ∷ [])) ≡ Exchanges 5 (Request None)
-reads_time = refl
+last_request : sign_as (Base 0x67F) (Data (0x40 ∷ 0x17 ∷ 0x10 ∷ 0x00 ∷ 0 ∷ 0 ∷ 0 ∷ 0 ∷ [])) ≡ Exchanges 127 Request
+last_request = refl
 
 client_aborts : sign_as (Base 0x605) (Data (0x80 ∷ 0x17 ∷ 0x10 ∷ 0x00 ∷ 0 ∷ 0 ∷ 4 ∷ 5 ∷ [])) ≡ Exchanges 5 Abort
 client_aborts = refl
 
-confirms_time : sign_as (Base 0x585) (Data (0x60 ∷ 0x17 ∷ 0x10 ∷ 0x00 ∷ 0 ∷ 0 ∷ 0 ∷ 0 ∷ [])) ≡ Exchanges 5 (Response true)
-confirms_time = refl
+confirms : sign_as (Base 0x585) (Data (0x60 ∷ 0x17 ∷ 0x10 ∷ 0x00 ∷ 0 ∷ 0 ∷ 0 ∷ 0 ∷ [])) ≡ Exchanges 5 Response
+confirms = refl
 
--- another entry, and an abort of the server, are other responses
-confirms_another : sign_as (Base 0x5FF) (Data (0x60 ∷ 0x18 ∷ 0x10 ∷ 0x00 ∷ 0 ∷ 0 ∷ 0 ∷ 0 ∷ [])) ≡ Exchanges 127 (Response false)
-confirms_another = refl
-
-server_aborts : sign_as (Base 0x585) (Data (0x80 ∷ 0x17 ∷ 0x10 ∷ 0x00 ∷ 0x30 ∷ 0 ∷ 9 ∷ 6 ∷ [])) ≡ Exchanges 5 (Response false)
+-- an abort of the server is a response
+server_aborts : sign_as (Base 0x5FF) (Data (0x80 ∷ 0x17 ∷ 0x10 ∷ 0x00 ∷ 0x30 ∷ 0 ∷ 9 ∷ 6 ∷ [])) ≡ Exchanges 127 Response
 server_aborts = refl
 
 short_request : sign_as (Base 0x605) (Data (0x2B ∷ 0x17 ∷ 0x10 ∷ 0x00 ∷ 0xF4 ∷ 0x01 ∷ 0 ∷ [])) ≡ Other
@@ -142,6 +127,38 @@ to_another = refl
 
 of_another : log_with 6 (Shows 7 BootUp) 10 [] ≡ []
 of_another = refl
+
+timed : log_timed 6 (Some (record { node = 6; direction = Upload; time = 500 })) 10 [] ≡ Timed Upload 500 10 ∷ []
+timed = refl
+
+timed_another : log_timed 6 (Some (record { node = 7; direction = Upload; time = 500 })) 10 [] ≡ []
+timed_another = refl
+
+-- ---- the producer heartbeat time in a transfer that ended
+
+module _ (transfer : Ended) where
+  abbrev ended : ℕ → ℕ → Ending → List ℕ → Ended
+  ended index sub ending bytes =
+      record transfer { key = record { index = index; sub = sub }; direction = Upload; ending = ending; first = record { items = bytes } }
+
+  of_500 : time_by 5 (ended 0x1017 0 (Done false) (0xF4 ∷ 0x01 ∷ [])) ≡ Some (record { node = 5; direction = Upload; time = 500 })
+  of_500 = refl
+
+  -- an expedited transfer without a size has four bytes
+  of_four_bytes : time_by 5 (ended 0x1017 0 (Done true) (0xF4 ∷ 0x01 ∷ 0 ∷ 0 ∷ [])) ≡ Some (record { node = 5; direction = Upload; time = 500 })
+  of_four_bytes = refl
+
+  of_one_byte : time_by 5 (ended 0x1017 0 (Done false) (0xF4 ∷ [])) ≡ None
+  of_one_byte = refl
+
+  of_sub_index : time_by 5 (ended 0x1017 1 (Done false) (0xF4 ∷ 0x01 ∷ [])) ≡ None
+  of_sub_index = refl
+
+  of_next_index : time_by 5 (ended 0x1018 0 (Done false) (0xF4 ∷ 0x01 ∷ [])) ≡ None
+  of_next_index = refl
+
+  with_frames_missing : time_by 5 (ended 0x1017 0 Irregular (0xF4 ∷ 0x01 ∷ [])) ≡ None
+  with_frames_missing = refl
 
 -- ---- times and restarts, the newest first
 

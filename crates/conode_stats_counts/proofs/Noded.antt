@@ -1,17 +1,19 @@
 -- One frame more, as it is counted of nodes, is one frame more by definition.
-use Rattle.std.proofs.Common.{ℕ, zero, suc, ◌+◌, ◌<◌, ◌≤◌, true, false, List, [], ◌∷◌, ◌≡◌, ◌∙◌, length, map, replicate, refl, sym, ap, ap₂, arith}
+use Rattle.std.proofs.Common.{ℕ, zero, suc, ◌+◌, ◌<◌, ◌≤◌, true, false, List, [], ◌∷◌, ◌≡◌, ◌∙◌, Option, Some, None, length, map, replicate, refl, sym, ap, ap₂, arith}
 use Rattle.std.specs.Prelude.{◌==◌, nat_lt, slice_set}
 use Rattle.std.specs.List.{slice_index_or}
 use Rattle.std.proofs.lemmas.Bool.Decides.{nat_tests}
 use Rattle.co_text.proofs.Tests.{by_test}
 use Rattle.conode_record.specs.declared.line.Record.{Record}
 use Rattle.conode_stats_counts.specs.declared.node.Node.{Node}
+use Rattle.conode_stats_counts.specs.declared.shown_time.ShownTime.{ShownTime}
 use Rattle.conode_stats_counts.specs.declared.sign.Sign.{Sign}
 use Rattle.conode_stats_counts.specs.declared.sign.Sign.TheVariants.{Reset, Shows, Exchanges, Other}
-use Rattle.conode_stats_counts.specs.Nodes.{changed_at, log_with, most_nodes, new_node, node_log, nodes_of, nodes_with, sign_of, table}
-use Rattle.conode_stats_counts.specs.NodeCounts.{node_commanded, node_exchanged, node_of, node_with}
+use Rattle.conode_stats_counts.specs.Failures.{channels_of}
+use Rattle.conode_stats_counts.specs.Nodes.{changed_at, log_timed, log_with, most_nodes, new_node, node_log, nodes_of, nodes_timed, nodes_with, shown_by, sign_of, table}
+use Rattle.conode_stats_counts.specs.NodeCounts.{node_commanded, node_exchanged, node_of, node_timed, node_with}
 use Rattle.conode_stats_counts.specs.States.{NodeEvent, Commanded}
-use Rattle.conode_stats_counts.proofs.NodeEvents.{commanded_more, exchanged_more, shows_more}
+use Rattle.conode_stats_counts.proofs.NodeEvents.{commanded_more, exchanged_more, shows_more, timed_more}
 
 -- ---- tables
 
@@ -66,20 +68,20 @@ module _ (logs : ℕ → List NodeEvent) (count : ℕ) where
   nodes logs = table (λ n. node_of (logs n)) 0 count
 
   -- one of them
-  one : (sign : Sign) (micros place : ℕ) (change : Node → Node)
-      → change (node_of (logs place)) ≡ node_of (log_with place sign micros (logs place))
-      → ((n : ℕ) → (place == n) ≡ false → log_with n sign micros (logs n) ≡ logs n)
-      → changed_at place change (nodes logs) ≡ nodes (λ n. log_with n sign micros (logs n))
-  one sign micros place change is others =
+  one : (next : ℕ → List NodeEvent) (place : ℕ) (change : Node → Node)
+      → change (node_of (logs place)) ≡ node_of (next place)
+      → ((n : ℕ) → (place == n) ≡ false → next n ≡ logs n)
+      → changed_at place change (nodes logs) ≡ nodes next
+  one next place change is others =
       let value : ℕ → Node = λ n. node_of (logs n) in
-      let next : ℕ → Node = λ n. node_of (log_with n sign micros (logs n)) in
-      let same : (n : ℕ) → (place == n) ≡ false → value n ≡ next n = λ n other. ap node_of (sym (others n other)) in
+      let after : ℕ → Node = λ n. node_of (next n) in
+      let same : (n : ℕ) → (place == n) ≡ false → value n ≡ after n = λ n other. ap node_of (sym (others n other)) in
       let few = length_table value 0 count in
       by_test (nat_lt place count)
       (λ holds. let lt : place < count = grind (arith, nat_tests) in
-      rw (few, holds) (within value next place same change new_node is 0 count place (omega arith) lt))
+      rw (few, holds) (within value after place same change new_node is 0 count place (omega arith) lt))
       (λ fails. let le : 0 + count ≤ place = grind (arith, nat_tests) in
-      rw (few, fails) (past value next place same 0 count le))
+      rw (few, fails) (past value after place same 0 count le))
 
   sign_more : (sign : Sign) (micros : ℕ) → nodes_with sign micros (nodes logs) ≡ nodes (λ n. log_with n sign micros (logs n))
   unfolding nodes_with
@@ -87,19 +89,30 @@ module _ (logs : ℕ → List NodeEvent) (count : ℕ) where
   sign_more (Reset place) micros = by_test (place == 0)
       (λ all. rw all (map_table node_commanded (λ n. node_of (logs n)) (λ n. node_of (Commanded ∷ logs n)) (λ n. commanded_more (logs n)) 0 count))
       (λ single. let e : nodes_with (Reset place) micros (nodes logs) ≡ changed_at place node_commanded (nodes logs) = rw single refl in
-      e ∙ one (Reset place) micros place node_commanded (let self : (place == place) ≡ true = grind (arith, nat_tests) in rw (single, self) (commanded_more (logs place)))
+      e ∙ one (λ n. log_with n (Reset place) micros (logs n)) place node_commanded (let self : (place == place) ≡ true = grind (arith, nat_tests) in rw (single, self) (commanded_more (logs place)))
       (λ n other. rw (single, other) refl))
   sign_more (Shows place state) micros =
-      one (Shows place state) micros place (node_with state micros) (let self : (place == place) ≡ true = grind (arith, nat_tests) in rw self (shows_more (logs place) state micros))
+      one (λ n. log_with n (Shows place state) micros (logs n)) place (node_with state micros) (let self : (place == place) ≡ true = grind (arith, nat_tests) in rw self (shows_more (logs place) state micros))
       (λ n other. rw other refl)
   sign_more (Exchanges place frame) micros =
-      one (Exchanges place frame) micros place (node_exchanged frame micros) (let self : (place == place) ≡ true = grind (arith, nat_tests) in rw self (exchanged_more (logs place) frame micros))
+      one (λ n. log_with n (Exchanges place frame) micros (logs n)) place (node_exchanged frame micros) (let self : (place == place) ≡ true = grind (arith, nat_tests) in rw self (exchanged_more (logs place) frame micros))
+      (λ n other. rw other refl)
+
+  time_more : (shown : Option ShownTime) (micros : ℕ) → nodes_timed shown micros (nodes logs) ≡ nodes (λ n. log_timed n shown micros (logs n))
+  unfolding nodes_timed
+  time_more None micros = refl
+  time_more (Some shown) micros =
+      one (λ n. log_timed n (Some shown) micros (logs n)) shown.node (node_timed shown.direction shown.time micros)
+      (let self : (shown.node == shown.node) ≡ true = grind (arith, nat_tests) in rw self (timed_more (logs shown.node) shown.direction shown.time micros))
       (λ n other. rw other refl)
 
 -- a frame of a bus
-pub one_more : (frames : List Record) (frame : Record) → nodes_with (sign_of frame) frame.micros (nodes_of frames) ≡ nodes_of (frame ∷ frames)
+pub one_more : (frames : List Record) (frame : Record)
+    → nodes_timed (shown_by (channels_of frames) frame) frame.micros (nodes_with (sign_of frame) frame.micros (nodes_of frames)) ≡ nodes_of (frame ∷ frames)
 unfolding nodes_of node_log
-one_more frames frame = sign_more (λ n. node_log n frames) most_nodes (sign_of frame) frame.micros
+one_more frames frame =
+    ap (nodes_timed (shown_by (channels_of frames) frame) frame.micros) (sign_more (λ n. node_log n frames) most_nodes (sign_of frame) frame.micros)
+    ∙ time_more (λ n. log_with n (sign_of frame) frame.micros (node_log n frames)) most_nodes (shown_by (channels_of frames) frame) frame.micros
 
 -- no frame
 pub none : nodes_of [] ≡ replicate most_nodes (node_of [])

@@ -30,7 +30,7 @@ counted_more n k = capped_more n k most
 pub counted_next : (n : ℕ) → counted (counted n + 1) ≡ counted (suc n)
 counted_next n = capped_next n most
 
-some_counted : (n : ℕ) → (counted (suc n) == 0) ≡ false
+pub some_counted : (n : ℕ) → (counted (suc n) == 0) ≡ false
 some_counted n = some_capped n most (lit< tt)
 
 -- ---- one stamp more

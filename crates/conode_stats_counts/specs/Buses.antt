@@ -13,7 +13,7 @@ use Rattle.conode_stats_counts.specs.Failures.{Transferred, transfers_of, transf
 use Rattle.conode_stats_counts.specs.Gaps.{counted}
 use Rattle.conode_stats_counts.specs.Groups.{grouped, group_with, left_out, no_room}
 use Rattle.conode_stats_counts.specs.Loads.{frame_size, load_of, load_with, second_of}
-use Rattle.conode_stats_counts.specs.Nodes.{nodes_of, nodes_with, sign_of}
+use Rattle.conode_stats_counts.specs.Nodes.{nodes_of, nodes_timed, nodes_with, shown_by, sign_of}
 use Rattle.conode_stats_counts.specs.Tallies.{tally_of, tally_with}
 
 -- the most identifiers counted on a bus, and the most buses
@@ -105,7 +105,7 @@ bus_with bus frame = record {
   interface = bus.interface;
   all = tally_with bus.all frame.micros;
   load = load_with bus.load (second_of frame) (frame_size frame);
-  nodes = nodes_with (sign_of frame) frame.micros bus.nodes;
+  nodes = nodes_timed (shown_by bus.transfers.channels frame) frame.micros (nodes_with (sign_of frame) frame.micros bus.nodes);
   transfers = transfers_with bus.transfers frame;
   emergencies = emergent_with bus.emergencies frame;
   rows = group_with (is_row (id_of frame)) (row_with frame.micros) (new_row (id_of frame)) most_rows bus.rows;

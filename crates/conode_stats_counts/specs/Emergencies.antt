@@ -1,6 +1,6 @@
 -- EMCY messages of a bus (CiA 301, 7.2.7), by the pre-defined connection set (7.3.3). They are
 -- counted by node and error code, as SDO transfers that failed are by node and abort code.
-use Rattle.std.specs.Prelude.{ℕ, ◌+◌, ◌-◌, ◌*◌, nat_lt, ◌&&◌, if◌then◌else◌, List, [], ◌∷◌, Option, Some, None}
+use Rattle.std.specs.Prelude.{ℕ, ◌+◌, ◌-◌, nat_lt, ◌&&◌, if◌then◌else◌, List, [], ◌∷◌, Option, Some, None}
 use Rattle.conode_record.specs.declared.content.Content.{Content}
 use Rattle.conode_record.specs.declared.content.Content.TheVariants.{Data}
 use Rattle.conode_record.specs.declared.fields.Identifier.{Identifier}
@@ -11,16 +11,13 @@ use Rattle.conode_stats_counts.specs.declared.failure.FailureRow.{FailureRow}
 use Rattle.conode_stats_counts.specs.Failures.{cause_of, failure_row, failures_with, more_left_out, most_failures, rows_with, same_cause}
 use Rattle.conode_stats_counts.specs.Gaps.{counted}
 use Rattle.conode_stats_counts.specs.Groups.{grouped, left_out}
+use Rattle.conode_stats_counts.specs.ShownTimes.{first_word}
 
--- the error code: the first two bytes, the low one first
-abbrev pub error_code : List ℕ → Option ℕ
-error_code (low ∷ high ∷ more) = Some (low + high * 256)
-error_code _ = None
-
+-- the error code is the first two bytes
 abbrev pub emergency_in : ℕ → List ℕ → ℕ → Option Failure
 emergency_in id bytes micros =
     if nat_lt 0x80 id && nat_lt id 0x100
-    then Some (record { cause = record { node = id - 0x80; code = error_code bytes }; micros = micros })
+    then Some (record { cause = record { node = id - 0x80; code = first_word bytes }; micros = micros })
     else None
 
 abbrev pub emergency_as : Identifier → Content → ℕ → Option Failure

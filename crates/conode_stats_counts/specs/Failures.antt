@@ -1,5 +1,5 @@
 -- SDO transfers that failed, on the default channels of the nodes of a bus (CiA 301, 7.2.4.3).
-use Rattle.std.specs.Prelude.{ℕ, ◌+◌, ◌==◌, ◌&&◌, Bool, true, false, List, [], ◌∷◌, Option, Some, None, length}
+use Rattle.std.specs.Prelude.{ℕ, ◌+◌, ◌==◌, ◌&&◌, Bool, true, false, if◌then◌else◌, List, [], ◌∷◌, Option, Some, None, length}
 use Rattle.co_frame.specs.FrameContent.{FrameContent}
 use Rattle.conode_explain_channels.specs.declared.told.Told.{Told}
 use Rattle.conode_explain_channels.specs.declared.track.Track.{Track}
@@ -85,9 +85,20 @@ abbrev pub newest_failure : List Failure → ℕ
 newest_failure [] = 0
 newest_failure (failure ∷ older) = failure.micros
 
+-- the stamp of the first, 0 where there is none
+unfoldable pub first_failure : List Failure → ℕ
+first_failure [] = 0
+first_failure (failure ∷ []) = failure.micros
+first_failure (failure ∷ before ∷ older) = first_failure (before ∷ older)
+
 -- the row of a cause with these failures
 abbrev pub failure_row : Cause → List Failure → FailureRow
-failure_row cause failures = record { cause = cause; count = counted (length failures); last = newest_failure failures }
+failure_row cause failures = record {
+  cause = cause;
+  count = counted (length failures);
+  first = first_failure failures;
+  last = newest_failure failures;
+}
 
 -- how many nodes and codes of a bus have a row
 abbrev pub most_failures : ℕ
@@ -118,7 +129,11 @@ abbrev pub is_failure : Cause → FailureRow → Bool
 is_failure cause row = same_cause row.cause cause
 
 abbrev pub failure_added : ℕ → FailureRow → FailureRow
-failure_added micros row = record row { count = counted (row.count + 1); last = micros }
+failure_added micros row = record row {
+  count = counted (row.count + 1);
+  first = if row.count == 0 then micros else row.first;
+  last = micros;
+}
 
 abbrev pub new_failure : Cause → FailureRow
 new_failure cause = failure_row cause []

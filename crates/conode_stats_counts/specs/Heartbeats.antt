@@ -1,37 +1,33 @@
 -- The heartbeats of a node (CiA 301, 7.2.8.3.2.1), its answers to SDO requests, and its producer
--- heartbeat time, 1017:00, as far as downloads in the recording show it.
+-- heartbeat time, 1017:00, as far as SDO transfers in the recording show it.
 use Rattle.std.specs.Prelude.{ℕ, ◌+◌, ◌-◌, ◌*◌, Bool, true, false, nat_lt, max, ◌&&◌, if◌then◌else◌, List, [], ◌∷◌, ◌++◌, length, reverse, take, Option, Some, None}
+use Rattle.conode_explain_transfers.specs.declared.kinds.Direction.{Direction}
+use Rattle.conode_explain_transfers.specs.declared.kinds.Direction.TheVariants.{Download, Upload}
 use Rattle.conode_stats_counts.specs.declared.heartbeats.Heartbeats.{Heartbeats}
 use Rattle.conode_stats_counts.specs.declared.sdo_frame.SdoFrame.{SdoFrame}
 use Rattle.conode_stats_counts.specs.declared.sdo_frame.SdoFrame.TheVariants.{Request, Response}
-use Rattle.conode_stats_counts.specs.declared.sdo_frame.Pending.{Pending}
 use Rattle.conode_stats_counts.specs.declared.state.NmtState.TheVariants.{BootUp}
 use Rattle.conode_stats_counts.specs.Gaps.{counted, greatest}
-use Rattle.conode_stats_counts.specs.States.{NodeEvent, Commanded, Sent, Exchanged, same_state}
+use Rattle.conode_stats_counts.specs.States.{NodeEvent, Commanded, Sent, Exchanged, Timed, same_state}
 
 -- ---- requests and responses
 
--- the request that a frame of the client is
-abbrev pub pending_by : SdoFrame → ℕ → Option Pending
-pending_by (Request time) micros = Some (record { time = time; micros = micros })
+-- the stamp of the request that a frame of the client is
+abbrev pub pending_by : SdoFrame → ℕ → Option ℕ
+pending_by Request micros = Some micros
 pending_by _ micros = None
 
--- the newest request, if nothing followed it on the channel, and no boot-up of the node
-unfoldable pub pending : List NodeEvent → Option Pending
+-- that of the newest request, if nothing followed it on the channel, and no boot-up of the node
+unfoldable pub pending : List NodeEvent → Option ℕ
 pending [] = None
 pending (Commanded ∷ older) = pending older
+pending (Timed direction time micros ∷ older) = pending older
 pending (Sent state micros ∷ older) = if same_state state BootUp then None else pending older
 pending (Exchanged frame micros ∷ older) = pending_by frame micros
 
--- the time that a request writes and a response confirms
-abbrev pub confirmed : Option Pending → SdoFrame → Option ℕ
-confirmed (Some request) (Response true) = request.time
-confirmed _ _ = None
-
 -- how long a request waited for a response; none where the stamp steps back
-abbrev pub answer_time : Option Pending → SdoFrame → ℕ → Option ℕ
-answer_time (Some request) (Response confirms) micros =
-    if nat_lt micros request.micros then None else Some (micros - request.micros)
+abbrev pub answer_time : Option ℕ → SdoFrame → ℕ → Option ℕ
+answer_time (Some request) Response micros = if nat_lt micros request then None else Some (micros - request)
 answer_time _ _ micros = None
 
 -- the longer one
@@ -44,37 +40,37 @@ longer (Some a) (Some b) = Some (max a b)
 unfoldable pub longest_answer : List NodeEvent → Option ℕ
 longest_answer [] = None
 longest_answer (Commanded ∷ older) = longest_answer older
+longest_answer (Timed direction time micros ∷ older) = longest_answer older
 longest_answer (Sent state micros ∷ older) = longest_answer older
 longest_answer (Exchanged frame micros ∷ older) = longer (longest_answer older) (answer_time (pending older) frame micros)
 
 -- ---- the producer heartbeat time
 
-abbrev pub newer_time : Option ℕ → Option ℕ → Option ℕ
-newer_time None time = time
-newer_time (Some new) time = Some new
-
--- the time of the newest download since the last boot-up, in ms; at a boot-up a node has the time
+-- the time of the newest transfer since the last boot-up, in ms; at a boot-up a node has the time
 -- that it stored, which a recording doesn't show
 unfoldable pub written_time : List NodeEvent → Option ℕ
 written_time [] = None
 written_time (Commanded ∷ older) = written_time older
+written_time (Exchanged frame micros ∷ older) = written_time older
+written_time (Timed direction time micros ∷ older) = Some time
 written_time (Sent state micros ∷ older) = if same_state state BootUp then None else written_time older
-written_time (Exchanged frame micros ∷ older) = newer_time (confirmed (pending older) frame) (written_time older)
 
 -- ---- heartbeats
 
--- a stamp, if it is one of a confirmed download of the time
-abbrev pub since_by : Option ℕ → ℕ → Option ℕ → Option ℕ
-since_by None micros since = since
-since_by (Some time) micros since = Some micros
+-- a download begins a new wait; an upload does only where none is known
+abbrev pub since_by : Direction → ℕ → Option ℕ → Option ℕ
+since_by Download micros since = Some micros
+since_by Upload micros None = Some micros
+since_by Upload micros (Some since) = Some since
 
 -- since when a heartbeat is awaited: since the newest frame of error control, or the download of
 -- the time that came after it
 unfoldable pub since : List NodeEvent → Option ℕ
 since [] = None
 since (Commanded ∷ older) = since older
+since (Exchanged frame micros ∷ older) = since older
+since (Timed direction time micros ∷ older) = since_by direction micros (since older)
 since (Sent state micros ∷ older) = Some micros
-since (Exchanged frame micros ∷ older) = since_by (confirmed (pending older) frame) micros (since older)
 
 -- how long a heartbeat was awaited; none where the stamp steps back
 abbrev pub wait : Option ℕ → ℕ → Option ℕ
@@ -90,12 +86,13 @@ abbrev pub late_with : Option ℕ → Option ℕ → List ℕ → List ℕ
 late_with (Some time) (Some gap) gaps = if is_late time gap then gap ∷ gaps else gaps
 late_with _ _ gaps = gaps
 
--- the waits for heartbeats that were too long by the time that was downloaded; the time up to a
+-- the waits for heartbeats that were too long by the time that a transfer shows; the time up to a
 -- boot-up is none
 unfoldable pub late_gaps : List NodeEvent → List ℕ
 late_gaps [] = []
 late_gaps (Commanded ∷ older) = late_gaps older
 late_gaps (Exchanged frame micros ∷ older) = late_gaps older
+late_gaps (Timed direction time micros ∷ older) = late_gaps older
 late_gaps (Sent state micros ∷ older) =
     if same_state state BootUp then late_gaps older
     else late_with (written_time older) (wait (since older) micros) (late_gaps older)
@@ -104,11 +101,12 @@ abbrev pub other_with : Option ℕ → Option ℕ → List ℕ → List ℕ
 other_with None (Some gap) gaps = gap ∷ gaps
 other_with _ _ gaps = gaps
 
--- the waits for heartbeats while no download shows the time
+-- the waits for heartbeats while no transfer shows the time
 unfoldable pub other_gaps : List NodeEvent → List ℕ
 other_gaps [] = []
 other_gaps (Commanded ∷ older) = other_gaps older
 other_gaps (Exchanged frame micros ∷ older) = other_gaps older
+other_gaps (Timed direction time micros ∷ older) = other_gaps older
 other_gaps (Sent state micros ∷ older) =
     if same_state state BootUp then other_gaps older
     else other_with (written_time older) (wait (since older) micros) (other_gaps older)
@@ -160,7 +158,7 @@ beat_with true micros heartbeats = record heartbeats { written = None; since = S
 beat_with false micros heartbeats =
     record (wait_with (wait heartbeats.since micros) heartbeats) { since = Some micros }
 
--- a confirmed download of the time, if there is one
-abbrev pub written_with : Option ℕ → ℕ → Heartbeats → Heartbeats
-written_with None micros heartbeats = heartbeats
-written_with (Some time) micros heartbeats = record heartbeats { written = Some time; since = Some micros }
+-- a transfer that shows the time
+abbrev pub timed_with : Direction → ℕ → ℕ → Heartbeats → Heartbeats
+timed_with direction time micros heartbeats =
+    record heartbeats { written = Some time; since = since_by direction micros heartbeats.since }

@@ -10,6 +10,7 @@ pub mod Loads
 pub mod NodeCounts
 pub mod Nodes
 pub mod SdoFrames
+pub mod ShownTimes
 pub mod Sizes
 pub mod States
 pub mod Tallies

@@ -1,11 +1,12 @@
 -- All that is counted of a node.
 use Rattle.std.specs.Prelude.{ℕ, ◌+◌, Bool, true, false, not, ◌&&◌, if◌then◌else◌, List, Some, None, is_some}
+use Rattle.conode_explain_transfers.specs.declared.kinds.Direction.{Direction}
 use Rattle.conode_stats_counts.specs.declared.sdo_frame.SdoFrame.{SdoFrame}
 use Rattle.conode_stats_counts.specs.declared.node.Node.{Node}
 use Rattle.conode_stats_counts.specs.declared.state.NmtState.{NmtState}
 use Rattle.conode_stats_counts.specs.declared.state.NmtState.TheVariants.{BootUp}
 use Rattle.conode_stats_counts.specs.Gaps.{counted}
-use Rattle.conode_stats_counts.specs.Heartbeats.{answer_time, beat_with, confirmed, heartbeats_of, longer, longest_answer, pending, pending_by, written_with}
+use Rattle.conode_stats_counts.specs.Heartbeats.{answer_time, beat_with, heartbeats_of, longer, longest_answer, pending, pending_by, timed_with}
 use Rattle.conode_stats_counts.specs.States.{NodeEvent, boot_ups, is_commanded, last_restart, newest, restarts, same_state, times_of, times_since}
 
 unfoldable pub node_of : List NodeEvent → Node
@@ -55,7 +56,11 @@ node_commanded node = record node { is_commanded = true }
 -- an SDO frame on its default channel
 unfoldable pub node_exchanged : SdoFrame → ℕ → Node → Node
 node_exchanged frame micros node = record node {
-  heartbeats = written_with (confirmed node.pending frame) micros node.heartbeats;
   pending = pending_by frame micros;
   longest_answer = longer node.longest_answer (answer_time node.pending frame micros);
 }
+
+-- an SDO transfer that shows its producer heartbeat time
+unfoldable pub node_timed : Direction → ℕ → ℕ → Node → Node
+node_timed direction time micros node =
+    record node { heartbeats = timed_with direction time micros node.heartbeats }

@@ -1,17 +1,21 @@
 -- The nodes of a bus (CiA 301, 7.2.8), by the pre-defined connection set (7.3.3).
-use Rattle.std.specs.Prelude.{ℕ, zero, suc, ◌-◌, ◌==◌, nat_lt, ◌&&◌, ◌||◌, if◌then◌else◌, List, [], ◌∷◌, length, map, slice_set}
+use Rattle.std.specs.Prelude.{ℕ, zero, suc, ◌-◌, ◌==◌, nat_lt, ◌&&◌, ◌||◌, if◌then◌else◌, List, [], ◌∷◌, Option, Some, None, length, map, slice_set}
 use Rattle.std.specs.List.{slice_index_or}
 use Rattle.conode_record.specs.declared.content.Content.{Content}
 use Rattle.conode_record.specs.declared.content.Content.TheVariants.{Data}
 use Rattle.conode_record.specs.declared.fields.Identifier.{Identifier}
 use Rattle.conode_record.specs.declared.fields.Identifier.TheVariants.{Base}
 use Rattle.conode_record.specs.declared.line.Record.{Record}
+use Rattle.conode_explain_channels.specs.declared.track.Track.{Track}
 use Rattle.conode_stats_counts.specs.declared.node.Node.{Node}
+use Rattle.conode_stats_counts.specs.declared.shown_time.ShownTime.{ShownTime}
 use Rattle.conode_stats_counts.specs.declared.sign.Sign.{Sign}
 use Rattle.conode_stats_counts.specs.declared.sign.Sign.TheVariants.{Reset, Shows, Exchanges, Other}
 use Rattle.conode_stats_counts.specs.SdoFrames.{request_in, response_in}
-use Rattle.conode_stats_counts.specs.NodeCounts.{node_commanded, node_of, node_exchanged, node_with}
-use Rattle.conode_stats_counts.specs.States.{NodeEvent, Commanded, Sent, Exchanged, state_of}
+use Rattle.conode_stats_counts.specs.NodeCounts.{node_commanded, node_of, node_exchanged, node_timed, node_with}
+use Rattle.conode_stats_counts.specs.Failures.{channels_of, telling_of}
+use Rattle.conode_stats_counts.specs.ShownTimes.{time_of}
+use Rattle.conode_stats_counts.specs.States.{NodeEvent, Commanded, Sent, Exchanged, Timed, state_of}
 
 -- ---- what a frame shows
 
@@ -49,10 +53,22 @@ log_with node (Shows other state) micros log = if other == node then Sent state 
 log_with node (Exchanges other frame) micros log = if other == node then Exchanged frame micros ∷ log else log
 log_with node Other micros log = log
 
+-- the same of what a transfer shows
+abbrev pub log_timed : ℕ → Option ShownTime → ℕ → List NodeEvent → List NodeEvent
+log_timed node None micros log = log
+log_timed node (Some shown) micros log =
+    if shown.node == node then Timed shown.direction shown.time micros ∷ log else log
+
+-- the producer heartbeat time that a frame shows after others
+abbrev pub shown_by : List Track → Record → Option ShownTime
+shown_by tracks frame = time_of (telling_of tracks frame).told
+
 -- what frames are to a node, the newest first
 unfoldable pub node_log : ℕ → List Record → List NodeEvent
 node_log node [] = []
-node_log node (frame ∷ older) = log_with node (sign_of frame) frame.micros (node_log node older)
+node_log node (frame ∷ older) =
+    log_timed node (shown_by (channels_of older) frame) frame.micros
+    (log_with node (sign_of frame) frame.micros (node_log node older))
 
 -- a list of what a function gives for so many numbers, from a first one on
 unfoldable pub table : {A : Type 0} → (ℕ → A) → ℕ → ℕ → List A
@@ -82,3 +98,8 @@ nodes_with (Reset node) micros nodes = if node == 0 then map node_commanded node
 nodes_with (Shows node state) micros nodes = changed_at node (node_with state micros) nodes
 nodes_with (Exchanges node frame) micros nodes = changed_at node (node_exchanged frame micros) nodes
 nodes_with Other micros nodes = nodes
+
+-- with what a transfer shows
+unfoldable pub nodes_timed : Option ShownTime → ℕ → List Node → List Node
+nodes_timed None micros nodes = nodes
+nodes_timed (Some shown) micros nodes = changed_at shown.node (node_timed shown.direction shown.time micros) nodes

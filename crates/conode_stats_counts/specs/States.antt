@@ -1,6 +1,7 @@
 -- What happens to a node, the newest first, and what it shows of its NMT state by its frames of error
 -- control (CiA 301, 7.2.8.3.2).
 use Rattle.std.specs.Prelude.{ℕ, ◌+◌, ◌-◌, ◌%◌, ◌==◌, Bool, true, false, not, ◌&&◌, if◌then◌else◌, List, [], ◌∷◌, Option, Some, None, is_some}
+use Rattle.conode_explain_transfers.specs.declared.kinds.Direction.{Direction}
 use Rattle.conode_stats_counts.specs.declared.sdo_frame.SdoFrame.{SdoFrame}
 use Rattle.conode_stats_counts.specs.declared.node.Shown.{Shown}
 use Rattle.conode_stats_counts.specs.declared.state.NmtState.{NmtState}
@@ -36,12 +37,15 @@ pub data NodeEvent : Type 0 where
   Sent : NmtState → ℕ → NodeEvent
   -- an SDO frame on its default channel, with its stamp
   Exchanged : SdoFrame → ℕ → NodeEvent
+  -- an SDO transfer that is done wrote or read its producer heartbeat time, in ms; with its stamp
+  Timed : Direction → ℕ → ℕ → NodeEvent
 
 -- its newest frame
 unfoldable pub newest : List NodeEvent → Option Shown
 newest [] = None
 newest (Commanded ∷ older) = newest older
 newest (Exchanged frame micros ∷ older) = newest older
+newest (Timed direction time micros ∷ older) = newest older
 newest (Sent state micros ∷ older) = Some (record { state = state; micros = micros })
 
 -- ---- times
@@ -60,6 +64,7 @@ unfoldable pub time_in : NmtState → List NodeEvent → ℕ
 time_in state [] = 0
 time_in state (Commanded ∷ older) = time_in state older
 time_in state (Exchanged frame micros ∷ older) = time_in state older
+time_in state (Timed direction time micros ∷ older) = time_in state older
 time_in state (Sent other micros ∷ older) = time_since state (newest older) micros + time_in state older
 
 abbrev pub times_of : List NodeEvent → StateTimes
@@ -77,6 +82,7 @@ unfoldable pub boot_ups : List NodeEvent → ℕ
 boot_ups [] = 0
 boot_ups (Commanded ∷ older) = boot_ups older
 boot_ups (Exchanged frame micros ∷ older) = boot_ups older
+boot_ups (Timed direction time micros ∷ older) = boot_ups older
 boot_ups (Sent state micros ∷ older) = (if same_state state BootUp then 1 else 0) + boot_ups older
 
 -- whether a command to reset came since the last boot-up
@@ -84,6 +90,7 @@ unfoldable pub is_commanded : List NodeEvent → Bool
 is_commanded [] = false
 is_commanded (Commanded ∷ older) = true
 is_commanded (Exchanged frame micros ∷ older) = is_commanded older
+is_commanded (Timed direction time micros ∷ older) = is_commanded older
 is_commanded (Sent state micros ∷ older) = if same_state state BootUp then false else is_commanded older
 
 -- whether a frame that shows this state is a restart without a command: a boot-up of a node that
@@ -95,6 +102,7 @@ unfoldable pub restarts : List NodeEvent → ℕ
 restarts [] = 0
 restarts (Commanded ∷ older) = restarts older
 restarts (Exchanged frame micros ∷ older) = restarts older
+restarts (Timed direction time micros ∷ older) = restarts older
 restarts (Sent state micros ∷ older) = (if is_restart state older then 1 else 0) + restarts older
 
 -- the stamp of the last of them, 0 where there is none
@@ -102,6 +110,7 @@ unfoldable pub last_restart : List NodeEvent → ℕ
 last_restart [] = 0
 last_restart (Commanded ∷ older) = last_restart older
 last_restart (Exchanged frame micros ∷ older) = last_restart older
+last_restart (Timed direction time micros ∷ older) = last_restart older
 last_restart (Sent state micros ∷ older) = if is_restart state older then micros else last_restart older
 
 -- ---- one event more, as it is counted

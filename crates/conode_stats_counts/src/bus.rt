@@ -7,7 +7,7 @@ ghost use Rattle.conode_stats_counts.specs.Buses.{bus_with, new_bus};
 use crate::emergencies::Emergencies;
 use crate::load::Load;
 use crate::node::Node;
-use crate::nodes::{new_nodes, show_sign};
+use crate::nodes::{new_nodes, show_sign, show_time};
 use crate::row::{Row, can_id};
 use crate::rows::Rows;
 use crate::sign::Sign;
@@ -85,13 +85,14 @@ impl Bus {
     {
         let more = self.rows.add(can_id(frame.id), frame.micros)?;
         self.left_out = counted(self.left_out, more);
-        self.transfers.take(frame)?;
+        let shown = self.transfers.take(frame)?;
         self.emergencies.take(frame)?;
         self.all.add(frame.micros);
         let size = Size::of(frame.id, &frame.content);
         self.load.add(frame.micros / SECOND, size);
         let sign = Sign::of(frame.id, &frame.content);
         show_sign(&mut self.nodes, sign, frame.micros);
+        show_time(&mut self.nodes, shown, frame.micros);
         Ok(())
     }
 

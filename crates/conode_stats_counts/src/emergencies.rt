@@ -7,10 +7,11 @@ ghost use Rattle.conode_stats_counts.specs.Emergencies.{
   emergency_in,
   emergent_of,
   emergent_with,
-  error_code,
 };
+ghost use Rattle.conode_stats_counts.specs.ShownTimes.{first_word};
 
 use crate::failure::{Cause, Failure, FailureRow, add_failure};
+use crate::shown_time::first_word;
 use crate::tally::counted;
 use co_value::PackedBytes;
 use conode_record::{Content, Identifier, Record};
@@ -38,11 +39,11 @@ impl Model for Emergencies {
 
 // the error code
 fn error_code(bytes: &[u8]) -> Option<u32>
-    ensures { result ≡ error_code bytes.now }
+    ensures { result ≡ first_word bytes.now }
 {
-    match bytes {
-        [low, high, ..] => Some(u32::from(*low) + u32::from(*high) * 256),
-        _ => None,
+    match first_word(bytes) {
+        Some(code) => Some(u32::from(code)),
+        None => None,
     }
 }
 

@@ -49,7 +49,9 @@ pub struct FailureRow {
     pub cause: Cause,
     /// How many there are.
     pub count: u64,
-    /// The stamp at which the last of them ended, or came, in microseconds.
+    /// The stamp at which the first of them ended, or came, in microseconds.
+    pub first: u64,
+    /// The same of the last of them.
     pub last: u64,
 }
 
@@ -100,12 +102,14 @@ impl Failure {
 }
 
 impl FailureRow {
+    #[tactic(auto, unfolding(crate::specs::Failures::first_failure))]
     fn new(cause: Cause) -> FailureRow
         ensures { result ≡ new_failure cause }
     {
         FailureRow {
             cause,
             count: 0,
+            first: 0,
             last: 0,
         }
     }
@@ -119,6 +123,9 @@ impl FailureRow {
     fn add(&mut self, micros: u64)
         ensures { self.new ≡ failure_added micros self.old }
     {
+        if self.count == 0 {
+            self.first = micros;
+        }
         self.count = counted(self.count, 1);
         self.last = micros;
     }

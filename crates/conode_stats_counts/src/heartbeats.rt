@@ -6,29 +6,30 @@ ghost use Rattle.conode_stats_counts.specs.Heartbeats.{
   gap_with,
   heartbeats_of,
   is_late,
+  timed_with,
   wait,
   wait_with,
-  written_with,
 };
 
 use crate::first_gaps::FirstGaps;
 use crate::tally::counted;
+use conode_explain_transfers::Direction;
 
 /// The heartbeats of a node (CiA 301, 7.2.8.3.2.1): how long each was awaited, in microseconds,
 /// since the frame of error control before it, or a download of the producer heartbeat time that
 /// came between them. No boot-up message is awaited. Counts saturate at 2^64 - 1.
 #[derive(Drop)]
 pub struct Heartbeats {
-    /// The producer heartbeat time, 1017:00, in ms, if an expedited download set it since the last
-    /// boot-up.
+    /// The producer heartbeat time, 1017:00, in ms, if an SDO transfer wrote or read it since the
+    /// last boot-up.
     pub written: Option<u16>,
     /// The stamp since which a heartbeat is awaited, in microseconds.
     pub since: Option<u64>,
-    /// How many of them were awaited for more than 1.5 times the time that was downloaded.
+    /// How many of them were awaited for more than 1.5 times the time that a transfer showed.
     pub late: u64,
     /// The longest wait for one of these; 0 if there is none.
     pub longest_late: u64,
-    /// The longest wait while no download showed the time; 0 if there is none.
+    /// The longest wait while no transfer showed the time; 0 if there is none.
     pub longest: u64,
     /// The first of these waits.
     pub first: FirstGaps,
@@ -107,13 +108,15 @@ impl Heartbeats {
         self.since = Some(micros);
     }
 
-    /// Notes a download of the producer heartbeat time, if there is one.
-    pub(crate) fn write(&mut self, time: Option<u16>, micros: u64)
-        ensures { self.new ≡ written_with time micros self.old }
+    /// Notes the producer heartbeat time that a transfer shows. From a download on a heartbeat is
+    /// awaited anew.
+    pub(crate) fn show(&mut self, direction: Direction, time: u16, micros: u64)
+        ensures { self.new ≡ timed_with direction time micros self.old }
     {
-        if time.is_some() {
-            self.written = time;
-            self.since = Some(micros);
-        }
+        self.written = Some(time);
+        self.since = match (direction, self.since) {
+            (Direction::Upload, Some(since)) => Some(since),
+            _ => Some(micros),
+        };
     }
 }

@@ -6,14 +6,16 @@ ghost use Rattle.conode_stats_counts.specs.NodeCounts.{
   node_commanded,
   node_exchanged,
   node_of,
+  node_timed,
   node_with,
 };
 ghost use Rattle.conode_stats_counts.specs.States.{times_since};
 
 use crate::heartbeats::Heartbeats;
-use crate::sdo_frame::{Pending, SdoFrame, longer};
+use crate::sdo_frame::{SdoFrame, longer};
 use crate::state::{NmtState, StateTimes};
 use crate::tally::counted;
+use conode_explain_transfers::Direction;
 
 /// A frame of error control: a boot-up message, a heartbeat or a guarding answer (CiA 301,
 /// 7.2.8.3.2, 7.2.8.3.3).
@@ -44,8 +46,8 @@ pub struct Node {
     pub times: StateTimes,
     /// Its heartbeats.
     pub heartbeats: Heartbeats,
-    /// The SDO request to it that awaits a response, if there is one.
-    pub pending: Option<Pending>,
+    /// The stamp of the SDO request to it that awaits a response, in microseconds, if there is one.
+    pub pending: Option<u64>,
     /// The longest time from an SDO request to its response, in microseconds, if there is any.
     pub longest_answer: Option<u64>,
 }
@@ -121,9 +123,16 @@ impl Node {
     pub(crate) fn exchange(&mut self, frame: SdoFrame, micros: u64)
         ensures { self.new ≡ node_exchanged frame micros self.old }
     {
-        self.heartbeats.write(frame.confirmed(self.pending), micros);
         let time = frame.answer_time(self.pending, micros);
         self.longest_answer = longer(self.longest_answer, time);
         self.pending = frame.pending(micros);
+    }
+
+    /// Notes the producer heartbeat time, in ms, that an SDO transfer shows.
+    #[tactic(auto, unfolding(crate::specs::NodeCounts::node_timed))]
+    pub(crate) fn show_time(&mut self, direction: Direction, time: u16, micros: u64)
+        ensures { self.new ≡ node_timed direction time micros self.old }
+    {
+        self.heartbeats.show(direction, time, micros);
     }
 }

@@ -1,11 +1,12 @@
 //! The nodes of a bus, by node-ID.
 
 ghost use Rattle.std.specs.Prelude.{◌≡◌, [], map, IfOk};
-ghost use Rattle.conode_stats_counts.specs.Nodes.{changed_at, nodes_of, nodes_with};
+ghost use Rattle.conode_stats_counts.specs.Nodes.{changed_at, nodes_of, nodes_timed, nodes_with};
 ghost use Rattle.conode_stats_counts.specs.NodeCounts.{node_commanded, node_exchanged, node_with};
 
 use crate::node::Node;
 use crate::sdo_frame::SdoFrame;
+use crate::shown_time::ShownTime;
 use crate::sign::Sign;
 use crate::state::NmtState;
 use std::alloc::{AllocError, Global};
@@ -76,5 +77,18 @@ pub(crate) fn show_sign(nodes: &mut [Node], sign: Sign, micros: u64)
         Sign::Shows(node, state) => show_one(nodes, node, state, micros),
         Sign::Exchanges(node, frame) => exchange_one(nodes, node, frame, micros),
         Sign::Other => {}
+    }
+}
+
+/// Notes the producer heartbeat time that a transfer shows, if it does.
+#[tactic(auto, unfolding(crate::specs::Nodes::nodes_timed))]
+pub(crate) fn show_time(nodes: &mut [Node], shown: Option<ShownTime>, micros: u64)
+    ensures { nodes.new ≡ nodes_timed shown micros nodes.old }
+{
+    if let Some(shown) = shown {
+        let place = usize::from(shown.node);
+        if place < nodes.len() {
+            nodes[place].show_time(shown.direction, shown.time, micros);
+        }
     }
 }

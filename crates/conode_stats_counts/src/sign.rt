@@ -4,7 +4,7 @@ ghost use Rattle.std.specs.Prelude.{◌≡◌, ◌==◌, ◌||◌};
 ghost use Rattle.conode_stats_counts.specs.Nodes.{command_in, control_in, sign_as, sign_in};
 ghost use Rattle.conode_stats_counts.specs.SdoFrames.{request_in, response_in};
 
-use crate::sdo_frame::{SdoFrame, is_heartbeat_time, writes_two_bytes};
+use crate::sdo_frame::SdoFrame;
 use crate::state::NmtState;
 use co_value::PackedBytes;
 use conode_record::{Content, Identifier};
@@ -59,15 +59,7 @@ fn request_in(node: u8, bytes: &[u8]) -> Sign
 {
     match bytes {
         [0x80, _, _, _, _, _, _, _] => Sign::Exchanges(node, SdoFrame::Abort),
-        [command, low, high, sub, first, second, _, _] => {
-            let is_time = writes_two_bytes(*command) && is_heartbeat_time(*low, *high, *sub);
-            let time = if is_time {
-                Some(u16::from(*first) + u16::from(*second) * 256)
-            } else {
-                None
-            };
-            Sign::Exchanges(node, SdoFrame::Request(time))
-        }
+        [_, _, _, _, _, _, _, _] => Sign::Exchanges(node, SdoFrame::Request),
         _ => Sign::Other,
     }
 }
@@ -77,10 +69,7 @@ fn response_in(node: u8, bytes: &[u8]) -> Sign
     ensures { result ≡ response_in node bytes.now }
 {
     match bytes {
-        [command, low, high, sub, _, _, _, _] => {
-            let confirms = *command == 0x60 && is_heartbeat_time(*low, *high, *sub);
-            Sign::Exchanges(node, SdoFrame::Response(confirms))
-        }
+        [_, _, _, _, _, _, _, _] => Sign::Exchanges(node, SdoFrame::Response),
         _ => Sign::Other,
     }
 }

@@ -3,8 +3,10 @@
 ghost use Rattle.std.specs.Prelude.{◌≡◌, [], OnOk, IfOk};
 ghost use Rattle.conode_record.specs.Grammar.{IsIdentifier};
 ghost use Rattle.conode_stats_counts.specs.Failures.{plain, telling_of, transfers_of, transfers_with};
+ghost use Rattle.conode_stats_counts.specs.Nodes.{shown_by};
 
 use crate::failure::{Failure, FailureRow, add_failure};
+use crate::shown_time::ShownTime;
 use crate::tally::counted;
 use co_frame::Frame;
 use conode_explain_channels::{Channels, Told, Track};
@@ -71,17 +73,19 @@ impl Transfers {
         }
     }
 
-    /// Follows a frame. `Err`: out of memory.
+    /// Follows a frame. Returns the producer heartbeat time that it shows, if it does. `Err`: out of
+    /// memory.
     #[tactic(auto, unfolding(crate::specs::Failures::transfers_with))]
-    pub(crate) fn take(&mut self, frame: &Record<'_>) -> Result<(), AllocError>
+    pub(crate) fn take(&mut self, frame: &Record<'_>) -> Result<Option<ShownTime>, AllocError>
         requires { IsIdentifier frame.now.id }
-        ensures { OnOk result (self.new ≡ transfers_with self.old frame.now) }
+        ensures transfers { OnOk result (self.new ≡ transfers_with self.old frame.now) }
+        ensures shown { IfOk result (λ shown. shown ≡ shown_by self.old.channels frame.now) }
     {
         let told = follow(&mut self.channels, frame)?;
         let failure = Failure::of(&told);
         let more = add_failure(&mut self.rows, failure)?;
         self.left_out = counted(self.left_out, more);
-        Ok(())
+        Ok(ShownTime::of(&told))
     }
 
     /// The channels, in the order in which they were heard first.

@@ -1,4 +1,4 @@
 mod Examples
 mod FailureExamples
-mod NodeExamples
+pub mod NodeExamples
 mod PaceExamples

@@ -1,13 +1,16 @@
 -- How often heartbeats should come, evaluated.
-use Rattle.std.proofs.Common.{ℕ, Option, [], ◌∷◌, ◌++◌, ◌≡◌, Some, None, true, false, refl}
+use Rattle.std.proofs.Common.{ℕ, Option, [], ◌∷◌, ◌≡◌, Some, None, true, false, refl}
 use Rattle.std.specs.Prelude.{List, codes}
 use Rattle.std.specs.Fmt.{digits}
 use Rattle.co_text.specs.Printed.{digits_text}
 use Rattle.conode_stats_counts.specs.declared.heartbeats.Heartbeats.{Heartbeats}
 use Rattle.conode_stats_text.specs.declared.pace.Pace.TheVariants.{Written, Sheet, Median}
+use Rattle.conode_stats_text.specs.declared.excerpt.Excerpt.{Excerpt}
+use Rattle.conode_stats_text.specs.declared.finding.Finding.TheVariants.{Silent, Late, Lost, Restarted}
 use Rattle.conode_stats_text.specs.Cells.{seconds, thousandths}
+use Rattle.conode_stats_text.specs.Findings.{is_listed, late_in, listed, lost_in, passed, silent_in}
 use Rattle.conode_stats_text.specs.StatsLines.{node_front}
-use Rattle.conode_stats_text.specs.Paces.{is_long, late_line, lost_line, median, pace_of, silent_line, usual_pace, wrong_in}
+use Rattle.conode_stats_text.specs.Paces.{is_long, late_line, lost_line, median, pace_of, silent_line, usual_pace}
 
 -- ---- the median
 
@@ -33,8 +36,8 @@ of_one = refl
 abbrev heartbeats : Option ℕ → ℕ → ℕ → List ℕ → Heartbeats
 heartbeats written late longest first = record { written = written; since = Some 1000000; late = late; longest_late = 151000; longest = longest; first = first }
 
-downloaded : pace_of (Some 300) (heartbeats (Some 100) 0 0 []) ≡ Some (Written 100)
-downloaded = refl
+recorded : pace_of (Some 300) (heartbeats (Some 100) 0 0 []) ≡ Some (Written 100)
+recorded = refl
 
 by_sheet : pace_of (Some 300) (heartbeats None 0 0 (200000 ∷ 200000 ∷ [])) ≡ Some (Sheet 300)
 by_sheet = refl
@@ -47,7 +50,7 @@ unknown : pace_of None (heartbeats None 0 0 (200000 ∷ [])) ≡ None
 unfolding median
 unknown = refl
 
--- for waits while no download showed the time
+-- for waits while no transfer showed the time
 usual : usual_pace (Some 300) (heartbeats (Some 100) 0 0 []) ≡ Some (Sheet 300)
 usual = refl
 
@@ -62,27 +65,79 @@ long = refl
 long_by_sheet : is_long (Sheet 200) 300001 ≡ true
 long_by_sheet = refl
 
-not_long_by_download : is_long (Written 200) 300000 ≡ false
-not_long_by_download = refl
+not_long_by_recording : is_long (Written 200) 300000 ≡ false
+not_long_by_recording = refl
 
 -- ---- what looks wrong
 
-nothing : wrong_in (codes "can0") 1300000 None 5 (heartbeats None 0 300000 (200000 ∷ 200000 ∷ [])) ≡ []
-unfolding wrong_in node_front median
-nothing = refl
+abbrev two : List ℕ
+two = 200000 ∷ 200000 ∷ []
 
-lost_by_median : wrong_in (codes "can0") 1300000 None 5 (heartbeats None 0 300001 (200000 ∷ 200000 ∷ []))
-    ≡ codes "  can0: node 5 heartbeats up to 300.001 ms apart, median 200.000 ms\n"
-unfolding wrong_in node_front lost_line median thousandths digits_text digits
+not_lost : lost_in None (heartbeats None 0 300000 two) ≡ None
+unfolding median
+not_lost = refl
+
+lost_by_median : lost_in None (heartbeats None 0 300001 two) ≡ Some (Lost 300001 (Median 200000))
+unfolding median
 lost_by_median = refl
 
-lost_by_sheet : wrong_in (codes "can0") 1150000 (Some 100) 5 (heartbeats None 0 300000 [])
-    ≡ codes "  can0: node 5 heartbeats up to 300.000 ms apart, 1017h of the sheet 100 ms\n"
-unfolding wrong_in node_front lost_line thousandths digits_text digits
+lost_by_sheet : lost_in (Some 100) (heartbeats None 0 150001 []) ≡ Some (Lost 150001 (Sheet 100))
 lost_by_sheet = refl
 
-silent_and_late : wrong_in (codes "can0") 1150001 None 5 (heartbeats (Some 100) 2 0 [])
-    ≡ codes "  can0: node 5 silent since 1.000000, 1017h as downloaded 100 ms\n"
-    ++ codes "  can0: node 5 heartbeats later than 1.5 times 1017h as downloaded: 2, up to 151.000 ms\n"
-unfolding wrong_in node_front silent_line late_line seconds thousandths median digits_text digits
-silent_and_late = refl
+not_lost_by_sheet : lost_in (Some 100) (heartbeats None 0 150000 []) ≡ None
+not_lost_by_sheet = refl
+
+not_silent : silent_in 1150000 None (heartbeats (Some 100) 2 0 []) ≡ None
+not_silent = refl
+
+silent : silent_in 1150001 None (heartbeats (Some 100) 2 0 []) ≡ Some (Silent 1000000 (Written 100))
+silent = refl
+
+late : late_in (heartbeats (Some 100) 2 0 []) ≡ Some (Late 2 151000)
+late = refl
+
+not_late : late_in (heartbeats (Some 100) 0 0 []) ≡ None
+not_late = refl
+
+-- ---- lines
+
+silent_by_recording : silent_line (codes "can0") 5 1000000 (Written 100) ≡ codes "  can0: node 5 silent since 1.000000, 1017h as recorded 100 ms\n"
+unfolding silent_line node_front seconds digits_text digits
+silent_by_recording = refl
+
+late_by_recording : late_line (codes "can0") 5 2 151000
+    ≡ codes "  can0: node 5 heartbeats later than 1.5 times 1017h as recorded: 2, up to 151.000 ms\n"
+unfolding late_line node_front thousandths digits_text digits
+late_by_recording = refl
+
+by_the_median : lost_line (codes "can0") 5 300001 (Median 200000) ≡ codes "  can0: node 5 heartbeats up to 300.001 ms apart, median 200.000 ms\n"
+unfolding lost_line node_front thousandths digits_text digits
+by_the_median = refl
+
+by_the_sheet : lost_line (codes "can0") 5 300000 (Sheet 100)
+    ≡ codes "  can0: node 5 heartbeats up to 300.000 ms apart, 1017h of the sheet 100 ms\n"
+unfolding lost_line node_front thousandths digits_text digits
+by_the_sheet = refl
+
+-- ---- which are listed: the second and the third
+
+abbrev excerpt : ℕ → Excerpt
+excerpt seen = record { seen = seen; from = 1; until = 3 }
+
+before : listed (excerpt 0) (codes "can0") 5 (Some (Restarted 2 1130000)) ≡ []
+before = refl
+
+first : is_listed (excerpt 1) ≡ true
+first = refl
+
+last : is_listed (excerpt 2) ≡ true
+last = refl
+
+after : is_listed (excerpt 3) ≡ false
+after = refl
+
+one_more : passed (excerpt 2) (Some (Restarted 2 1130000)) ≡ excerpt 3
+one_more = refl
+
+none_more : passed (excerpt 2) None ≡ excerpt 2
+none_more = refl

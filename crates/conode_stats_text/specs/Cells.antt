@@ -1,7 +1,7 @@
 -- Numbers in columns.
-use Rattle.std.specs.Prelude.{ℕ, ◌-◌, ◌/◌, ◌%◌, nat_le, ◌&&◌, if◌then◌else◌, List, ◌∷◌, [], ◌++◌, length, codes, decimal, replicate, Option, Some, None}
-use Rattle.std.specs.List.{flat_map}
-use Rattle.co_text.specs.Printed.{byte_text, digits_text}
+use Rattle.std.specs.Prelude.{ℕ, ◌-◌, ◌/◌, ◌%◌, List, ◌++◌, length, codes, decimal, replicate, Option, Some, None}
+use Rattle.co_text.specs.Printed.{digits_text}
+use Rattle.conode_explain_text.specs.Columns.{escaped_name}
 
 -- right-aligned in a column of this width
 abbrev pub right : ℕ → List ℕ → List ℕ
@@ -27,9 +27,6 @@ abbrev pub or_none : (ℕ → List ℕ) → Option ℕ → List ℕ
 or_none text None = codes "-"
 or_none text (Some number) = text number
 
--- a byte of a name; one that can't be printed is escaped, as `\x07`
-abbrev pub escaped : ℕ → List ℕ
-escaped byte = if nat_le 0x21 byte && nat_le byte 0x7E then byte ∷ [] else codes "\\x" ++ byte_text byte
-
+-- a name; bytes that can't be printed are escaped, as `\x07`
 abbrev pub name_text : List ℕ → List ℕ
-name_text name = flat_map escaped name
+name_text name = escaped_name name

@@ -1,18 +1,26 @@
 -- The lines of the page about SDO transfers that failed, or are open, and about EMCY messages.
-use Rattle.std.specs.Prelude.{ℕ, ◌-◌, ◌%◌, Bool, nat_lt, if◌then◌else◌, List, [], ◌∷◌, codes, decimal, Option, Some, None}
+use Rattle.std.specs.Prelude.{ℕ, ◌-◌, ◌%◌, ◌==◌, Bool, nat_lt, if◌then◌else◌, List, [], ◌∷◌, codes, decimal, Option, Some, None}
 use Rattle.std.specs.List.{concat}
 use Rattle.co_text.specs.Printed.{digits_text}
+use Rattle.co_value.specs.declared.key.Key.{Key}
 use Rattle.co_value.specs.KeyTexts.{key_text}
 use Rattle.conode_explain_transfers.specs.declared.ended.Ended.{Ended}
 use Rattle.conode_stats_counts.specs.declared.failure.FailureRow.{FailureRow}
 use Rattle.conode_stats_text.specs.Cells.{seconds}
 use Rattle.conode_stats_text.specs.StatsLines.{node_front}
 
--- how often something of a node came, in these words with a code, and the stamp of the last
+-- how often something of a node came, in these words with a code
+abbrev pub counted_front : List ℕ → FailureRow → List ℕ → List ℕ → List ℕ → List (List ℕ) → List (List ℕ)
+counted_front interface row front code after more =
+    node_front interface row.cause.node ∷ front ∷ code ∷ after ∷ decimal row.count ∷ more
+
+-- the same, and when: the stamps of the first and of the last, or the only one
 unfoldable pub counted_line : List ℕ → FailureRow → List ℕ → List ℕ → List ℕ → List ℕ
 counted_line interface row front code after =
-    concat (node_front interface row.cause.node ∷ front ∷ code ∷ after ∷ decimal row.count ∷ codes ", the last at " ∷ seconds row.last
-    ∷ codes "\n" ∷ [])
+    if row.first == row.last
+    then concat (counted_front interface row front code after (codes ", at " ∷ seconds row.last ∷ codes "\n" ∷ []))
+    else concat (counted_front interface row front code after (codes ", the first at " ∷ seconds row.first
+    ∷ codes ", the last at " ∷ seconds row.last ∷ codes "\n" ∷ []))
 
 -- transfers that failed, and why
 abbrev pub failure_by : List ℕ → FailureRow → Option ℕ → List ℕ
@@ -32,17 +40,11 @@ unfoldable pub emergency_line : List ℕ → FailureRow → List ℕ
 emergency_line interface row = emergency_by interface row row.cause.code
 
 -- a transfer of an entry that is open at the end, with the stamp of its newest frame
-unfoldable pub open_line : List ℕ → ℕ → Ended → List ℕ
-open_line interface node transfer =
-    concat (node_front interface node ∷ codes " SDO transfer of " ∷ key_text transfer.key ∷ codes " without a frame since " ∷ seconds transfer.newest
+unfoldable pub open_line : List ℕ → ℕ → Key → ℕ → List ℕ
+open_line interface node key since =
+    concat (node_front interface node ∷ codes " SDO transfer of " ∷ key_text key ∷ codes " without a frame since " ∷ seconds since
     ∷ codes "\n" ∷ [])
 
 -- whether it had no frame for more than a second
 abbrev pub is_waiting : ℕ → Ended → Bool
 is_waiting end transfer = nat_lt 1000000 (end - transfer.newest)
-
--- nothing of one with a frame in the last second
-abbrev pub open_in : List ℕ → ℕ → ℕ → Option Ended → List ℕ
-open_in interface node end None = []
-open_in interface node end (Some transfer) =
-    if is_waiting end transfer then open_line interface node transfer else []

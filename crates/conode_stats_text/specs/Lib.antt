@@ -1,12 +1,9 @@
 pub mod Cells
 pub mod FailureLines
-pub mod FailureTokens
 pub mod Figures
+pub mod Findings
 pub mod NodeLines
-pub mod NodeTokens
 pub mod Paces
-pub mod Parts
 pub mod Pieces
 pub mod SheetTimes
 pub mod StatsLines
-pub mod StatsTokens

@@ -18,14 +18,10 @@ state_word Unknown = codes "unknown"
 
 -- ---- what looks wrong
 
-unfoldable pub restart_line : List ℕ → ℕ → Node → List ℕ
-restart_line interface number node =
-    concat (node_front interface number ∷ codes " restarts without a reset command: " ∷ decimal node.restarts ∷ codes ", the last at "
-    ∷ seconds node.last_restart ∷ codes "\n" ∷ [])
-
--- nothing of a node without such restarts
-abbrev pub restarts_in : List ℕ → ℕ → Node → List ℕ
-restarts_in interface number node = if node.restarts == 0 then [] else restart_line interface number node
+unfoldable pub restart_line : List ℕ → ℕ → ℕ → ℕ → List ℕ
+restart_line interface number count last =
+    concat (node_front interface number ∷ codes " restarts without a reset command: " ∷ decimal count ∷ codes ", the last at "
+    ∷ seconds last ∷ codes "\n" ∷ [])
 
 -- ---- the table of nodes
 

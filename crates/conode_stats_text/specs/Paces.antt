@@ -1,6 +1,6 @@
 -- How often a node should send a heartbeat, and which waits were too long. Times are in
 -- microseconds, producer heartbeat times in milliseconds.
-use Rattle.std.specs.Prelude.{ℕ, ◌+◌, ◌-◌, ◌*◌, ◌/◌, ◌^◌, Bool, false, nat_le, nat_lt, min, fold, if◌then◌else◌, List, [], ◌∷◌, ◌++◌, codes, decimal, length, Option, Some, None}
+use Rattle.std.specs.Prelude.{ℕ, ◌+◌, ◌-◌, ◌*◌, ◌/◌, ◌^◌, Bool, nat_le, nat_lt, min, fold, if◌then◌else◌, List, [], ◌∷◌, codes, decimal, length, Option, Some, None}
 use Rattle.std.specs.List.{concat, count_by}
 use Rattle.conode_stats_counts.specs.declared.heartbeats.Heartbeats.{Heartbeats}
 use Rattle.conode_stats_counts.specs.Heartbeats.{is_late}
@@ -33,7 +33,7 @@ abbrev pub median_pace : Option ℕ → Option Pace
 median_pace None = None
 median_pace (Some gap) = Some (Median gap)
 
--- while no download shows the time: that of the sheet, or else the median of the first gaps
+-- while no transfer shows the time: that of the sheet, or else the median of the first gaps
 abbrev pub usual_pace : Option ℕ → Heartbeats → Option Pace
 usual_pace (Some time) heartbeats = Some (Sheet time)
 usual_pace None heartbeats = median_pace (median heartbeats.first)
@@ -56,7 +56,7 @@ is_long (Median median) gap = nat_lt (median + median / 2) gap
 
 -- to the end of the line
 abbrev pub pace_front : Pace → List ℕ
-pace_front (Written time) = codes ", 1017h as downloaded "
+pace_front (Written time) = codes ", 1017h as recorded "
 pace_front (Sheet time) = codes ", 1017h of the sheet "
 pace_front (Median median) = codes ", median "
 
@@ -74,38 +74,20 @@ lost_line interface node gap pace =
     concat (node_front interface node ∷ codes " heartbeats up to " ∷ thousandths gap ∷ codes " ms apart" ∷ pace_front pace ∷ pace_figure pace
     ∷ codes " ms\n" ∷ [])
 
-unfoldable pub late_line : List ℕ → ℕ → Heartbeats → List ℕ
-late_line interface node heartbeats =
-    concat (node_front interface node ∷ codes " heartbeats later than 1.5 times 1017h as downloaded: " ∷ decimal heartbeats.late
-    ∷ codes ", up to " ∷ thousandths heartbeats.longest_late ∷ codes " ms\n" ∷ [])
+unfoldable pub late_line : List ℕ → ℕ → ℕ → ℕ → List ℕ
+late_line interface node count gap =
+    concat (node_front interface node ∷ codes " heartbeats later than 1.5 times 1017h as recorded: " ∷ decimal count
+    ∷ codes ", up to " ∷ thousandths gap ∷ codes " ms\n" ∷ [])
 
 -- ---- what looks wrong
 
--- a node of which no heartbeat is known to be awaited isn't silent
-abbrev pub silent_in : List ℕ → ℕ → ℕ → Option Pace → Option ℕ → List ℕ
-silent_in interface end node (Some pace) (Some since) =
-    if is_long pace (end - since) then silent_line interface node since pace else []
-silent_in interface end node _ _ = []
-
-abbrev pub lost_in : List ℕ → ℕ → Option Pace → ℕ → List ℕ
-lost_in interface node (Some pace) gap = if is_long pace gap then lost_line interface node gap pace else []
-lost_in interface node None gap = []
-
-abbrev pub late_in : List ℕ → ℕ → Heartbeats → List ℕ
-late_in interface node heartbeats = if nat_lt 0 heartbeats.late then late_line interface node heartbeats else []
-
--- the same as numbers: the stamp since which it is silent, and the longest wait, if it is too long
+-- the stamp since which a node is silent at the end, if it is; one of which no heartbeat is known to
+-- be awaited isn't
 abbrev pub silent_since : ℕ → Option Pace → Option ℕ → Option ℕ
 silent_since end (Some pace) (Some since) = if is_long pace (end - since) then Some since else None
 silent_since end _ _ = None
 
+-- the longest wait, if it is too long
 abbrev pub lost_gap : Option Pace → ℕ → Option ℕ
 lost_gap (Some pace) gap = if is_long pace gap then Some gap else None
 lost_gap None gap = None
-
--- what looks wrong with the heartbeats of a node, if the bus's last frame has this stamp, and a
--- sheet this time
-unfoldable pub wrong_in : List ℕ → ℕ → Option ℕ → ℕ → Heartbeats → List ℕ
-wrong_in interface end sheet node heartbeats =
-    silent_in interface end node (pace_of sheet heartbeats) heartbeats.since
-    ++ late_in interface node heartbeats ++ lost_in interface node (usual_pace sheet heartbeats) heartbeats.longest

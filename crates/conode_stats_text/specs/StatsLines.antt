@@ -54,10 +54,15 @@ bus_line interface all =
 unfoldable pub node_front : List ℕ → ℕ → List ℕ
 node_front interface node = codes "  " ++ name_text interface ++ codes ": node " ++ decimal node
 
--- the line of other things, with their count
-unfoldable pub count_line : List ℕ → List ℕ → ℕ → List ℕ
-count_line front what count = concat (codes "  " ∷ front ∷ what ∷ codes ": " ∷ decimal count ∷ codes "\n" ∷ [])
+-- the line of other things of an interface, with their count
+unfoldable pub counts_line : List ℕ → List ℕ → ℕ → List ℕ
+counts_line interface what count =
+    concat (codes "  " ∷ name_text interface ∷ codes ": " ∷ what ∷ codes ": " ∷ decimal count ∷ codes "\n" ∷ [])
+
+-- of the whole recording
+unfoldable pub count_line : List ℕ → ℕ → List ℕ
+count_line what count = concat (codes "  " ∷ what ∷ codes ": " ∷ decimal count ∷ codes "\n" ∷ [])
 
 -- nothing for a count of 0
-abbrev pub if_any : List ℕ → List ℕ → ℕ → List ℕ
-if_any front what count = if count == 0 then [] else count_line front what count
+abbrev pub if_any : List ℕ → ℕ → List ℕ
+if_any what count = if count == 0 then [] else count_line what count

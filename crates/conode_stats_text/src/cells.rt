@@ -1,12 +1,9 @@
 //! Numbers in columns. Each function appends a text. `Err`: out of memory; a part of the text may
 //! be there.
 
-ghost use Rattle.std.specs.Prelude.{◌≡◌, ◌++◌, ◌<◌, ◌^◌, OnOk, List, ℕ, codes, string_bytes, replicate};
-ghost use Rattle.co_text.specs.Printed.{digits_text, printed_digit};
+ghost use Rattle.std.specs.Prelude.{◌≡◌, ◌++◌, OnOk, string_bytes, replicate};
 ghost use Rattle.conode_stats_text.specs.Cells.{
-  escaped,
   left,
-  name_text,
   or_none,
   right,
   seconds,
@@ -17,8 +14,8 @@ ghost use Rattle.std.specs.List.{flat_map};
 ghost use Rattle.conode_stats_text.specs.Pieces.{cell_text, shown_text};
 ghost use Rattle.conode_stats_text.specs.StatsLines.{id_text};
 
-use arrayvec::ArrayString;
-use co_text::{push_byte, push_decimal, push_digit, push_u32};
+use co_text::{push_decimal, push_digit, push_u32};
+use conode_explain_text::{push_micros, push_name};
 use std::alloc::AllocError;
 
 /// A cell of a table, or what is between two. Figures are at the right of a column of a width.
@@ -60,53 +57,18 @@ fn push_left(text: &mut String, width: usize, cell: &str) -> Result<(), AllocErr
     push_blanks(text, width.saturating_sub(cell.len()))
 }
 
-fn decimal_char(digit: u32) -> char
-    requires { digit < 10 }
-    ensures value { result ≡ printed_digit digit }
-    ensures ascii { result < 128 }
-{
-    (b'0' + digit as u8) as char
-}
-
-// a point and three digits
-#[tactic(auto, unfolding(co_text::specs::Printed::digits_text))]
-fn three_places(number: u32) -> ArrayString<4>
-    requires { number < 10 ^ 3 }
-    ensures { result.bytes ≡ codes "." ++ digits_text 10 3 number }
-{
-    let mut places = ArrayString::new();
-    places.push('.');
-    places.push(decimal_char(number / 10 / 10 % 10));
-    places.push(decimal_char(number / 10 % 10));
-    places.push(decimal_char(number % 10));
-    places
-}
-
-// a point and six digits
-#[tactic(auto, unfolding(co_text::specs::Printed::digits_text))]
-fn six_places(number: u32) -> ArrayString<7>
-    requires { number < 10 ^ 6 }
-    ensures { result.bytes ≡ codes "." ++ digits_text 10 6 number }
-{
-    let mut places = ArrayString::new();
-    places.push('.');
-    places.push(decimal_char(number / 10 / 10 / 10 / 10 / 10 % 10));
-    places.push(decimal_char(number / 10 / 10 / 10 / 10 % 10));
-    places.push(decimal_char(number / 10 / 10 / 10 % 10));
-    places.push(decimal_char(number / 10 / 10 % 10));
-    places.push(decimal_char(number / 10 % 10));
-    places.push(decimal_char(number % 10));
-    places
-}
-
 /// Appends a number of thousandths, as `1.234`.
-#[tactic(auto, unfolding(crate::specs::Cells::thousandths))]
+#[tactic(auto, unfolding(crate::specs::Cells::thousandths, co_text::specs::Printed::digits_text))]
 pub(crate) fn push_thousandths(text: &mut String, number: u64) -> Result<(), AllocError>
     ensures { OnOk result
         (string_bytes text.new ≡ string_bytes text.old ++ thousandths number) }
 {
+    let places = number % 1000;
     push_decimal(text, number / 1000)?;
-    text.push_str(three_places((number % 1000) as u32).as_str())
+    text.push('.')?;
+    push_digit(text, (places / 10 / 10 % 10) as u8)?;
+    push_digit(text, (places / 10 % 10) as u8)?;
+    push_digit(text, (places % 10) as u8)
 }
 
 // a number of tenths, as `1.2`
@@ -125,7 +87,8 @@ pub(crate) fn push_seconds(text: &mut String, micros: u64) -> Result<(), AllocEr
     ensures { OnOk result (string_bytes text.new ≡ string_bytes text.old ++ seconds micros) }
 {
     push_decimal(text, micros / 1_000_000)?;
-    text.push_str(six_places((micros % 1_000_000) as u32).as_str())
+    text.push('.')?;
+    push_micros(text, (micros % 1_000_000) as u32)
 }
 
 /// Appends a number of tenths, or a hyphen for `None`.
@@ -149,34 +112,15 @@ fn push_thousandths_in(text: &mut String, number: Option<u64>) -> Result<(), All
     }
 }
 
-fn push_escaped(text: &mut String, byte: u8) -> Result<(), AllocError>
-    ensures { OnOk result (string_bytes text.new ≡ string_bytes text.old ++ escaped byte) }
-{
-    if (0x21..=0x7E).contains(&byte) {
-        return text.push(byte as char);
-    }
-    text.push_str("\\x")?;
-    push_byte(text, byte)
-}
-
-/// Appends a name; bytes that can't be printed are escaped, as `\x07`.
-pub(crate) fn push_name(text: &mut String, name: &[u8]) -> Result<(), AllocError>
-    ensures { OnOk result (string_bytes text.new ≡ string_bytes text.old ++ name_text name.now) }
-{
-    for byte in name {
-        push_escaped(text, *byte)?;
-    }
-    Ok(())
-}
-
 /// Appends an identifier.
 #[tactic(auto, unfolding(crate::specs::StatsLines::id_text, co_text::specs::Printed::digits_text))]
-pub(crate) fn push_id(text: &mut String, id: u32) -> Result<(), AllocError>
+pub fn push_id(text: &mut String, id: u32) -> Result<(), AllocError>
     ensures { OnOk result (string_bytes text.new ≡ string_bytes text.old ++ id_text id) }
 {
     if id < 0x800 {
-        push_digit(text, (id / 256) as u8)?;
-        push_byte(text, (id % 256) as u8)
+        push_digit(text, (id / 16 / 16 % 16) as u8)?;
+        push_digit(text, (id / 16 % 16) as u8)?;
+        push_digit(text, (id % 16) as u8)
     } else {
         push_u32(text, id % 0x8000_0000)
     }

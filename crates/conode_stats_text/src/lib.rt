@@ -1,21 +1,21 @@
-//! The statistics of buses, as a page of text and as JSON.
+//! The statistics of buses, as a page of text.
 #![tactic(auto)]
 
 mod cells;
-mod failure_tokens;
-mod failures;
+mod excerpt;
 mod figures;
+mod finding;
 mod lines;
-mod node_tokens;
 mod nodes;
 mod pace;
 mod page;
-mod parts;
 mod pieces;
 mod sheet_times;
-mod tokens;
 mod wrong;
 
-pub use page::{Page, set_page};
-pub use sheet_times::SheetTime;
-pub use tokens::put_page;
+pub use cells::push_id;
+pub use finding::{Kind, is_waiting};
+pub use nodes::{is_shown, state_word};
+pub use pace::{Pace, lost_gap, median, silent_since};
+pub use page::{Page, set_page, sorted_rows};
+pub use sheet_times::{SheetTime, sheet_time};

@@ -2,7 +2,15 @@
 //! memory; a part of the text may be there.
 
 ghost use Rattle.std.specs.Prelude.{◌≡◌, ◌++◌, ◌≤◌, OnOk, string_bytes};
-ghost use Rattle.conode_stats_text.specs.StatsLines.{bus_line, busiest_part, if_any, load_front, load_line, load_word, row_line};
+ghost use Rattle.conode_stats_text.specs.StatsLines.{
+  bus_line,
+  busiest_part,
+  if_any,
+  load_front,
+  load_line,
+  load_word,
+  row_line,
+};
 
 use crate::cells::{Cell, push_cells};
 use crate::figures::{gap_of, mean, ratio, room_in};
@@ -125,14 +133,9 @@ pub(crate) fn push_bus(text: &mut String, interface: &[u8], all: &Tally) -> Resu
 
 /// Appends how many there are of something, if there are any.
 #[tactic(auto, unfolding(crate::specs::StatsLines::count_line))]
-pub(crate) fn push_count<'p>(
-    text: &mut String,
-    front: &'p str,
-    what: &'p str,
-    count: u64,
-) -> Result<(), AllocError>
+pub(crate) fn push_count(text: &mut String, what: &str, count: u64) -> Result<(), AllocError>
     ensures { OnOk result (string_bytes text.new
-        ≡ string_bytes text.old ++ if_any front.now what.now count) }
+        ≡ string_bytes text.old ++ if_any what.now count) }
 {
     if count == 0 {
         return Ok(());
@@ -141,7 +144,6 @@ pub(crate) fn push_count<'p>(
         text,
         &[
             Piece::Words("  "),
-            Piece::Words(front),
             Piece::Words(what),
             Piece::Words(": "),
             Piece::Number(count),

@@ -7,18 +7,16 @@ ghost use Rattle.conode_stats_text.specs.NodeLines.{
   is_shown,
   millis_of,
   node_in,
-  restarts_in,
   shown_word,
   state_word,
 };
 
 use crate::cells::{Cell, push_cells};
-use crate::pieces::{Piece, push_pieces};
 use conode_stats_counts::{NmtState, Node, Shown};
 use std::alloc::AllocError;
 
 /// The words of a state.
-pub(crate) fn state_word(state: NmtState) -> &'static str
+pub fn state_word(state: NmtState) -> &'static str
     ensures { result.now ≡ state_word state }
 {
     match state {
@@ -28,33 +26,6 @@ pub(crate) fn state_word(state: NmtState) -> &'static str
         NmtState::Stopped => "stopped",
         NmtState::Unknown => "unknown",
     }
-}
-
-/// Appends how often a node restarted without a command, if it did.
-#[tactic(auto, unfolding(crate::specs::NodeLines::restart_line))]
-pub(crate) fn push_restarts(
-    text: &mut String,
-    interface: &[u8],
-    number: u32,
-    node: &Node,
-) -> Result<(), AllocError>
-    ensures { OnOk result (string_bytes text.new
-        ≡ string_bytes text.old ++ restarts_in interface.now number node.now) }
-{
-    if node.restarts == 0 {
-        return Ok(());
-    }
-    push_pieces(
-        text,
-        &[
-            Piece::Node(interface, number),
-            Piece::Words(" restarts without a reset command: "),
-            Piece::Number(node.restarts),
-            Piece::Words(", the last at "),
-            Piece::Seconds(node.last_restart),
-            Piece::Words("\n"),
-        ],
-    )
 }
 
 fn millis_of(end: u64, micros: u64) -> Option<u64>
@@ -79,7 +50,7 @@ fn shown_word(last: Option<Shown>) -> &'static str
 }
 
 /// Whether a node has a line: it sent a frame of error control, or an answer.
-pub(crate) fn is_shown(node: &Node) -> bool
+pub fn is_shown(node: &Node) -> bool
     ensures { result ≡ is_shown node.now }
 {
     node.last.is_some() || node.longest_answer.is_some()

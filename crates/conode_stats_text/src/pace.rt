@@ -20,8 +20,8 @@ use conode_stats_counts::{Heartbeats, is_late};
 
 /// How often a node should send a heartbeat.
 #[derive(Clone, Copy)]
-pub(crate) enum Pace {
-    /// The producer heartbeat time in ms, 1017:00, that a download in the recording set.
+pub enum Pace {
+    /// The producer heartbeat time in ms, 1017:00, that a transfer in the recording shows.
     Written(u16),
     /// The same in ms, by a data sheet.
     Sheet(u16),
@@ -40,7 +40,7 @@ fn is_half(gaps: &[u64], gap: u64) -> bool
 /// The median: the shortest gap such that half of the gaps, or more, are no longer; `None` if there
 /// are fewer than two.
 #[tactic(auto, unfolding(crate::specs::Paces::median))]
-pub(crate) fn median(gaps: &[u64]) -> Option<u64>
+pub fn median(gaps: &[u64]) -> Option<u64>
     ensures { result ≡ median gaps.now }
 {
     if gaps.len() < 2 {
@@ -65,9 +65,9 @@ fn median_pace(median: Option<u64>) -> Option<Pace>
 }
 
 impl Pace {
-    /// How often a node should send a heartbeat while no download shows it; by a sheet's time, if
+    /// How often a node should send a heartbeat while no transfer shows it; by a sheet's time, if
     /// there is one.
-    pub(crate) fn usual(sheet: Option<u16>, heartbeats: &Heartbeats) -> Option<Pace>
+    pub fn usual(sheet: Option<u16>, heartbeats: &Heartbeats) -> Option<Pace>
         ensures { result ≡ usual_pace sheet heartbeats.now }
     {
         match sheet {
@@ -77,7 +77,7 @@ impl Pace {
     }
 
     /// How often a node should send a heartbeat at the end.
-    pub(crate) fn of(sheet: Option<u16>, heartbeats: &Heartbeats) -> Option<Pace>
+    pub fn of(sheet: Option<u16>, heartbeats: &Heartbeats) -> Option<Pace>
         ensures { result ≡ pace_of sheet heartbeats.now }
     {
         match heartbeats.written {
@@ -104,7 +104,7 @@ impl Pace {
         ensures { result.now ≡ pace_front self }
     {
         match self {
-            Pace::Written(_) => ", 1017h as downloaded ",
+            Pace::Written(_) => ", 1017h as recorded ",
             Pace::Sheet(_) => ", 1017h of the sheet ",
             Pace::Median(_) => ", median ",
         }
@@ -122,7 +122,7 @@ impl Pace {
 }
 
 /// Since which stamp a node is silent at the end, a stamp too, if it is.
-pub(crate) fn silent_since(end: u64, pace: Option<Pace>, since: Option<u64>) -> Option<u64>
+pub fn silent_since(end: u64, pace: Option<Pace>, since: Option<u64>) -> Option<u64>
     ensures { result ≡ silent_since end pace since }
 {
     match (pace, since) {
@@ -132,7 +132,7 @@ pub(crate) fn silent_since(end: u64, pace: Option<Pace>, since: Option<u64>) -> 
 }
 
 /// The longest wait for a heartbeat, if it is too long.
-pub(crate) fn lost_gap(pace: Option<Pace>, gap: u64) -> Option<u64>
+pub fn lost_gap(pace: Option<Pace>, gap: u64) -> Option<u64>
     ensures { result ≡ lost_gap pace gap }
 {
     match pace {

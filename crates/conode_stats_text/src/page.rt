@@ -2,13 +2,14 @@
 
 ghost use Rattle.std.specs.Prelude.{◌≤◌, IfSome};
 
-use crate::failures::{push_emergency, push_failure, push_open};
+use crate::excerpt::Excerpt;
+use crate::finding::{Kind, open_finding};
 use crate::lines::{push_bus, push_count, push_load, push_row};
-use crate::nodes::{is_shown, push_node_in, push_restarts};
+use crate::nodes::{is_shown, push_node_in};
 use crate::pieces::{Piece, push_pieces};
 use crate::sheet_times::{SheetTime, sheet_time};
-use crate::wrong::push_wrong_in;
-use conode_stats_counts::{Bus, Counts, Row};
+use crate::wrong::push_listed;
+use conode_stats_counts::{Bus, Counts, FailureRow, Row};
 use std::alloc::{AllocError, Global};
 
 /// The contents of the page.
@@ -33,184 +34,175 @@ const HEAD: &str =
 const NODE_HEAD: &str =
     "interface            node     boot-ups    restarts    boot-up s  pre-operational s  operational s    stopped s    unknown s  longest answer ms  at the end\n";
 
-/// The words about SDO transfers without a line.
-const MORE_FAILURES: &str = "SDO transfers that failed with further nodes and codes";
-
-/// The words about EMCY messages without a line.
-const MORE_EMERGENCIES: &str = "EMCY messages of further nodes and codes";
-
-/// The words about frames without a row, and about frames without a bus.
-const MORE_IDENTIFIERS: &str = "frames of more than 4,096 identifiers, not in the table";
-
+/// The words about frames without a bus.
 const MORE_INTERFACES: &str = "frames of more than 16 interfaces, not counted";
 
-/// Bits 29 and 31 of the number of an identifier: an error frame, and one of 29 bits.
-const ERROR_FRAME: u32 = 0x2000_0000;
+/// What looks wrong, in the order of the page.
+const KINDS: [Kind; 12] = [
+    Kind::Silence,
+    Kind::Lateness,
+    Kind::Loss,
+    Kind::Restarts,
+    Kind::Failures,
+    Kind::Waits,
+    Kind::Emergencies,
+    Kind::StepsBack,
+    Kind::ErrorFrames,
+    Kind::MoreFailures,
+    Kind::MoreEmergencies,
+    Kind::MoreIdentifiers,
+];
 
-const EXTENDED: u32 = 0x8000_0000;
+/// So many findings are all at the top of the page.
+const MOST_FINDINGS: u64 = 20;
 
-// whether a row is of error frames
-fn is_of_errors(row: &Row) -> bool {
-    row.can_id >= ERROR_FRAME && row.can_id < EXTENDED
-}
-
-// how many error frames there are
-fn error_frames(bus: &Bus) -> u64 {
-    let mut count: u64 = 0;
-    for row in bus.rows() {
-        if is_of_errors(row) {
-            count = count.saturating_add(row.tally.frames);
-        }
-    }
-    count
-}
+/// Of more than these so many of each kind.
+const MOST_OF_KIND: u64 = 2;
 
 /// The identifiers of a bus, the smallest first.
-pub(crate) fn sorted_rows(alloc: Global, bus: &Bus) -> Result<Vec<Row>, AllocError> {
+pub fn sorted_rows(alloc: Global, bus: &Bus) -> Result<Vec<Row>, AllocError> {
     let mut rows = bus.rows().to_vec(alloc)?;
     rows.sort_by_key(|row| row.can_id)?;
     Ok(rows)
 }
 
-// the restarts on a bus
-fn push_restarts_on(text: &mut String, bus: &Bus) -> Result<(), AllocError> {
-    for number in 1..128u32 {
-        if let Some(node) = bus.nodes().get(number as usize) {
-            push_restarts(text, bus.interface(), number, node)?;
-        }
-    }
-    Ok(())
-}
-
-// the SDO transfers with a node that failed
-fn push_failures_of(text: &mut String, bus: &Bus, node: u8) -> Result<(), AllocError> {
-    for row in bus.transfers().rows() {
-        if row.cause.node == node {
-            push_failure(text, bus.interface(), row)?;
-        }
-    }
-    Ok(())
-}
-
-// the SDO transfers that failed on a bus, by node
-fn push_failures_on(text: &mut String, bus: &Bus) -> Result<(), AllocError> {
-    for node in 1..128u8 {
-        push_failures_of(text, bus, node)?;
-    }
-    Ok(())
-}
-
-// the SDO transfers that are open on a bus
-fn push_open_on(text: &mut String, bus: &Bus) -> Result<(), AllocError> {
-    let end = bus.all().last;
-    for track in bus.transfers().channels() {
-        let transfer = track.channel.unfinished(end);
-        push_open(text, bus.interface(), u32::from(track.node), end, &transfer)?;
-    }
-    Ok(())
-}
-
-// the EMCY messages of a node
-fn push_emergencies_of(text: &mut String, bus: &Bus, node: u8) -> Result<(), AllocError> {
-    for row in bus.emergencies().rows() {
-        if row.cause.node == node {
-            push_emergency(text, bus.interface(), row)?;
-        }
-    }
-    Ok(())
-}
-
-// the EMCY messages on a bus, by node
-fn push_emergencies_on(text: &mut String, bus: &Bus) -> Result<(), AllocError> {
-    for node in 1..128u8 {
-        push_emergencies_of(text, bus, node)?;
-    }
-    Ok(())
-}
-
-// the heartbeats that look wrong on a bus
-fn push_heartbeats_on(
+// what looks wrong in one way with the nodes of a bus, by node
+fn push_nodes_wrong(
     text: &mut String,
+    excerpt: &mut Excerpt,
     sheets: &[SheetTime<'_>],
     bus: &Bus,
+    kind: Kind,
 ) -> Result<(), AllocError> {
     let end = bus.all().last;
     for number in 1..128u8 {
         if let Some(node) = bus.nodes().get(usize::from(number)) {
             let time = sheet_time(sheets, bus.interface(), number);
-            let heartbeats = &node.heartbeats;
-            push_wrong_in(
-                text,
-                bus.interface(),
-                end,
-                time,
-                u32::from(number),
-                heartbeats,
-            )?;
+            let finding = kind.of_node(end, time, node);
+            push_listed(text, excerpt, bus.interface(), u32::from(number), &finding)?;
         }
     }
     Ok(())
 }
 
-// how many there are of each of these, if there are any
-fn push_counts(text: &mut String, front: &str, counts: &[(&str, u64)]) -> Result<(), AllocError> {
-    for (what, count) in counts {
-        push_count(text, front, *what, *count)?;
+// the rows of a node
+fn push_rows_of(
+    text: &mut String,
+    excerpt: &mut Excerpt,
+    interface: &[u8],
+    rows: &[FailureRow],
+    kind: Kind,
+    node: u8,
+) -> Result<(), AllocError> {
+    for row in rows {
+        if row.cause.node == node {
+            let finding = kind.of_row(row);
+            push_listed(text, excerpt, interface, u32::from(node), &finding)?;
+        }
     }
     Ok(())
 }
 
-// what else looks wrong on a bus
-fn push_counts_on(text: &mut String, cell: &mut String, bus: &Bus) -> Result<(), AllocError> {
-    cell.clear();
-    push_pieces(cell, &[Piece::Name(bus.interface()), Piece::Words(": ")])?;
-    push_counts(
-        text,
-        cell.as_str(),
-        &[
-            (MORE_FAILURES, bus.transfers().left_out()),
-            (MORE_EMERGENCIES, bus.emergencies().left_out()),
-            ("error frames", error_frames(bus)),
-            ("stamps that step back", bus.all().steps_back),
-            (MORE_IDENTIFIERS, bus.left_out()),
-        ],
-    )
+// the SDO transfers that failed on a bus, or its EMCY messages, by node
+fn push_rows_wrong(
+    text: &mut String,
+    excerpt: &mut Excerpt,
+    interface: &[u8],
+    rows: &[FailureRow],
+    kind: Kind,
+) -> Result<(), AllocError> {
+    for node in 1..128u8 {
+        push_rows_of(text, excerpt, interface, rows, kind, node)?;
+    }
+    Ok(())
 }
 
-// what looks wrong on a bus
-fn push_wrong_on(
+// the SDO transfers that are open on a bus
+fn push_open_on(text: &mut String, excerpt: &mut Excerpt, bus: &Bus) -> Result<(), AllocError> {
+    let end = bus.all().last;
+    for track in bus.transfers().channels() {
+        let finding = open_finding(end, &track.channel.unfinished(end));
+        let node = u32::from(track.node);
+        push_listed(text, excerpt, bus.interface(), node, &finding)?;
+    }
+    Ok(())
+}
+
+// what looks wrong in one way on a bus
+fn push_kind_on(
     text: &mut String,
-    cell: &mut String,
+    excerpt: &mut Excerpt,
     sheets: &[SheetTime<'_>],
     bus: &Bus,
+    kind: Kind,
 ) -> Result<(), AllocError> {
-    push_restarts_on(text, bus)?;
-    push_failures_on(text, bus)?;
-    push_open_on(text, bus)?;
-    push_emergencies_on(text, bus)?;
-    push_heartbeats_on(text, sheets, bus)?;
-    push_counts_on(text, cell, bus)
+    let interface = bus.interface();
+    match kind {
+        Kind::Silence | Kind::Lateness | Kind::Loss | Kind::Restarts => {
+            push_nodes_wrong(text, excerpt, sheets, bus, kind)
+        }
+        Kind::Failures => push_rows_wrong(text, excerpt, interface, bus.transfers().rows(), kind),
+        Kind::Waits => push_open_on(text, excerpt, bus),
+        Kind::Emergencies => {
+            push_rows_wrong(text, excerpt, interface, bus.emergencies().rows(), kind)
+        }
+        _ => push_listed(text, excerpt, interface, 0, &kind.of_bus(bus)),
+    }
 }
 
-// all that looks wrong
-fn push_all_wrong(text: &mut String, cell: &mut String, page: &Page<'_>) -> Result<(), AllocError> {
+// what looks wrong in one way, by bus
+fn push_kind(
+    text: &mut String,
+    excerpt: &mut Excerpt,
+    page: &Page<'_>,
+    kind: Kind,
+) -> Result<(), AllocError> {
+    for bus in page.counts.buses() {
+        push_kind_on(text, excerpt, page.sheets, bus, kind)?;
+    }
+    Ok(())
+}
+
+// What looks wrong, of each kind from a place until another, and how many more there are; nothing
+// until place 0. Returns how many there are of all kinds.
+fn push_findings(
+    text: &mut String,
+    page: &Page<'_>,
+    from: u64,
+    until: u64,
+) -> Result<u64, AllocError> {
+    let mut all: u64 = 0;
+    for kind in &KINDS {
+        let mut excerpt = Excerpt::new(from, until);
+        push_kind(text, &mut excerpt, page, *kind)?;
+        if 0 < until {
+            push_count(text, kind.further(), excerpt.left())?;
+        }
+        all = all.saturating_add(excerpt.seen);
+    }
+    Ok(all)
+}
+
+// all that looks wrong, so many of each kind
+fn push_all_wrong(text: &mut String, page: &Page<'_>, most: u64) -> Result<(), AllocError> {
     text.push_str("What looks wrong\n")?;
     let before = text.len();
-    for bus in page.counts.buses() {
-        push_wrong_on(text, cell, page.sheets, bus)?;
-    }
-    push_counts(
-        text,
-        "",
-        &[
-            ("bad lines", page.bad),
-            (MORE_INTERFACES, page.counts.left_out()),
-        ],
-    )?;
+    push_findings(text, page, 0, most)?;
+    push_count(text, "bad lines", page.bad)?;
+    push_count(text, MORE_INTERFACES, page.counts.left_out())?;
     if text.len() == before {
         return text.push_str("  nothing\n");
     }
     Ok(())
+}
+
+// the rest of what looks wrong, after so many of each kind
+fn push_further(text: &mut String, page: &Page<'_>, most: u64) -> Result<(), AllocError> {
+    text.push_str("More of what looks wrong\n")?;
+    match push_findings(text, page, most, u64::MAX) {
+        Ok(_) => Ok(()),
+        Err(fault) => Err(fault),
+    }
 }
 
 // the frames of a bus, and how busy it is
@@ -240,11 +232,6 @@ fn push_front(text: &mut String, bus: &Bus, bit_rate: Option<u32>) -> Result<(),
     )
 }
 
-// whether a node has a line
-fn has_nodes(bus: &Bus) -> bool {
-    bus.nodes().iter().any(|node| is_shown(node))
-}
-
 // the nodes of a bus, by node-ID
 fn push_nodes(text: &mut String, cell: &mut String, bus: &Bus) -> Result<(), AllocError> {
     let end = bus.all().last;
@@ -256,19 +243,7 @@ fn push_nodes(text: &mut String, cell: &mut String, bus: &Bus) -> Result<(), All
     Ok(())
 }
 
-// the table of nodes, if there is any
-fn push_all_nodes(text: &mut String, cell: &mut String, page: &Page<'_>) -> Result<(), AllocError> {
-    if !page.counts.buses().iter().any(|bus| has_nodes(bus)) {
-        return Ok(());
-    }
-    text.push_str(NODE_HEAD)?;
-    for bus in page.counts.buses() {
-        push_nodes(text, cell, bus)?;
-    }
-    Ok(())
-}
-
-// the identifiers of an interface
+// identifiers of an interface
 fn push_rows(
     text: &mut String,
     cell: &mut String,
@@ -292,33 +267,66 @@ fn push_rows_on(
     push_rows(text, cell, bus.interface(), rows.as_slice())
 }
 
-// the table of identifiers
-fn push_all_rows(
+/// A table of the page, whose lines are by bus.
+#[derive(Clone, Copy)]
+enum Table {
+    Buses,
+    Nodes,
+    Identifiers,
+}
+
+impl Table {
+    fn head(self) -> &'static str {
+        match self {
+            Table::Buses => "Buses\n",
+            Table::Nodes => NODE_HEAD,
+            Table::Identifiers => HEAD,
+        }
+    }
+}
+
+// the lines of a table that a bus has
+fn push_table_on(
+    alloc: Global,
+    text: &mut String,
+    cell: &mut String,
+    table: Table,
+    bus: &Bus,
+    bit_rate: Option<u32>,
+) -> Result<(), AllocError>
+    requires { IfSome bit_rate (λ rate. rate ≤ 1000000) }
+{
+    match table {
+        Table::Buses => push_front(text, bus, bit_rate),
+        Table::Nodes => push_nodes(text, cell, bus),
+        Table::Identifiers => push_rows_on(alloc, text, cell, bus),
+    }
+}
+
+// a table; `cell` is scratch space
+fn push_table(
     alloc: Global,
     text: &mut String,
     cell: &mut String,
     page: &Page<'_>,
-) -> Result<(), AllocError> {
-    text.push_str(HEAD)?;
-    for bus in page.counts.buses() {
-        push_rows_on(alloc, text, cell, bus)?;
-    }
-    Ok(())
-}
-
-// the buses
-fn push_buses(text: &mut String, page: &Page<'_>) -> Result<(), AllocError>
+    table: Table,
+) -> Result<(), AllocError>
     requires { IfSome page.now.bit_rate (λ rate. rate ≤ 1000000) }
 {
-    text.push_str("Buses\n")?;
+    text.push_str(table.head())?;
     for bus in page.counts.buses() {
-        push_front(text, bus, page.bit_rate)?;
+        push_table_on(alloc, text, cell, table, bus, page.bit_rate)?;
     }
     Ok(())
 }
 
-// the page; `cell` is scratch space
-fn push_page(
+// whether a node has a line
+fn has_nodes(bus: &Bus) -> bool {
+    bus.nodes().iter().any(|node| is_shown(node))
+}
+
+// the tables; `cell` is scratch space
+fn push_tables(
     alloc: Global,
     text: &mut String,
     cell: &mut String,
@@ -326,18 +334,28 @@ fn push_page(
 ) -> Result<(), AllocError>
     requires { IfSome page.now.bit_rate (λ rate. rate ≤ 1000000) }
 {
-    push_all_wrong(text, cell, page)?;
-    push_buses(text, page)?;
-    push_all_nodes(text, cell, page)?;
-    push_all_rows(alloc, text, cell, page)
+    push_table(alloc, text, cell, page, Table::Buses)?;
+    if page.counts.buses().iter().any(|bus| has_nodes(bus)) {
+        push_table(alloc, text, cell, page, Table::Nodes)?;
+    }
+    push_table(alloc, text, cell, page, Table::Identifiers)
 }
 
-/// Sets the text to the page: what looks wrong, the buses, their nodes, and their identifiers.
-/// `Err`: out of memory; the text is then any part of the page.
+/// Sets the text to the page: what looks wrong, the buses, their nodes, and their identifiers. So
+/// that 24 lines show each kind of what looks wrong, only two findings of a kind are at the top
+/// where there are more than 20 in all; the others are then at the end. `Err`: out of memory; the
+/// text is then any part of the page.
 pub fn set_page(alloc: Global, text: &mut String, page: &Page<'_>) -> Result<(), AllocError>
     requires { IfSome page.now.bit_rate (λ rate. rate ≤ 1000000) }
 {
     let mut cell = String::new(alloc);
     text.clear();
-    push_page(alloc, text, &mut cell, page)
+    let is_long = MOST_FINDINGS < push_findings(text, page, 0, 0)?;
+    let most = if is_long { MOST_OF_KIND } else { u64::MAX };
+    push_all_wrong(text, page, most)?;
+    push_tables(alloc, text, &mut cell, page)?;
+    if is_long {
+        return push_further(text, page, most);
+    }
+    Ok(())
 }

@@ -6,10 +6,11 @@ ghost use Rattle.std.specs.List.{flat_map};
 ghost use Rattle.conode_stats_text.specs.Pieces.{piece_text};
 ghost use Rattle.conode_stats_text.specs.StatsLines.{node_front};
 
-use crate::cells::{push_name, push_seconds, push_tenths_in, push_thousandths};
+use crate::cells::{push_seconds, push_tenths_in, push_thousandths};
 use crate::figures::ratio;
 use co_text::{push_decimal, push_u16, push_u32};
 use co_value::Key;
+use conode_explain_text::push_name;
 use std::alloc::AllocError;
 
 /// A piece of a line.

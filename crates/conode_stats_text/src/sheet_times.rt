@@ -77,7 +77,7 @@ fn time_by(
 /// The producer heartbeat time of a node on an interface, in ms, if a sheet has it: one for the node
 /// comes before one for each node, and of those one for the interface.
 #[tactic(auto, unfolding(crate::specs::SheetTimes::sheet_time))]
-pub(crate) fn sheet_time(sheets: &[SheetTime<'_>], interface: &[u8], node: u8) -> Option<u16>
+pub fn sheet_time(sheets: &[SheetTime<'_>], interface: &[u8], node: u8) -> Option<u16>
     ensures { result ≡ sheet_time interface.now node sheets.now }
 {
     time_by(sheets, true, true, interface, node)

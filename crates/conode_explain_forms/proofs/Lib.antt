@@ -1,0 +1,4 @@
+pub mod Examples
+pub mod JsonExamples
+pub mod JsonLemmas
+pub mod Readings

@@ -1,0 +1,92 @@
+//! Interface, identifier, length and data of a frame as members.
+
+ghost use Rattle.std.specs.Prelude.{◌≡◌, ◌≤◌, ◌++◌, OnOk, string_bytes, length};
+ghost use Rattle.std.specs.List.{flat_map};
+ghost use Rattle.conode_record.specs.Grammar.{IsIdentifier};
+ghost use Rattle.conode_explain_text.specs.Lines.{content, identifier, interface_parts};
+ghost use Rattle.conode_explain_forms.specs.JsonLines.{content_members, data_members, part_tokens};
+
+use co_text::push_bytes;
+use conode_explain_text::{push_id, push_name};
+use conode_json::JsonWriter;
+use conode_record::{Content, Identifier};
+use std::alloc::{AllocError, Global};
+
+/// The interface, where the line names it.
+pub(crate) fn put_interface(
+    alloc: Global,
+    writer: &mut JsonWriter,
+    shows: bool,
+    name: &[u8],
+) -> Result<(), AllocError>
+    ensures { OnOk result
+        (writer.new ≡ writer.old ++ flat_map part_tokens (interface_parts shows name.now)) }
+{
+    if !shows {
+        return Ok(());
+    }
+    let mut text = String::new(alloc);
+    push_name(&mut text, name)?;
+    writer.put_text("interface", text.as_str())
+}
+
+/// The identifier.
+pub(crate) fn put_id(
+    alloc: Global,
+    writer: &mut JsonWriter,
+    id: Identifier,
+) -> Result<(), AllocError>
+    requires { IsIdentifier id }
+    ensures { OnOk result (writer.new ≡ writer.old ++ part_tokens (identifier id)) }
+{
+    let mut text = String::new(alloc);
+    push_id(&mut text, id)?;
+    writer.put_text("id", text.as_str())?;
+    match id {
+        Identifier::Base(_) | Identifier::Extended(_) => Ok(()),
+        Identifier::Error(_) => writer.put_flag("error", true),
+    }
+}
+
+#[tactic(auto, unfolding(crate::specs::JsonLines::data_members))]
+fn put_data(
+    alloc: Global,
+    writer: &mut JsonWriter,
+    count: usize,
+    bytes: &[u8],
+) -> Result<(), AllocError>
+    ensures { OnOk result (writer.new ≡ writer.old ++ data_members count bytes.now) }
+{
+    let mut digits = String::new(alloc);
+    push_bytes(&mut digits, bytes)?;
+    writer.put_number(alloc, "length", count as i128)?;
+    writer.put_numbers("data", bytes)?;
+    writer.put_text("raw", digits.as_str())
+}
+
+/// The length and the data of a frame.
+pub(crate) fn put_content(
+    alloc: Global,
+    writer: &mut JsonWriter,
+    has: &Content<'_>,
+) -> Result<(), AllocError>
+    ensures { OnOk result (writer.new ≡ writer.old ++ part_tokens (content has.now)) }
+{
+    match has {
+        Content::Data(bytes) => {
+            let bytes = bytes.to_list();
+            writer.put_text("frame", "data")?;
+            put_data(alloc, writer, bytes.len(), bytes.as_slice())
+        }
+        Content::Remote(count) => {
+            writer.put_text("frame", "remote")?;
+            put_data(alloc, writer, usize::from(*count), &[])
+        }
+        Content::Fd(flags, data) => {
+            writer.put_text("frame", "fd")?;
+            writer.put_number(alloc, "flags", i128::from(*flags))?;
+            let bytes = data.bytes();
+            put_data(alloc, writer, bytes.len(), bytes.as_slice())
+        }
+    }
+}

@@ -1,0 +1,227 @@
+//! The lines.
+
+ghost use Rattle.std.specs.Prelude.{◌≡◌, ◌++◌, ◌∷◌, [], ◌-ℤ◌, pos, IfOk, OnOk};
+ghost use Rattle.std.specs.List.{flat_map};
+ghost use Rattle.json.specs.Token.{begin_object, end_object};
+ghost use Rattle.conode_record.specs.Grammar.{IsIdentifier};
+ghost use Rattle.conode_explain_text.specs.Lines.{
+  gap,
+  interface_parts,
+  line_parts,
+  notes,
+  own_parts,
+  said,
+  stamp,
+};
+ghost use Rattle.conode_explain_text.specs.SoFar.{shows_interface, times_at};
+ghost use Rattle.conode_explain_forms.specs.JsonLines.{
+  front_tokens,
+  json_line,
+  kind_members,
+  part_tokens,
+  stamp_member,
+};
+
+use crate::json_content::{put_content, put_id, put_interface};
+use crate::kind_name::kind_name;
+use conode_explain_filter::Kind;
+use conode_explain_text::{Seen, StampForm, Times, push_moment};
+use conode_json::JsonWriter;
+use conode_record::Record;
+use std::alloc::{AllocError, Global};
+
+// the microseconds from one stamp to another
+fn between(from: u64, to: u64) -> i128
+    ensures { result ≡ pos to -ℤ pos from }
+{
+    i128::from(to) - i128::from(from)
+}
+
+#[tactic(auto, unfolding(crate::specs::JsonLines::stamp_member))]
+fn put_stamp(
+    alloc: Global,
+    writer: &mut JsonWriter,
+    form: StampForm,
+    times: Times,
+) -> Result<(), AllocError>
+    ensures { OnOk result (writer.new ≡ writer.old ++ stamp_member form times) }
+{
+    match form {
+        StampForm::Relative => writer.put_number(alloc, "stamp", between(times.first, times.now)),
+        StampForm::Absolute => writer.put_number(alloc, "stamp", i128::from(times.now)),
+        StampForm::Delta => writer.put_number(alloc, "stamp", between(times.before, times.now)),
+        StampForm::Date => {
+            let mut text = String::new(alloc);
+            push_moment(&mut text, times.now)?;
+            writer.put_text("stamp", text.as_str())
+        }
+    }
+}
+
+fn put_gap(alloc: Global, writer: &mut JsonWriter, times: Times) -> Result<(), AllocError>
+    ensures { OnOk result (writer.new ≡ writer.old ++ part_tokens (gap times)) }
+{
+    writer.put_number(alloc, "gap", between(times.before, times.now))
+}
+
+fn put_said(alloc: Global, writer: &mut JsonWriter, words: &[u8]) -> Result<(), AllocError>
+    ensures { OnOk result (writer.new ≡ writer.old ++ part_tokens (said words.now)) }
+{
+    writer.put_bytes(alloc, "text", words)
+}
+
+fn put_notes(writer: &mut JsonWriter, times: Times) -> Result<(), AllocError>
+    ensures { OnOk result (writer.new ≡ writer.old ++ flat_map part_tokens (notes times)) }
+{
+    if times.now < times.before {
+        writer.put_text("note", "the stamp steps back")
+    } else {
+        Ok(())
+    }
+}
+
+#[tactic(auto, unfolding(crate::specs::JsonLines::kind_members))]
+fn put_kind(
+    alloc: Global,
+    writer: &mut JsonWriter,
+    kind: Kind,
+    node: Option<u8>,
+) -> Result<(), AllocError>
+    ensures { OnOk result (writer.new ≡ writer.old ++ kind_members kind node) }
+{
+    writer.put_text("kind", kind_name(kind))?;
+    match node {
+        Some(node) => writer.put_number(alloc, "node", i128::from(node)),
+        None => Ok(()),
+    }
+}
+
+// the times of a frame, its interface, where the line names it, its identifier and its data
+#[tactic(auto, unfolding(crate::specs::JsonLines::front_tokens))]
+fn put_front(
+    alloc: Global,
+    writer: &mut JsonWriter,
+    form: StampForm,
+    times: Times,
+    shows: bool,
+    frame: &Record<'_>,
+) -> Result<(), AllocError>
+    requires { IsIdentifier frame.now.id }
+    ensures { OnOk result
+        (writer.new ≡ writer.old ++ front_tokens form times shows frame.now) }
+{
+    put_stamp(alloc, writer, form, times)?;
+    put_gap(alloc, writer, times)?;
+    put_interface(alloc, writer, shows, frame.interface.bytes())?;
+    put_id(alloc, writer, frame.id)?;
+    put_content(alloc, writer, &frame.content)
+}
+
+// the tokens of a frame's line in the order in which they are written
+fn put_line(
+    alloc: Global,
+    writer: &mut JsonWriter,
+    form: StampForm,
+    seen: &Seen,
+    frame: &Record<'_>,
+    words: &[u8],
+    kind: Kind,
+    node: Option<u8>,
+) -> Result<(), AllocError>
+    requires { IsIdentifier frame.now.id }
+    ensures { OnOk result (writer.new ≡ writer.old ++ begin_object ∷ []
+        ++ front_tokens form (times_at seen.now frame.now.micros)
+        (shows_interface seen.now frame.now.interface) frame.now
+        ++ part_tokens (said words.now)
+        ++ flat_map part_tokens (notes (times_at seen.now frame.now.micros))
+        ++ kind_members kind node ++ end_object ∷ []) }
+{
+    let times = seen.times(frame.micros);
+    let shows = seen.shows_interface(frame.interface.bytes());
+    writer.begin_object()?;
+    put_front(alloc, writer, form, times, shows, frame)?;
+    put_said(alloc, writer, words)?;
+    put_notes(writer, times)?;
+    put_kind(alloc, writer, kind, node)?;
+    writer.end_object()
+}
+
+/// The line of a frame that says these words, as an object of JSON and a line feed, where `seen` is
+/// what the recording showed before it: its stamp and the time since the frame before it in
+/// microseconds (a stamp as a date in the form `Date`), its interface where there are several, its
+/// identifier as it is printed, its length and its data as numbers and as hexadecimal digits, the
+/// words, a note where its stamp steps back, its kind and its node, where it is of one. On an `Err`
+/// memory ran out.
+pub fn json_line(
+    alloc: Global,
+    form: StampForm,
+    seen: &Seen,
+    frame: &Record<'_>,
+    words: &[u8],
+    kind: Kind,
+    node: Option<u8>,
+) -> Result<Vec<u8>, AllocError>
+    requires { IsIdentifier frame.now.id }
+    ensures { IfOk result (λ line. line.items
+        ≡ json_line kind node (line_parts form seen.now frame.now words.now)) }
+{
+    let mut writer = JsonWriter::new(alloc);
+    put_line(alloc, &mut writer, form, seen, frame, words, kind, node)?;
+    writer.into_text()
+}
+
+// the tokens of a line of its own in the order in which they are written
+fn put_own_line(
+    alloc: Global,
+    writer: &mut JsonWriter,
+    form: StampForm,
+    times: Times,
+    shows: bool,
+    name: &[u8],
+    words: &[u8],
+    kind: Kind,
+    node: Option<u8>,
+) -> Result<(), AllocError>
+    ensures { OnOk result (writer.new ≡ writer.old ++ begin_object ∷ []
+        ++ part_tokens (stamp form times)
+        ++ flat_map part_tokens (interface_parts shows name.now) ++ part_tokens (said words.now)
+        ++ kind_members kind node ++ end_object ∷ []) }
+{
+    writer.begin_object()?;
+    put_stamp(alloc, writer, form, times)?;
+    put_interface(alloc, writer, shows, name)?;
+    put_said(alloc, writer, words)?;
+    put_kind(alloc, writer, kind, node)?;
+    writer.end_object()
+}
+
+/// A line of its own with these words, between those of frames, in the same form: the stamp of a
+/// frame, its interface, where it `shows`, the words, the kind and the node. On an `Err` memory ran
+/// out.
+pub fn own_json_line(
+    alloc: Global,
+    form: StampForm,
+    times: Times,
+    shows: bool,
+    name: &[u8],
+    words: &[u8],
+    kind: Kind,
+    node: Option<u8>,
+) -> Result<Vec<u8>, AllocError>
+    ensures { IfOk result (λ line. line.items
+        ≡ json_line kind node (own_parts form times shows name.now words.now)) }
+{
+    let mut writer = JsonWriter::new(alloc);
+    put_own_line(
+        alloc,
+        &mut writer,
+        form,
+        times,
+        shows,
+        name,
+        words,
+        kind,
+        node,
+    )?;
+    writer.into_text()
+}

@@ -1,0 +1,28 @@
+//! Other forms of an explained recording than text: the line of a frame as an object of JSON, and
+//! the values of entries as a table of comma-separated values.
+#![tactic(auto)]
+
+// As `?`, without a conversion of the error: a `match` is one step of a proof where `?` is three.
+macro_rules! attempt {
+    ($result:expr) => {
+        match $result {
+            Ok(value) => value,
+            Err(fault) => return Err(fault),
+        }
+    };
+}
+
+mod columns;
+mod fields;
+mod json_content;
+mod json_lines;
+mod kind_name;
+mod lines;
+mod signal;
+mod stamps;
+mod words;
+
+pub use columns::{first_missing, header};
+pub use json_lines::{json_line, own_json_line};
+pub use lines::set_signal_line;
+pub use signal::{Signal, SignalFault};

@@ -1,2 +1,0 @@
-pub mod SheetWordLemmas
-mod WordExamples

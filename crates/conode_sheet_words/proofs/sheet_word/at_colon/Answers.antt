@@ -1,6 +1,0 @@
-use Rattle.std.proofs.Common.{arith}
-use Rattle.conode_sheet_words.proofs.SheetWordLemmas.{cut_is}
-use Rattle.conode_sheet_words.proofs.sheet_word.at_colon.Goals as goal
-
-pub returns : goal.returns
-returns c = cut_is 58 c.args.word.now c.split_once.result c.split_once.ensures.cases (omega arith)

@@ -1,0 +1,106 @@
+-- The statistics in JSON, evaluated.
+use Rattle.std.proofs.Common.{ℕ, Option, [], ◌∷◌, ◌++◌, ◌≡◌, Some, None, refl}
+use Rattle.std.specs.Prelude.{codes}
+use Rattle.std.specs.Fmt.{digits}
+use Rattle.json.specs.Token.{begin_object, end_object, key, number, string}
+use Rattle.conode_json.specs.Members.{number_member, object_begin, text_member}
+use Rattle.co_text.specs.Printed.{digits_text}
+use Rattle.conode_explain_transfers.specs.declared.ended.Ended.{Ended}
+use Rattle.conode_stats_counts.specs.declared.failure.FailureRow.{FailureRow}
+use Rattle.conode_stats_text.specs.declared.finding.Kind.TheVariants.{Failures, Emergencies}
+use Rattle.conode_stats_text.specs.Paces.{median}
+use Rattle.conode_stats_text.proofs.NodeExamples.{heartbeats, no_heartbeats, node, server}
+use Rattle.conode_stats.specs.FailureTokens.{counted_tokens, failure_tokens, key_members, open_tokens, open_tokens_in}
+use Rattle.conode_stats.specs.NodeTokens.{node_end, node_front, node_tokens, tokens_in, wait_members}
+
+-- ---- nodes
+
+-- a node with two restarts, and five different times
+front : node_front 6 (node 2)
+    ≡ begin_object ∷ key (codes "node") ∷ number (codes "6") ∷ key (codes "bootUps") ∷ number (codes "3")
+    ∷ key (codes "restartsWithoutCommand") ∷ number (codes "2") ∷ key (codes "lastRestart") ∷ number (codes "1130000")
+    ∷ key (codes "state") ∷ string (codes "stopped") ∷ key (codes "last") ∷ number (codes "40000000")
+    ∷ key (codes "times") ∷ begin_object ∷ key (codes "bootUp") ∷ number (codes "1999") ∷ key (codes "preOperational") ∷ number (codes "2000000")
+    ∷ key (codes "operational") ∷ number (codes "30000000") ∷ key (codes "stopped") ∷ number (codes "400")
+    ∷ key (codes "unknown") ∷ number (codes "5000") ∷ end_object ∷ []
+unfolding node_front object_begin number_member text_member digits
+front = refl
+
+-- without a restart there is no stamp of the last one, and without a frame no state
+front_without : node_front 7 (server None)
+    ≡ begin_object ∷ key (codes "node") ∷ number (codes "7") ∷ key (codes "bootUps") ∷ number (codes "3")
+    ∷ key (codes "restartsWithoutCommand") ∷ number (codes "0")
+    ∷ key (codes "times") ∷ begin_object ∷ key (codes "bootUp") ∷ number (codes "1999") ∷ key (codes "preOperational") ∷ number (codes "2000000")
+    ∷ key (codes "operational") ∷ number (codes "30000000") ∷ key (codes "stopped") ∷ number (codes "400")
+    ∷ key (codes "unknown") ∷ number (codes "5000") ∷ end_object ∷ []
+unfolding node_front object_begin number_member digits
+front_without = refl
+
+all_waits : wait_members heartbeats
+    ≡ key (codes "heartbeatTime") ∷ number (codes "100") ∷ key (codes "lateHeartbeats") ∷ number (codes "2")
+    ∷ key (codes "longestLateGap") ∷ number (codes "151000") ∷ key (codes "longestGap") ∷ number (codes "800000")
+    ∷ key (codes "medianGap") ∷ number (codes "210000") ∷ []
+unfolding wait_members number_member median digits
+all_waits = refl
+
+-- what isn't there isn't written
+of_no_heartbeats : wait_members no_heartbeats ≡ key (codes "lateHeartbeats") ∷ number (codes "0") ∷ []
+unfolding wait_members number_member median digits
+of_no_heartbeats = refl
+
+all_wrong : node_end 41000000 None heartbeats (Some 1200)
+    ≡ key (codes "lostGap") ∷ number (codes "800000") ∷ key (codes "silentSince") ∷ number (codes "40000000")
+    ∷ key (codes "longestAnswer") ∷ number (codes "1200") ∷ end_object ∷ []
+unfolding node_end number_member median digits
+all_wrong = refl
+
+-- by a sheet's 600 ms no wait is too long; 150 ms after the last heartbeat, by the recording, it isn't silent
+none_wrong : node_end 40150000 (Some 600) heartbeats None ≡ end_object ∷ []
+unfolding node_end median
+none_wrong = refl
+
+object : tokens_in 41000000 None 6 (node 2)
+    ≡ node_front 6 (node 2) ++ wait_members heartbeats ++ node_end 41000000 None heartbeats (Some 1200)
+unfolding node_tokens
+object = refl
+
+no_object : tokens_in 41000000 None 6 (server None) ≡ []
+no_object = refl
+
+-- ---- SDO transfers and EMCY messages
+
+abbrev row : Option ℕ → FailureRow
+row code = record { cause = record { node = 5; code = code }; count = 12; first = 1000250; last = 3001000 }
+
+aborted_object : failure_tokens Failures (row (Some 0x06020000))
+    ≡ begin_object ∷ key (codes "node") ∷ number (codes "5") ∷ key (codes "abortCode") ∷ string (codes "06020000")
+    ∷ key (codes "count") ∷ number (codes "12") ∷ key (codes "first") ∷ number (codes "1000250") ∷ key (codes "last") ∷ number (codes "3001000") ∷ end_object ∷ []
+unfolding failure_tokens counted_tokens number_member text_member digits_text digits
+aborted_object = refl
+
+unanswered_object : failure_tokens Failures (row None)
+    ≡ begin_object ∷ key (codes "node") ∷ number (codes "5")
+    ∷ key (codes "count") ∷ number (codes "12") ∷ key (codes "first") ∷ number (codes "1000250") ∷ key (codes "last") ∷ number (codes "3001000") ∷ end_object ∷ []
+unfolding failure_tokens counted_tokens number_member digits
+unanswered_object = refl
+
+emergency_object : failure_tokens Emergencies (row (Some 0x8110))
+    ≡ begin_object ∷ key (codes "node") ∷ number (codes "5") ∷ key (codes "errorCode") ∷ string (codes "8110")
+    ∷ key (codes "count") ∷ number (codes "12") ∷ key (codes "first") ∷ number (codes "1000250") ∷ key (codes "last") ∷ number (codes "3001000") ∷ end_object ∷ []
+unfolding failure_tokens counted_tokens number_member text_member digits_text digits
+emergency_object = refl
+
+-- ---- a transfer of 1018:01 that is open, its last frame at 2 s
+
+module _ (transfer : Ended) where
+  abbrev waiting : Ended
+  waiting = record transfer { key = record { index = 0x1018; sub = 1 }; newest = 2000000 }
+
+  no_waiting_object : open_tokens_in 7 3000000 (Some waiting) ≡ []
+  no_waiting_object = refl
+
+  waiting_object : open_tokens_in 7 3000001 (Some waiting)
+      ≡ begin_object ∷ key (codes "node") ∷ number (codes "7") ∷ key (codes "index") ∷ number (codes "4120")
+      ∷ key (codes "subIndex") ∷ number (codes "1") ∷ key (codes "since") ∷ number (codes "2000000") ∷ end_object ∷ []
+  unfolding open_tokens key_members number_member digits
+  waiting_object = refl

@@ -1,0 +1,51 @@
+-- SDO transfers that failed, or are open, and EMCY messages, in JSON. Stamps are in microseconds.
+use Rattle.std.specs.Prelude.{ℕ, ◌%◌, if◌then◌else◌, List, [], ◌∷◌, ◌++◌, codes, Option, Some, None}
+use Rattle.json.specs.Token.{Token, begin_object, end_object}
+use Rattle.conode_json.specs.Members.{text_member}
+use Rattle.co_text.specs.Printed.{digits_text}
+use Rattle.co_value.specs.declared.key.Key.{Key}
+use Rattle.conode_explain_transfers.specs.declared.ended.Ended.{Ended}
+use Rattle.conode_stats_counts.specs.declared.failure.FailureRow.{FailureRow}
+use Rattle.conode_stats_text.specs.declared.finding.Kind.{Kind}
+use Rattle.conode_stats_text.specs.declared.finding.Kind.TheVariants.{Emergencies}
+use Rattle.conode_stats_text.specs.FailureLines.{is_waiting}
+use Rattle.conode_stats.specs.StatsTokens.{number_of}
+
+-- how often something of a node came, with the members of its code, and the stamps of the first and
+-- the last
+unfoldable pub counted_tokens : FailureRow → List Token → List Token
+counted_tokens row code =
+    (begin_object ∷ []) ++ number_of (codes "node") row.cause.node ++ code
+    ++ number_of (codes "count") row.count ++ number_of (codes "first") row.first ++ number_of (codes "last") row.last
+    ++ end_object ∷ []
+
+-- the code of an abort, or of an EMCY message
+abbrev pub code_name : Kind → List ℕ
+code_name Emergencies = codes "errorCode"
+code_name _ = codes "abortCode"
+
+abbrev pub code_digits : Kind → ℕ → List ℕ
+code_digits Emergencies code = digits_text 16 4 (code % 65536)
+code_digits _ code = digits_text 16 8 code
+
+abbrev pub code_members : Kind → Option ℕ → List Token
+code_members kind None = []
+code_members kind (Some code) = text_member (code_name kind) (code_digits kind code)
+
+-- a row of a kind
+unfoldable pub failure_tokens : Kind → FailureRow → List Token
+failure_tokens kind row = counted_tokens row (code_members kind row.cause.code)
+
+unfoldable pub key_members : Key → List Token
+key_members key = number_of (codes "index") key.index ++ number_of (codes "subIndex") key.sub
+
+-- a transfer that is open at the end
+unfoldable pub open_tokens : ℕ → Ended → List Token
+open_tokens node transfer =
+    (begin_object ∷ []) ++ number_of (codes "node") node ++ key_members transfer.key
+    ++ number_of (codes "since") transfer.newest ++ end_object ∷ []
+
+-- nothing of one with a frame in the last second
+abbrev pub open_tokens_in : ℕ → ℕ → Option Ended → List Token
+open_tokens_in node end None = []
+open_tokens_in node end (Some transfer) = if is_waiting end transfer then open_tokens node transfer else []

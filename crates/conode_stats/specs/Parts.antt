@@ -1,0 +1,18 @@
+-- The tokens of the parts of a document.
+use Rattle.std.specs.Prelude.{List, [], ◌∷◌}
+use Rattle.json.specs.Token.{Token, begin_object, end_array, end_object}
+use Rattle.conode_json.specs.Members.{array_begin, object_begin, text_member}
+use Rattle.conode_stats.specs.declared.parts.Part.{Part}
+use Rattle.conode_stats.specs.declared.parts.Part.TheVariants.{Nothing, BeginObject, EndObject, EndArray, Object, Array, Text, Number, NumberIf}
+use Rattle.conode_stats.specs.StatsTokens.{number_in, number_of}
+
+abbrev pub part_tokens : Part → List Token
+part_tokens Nothing = []
+part_tokens BeginObject = begin_object ∷ []
+part_tokens EndObject = end_object ∷ []
+part_tokens EndArray = end_array ∷ []
+part_tokens (Object name) = object_begin name.now
+part_tokens (Array name) = array_begin name.now
+part_tokens (Text name text) = text_member name.now text.now
+part_tokens (Number name number) = number_of name.now number
+part_tokens (NumberIf name number) = number_in name.now number

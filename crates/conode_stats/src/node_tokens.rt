@@ -1,0 +1,209 @@
+//! The nodes of a bus in JSON. Each function writes tokens. `Err`: out of memory; some tokens may
+//! be there.
+
+ghost use Rattle.std.specs.Prelude.{◌≡◌, ◌++◌, OnOk};
+ghost use Rattle.conode_stats.specs.NodeTokens.{
+  gap_in,
+  last_in,
+  late_gap_in,
+  node_end,
+  node_front,
+  restart_in,
+  state_member,
+  tokens_in,
+  wait_members,
+};
+ghost use Rattle.conode_stats.specs.Parts.{part_tokens};
+
+use crate::parts::{Part, put_parts};
+use conode_json::JsonWriter;
+use conode_stats_counts::{Bus, Heartbeats, Node, Shown};
+use conode_stats_text::{
+    Pace, SheetTime, is_shown, lost_gap, median, sheet_time, silent_since, state_word,
+};
+use std::alloc::{AllocError, Global};
+
+fn restart_in(node: &Node) -> Option<u64>
+    ensures { result ≡ restart_in node.now }
+{
+    if node.restarts == 0 {
+        None
+    } else {
+        Some(node.last_restart)
+    }
+}
+
+// the state at the end, if it shows one
+fn state_part(last: Option<Shown>) -> Part<'static>
+    ensures { part_tokens result ≡ state_member last }
+{
+    match last {
+        Some(last) => Part::Text("state", state_word(last.state)),
+        None => Part::Nothing,
+    }
+}
+
+fn last_in(last: Option<Shown>) -> Option<u64>
+    ensures { result ≡ last_in last }
+{
+    match last {
+        Some(last) => Some(last.micros),
+        None => None,
+    }
+}
+
+fn time_in(time: Option<u16>) -> Option<u64>
+    ensures { result ≡ time }
+{
+    match time {
+        Some(time) => Some(u64::from(time)),
+        None => None,
+    }
+}
+
+fn gap_in(heartbeats: &Heartbeats) -> Option<u64>
+    ensures { result ≡ gap_in heartbeats.now }
+{
+    if heartbeats.first.as_slice().len() == 0 {
+        None
+    } else {
+        Some(heartbeats.longest)
+    }
+}
+
+fn late_gap_in(heartbeats: &Heartbeats) -> Option<u64>
+    ensures { result ≡ late_gap_in heartbeats.now }
+{
+    if heartbeats.late == 0 {
+        None
+    } else {
+        Some(heartbeats.longest_late)
+    }
+}
+
+// the counts of a node, its state at the end, and its times
+#[tactic(auto, unfolding(crate::specs::NodeTokens::node_front))]
+fn put_front(
+    alloc: Global,
+    writer: &mut JsonWriter,
+    number: u32,
+    node: &Node,
+) -> Result<(), AllocError>
+    ensures { OnOk result (writer.new ≡ writer.old ++ node_front number node.now) }
+{
+    let times = &node.times;
+    put_parts(
+        alloc,
+        writer,
+        &[
+            Part::BeginObject,
+            Part::Number("node", u64::from(number)),
+            Part::Number("bootUps", node.boot_ups),
+            Part::Number("restartsWithoutCommand", node.restarts),
+            Part::NumberIf("lastRestart", restart_in(node)),
+            state_part(node.last),
+            Part::NumberIf("last", last_in(node.last)),
+            Part::Object("times"),
+            Part::Number("bootUp", times.boot_up),
+            Part::Number("preOperational", times.pre_operational),
+            Part::Number("operational", times.operational),
+            Part::Number("stopped", times.stopped),
+            Part::Number("unknown", times.unknown),
+            Part::EndObject,
+        ],
+    )
+}
+
+// its heartbeats
+#[tactic(auto, unfolding(crate::specs::NodeTokens::wait_members))]
+fn put_waits(
+    alloc: Global,
+    writer: &mut JsonWriter,
+    heartbeats: &Heartbeats,
+) -> Result<(), AllocError>
+    ensures { OnOk result (writer.new ≡ writer.old ++ wait_members heartbeats.now) }
+{
+    put_parts(
+        alloc,
+        writer,
+        &[
+            Part::NumberIf("heartbeatTime", time_in(heartbeats.written)),
+            Part::Number("lateHeartbeats", heartbeats.late),
+            Part::NumberIf("longestLateGap", late_gap_in(heartbeats)),
+            Part::NumberIf("longestGap", gap_in(heartbeats)),
+            Part::NumberIf("medianGap", median(heartbeats.first.as_slice())),
+        ],
+    )
+}
+
+// what looks wrong with them, its longest answer, and the end
+#[tactic(auto, unfolding(crate::specs::NodeTokens::node_end))]
+fn put_end(
+    alloc: Global,
+    writer: &mut JsonWriter,
+    end: u64,
+    sheet: Option<u16>,
+    heartbeats: &Heartbeats,
+    answer: Option<u64>,
+) -> Result<(), AllocError>
+    ensures { OnOk result (writer.new
+        ≡ writer.old ++ node_end end sheet heartbeats.now answer) }
+{
+    let lost = lost_gap(Pace::usual(sheet, heartbeats), heartbeats.longest);
+    let silent = silent_since(end, Pace::of(sheet, heartbeats), heartbeats.since);
+    put_parts(
+        alloc,
+        writer,
+        &[
+            Part::NumberIf("lostGap", lost),
+            Part::NumberIf("silentSince", silent),
+            Part::NumberIf("longestAnswer", answer),
+            Part::EndObject,
+        ],
+    )
+}
+
+#[tactic(auto, unfolding(crate::specs::NodeTokens::node_tokens))]
+fn put_node_in(
+    alloc: Global,
+    writer: &mut JsonWriter,
+    end: u64,
+    sheet: Option<u16>,
+    number: u32,
+    node: &Node,
+) -> Result<(), AllocError>
+    ensures { OnOk result (writer.new
+        ≡ writer.old ++ tokens_in end sheet number node.now) }
+{
+    if !is_shown(node) {
+        return Ok(());
+    }
+    put_front(alloc, writer, number, node)?;
+    put_waits(alloc, writer, &node.heartbeats)?;
+    put_end(
+        alloc,
+        writer,
+        end,
+        sheet,
+        &node.heartbeats,
+        node.longest_answer,
+    )
+}
+
+/// Writes the nodes of a bus that have a line on the page, by node-ID.
+pub(crate) fn put_nodes(
+    alloc: Global,
+    writer: &mut JsonWriter,
+    sheets: &[SheetTime<'_>],
+    bus: &Bus,
+) -> Result<(), AllocError> {
+    writer.begin_array_of("nodes")?;
+    let end = bus.all().last;
+    for number in 1..128u8 {
+        if let Some(node) = bus.nodes().get(usize::from(number)) {
+            let sheet = sheet_time(sheets, bus.interface(), number);
+            put_node_in(alloc, writer, end, sheet, u32::from(number), node)?;
+        }
+    }
+    writer.end_array()
+}

@@ -1,0 +1,82 @@
+//! The producer heartbeat time of a node, as SDO transfers show it.
+
+ghost use Rattle.std.specs.Prelude.{◌≡◌};
+ghost use Rattle.conode_stats_counts.specs.ShownTimes.{first_word, is_done, is_heartbeat_time, time_by, time_in, time_of};
+
+use co_value::Key;
+use conode_explain_channels::Told;
+use conode_explain_transfers::{Direction, Ended, Ending};
+
+/// The index of the producer heartbeat time (CiA 301, 7.5.2.20).
+const PRODUCER_HEARTBEAT: u16 = 0x1017;
+
+/// The producer heartbeat time, 1017:00, of a node, by an SDO transfer that is done.
+#[derive(Clone, Copy)]
+pub(crate) struct ShownTime {
+    /// The node-ID of the server.
+    pub(crate) node: u8,
+    /// Whether the time was written or read.
+    pub(crate) direction: Direction,
+    /// The time in ms; 0 is for no heartbeats.
+    pub(crate) time: u16,
+}
+
+/// The number that the first two bytes are, the low one first.
+pub(crate) fn first_word(bytes: &[u8]) -> Option<u16>
+    ensures { result ≡ first_word bytes.now }
+{
+    match bytes {
+        [low, high, ..] => Some(u16::from(*low) + u16::from(*high) * 256),
+        _ => None,
+    }
+}
+
+fn is_heartbeat_time(key: Key) -> bool
+    ensures { result ≡ is_heartbeat_time key }
+{
+    key.index == PRODUCER_HEARTBEAT && key.sub == 0
+}
+
+fn is_done(ending: Ending) -> bool
+    ensures { result ≡ is_done ending }
+{
+    matches!(ending, Ending::Done { crc: _ })
+}
+
+impl ShownTime {
+    // by a transfer with a node
+    fn by(node: u8, ended: &Ended) -> Option<ShownTime>
+        ensures { result ≡ time_by node ended.now }
+    {
+        if !is_heartbeat_time(ended.key) || !is_done(ended.ending) {
+            return None;
+        }
+        match first_word(ended.first.as_slice()) {
+            Some(time) => Some(ShownTime {
+                node,
+                direction: ended.direction,
+                time,
+            }),
+            None => None,
+        }
+    }
+
+    fn in_transfer(node: u8, ended: &Option<Ended>) -> Option<ShownTime>
+        ensures { result ≡ time_in node ended.now }
+    {
+        match ended {
+            Some(ended) => ShownTime::by(node, ended),
+            None => None,
+        }
+    }
+
+    /// The time that channels tell of, if they do.
+    pub(crate) fn of(told: &Option<Told>) -> Option<ShownTime>
+        ensures { result ≡ time_of told.now }
+    {
+        match told {
+            Some(told) => ShownTime::in_transfer(told.node, &told.ended),
+            None => None,
+        }
+    }
+}

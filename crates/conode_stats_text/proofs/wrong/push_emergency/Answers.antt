@@ -1,0 +1,8 @@
+use Rattle.conode_stats_text.specs.FailureLines.{emergency_line}
+use Rattle.conode_stats_text.proofs.wrong.push_emergency.Goals as goal
+
+pub returns-in-None : goal.returns-in-None
+returns-in-None c = unfold emergency_line in rw c.in-None.is c.push_counted.ensures
+
+pub returns-in-Some : goal.returns-in-Some
+returns-in-Some c = unfold emergency_line in rw c.in-Some.is c.push_counted-in-Some.ensures
