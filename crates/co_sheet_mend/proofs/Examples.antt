@@ -9,7 +9,7 @@ use Rattle.co_sheet_text.specs.Text.{Line}
 use Rattle.co_sheet_changes.specs.Pieces.{assigned}
 use Rattle.co_sheet_mend.specs.declared.repair.Repair.{Repair}
 use Rattle.co_sheet_mend.specs.declared.repair.Repair.TheVariants.{Emptied, Bytes, ReadWrite, Completed, Counted}
-use Rattle.co_sheet_mend.specs.Repairs.{line_as, list_text, mended_lines, repair_at, repair_for}
+use Rattle.co_sheet_mend.specs.Repairs.{line_as, list_text, mended_lines, repair_at, repair_for, type_for}
 
 abbrev line : ℕ → List ℕ → Line
 line number bytes = record { number = number; bytes = bytes }
@@ -34,55 +34,60 @@ first_of_two = refl
 
 -- ---- what a line becomes
 
-as_it_is : line_as None (line 1 (codes "LowLimit=5")) [] ≡ codes "LowLimit=5\n"
+as_it_is : line_as None None (line 1 (codes "LowLimit=5")) [] ≡ codes "LowLimit=5\n"
 unfolding line_as
 as_it_is = refl
 
-emptied_value : line_as (Some Emptied) (line 1 (codes "DefaultValue=0x6G")) [] ≡ codes "\n"
+emptied_value : line_as (Some Emptied) None (line 1 (codes "DefaultValue=0x6G")) [] ≡ codes "\n"
 unfolding line_as
 emptied_value = refl
 
 -- a section line, and one that isn't closed
-emptied_section : line_as (Some Emptied) (line 1 (codes "[2000]")) [] ≡ codes "[]\n"
+emptied_section : line_as (Some Emptied) None (line 1 (codes "[2000]")) [] ≡ codes "[]\n"
 unfolding line_as
 emptied_section = refl
 
-emptied_open_section : line_as (Some Emptied) (line 1 (codes " [2000")) [] ≡ codes "[]\n"
+emptied_open_section : line_as (Some Emptied) None (line 1 (codes " [2000")) [] ≡ codes "[]\n"
 unfolding line_as
 emptied_open_section = refl
 
-bytes_of_type : line_as (Some Bytes) (line 1 (codes "datatype = 0x0099")) [] ≡ codes "DataType=0x000F\n"
-unfolding line_as assigned
+bytes_of_type : line_as (Some Bytes) None (line 1 (codes "datatype = 0x0099")) [] ≡ codes "DataType=15\n"
+unfolding line_as type_for assigned digits
 bytes_of_type = refl
 
+-- the type that CiA 301 fixes: 1017:00 is an UNSIGNED16
+fixed_type : line_as (Some Bytes) (Some (record { index = 0x1017; sub = 0 })) (line 1 (codes "DataType=5")) [] ≡ codes "DataType=6\n"
+unfolding line_as type_for assigned digits
+fixed_type = refl
+
 -- of an object type nothing
-no_object_type : line_as (Some Bytes) (line 1 (codes "ObjectType=0x99")) [] ≡ codes "\n"
+no_object_type : line_as (Some Bytes) None (line 1 (codes "ObjectType=0x99")) [] ≡ codes "\n"
 unfolding line_as assigned
 no_object_type = refl
 
-read_write : line_as (Some ReadWrite) (line 1 (codes "AccessType=all")) [] ≡ codes "AccessType=rw\n"
+read_write : line_as (Some ReadWrite) None (line 1 (codes "AccessType=all")) [] ≡ codes "AccessType=rw\n"
 unfolding line_as assigned
 read_write = refl
 
 -- what the section lacks, up to the next section line
-completed : line_as (Some Completed) (line 1 (codes "[2000]")) (line 2 (codes "ParameterName=A") ∷ line 3 (codes "[2001]") ∷ line 4 (codes "DataType=5") ∷ [])
-    ≡ codes "[2000]\nDataType=0x000F\nAccessType=rw\n"
-unfolding line_as assigned
+completed : line_as (Some Completed) None (line 1 (codes "[2000]")) (line 2 (codes "ParameterName=A") ∷ line 3 (codes "[2001]") ∷ line 4 (codes "DataType=5") ∷ [])
+    ≡ codes "[2000]\nDataType=15\nAccessType=rw\n"
+unfolding line_as type_for assigned digits
 completed = refl
 
-completed_access : line_as (Some Completed) (line 1 (codes "[2000]")) (line 2 (codes "DataType=5") ∷ []) ≡ codes "[2000]\nAccessType=rw\n"
+completed_access : line_as (Some Completed) None (line 1 (codes "[2000]")) (line 2 (codes "DataType=5") ∷ []) ≡ codes "[2000]\nAccessType=rw\n"
 unfolding line_as assigned
 completed_access = refl
 
 -- ---- lines one after another
 
-three_lines : mended_lines (fault 1 MissingKey ∷ fault 3 BadAccess ∷ []) false (line 1 (codes "[2000]") ∷ line 2 (codes "ParameterName=A") ∷ line 3 (codes "AccessType=all") ∷ [])
-    ≡ codes "[2000]\nDataType=0x000F\nParameterName=A\nAccessType=rw\n"
-unfolding mended_lines repair_at repair_for line_as assigned
+three_lines : mended_lines (fault 1 MissingKey ∷ fault 3 BadAccess ∷ []) false None (line 1 (codes "[2000]") ∷ line 2 (codes "ParameterName=A") ∷ line 3 (codes "AccessType=all") ∷ [])
+    ≡ codes "[2000]\nDataType=15\nParameterName=A\nAccessType=rw\n"
+unfolding mended_lines repair_at repair_for line_as type_for assigned digits
 three_lines = refl
 
 -- a list that counts one object too many, and whose places aren't those from 1 on
-counted_anew : mended_lines (fault 1 BadList ∷ []) false
+counted_anew : mended_lines (fault 1 BadList ∷ []) false None
     (line 1 (codes "[OptionalObjects]") ∷ line 2 (codes "SupportedObjects=3") ∷ line 3 (codes "01 = 0x1008") ∷ line 4 (codes "4=0x1017") ∷ line 5 (codes "[1008]") ∷ line 6 (codes "1=2") ∷ [])
     ≡ codes "[OptionalObjects]\nSupportedObjects=2\n1=0x1008\n2=0x1017\n\n\n\n[1008]\n1=2\n"
 unfolding mended_lines repair_at repair_for line_as list_text assigned digits

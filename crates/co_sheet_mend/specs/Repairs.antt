@@ -1,10 +1,17 @@
 -- What comes in place of the lines at fault of a data sheet's text (CiA 306).
-use Rattle.std.specs.Prelude.{ℕ, suc, ◌==◌, Bool, true, false, not, ◌&&◌, ◌||◌, if◌then◌else◌, List, [], ◌∷◌, ◌++◌, codes, decimal, length, Option, Some, None, is_some, option_and_then}
+use Rattle.std.specs.Prelude.{ℕ, suc, ◌==◌, Bool, true, false, not, ◌&&◌, ◌||◌, if◌then◌else◌, List, [], ◌∷◌, ◌++◌, codes, decimal, length, Option, Some, None, is_some, option_and_then, unwrap_or}
 use Rattle.std.specs.List.{cons_option, list_any}
 use Rattle.std.specs.Option.{option_map_or}
 use Rattle.co_sheet_rows.specs.declared.fault.FaultKind.{FaultKind}
 use Rattle.co_sheet_rows.specs.declared.fault.FaultKind.TheVariants as kind
 use Rattle.co_sheet_rows.specs.declared.fault.SheetFault.{SheetFault}
+use Rattle.co_value.specs.declared.data_type.DataType.TheVariants.{Domain}
+use Rattle.co_value.specs.declared.key.Key.{Key}
+use Rattle.co_value.specs.Types.{code_of}
+use Rattle.co_profile.specs.FixedTypes.{fixed_type_of}
+use Rattle.co_sheet_text.specs.declared.section_kind.SectionKind.{SectionKind}
+use Rattle.co_sheet_text.specs.declared.section_kind.SectionKind.TheVariants.{Object, SubIndex}
+use Rattle.co_sheet_text.specs.Names.{kind_of}
 use Rattle.co_sheet_text.specs.LinesAtFault.{emptied}
 use Rattle.co_sheet_text.specs.LinesRead.{all_digits}
 use Rattle.co_sheet_text.specs.Text.{Line, lines_of, same_name}
@@ -70,13 +77,22 @@ gives_any name (line ∷ lines) = not (is_some (section_in line)) && (gives name
 abbrev pub ended : List ℕ → List ℕ
 ended bytes = bytes ++ 10 ∷ []
 
+-- the entry that a section is about
+abbrev pub key_in : SectionKind → Option Key
+key_in (Object index) = Some (record { index = index; sub = 0 })
+key_in (SubIndex key) = Some key
+key_in other = None
+
+abbrev pub key_at : Option Key → Line → Option Key
+key_at before line = option_map_or (λ name. key_in (kind_of name)) (section_in line) before
+
+-- the type of its values: the one that CiA 301 fixes, else DOMAIN, whose values are bytes
+unfoldable pub type_for : Option Key → List ℕ
+type_for key = decimal (code_of (unwrap_or (option_and_then fixed_type_of key) Domain))
+
 -- a property that the lines of a section lack
 abbrev pub lacking : List ℕ → List ℕ → List Line → List ℕ
 lacking name value lines = if gives_any name lines then [] else assigned name value
-
--- DOMAIN (CiA 301, table 44)
-abbrev pub bytes_type : List ℕ
-bytes_type = assigned (codes "DataType") (codes "0x000F")
 
 -- ---- of an object list (CiA 306, lists of objects)
 
@@ -101,14 +117,15 @@ list_text lines =
 
 -- ---- what a line becomes, which these lines follow
 
-unfoldable pub line_as : Option Repair → Line → List Line → List ℕ
-line_as None line more = ended line.bytes
-line_as (Some Emptied) line more = ended (emptied line).bytes
-line_as (Some Bytes) line more = if gives (codes "DataType") line then bytes_type else ended (emptied line).bytes
-line_as (Some ReadWrite) line more = assigned (codes "AccessType") (codes "rw")
-line_as (Some Completed) line more =
-    ended line.bytes ++ lacking (codes "DataType") (codes "0x000F") more ++ lacking (codes "AccessType") (codes "rw") more
-line_as (Some Counted) line more = ended line.bytes ++ list_text more
+unfoldable pub line_as : Option Repair → Option Key → Line → List Line → List ℕ
+line_as None key line more = ended line.bytes
+line_as (Some Emptied) key line more = ended (emptied line).bytes
+line_as (Some Bytes) key line more =
+    if gives (codes "DataType") line then assigned (codes "DataType") (type_for key) else ended (emptied line).bytes
+line_as (Some ReadWrite) key line more = assigned (codes "AccessType") (codes "rw")
+line_as (Some Completed) key line more =
+    ended line.bytes ++ lacking (codes "DataType") (type_for key) more ++ lacking (codes "AccessType") (codes "rw") more
+line_as (Some Counted) key line more = ended line.bytes ++ list_text more
 
 -- ---- of a text
 
@@ -117,8 +134,9 @@ abbrev pub is_counted : Option Repair → Bool
 is_counted None = false
 is_counted (Some repair) = same_repair Counted repair
 
-unfoldable pub mended_lines : List SheetFault → Bool → List Line → List ℕ
-mended_lines faults counted [] = []
-mended_lines faults counted (line ∷ more) =
-    if counted && not (is_some (section_in line)) then ended [] ++ mended_lines faults true more
-    else line_as (repair_at faults line.number) line more ++ mended_lines faults (is_counted (repair_at faults line.number)) more
+unfoldable pub mended_lines : List SheetFault → Bool → Option Key → List Line → List ℕ
+mended_lines faults counted key [] = []
+mended_lines faults counted key (line ∷ more) =
+    if counted && not (is_some (section_in line)) then ended [] ++ mended_lines faults true key more
+    else line_as (repair_at faults line.number) (key_at key line) line more
+    ++ mended_lines faults (is_counted (repair_at faults line.number)) (key_at key line) more

@@ -2,33 +2,37 @@
 
 ghost use Rattle.std.specs.Prelude.{◌≡◌, ◌++◌, ◌∷◌, [], map, IfOk, OnOk};
 ghost use Rattle.std.specs.Option.{option_copied};
+ghost use Rattle.co_sheet_text.specs.Names.{kind_of};
 ghost use Rattle.co_sheet_text.specs.Text.{lines_of};
 ghost use Rattle.co_sheet_changes.specs.Views.{line_view};
 ghost use Rattle.co_sheet_mend.specs.Repairs.{
   gives,
   gives_any,
   has_repair,
+  key_at,
+  key_in,
   lacking,
   line_as,
   list_text,
   place_value,
   mended_lines,
   repair_at,
+  type_for,
 };
 ghost use Rattle.co_sheet_mend.specs.ReadableTexts.{mended};
 ghost use Rattle.co_sheet_text.specs.LinesAtFault.{emptied};
 
 use crate::repair::{Repair, repair_for};
+use co_profile::fixed_type;
 use co_sheet_changes::{Line, lines_in, push_number};
 use co_sheet_faults::{SheetFault, find_faults};
-use co_sheet_text::{all_digits, same_name, trim};
+use co_sheet_text::{SectionKind, all_digits, same_name, trim};
+use co_value::{DataType, Key};
 use std::alloc::{AllocError, Global};
 
 const DATA_TYPE: &[u8] = b"DataType";
 
 const ACCESS_TYPE: &[u8] = b"AccessType";
-/// DOMAIN, whose values are bytes.
-const BYTES: &[u8] = b"0x000F";
 
 const READ_WRITE: &[u8] = b"rw";
 
@@ -154,6 +158,41 @@ fn push_list(alloc: Global, made: &mut Vec<u8>, lines: &[Line<'_>]) -> Result<()
     Ok(())
 }
 
+// the entry that a section is about
+fn key_in(name: &[u8]) -> Option<Key>
+    ensures { result ≡ key_in (kind_of name.now) }
+{
+    match SectionKind::of_name(name) {
+        SectionKind::Object(index) => Some(Key { index, sub: 0 }),
+        SectionKind::SubIndex(key) => Some(key),
+        _ => None,
+    }
+}
+
+// the entry that a line is about, where the line before it is about this one
+fn key_at(before: Option<Key>, line: &Line<'_>) -> Option<Key>
+    ensures { result ≡ key_at before (line_view line.now) }
+{
+    match line.section() {
+        Some(name) => key_in(name),
+        None => before,
+    }
+}
+
+// the type of an entry's values: the one that CiA 301 fixes, else DOMAIN, whose values are bytes
+#[tactic(auto, unfolding(crate::specs::Repairs::type_for))]
+fn type_for(alloc: Global, key: Option<Key>) -> Result<Vec<u8>, AllocError>
+    ensures { IfOk result (λ text. text.items ≡ type_for key) }
+{
+    let data_type = match key {
+        Some(key) => fixed_type(key).unwrap_or(DataType::Domain),
+        None => DataType::Domain,
+    };
+    let mut text = Vec::new(alloc);
+    push_number(alloc, &mut text, u64::from(data_type.code()))?;
+    Ok(text)
+}
+
 // what a line at fault is read as
 fn emptied(line: &Line<'_>) -> &'static [u8]
     ensures { result.now ≡ (emptied (line_view line.now)).bytes }
@@ -170,25 +209,26 @@ fn push_line(
     alloc: Global,
     made: &mut Vec<u8>,
     repair: Option<Repair>,
+    key: Option<Key>,
     line: &Line<'_>,
     more: &[Line<'_>],
 ) -> Result<(), AllocError>
     ensures { OnOk result (made.new.items
-        ≡ made.old.items ++ line_as repair (line_view line.now) (map line_view more.now)) }
+        ≡ made.old.items ++ line_as repair key (line_view line.now) (map line_view more.now)) }
 {
     match repair {
         None => push_ended(made, line.bytes),
         Some(Repair::Emptied) => push_ended(made, emptied(line)),
         Some(Repair::Bytes) => {
             if gives(line, DATA_TYPE) {
-                return push_assigned(made, DATA_TYPE, BYTES);
+                return push_assigned(made, DATA_TYPE, type_for(alloc, key)?.as_slice());
             }
             push_ended(made, emptied(line))
         }
         Some(Repair::ReadWrite) => push_assigned(made, ACCESS_TYPE, READ_WRITE),
         Some(Repair::Completed) => {
             push_ended(made, line.bytes)?;
-            push_lacking(made, DATA_TYPE, BYTES, more)?;
+            push_lacking(made, DATA_TYPE, type_for(alloc, key)?.as_slice(), more)?;
             push_lacking(made, ACCESS_TYPE, READ_WRITE, more)
         }
         Some(Repair::Counted) => {
@@ -219,13 +259,15 @@ pub(crate) fn mended(alloc: Global, text: &[u8]) -> Result<Vec<u8>, AllocError>
     let mut left = faults.as_slice();
     let mut rest = lines.as_slice();
     let mut counted = false;
+    let mut key = None;
     while let [line, more @ ..] = rest {
         let (here, later) = split_line_faults(left, line.number);
         if counted && line.section().is_none() {
             push_ended(&mut made, b"")?;
         } else {
             let repair = repair_at(here, line.number);
-            push_line(alloc, &mut made, repair, line, more)?;
+            key = key_at(key, line);
+            push_line(alloc, &mut made, repair, key, line, more)?;
             counted = repair == Some(Repair::Counted);
         }
         left = later;
