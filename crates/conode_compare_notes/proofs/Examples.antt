@@ -3,7 +3,7 @@ use Rattle.std.proofs.Common.{◌≡◌, ℕ, ◌+◌, Bool, true, false, List, 
 use Rattle.std.specs.Prelude.{pos}
 use Rattle.co_frame.specs.declared.nmt.NmtService.TheVariants.{Start, ResetNode}
 use Rattle.co_profile.specs.declared.access.Access.{Access}
-use Rattle.co_profile.specs.declared.access.Access.TheVariants.{Ro, Rw, Wo}
+use Rattle.co_profile.specs.declared.access.Access.TheVariants.{Ro, Rw}
 use Rattle.co_sheet.specs.Content.{Row}
 use Rattle.co_sheet.specs.Limits.{absent, number, text}
 use Rattle.co_value.specs.declared.data_type.DataType.{DataType}
@@ -15,16 +15,15 @@ use Rattle.conode_explain_transfers.specs.declared.ended.Ending.TheVariants.{Don
 use Rattle.conode_explain_transfers.specs.declared.kinds.Direction.{Direction}
 use Rattle.conode_explain_transfers.specs.declared.kinds.Direction.TheVariants.{Download, Upload}
 use Rattle.conode_explain_transfers.specs.declared.kinds.Protocol.{Protocol}
-use Rattle.conode_explain_transfers.specs.declared.kinds.Protocol.TheVariants.{Expedited, Segmented, Block, Undecided}
-use Rattle.conode_explain_transfers.specs.declared.kinds.Side.TheVariants.{Client, Server}
+use Rattle.conode_explain_transfers.specs.declared.kinds.Protocol.TheVariants.{Expedited, Segmented}
+use Rattle.conode_explain_transfers.specs.declared.kinds.Side.TheVariants.{Server}
 use Rattle.conode_explain_transfers.specs.declared.kinds.What.{What}
-use Rattle.conode_explain_transfers.specs.declared.kinds.What.TheVariants.{Part, Stray, Unexpected}
+use Rattle.conode_explain_transfers.specs.declared.kinds.What.TheVariants.{Part}
 use Rattle.conode_compare_transfers.specs.declared.dialogue.Exchange.{Exchange}
-use Rattle.conode_compare_rules.specs.declared.kind.FrameKind.{FrameKind}
 use Rattle.conode_compare_rules.specs.declared.limits.Subject.{Subject}
 use Rattle.conode_compare_rules.specs.EntriesInForce.{facts_of}
 use Rattle.conode_compare_rules.specs.declared.finding.Remark.TheVariants.{EarlyHeartbeat, Restarted as RestartedRemark}
-use Rattle.conode_compare_rules.specs.declared.kind.FrameKind.TheVariants.{Command, Control, Sdo, Other}
+use Rattle.conode_compare_rules.specs.declared.kind.FrameKind.TheVariants.{Command, Control}
 use Rattle.conode_compare_notes.specs.declared.learned.Shown.{Shown}
 use Rattle.conode_compare_notes.specs.declared.warning.Warning.{Warning}
 use Rattle.conode_compare_notes.specs.declared.warning.Warning.TheVariants.{Changed, OddCode, OtherRevision, OtherText, Restarted, SteppedBack, Stored}

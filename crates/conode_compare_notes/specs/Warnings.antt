@@ -1,7 +1,7 @@
 -- What a user may want to know of a device, though it is no difference: that it restarted by itself,
 -- that it may have stored values, that a value changed after it was written; and what `Versions` has.
 use Rattle.std.specs.Prelude.{ℕ, ◌-◌, ◌==◌, nat_le, nat_lt, Bool, true, false, not, ◌&&◌, ◌||◌, if◌then◌else◌, List, [], Option, Some, None, is_some, option_map, option_and_then}
-use Rattle.std.specs.Option.{option_map_or, option_or}
+use Rattle.std.specs.Option.{option_or}
 use Rattle.co_frame.specs.FrameContent.{FrameContent}
 use Rattle.co_sheet.specs.Content.{Row}
 use Rattle.co_value.specs.declared.key.Key.{Key}
