@@ -1,6 +1,6 @@
 #!/bin/sh
 # Gives a device a million frames and a million ticks through the calls of bafokun.h, and the same by Node::step in Rattle:
-# an SDO upload of 1000h, and a SYNC where no TPDO waits for it. In turn, the best of nine runs of each, in nanoseconds for one
+# an SDO upload of 1000h, and a SYNC where no TPDO waits for it. In turn, the best of 60 runs of each, in nanoseconds for one
 # input; status 1 where a call from C takes more than 1.1 times as long, a tick more than 1.2 times. Before it, the memory that a
 # device holds, and the most that its build held, of three sheets; and an entry read and written by its key and by its number.
 set -eu
@@ -38,26 +38,26 @@ int main(void)
     if (!bafokun_build(&node, text, fread(text, 1, sizeof text, stdin), 5, &config, &fault)) return 1;
     begin = now();
     for (i = 0; i < 1000000; i++) if (bafokun_take(&node, &upload, frames, BAFOKUN_MOST_FRAMES) != 1) return 1;
-    printf("upload %.0f\n", (now() - begin) / 1e6);
+    printf("upload %.1f\n", (now() - begin) / 1e6);
     begin = now();
     for (i = 0; i < 1000000; i++) if (bafokun_take(&node, &sync, frames, BAFOKUN_MOST_FRAMES) != 0) return 1;
-    printf("sync %.0f\n", (now() - begin) / 1e6);
+    printf("sync %.1f\n", (now() - begin) / 1e6);
     begin = now();
     for (i = 0; i < 1000000; i++) if (bafokun_tick(&node, frames, BAFOKUN_MOST_FRAMES) != 0) return 1;
-    printf("tick %.0f\n", (now() - begin) / 1e6);
+    printf("tick %.1f\n", (now() - begin) / 1e6);
     if (!bafokun_find(&node, 0x2003, 0, &number)) return 1;
     begin = now();
     for (i = 0; i < 1000000; i++) if (!bafokun_value(&node, 0x2003, 0, bytes, 2, &length)) return 1;
-    printf("value %.0f\n", (now() - begin) / 1e6);
+    printf("value %.1f\n", (now() - begin) / 1e6);
     begin = now();
     for (i = 0; i < 1000000; i++) if (!bafokun_value_at(&node, number, bytes, 2, &length)) return 1;
-    printf("value_at %.0f\n", (now() - begin) / 1e6);
+    printf("value_at %.1f\n", (now() - begin) / 1e6);
     begin = now();
     for (i = 0; i < 1000000; i++) if (bafokun_write(&node, 0x2003, 0, bytes, 2, frames, BAFOKUN_MOST_FRAMES) != 0) return 1;
-    printf("write %.0f\n", (now() - begin) / 1e6);
+    printf("write %.1f\n", (now() - begin) / 1e6);
     begin = now();
     for (i = 0; i < 1000000; i++) if (bafokun_write_at(&node, number, bytes, 2, frames, BAFOKUN_MOST_FRAMES) != 0) return 1;
-    printf("write_at %.0f\n", (now() - begin) / 1e6);
+    printf("write_at %.1f\n", (now() - begin) / 1e6);
     bafokun_free(&node);
     return 0;
 }
@@ -146,7 +146,9 @@ const COUNT: u32 = 1_000_000;
 
 // prints the nanoseconds that one of so many took, since then
 fn print_time(rt: &HostRuntime, name: &str, begin: &Instant) -> Result<()> {
-    println!(rt; "{name} {}", begin.elapsed(rt)?.as_nanos() / u128::from(COUNT))?;
+    // tenths of a nanosecond
+    let each = begin.elapsed(rt)?.as_nanos() / u128::from(COUNT / 10);
+    println!(rt; "{name} {}.{}", each / 10, each % 10)?;
     Ok(())
 }
 
@@ -175,14 +177,14 @@ fn main(rt: HostRuntime) -> Result<()> {
 END
 build_crate million "$root/bench/pdo-device.eds"
 
-for _ in 1 2 3 4 5 6 7 8 9; do
+for _ in $(seq 60); do
     for name in "$folder/in_c" "$program"; do "$name" < "$root/bench/pdo-device.eds" >> "$name.all"; done
 done
 for name in "$folder/in_c" "$program"; do smallest < "$name.all" | sort > "$name.best"; done
 awk '{ time[$1] = $2 }
      END { for (name in time) if (name "_at" in time)
-               printf "%-7s %5d ns by its key, %5d ns by its number\n", name, time[name], time[name "_at"] }' "$folder/in_c.best" | sort
+               printf "%-7s %6.1f ns by its key, %6.1f ns by its number\n", name, time[name], time[name "_at"] }' "$folder/in_c.best" | sort
 join "$folder/in_c.best" "$program.best" |
     awk '{ ratio = $2 / $3; if (ratio > ($1 == "tick" ? 1.2 : 1.1)) bad = 1
-           printf "%-7s %5d ns from C, %5d ns in Rattle: %.2f\n", $1, $2, $3, ratio }
+           printf "%-7s %6.1f ns from C, %6.1f ns in Rattle: %.2f\n", $1, $2, $3, ratio }
          END { exit bad }'
