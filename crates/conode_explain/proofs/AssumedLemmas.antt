@@ -13,7 +13,7 @@ use Rattle.conode_decode.specs.Texts.{of_node, pdo_text, service_text, text_of_f
 use Rattle.co_frame.specs.FrameContent.{FrameContent}
 use Rattle.conode_explain_pdo.specs.declared.claim.Claim.{Claim}
 use Rattle.conode_explain_pdo.specs.Buses.{Bus, names_at}
-use Rattle.conode_explain_services.specs.Nodes.{nothing_seen}
+use Rattle.conode_explain_services.specs.declared.last.Last.{Last}
 use Rattle.conode_explain_services.specs.Reserved.{is_reserved}
 use Rattle.conode_explain_services.specs.Services.{service_words}
 use Rattle.conode_explain.specs.AbortWords.{abort_words, is_sdo}
@@ -29,9 +29,9 @@ no_transfer id bytes is =
     rw (request, answer) refl
 
 -- it has no service of those that have words of their own
-no_service : (id : ℕ) (bytes : List ℕ) → is_default_pdo id ≡ true → service_words nothing_seen (record { id = id; bytes = bytes }) ≡ None
+no_service : (last : Last) (id : ℕ) (bytes : List ℕ) → is_default_pdo id ≡ true → service_words last (record { id = id; bytes = bytes }) ≡ None
 unfolding service_words
-no_service id bytes is =
+no_service last id bytes is =
     let emergency : (ltb 0x080 id && ltb id 0x100) ≡ false = grind (arith, nat_tests, is) in
     let control : (ltb 0x700 id && ltb id 0x780) ≡ false = grind (arith, nat_tests, is) in
     let time : eqb id 0x100 ≡ false = grind (arith, nat_tests, is) in
@@ -89,11 +89,11 @@ plain names id bytes is =
     ∙ ap (λ (words : List ℕ). codes "~" ++ words) text
     ∙ by_step names (id % 128) (id / 128) bytes low high
 
-pub assumed : (bus : Bus) (id : ℕ) (bytes : List ℕ) → is_default_pdo id ≡ true
-    → assumed_words id ≡ frame_words bus [] (record { id = id; bytes = bytes })
+pub assumed : (bus : Bus) (last : Last) (id : ℕ) (bytes : List ℕ) → is_default_pdo id ≡ true
+    → assumed_words id ≡ frame_words bus [] last (record { id = id; bytes = bytes })
 unfolding frame_words transfer_words other_words served_words
-assumed bus id bytes is =
-    rw (no_transfer id bytes is, no_service id bytes is) (sym (plain (names_at bus (id % 128)) id bytes is))
+assumed bus last id bytes is =
+    rw (no_transfer id bytes is, no_service last id bytes is) (sym (plain (names_at bus (id % 128)) id bytes is))
 
 pub none_there : (claims : List Claim) → length claims < 1 → claims ≡ []
 none_there [] few = refl

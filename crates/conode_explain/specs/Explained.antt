@@ -36,6 +36,7 @@ use Rattle.conode_explain_filter.specs.declared.subject.Subject.{Subject}
 use Rattle.conode_explain_forms.specs.JsonLines.{json_line}
 use Rattle.conode_explain_forms.specs.Fields.{field_of}
 use Rattle.conode_explain_forms.specs.Lines.{has_one, header, signal_line}
+use Rattle.conode_explain_services.specs.declared.last.Last.{Last}
 use Rattle.conode_explain_text.specs.Lines.{Part, line_parts, line_text, own_parts}
 use Rattle.conode_explain_text.specs.SoFar.{SoFar, nothing_seen, seen_with, shows_interface, times_at}
 use Rattle.conode_explain.specs.declared.progress.Progress.{Progress}
@@ -44,13 +45,14 @@ use Rattle.conode_explain.specs.declared.progress.LineFormat.{LineFormat}
 use Rattle.conode_explain.specs.declared.progress.LineFormat.TheVariants.{Text, Json}
 use Rattle.conode_explain.specs.LogLines.{line_at}
 use Rattle.conode_explain.specs.Filtered.{data_of, is_news, lasts_told, shows_end, shows_frame, subject_in}
+use Rattle.conode_explain.specs.Nodes.{last_at, nodes_with}
 use Rattle.conode_explain.specs.ToldWords.{ended_words, told_words}
 
 -- ---- the lines of frames
 
 -- nothing came
 abbrev pub nothing_known : Progress
-nothing_known = record { seen = nothing_seen; channels = []; entries = []; lasts = [] }
+nothing_known = record { seen = nothing_seen; channels = []; entries = []; nodes = []; lasts = [] }
 
 -- what is said about a frame, and the channels after it: only data frames with an identifier of 11
 -- bits are followed
@@ -118,10 +120,10 @@ shown_signals form so_far bus claims frame told =
     then signal_lines form so_far bus claims frame told else []
 
 -- the line of a frame: of a table, where signals are asked for
-abbrev pub first_lines : Layout → Bus → List Claim → SoFar → List Said → Record → Option Told → List (List ℕ)
-first_lines form bus claims so_far lasts frame told =
+abbrev pub first_lines : Layout → Bus → List Claim → Last → SoFar → List Said → Record → Option Told → List (List ℕ)
+first_lines form bus claims last so_far lasts frame told =
     if length form.signals.now == 0
-    then shown_lines form so_far lasts (subject_in claims frame) frame (told_words bus claims frame told)
+    then shown_lines form so_far lasts (subject_in claims frame) frame (told_words bus claims last frame told)
     else shown_signals form so_far bus claims frame told
 
 -- the line of a transfer of a node that ended, where one did and it is asked for
@@ -139,22 +141,23 @@ abbrev pub told_lines : Layout → List KnownSheet → SoFar → Record → Opti
 told_lines form sheets so_far frame None = []
 told_lines form sheets so_far frame (Some told) = ended_lines form sheets so_far frame.micros frame.interface told.node told.ended
 
--- the lines of a frame on a bus that is these PDOs, by what its SDO channel says about it
-abbrev pub lines_with : Layout → List KnownSheet → Bus → List Claim → SoFar → List Said → Record → Option Told → List (List ℕ)
-lines_with form sheets bus claims so_far lasts frame told =
-    first_lines form bus claims so_far lasts frame told ++ told_lines form sheets so_far frame told
+-- the lines of a frame on a bus that is these PDOs, by what its SDO channel says about it, where the
+-- last frames of its node had this
+abbrev pub lines_with : Layout → List KnownSheet → Bus → List Claim → Last → SoFar → List Said → Record → Option Told → List (List ℕ)
+lines_with form sheets bus claims last so_far lasts frame told =
+    first_lines form bus claims last so_far lasts frame told ++ told_lines form sheets so_far frame told
 
 -- and what was said last after it: in a table nothing is
-abbrev pub lasts_with : Layout → Bus → List Claim → SoFar → List Said → Record → Option Told → List Said
-lasts_with form bus claims so_far lasts frame told =
+abbrev pub lasts_with : Layout → Bus → List Claim → Last → SoFar → List Said → Record → Option Told → List Said
+lasts_with form bus claims last so_far lasts frame told =
     if length form.signals.now == 0
-    then lasts_after form so_far lasts (subject_in claims frame) frame (told_words bus claims frame told) else lasts
+    then lasts_after form so_far lasts (subject_in claims frame) frame (told_words bus claims last frame told) else lasts
 
 -- the lines of a frame of which its SDO channel says this
 abbrev pub lines_by : Layout → List KnownSheet → Progress → Record → Option Told → List (List ℕ)
 lines_by form sheets progress frame told =
     let bus = bus_of sheets progress.entries frame in
-    lines_with form sheets bus (claims_at bus frame.id) progress.seen progress.lasts frame told
+    lines_with form sheets bus (claims_at bus frame.id) (last_at progress.nodes frame) progress.seen progress.lasts frame told
 
 -- how far it is after it, where the channels have it already
 abbrev pub progress_by : Layout → List KnownSheet → Progress → Record → Option Told → Progress
@@ -163,7 +166,8 @@ progress_by form sheets progress frame told =
     record {
       seen = seen_with progress.seen frame.micros frame.interface;
       channels = progress.channels;
-      lasts = lasts_with form bus (claims_at bus frame.id) progress.seen progress.lasts frame told;
+      nodes = nodes_with progress.nodes frame;
+      lasts = lasts_with form bus (claims_at bus frame.id) (last_at progress.nodes frame) progress.seen progress.lasts frame told;
       entries = entries_with progress.entries frame.interface told;
     }
 

@@ -12,7 +12,7 @@ use Rattle.conode_explain.specs.Transfers.{transfer_words}
 use Rattle.conode_explain_pdo.specs.declared.claim.Claim.{Claim}
 use Rattle.conode_explain_pdo.specs.Buses.{Bus, names_at}
 use Rattle.conode_explain_pdo.specs.Pdos.{pdos_text}
-use Rattle.conode_explain_services.specs.Nodes.{nothing_seen}
+use Rattle.conode_explain_services.specs.declared.last.Last.{Last}
 use Rattle.conode_explain_services.specs.Services.{remote_words, service_words}
 
 -- an identifier of a PDO in the pre-defined connection set (CiA 301, 7.3.3)
@@ -27,21 +27,21 @@ assumed_mark id = if is_default_pdo id then codes "~" else []
 abbrev pub plain_words : Names → FrameContent → List ℕ
 plain_words names frame = assumed_mark frame.id ++ text_of_frame names frame ++ abort_words frame
 
--- by its service, else by its text
-unfoldable pub served_words : Names → FrameContent → List ℕ
-served_words names frame = unwrap_or (service_words nothing_seen frame) (plain_words names frame)
+-- by its service, where the last frames of its node had this, else by its text
+unfoldable pub served_words : Names → Last → FrameContent → List ℕ
+served_words names last frame = unwrap_or (service_words last frame) (plain_words names frame)
 
 -- as the PDOs that have its identifier, else by its service or its text, of the node of the
 -- pre-defined connection set
-unfoldable pub other_words : Bus → List Claim → FrameContent → List ℕ
-other_words bus [] frame = served_words (names_at bus (frame.id % 128)) frame
-other_words bus (claim ∷ claims) frame = pdos_text bus frame.bytes (claim ∷ claims)
+unfoldable pub other_words : Bus → List Claim → Last → FrameContent → List ℕ
+other_words bus [] last frame = served_words (names_at bus (frame.id % 128)) last frame
+other_words bus (claim ∷ claims) last frame = pdos_text bus frame.bytes (claim ∷ claims)
 
 -- what a frame with an identifier of 11 bits says: the entry of an expedited transfer with its
 -- value, where the sheet has the entry; else the entries of PDOs with theirs, or its text
-unfoldable pub frame_words : Bus → List Claim → FrameContent → List ℕ
-frame_words bus claims frame =
-    unwrap_or (transfer_words bus frame) (other_words bus claims frame)
+unfoldable pub frame_words : Bus → List Claim → Last → FrameContent → List ℕ
+frame_words bus claims last frame =
+    unwrap_or (transfer_words bus frame) (other_words bus claims last frame)
 
 -- a PDO of that set of which no more is known: its number, by its identifier in steps of 128, and its node
 abbrev pub assumed_front : ℕ → List ℕ
@@ -58,10 +58,10 @@ unfoldable pub assumed_words : ℕ → List ℕ
 assumed_words id = assumed_front (id / 128) ++ decimal (id % 128)
 
 -- what data say, by the identifier
-abbrev pub data_words : Bus → List Claim → Identifier → List ℕ → List ℕ
-data_words bus claims (Base id) bytes = frame_words bus claims (record { id = id; bytes = bytes })
-data_words bus claims (Extended id) bytes = codes "frame with an identifier of 29 bits"
-data_words bus claims (Error class) bytes = codes "error frame"
+abbrev pub data_words : Bus → List Claim → Last → Identifier → List ℕ → List ℕ
+data_words bus claims last (Base id) bytes = frame_words bus claims last (record { id = id; bytes = bytes })
+data_words bus claims last (Extended id) bytes = codes "frame with an identifier of 29 bits"
+data_words bus claims last (Error class) bytes = codes "error frame"
 
 -- what a remote frame says, by the identifier
 abbrev pub remote_content : Identifier → List ℕ
@@ -69,8 +69,8 @@ remote_content (Base id) = remote_words id
 remote_content (Extended id) = codes "remote frame"
 remote_content (Error class) = codes "remote frame"
 
--- what a frame says
-unfoldable pub words_of_content : Bus → List Claim → Identifier → Content → List ℕ
-words_of_content bus claims id (Data bytes) = data_words bus claims id bytes
-words_of_content bus claims id (Remote count) = remote_content id
-words_of_content bus claims id (Fd flags bytes) = codes "CAN FD frame"
+-- what a frame says, where the last frames of its node had this
+unfoldable pub words_of_content : Bus → List Claim → Last → Identifier → Content → List ℕ
+words_of_content bus claims last id (Data bytes) = data_words bus claims last id bytes
+words_of_content bus claims last id (Remote count) = remote_content id
+words_of_content bus claims last id (Fd flags bytes) = codes "CAN FD frame"

@@ -5,6 +5,7 @@ use Rattle.co_sheet_names.specs.Names.{Names, entry_of, shown_name}
 use Rattle.conode_record.specs.declared.line.Record.{Record}
 use Rattle.conode_explain_channels.specs.declared.told.Part.{Part}
 use Rattle.conode_explain_channels.specs.declared.told.Told.{Told}
+use Rattle.conode_explain_services.specs.declared.last.Last.{Last}
 use Rattle.conode_explain_transfers.specs.declared.ended.Ended.{Ended}
 use Rattle.conode_explain_transfers.specs.declared.ended.Ending.{Ending}
 use Rattle.conode_explain_transfers.specs.declared.ended.Ending.TheVariants.{Aborted}
@@ -27,22 +28,23 @@ name_in names node None = []
 name_in names node (Some key) = name_bytes names node key
 
 -- a segment of a sub-block has its number, every other frame its own text
-abbrev pub part_front : Bus → List Claim → Record → ℕ → Side → Option ℕ → List ℕ
-part_front bus claims frame node side None = words_of_content bus claims frame.id frame.content
-part_front bus claims frame node side (Some number) = segment_text side node number
+abbrev pub part_front : Bus → List Claim → Last → Record → ℕ → Side → Option ℕ → List ℕ
+part_front bus claims last frame node side None = words_of_content bus claims last frame.id frame.content
+part_front bus claims last frame node side (Some number) = segment_text side node number
 
-unfoldable pub part_words : Bus → List Claim → Record → ℕ → Part → List ℕ
-part_words bus claims frame node part =
-    part_front bus claims frame node part.side (segment_number part.what) ++ after_text part.what part.of (name_in (names_at bus node) node part.of)
+unfoldable pub part_words : Bus → List Claim → Last → Record → ℕ → Part → List ℕ
+part_words bus claims last frame node part =
+    part_front bus claims last frame node part.side (segment_number part.what) ++ after_text part.what part.of (name_in (names_at bus node) node part.of)
 
-abbrev pub words_in : Bus → List Claim → Record → ℕ → Option Part → List ℕ
-words_in bus claims frame node None = words_of_content bus claims frame.id frame.content
-words_in bus claims frame node (Some part) = part_words bus claims frame node part
+abbrev pub words_in : Bus → List Claim → Last → Record → ℕ → Option Part → List ℕ
+words_in bus claims last frame node None = words_of_content bus claims last frame.id frame.content
+words_in bus claims last frame node (Some part) = part_words bus claims last frame node part
 
--- what a frame says, by what its SDO channel says about it
-abbrev pub told_words : Bus → List Claim → Record → Option Told → List ℕ
-told_words bus claims frame None = words_of_content bus claims frame.id frame.content
-told_words bus claims frame (Some told) = words_in bus claims frame told.node told.part
+-- what a frame says, by what its SDO channel says about it, where the last frames of its node had
+-- this
+abbrev pub told_words : Bus → List Claim → Last → Record → Option Told → List ℕ
+told_words bus claims last frame None = words_of_content bus claims last frame.id frame.content
+told_words bus claims last frame (Some told) = words_in bus claims last frame told.node told.part
 
 -- ---- transfers that ended
 

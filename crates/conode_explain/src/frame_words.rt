@@ -53,12 +53,13 @@ fn push_plain_words(
 fn push_served_words(
     said: &mut String,
     names: Names<'_, '_>,
+    last: Last,
     frame: &Frame,
 ) -> Result<(), AllocError>
     ensures { OnOk result (string_bytes said.new
-        ≡ string_bytes said.old ++ served_words (names_view names.entry) frame.now) }
+        ≡ string_bytes said.old ++ served_words (names_view names.entry) last frame.now) }
 {
-    if push_service(said, Last::new(), frame)? {
+    if push_service(said, last, frame)? {
         return Ok(());
     }
     push_plain_words(said, names, frame)
@@ -70,13 +71,14 @@ fn push_other_words(
     said: &mut String,
     bus: Bus<'_, '_, '_, '_, '_>,
     claims: &[Claim],
+    last: Last,
     frame: &Frame,
 ) -> Result<(), AllocError>
     ensures { OnOk result (string_bytes said.new
-        ≡ string_bytes said.old ++ other_words (bus_view bus.entry) claims.now frame.now) }
+        ≡ string_bytes said.old ++ other_words (bus_view bus.entry) claims.now last frame.now) }
 {
     match claims {
-        [] => push_served_words(said, bus.names((frame.id() % 128) as u8), frame),
+        [] => push_served_words(said, bus.names((frame.id() % 128) as u8), last, frame),
         _ => push_pdos(said, bus, frame.bytes(), claims),
     }
 }
@@ -86,10 +88,11 @@ fn push_frame_words(
     said: &mut String,
     bus: Bus<'_, '_, '_, '_, '_>,
     claims: &[Claim],
+    last: Last,
     frame: &Frame,
 ) -> Result<(), AllocError>
     ensures { OnOk result (string_bytes said.new
-        ≡ string_bytes said.old ++ frame_words (bus_view bus.entry) claims.now frame.now) }
+        ≡ string_bytes said.old ++ frame_words (bus_view bus.entry) claims.now last frame.now) }
 {
     if let Some(transfer) = transfer_in(frame) {
         let names = bus.names(transfer.node);
@@ -97,7 +100,7 @@ fn push_frame_words(
             return push_transfer(said, names, &transfer, row);
         }
     }
-    push_other_words(said, bus, claims, frame)
+    push_other_words(said, bus, claims, last, frame)
 }
 
 fn assumed_front(step: u16) -> &'static str
@@ -128,17 +131,18 @@ fn push_base_words(
     said: &mut String,
     bus: Bus<'_, '_, '_, '_, '_>,
     claims: &[Claim],
+    last: Last,
     id: u16,
     bytes: &PackedBytes,
 ) -> Result<(), AllocError>
     requires { id < 2048 }
     ensures { OnOk result (string_bytes said.new ≡ string_bytes said.old
-        ++ frame_words (bus_view bus.entry) claims.now (record { id = id; bytes = bytes.now })) }
+        ++ frame_words (bus_view bus.entry) claims.now last (record { id = id; bytes = bytes.now })) }
 {
     match claims {
         // most frames of most recordings
         [] if is_default_pdo(id) => push_assumed_words(said, id),
-        _ => push_frame_words(said, bus, claims, &Frame::packed(id, bytes)),
+        _ => push_frame_words(said, bus, claims, last, &Frame::packed(id, bytes)),
     }
 }
 
@@ -146,15 +150,16 @@ fn push_data_words(
     said: &mut String,
     bus: Bus<'_, '_, '_, '_, '_>,
     claims: &[Claim],
+    last: Last,
     id: Identifier,
     bytes: &PackedBytes,
 ) -> Result<(), AllocError>
     requires { IsIdentifier id }
     ensures { OnOk result (string_bytes said.new
-        ≡ string_bytes said.old ++ data_words (bus_view bus.entry) claims.now id bytes.now) }
+        ≡ string_bytes said.old ++ data_words (bus_view bus.entry) claims.now last id bytes.now) }
 {
     match id {
-        Identifier::Base(id) => push_base_words(said, bus, claims, id, bytes),
+        Identifier::Base(id) => push_base_words(said, bus, claims, last, id, bytes),
         Identifier::Extended(_) => said.push_str("frame with an identifier of 29 bits"),
         Identifier::Error(_) => said.push_str("error frame"),
     }
@@ -170,23 +175,24 @@ fn push_remote_words(said: &mut String, id: Identifier) -> Result<(), AllocError
     }
 }
 
-/// Sets `said` to what a frame says; `claims` are the PDOs that it is. On an `Err` memory ran out,
-/// and it is incomplete.
+/// Sets `said` to what a frame says; `claims` are the PDOs that it is, `last` is what the last frames
+/// of its node had. On an `Err` memory ran out, and it is incomplete.
 #[tactic(auto, unfolding(crate::specs::FrameWords::words_of_content))]
 pub(crate) fn set_words(
     said: &mut String,
     bus: Bus<'_, '_, '_, '_, '_>,
     claims: &[Claim],
+    last: Last,
     id: Identifier,
     content: &Content<'_>,
 ) -> Result<(), AllocError>
     requires { IsIdentifier id }
     ensures { OnOk result (string_bytes said.new
-        ≡ words_of_content (bus_view bus.entry) claims.now id content.now) }
+        ≡ words_of_content (bus_view bus.entry) claims.now last id content.now) }
 {
     said.clear();
     match content {
-        Content::Data(bytes) => push_data_words(said, bus, claims, id, bytes),
+        Content::Data(bytes) => push_data_words(said, bus, claims, last, id, bytes),
         Content::Remote(_) => push_remote_words(said, id),
         Content::Fd(_, _) => said.push_str("CAN FD frame"),
     }

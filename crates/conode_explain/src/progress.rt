@@ -5,12 +5,14 @@ ghost use Rattle.conode_record.specs.Grammar.{IsIdentifier};
 ghost use Rattle.conode_explain_entries.specs.Tables.{entries_with};
 ghost use Rattle.conode_explain_text.specs.SoFar.{seen_with};
 ghost use Rattle.conode_explain.specs.Explained.{may_be_told, nothing_known, telling_of};
+ghost use Rattle.conode_explain.specs.Nodes.{last_at, nodes_with};
 
 use co_frame::Frame;
 use conode_explain_channels::{Channels, Told};
 use conode_explain_entries::Entries;
 use conode_explain_filter::{Filter, Lasts};
 use conode_explain_forms::Signal;
+use conode_explain_services::{Last, Nodes};
 use conode_explain_text::{Seen, StampForm};
 use conode_logs::Form;
 use conode_record::{Content, Identifier, Record};
@@ -45,12 +47,13 @@ pub struct Layout<'f> {
 }
 
 /// What a recording showed so far: its stamps and interfaces, the SDO channels, entries of nodes,
-/// and what was said last of identifiers.
+/// what the last frames of nodes had, and what was said last of identifiers.
 #[derive(Drop)]
 pub(crate) struct Progress {
     pub(crate) seen: Seen,
     pub(crate) channels: Channels,
     pub(crate) entries: Entries,
+    pub(crate) nodes: Nodes,
     pub(crate) lasts: Lasts,
 }
 
@@ -65,6 +68,23 @@ pub(crate) fn may_be_told(id: Identifier) -> bool
     }
 }
 
+// Notes what a frame has of its node, where that is of an emergency or of error control.
+#[tactic(auto, unfolding(crate::specs::Nodes::nodes_with))]
+fn note_node(nodes: &mut Nodes, frame: &Record<'_>) -> Result<(), AllocError>
+    requires { IsIdentifier frame.now.id }
+    ensures { OnOk result (nodes.new ≡ nodes_with nodes.old frame.now) }
+{
+    let Identifier::Base(id) = frame.id else {
+        return Ok(());
+    };
+    let name = frame.interface.bytes();
+    match &frame.content {
+        Content::Data(bytes) => nodes.take(name, &Frame::packed(id, bytes)),
+        Content::Remote(_) => nodes.take_remote(name, id),
+        Content::Fd(_, _) => Ok(()),
+    }
+}
+
 impl Progress {
     /// Nothing came.
     pub(crate) fn new(alloc: Global) -> Progress
@@ -74,6 +94,7 @@ impl Progress {
             seen: Seen::new(),
             channels: Channels::new(alloc),
             entries: Entries::new(alloc),
+            nodes: Nodes::new(alloc),
             lasts: Lasts::new(alloc),
         }
     }
@@ -89,6 +110,7 @@ impl Progress {
             (self.new.channels ≡ (telling_of self.old.channels frame.now).tracks) }
         ensures seen { self.new.seen ≡ self.old.seen }
         ensures entries { self.new.entries ≡ self.old.entries }
+        ensures nodes { self.new.nodes ≡ self.old.nodes }
         ensures lasts { self.new.lasts ≡ self.old.lasts }
     {
         let Identifier::Base(id) = frame.id else {
@@ -102,17 +124,30 @@ impl Progress {
             .take(name, frame.micros, &Frame::packed(id, bytes))
     }
 
-    /// Adds a frame: its stamp, its interface, and what it shows of entries by `told`, which its
-    /// SDO channel says about it. On an `Err` memory ran out.
+    /// What the last frames of a frame's node had; nothing where its identifier has 29 bits.
+    pub(crate) fn last(&self, frame: &Record<'_>) -> Last
+        ensures { result ≡ last_at self.now.nodes frame.now }
+    {
+        match frame.id {
+            Identifier::Base(id) => self.nodes.last(frame.interface.bytes(), id),
+            Identifier::Extended(_) | Identifier::Error(_) => Last::new(),
+        }
+    }
+
+    /// Adds a frame: its stamp, its interface, what it has of its node, and what it shows of
+    /// entries by `told`, which its SDO channel says about it. On an `Err` memory ran out.
     pub(crate) fn add(&mut self, frame: &Record<'_>, told: &Option<Told>) -> Result<(), AllocError>
+        requires { IsIdentifier frame.now.id }
         ensures seen { OnOk result (self.new.seen
             ≡ seen_with self.old.seen frame.now.micros frame.now.interface) }
         ensures channels { OnOk result (self.new.channels ≡ self.old.channels) }
         ensures lasts { OnOk result (self.new.lasts ≡ self.old.lasts) }
         ensures entries { OnOk result (self.new.entries
             ≡ entries_with self.old.entries frame.now.interface told.now) }
+        ensures nodes { OnOk result (self.new.nodes ≡ nodes_with self.old.nodes frame.now) }
     {
         self.seen.add(frame);
+        note_node(&mut self.nodes, frame)?;
         self.entries.take(frame.interface.bytes(), told)
     }
 }

@@ -21,6 +21,7 @@ use co_text::push_decimal;
 use co_value::Key;
 use conode_explain_channels::{Part, Told};
 use conode_explain_pdo::{Bus, Claim};
+use conode_explain_services::Last;
 use conode_explain_transfer_text::{push_after, push_end, push_segment, segment_number};
 use conode_explain_transfers::{Ended, Ending, Side};
 use conode_record::Record;
@@ -53,6 +54,7 @@ fn set_part_front(
     said: &mut String,
     bus: Bus<'_, '_, '_, '_, '_>,
     claims: &[Claim],
+    last: Last,
     frame: &Record<'_>,
     node: u8,
     side: Side,
@@ -60,10 +62,10 @@ fn set_part_front(
 ) -> Result<(), AllocError>
     requires { IsIdentifier frame.now.id }
     ensures { OnOk result (string_bytes said.new
-        ≡ part_front (bus_view bus.entry) claims.now frame.now node side number) }
+        ≡ part_front (bus_view bus.entry) claims.now last frame.now node side number) }
 {
     let Some(number) = number else {
-        return set_words(said, bus, claims, frame.id, &frame.content);
+        return set_words(said, bus, claims, last, frame.id, &frame.content);
     };
     said.clear();
     push_segment(said, side, node, number)
@@ -74,16 +76,17 @@ fn set_part_words(
     said: &mut String,
     bus: Bus<'_, '_, '_, '_, '_>,
     claims: &[Claim],
+    last: Last,
     frame: &Record<'_>,
     node: u8,
     part: Part,
 ) -> Result<(), AllocError>
     requires { IsIdentifier frame.now.id }
     ensures { OnOk result (string_bytes said.new
-        ≡ part_words (bus_view bus.entry) claims.now frame.now node part) }
+        ≡ part_words (bus_view bus.entry) claims.now last frame.now node part) }
 {
     let number = segment_number(part.what);
-    set_part_front(said, bus, claims, frame, node, part.side, number)?;
+    set_part_front(said, bus, claims, last, frame, node, part.side, number)?;
     push_after(
         said,
         part.what,
@@ -92,26 +95,28 @@ fn set_part_words(
     )
 }
 
-/// Sets `said` to what a frame says; `claims` are the PDOs that it is, `told` is what its SDO
-/// channel says about it. On an `Err` memory ran out, and it is incomplete.
+/// Sets `said` to what a frame says; `claims` are the PDOs that it is, `last` is what the last frames
+/// of its node had, `told` what its SDO channel says about it. On an `Err` memory ran out, and it is
+/// incomplete.
 pub(crate) fn set_told_words(
     said: &mut String,
     bus: Bus<'_, '_, '_, '_, '_>,
     claims: &[Claim],
+    last: Last,
     frame: &Record<'_>,
     told: &Option<Told>,
 ) -> Result<(), AllocError>
     requires { IsIdentifier frame.now.id }
     ensures { OnOk result (string_bytes said.new
-        ≡ told_words (bus_view bus.entry) claims.now frame.now told.now) }
+        ≡ told_words (bus_view bus.entry) claims.now last frame.now told.now) }
 {
     let Some(told) = told else {
-        return set_words(said, bus, claims, frame.id, &frame.content);
+        return set_words(said, bus, claims, last, frame.id, &frame.content);
     };
     let Some(part) = told.part else {
-        return set_words(said, bus, claims, frame.id, &frame.content);
+        return set_words(said, bus, claims, last, frame.id, &frame.content);
     };
-    set_part_words(said, bus, claims, frame, told.node, part)
+    set_part_words(said, bus, claims, last, frame, told.node, part)
 }
 
 // what the code of an abort means

@@ -38,6 +38,7 @@ use conode_explain_entries::Entries;
 use conode_explain_filter::{Kind, Lasts, Subject};
 use conode_explain_forms::{header, json_line, own_json_line, set_signal_line};
 use conode_explain_pdo::{Bus, Claim, KnownSheet, add_claims, names_for};
+use conode_explain_services::Last;
 use conode_explain_text::{Seen, set_line, set_own_line};
 use conode_explain_transfers::Ended;
 use conode_io::{CmdFault, hand_over};
@@ -132,7 +133,7 @@ fn set_frame_line(
 }
 
 // Writes the line of a frame that is asked for, if it says something new; `claims` are the PDOs
-// that it is.
+// that it is, `last` is what the last frames of its node had.
 #[tactic(auto, using(crate::proofs::WriteSets::one_line))]
 fn write_news<W: Write>(
     room: &mut Room,
@@ -141,6 +142,7 @@ fn write_news<W: Write>(
     lasts: &mut Lasts,
     bus: Bus<'_, '_, '_, '_, '_>,
     claims: &[Claim],
+    last: Last,
     subject: &Subject,
     frame: &Record<'_>,
     told: &Option<Told>,
@@ -149,12 +151,12 @@ fn write_news<W: Write>(
     requires { IsIdentifier frame.now.id }
     ensures lines { OnOk result (WritesLines (W.contents out.old) (W.contents out.new)
         (news_lines form.now seen.now lasts.old subject.now frame.now
-        (told_words (bus_view bus.entry) claims.now frame.now told.now))) }
+        (told_words (bus_view bus.entry) claims.now last frame.now told.now))) }
     ensures lasts { OnOk result (lasts.new ≡ lasts_told form.now lasts.old subject.now
-        frame.now (told_words (bus_view bus.entry) claims.now frame.now told.now)) }
+        frame.now (told_words (bus_view bus.entry) claims.now last frame.now told.now)) }
     ensures err { IfErr result (λ fault. (fault ≡ CmdFault.Write) ⊎ (fault ≡ CmdFault.Memory)) }
 {
-    set_told_words(&mut room.said, bus, claims, frame, told)?;
+    set_told_words(&mut room.said, bus, claims, last, frame, told)?;
     let words = room.said.as_bytes();
     if !is_news(lasts, form, subject, frame, words)? {
         return Ok(());
@@ -182,6 +184,7 @@ fn write_shown<W: Write>(
     lasts: &mut Lasts,
     bus: Bus<'_, '_, '_, '_, '_>,
     claims: &[Claim],
+    last: Last,
     frame: &Record<'_>,
     told: &Option<Told>,
     out: &mut W,
@@ -189,10 +192,10 @@ fn write_shown<W: Write>(
     requires { IsIdentifier frame.now.id }
     ensures lines { OnOk result (WritesLines (W.contents out.old) (W.contents out.new)
         (shown_lines form.now seen.now lasts.old (subject_in claims.now frame.now) frame.now
-        (told_words (bus_view bus.entry) claims.now frame.now told.now))) }
+        (told_words (bus_view bus.entry) claims.now last frame.now told.now))) }
     ensures lasts { OnOk result (lasts.new ≡ lasts_after form.now seen.now lasts.old
         (subject_in claims.now frame.now) frame.now
-        (told_words (bus_view bus.entry) claims.now frame.now told.now)) }
+        (told_words (bus_view bus.entry) claims.now last frame.now told.now)) }
     ensures err { IfErr result (λ fault. (fault ≡ CmdFault.Write) ⊎ (fault ≡ CmdFault.Memory)) }
 {
     let subject = subject_in(claims, frame);
@@ -200,7 +203,7 @@ fn write_shown<W: Write>(
         return Ok(());
     }
     write_news(
-        room, form, seen, lasts, bus, claims, &subject, frame, told, out,
+        room, form, seen, lasts, bus, claims, last, &subject, frame, told, out,
     )
 }
 
@@ -243,21 +246,22 @@ fn write_first<W: Write>(
     lasts: &mut Lasts,
     bus: Bus<'_, '_, '_, '_, '_>,
     claims: &[Claim],
+    last: Last,
     frame: &Record<'_>,
     told: &Option<Told>,
     out: &mut W,
 ) -> Result<(), CmdFault>
     requires { IsIdentifier frame.now.id }
     ensures lines { OnOk result (WritesLines (W.contents out.old) (W.contents out.new)
-        (first_lines form.now (bus_view bus.entry) claims.now seen.now lasts.old frame.now
+        (first_lines form.now (bus_view bus.entry) claims.now last seen.now lasts.old frame.now
         told.now)) }
     ensures lasts { OnOk result (lasts.new
-        ≡ lasts_with form.now (bus_view bus.entry) claims.now seen.now lasts.old frame.now
+        ≡ lasts_with form.now (bus_view bus.entry) claims.now last seen.now lasts.old frame.now
         told.now) }
     ensures err { IfErr result (λ fault. (fault ≡ CmdFault.Write) ⊎ (fault ≡ CmdFault.Memory)) }
 {
     if form.signals.is_empty() {
-        return write_shown(room, form, seen, lasts, bus, claims, frame, told, out);
+        return write_shown(room, form, seen, lasts, bus, claims, last, frame, told, out);
     }
     write_signals(&mut room.text, form, seen, bus, claims, frame, told, out)
 }
@@ -400,6 +404,7 @@ fn write_by<W: Write>(
 {
     let bus = bus_of(settings, &progress.entries, frame);
     set_claims(claims, bus, frame.id)?;
+    let last = progress.last(frame);
     write_first(
         room,
         &settings.form,
@@ -407,6 +412,7 @@ fn write_by<W: Write>(
         &mut progress.lasts,
         bus,
         claims.as_slice(),
+        last,
         frame,
         told,
         out,

@@ -1,0 +1,34 @@
+-- What the last frames of each node had, frame by frame of a recording.
+use Rattle.std.specs.Prelude.{ℕ, List}
+use Rattle.conode_record.specs.declared.content.Content.{Content}
+use Rattle.conode_record.specs.declared.content.Content.TheVariants.{Data, Remote, Fd}
+use Rattle.conode_record.specs.declared.fields.Identifier.{Identifier}
+use Rattle.conode_record.specs.declared.fields.Identifier.TheVariants.{Base, Extended, Error}
+use Rattle.conode_record.specs.declared.line.Record.{Record}
+use Rattle.conode_explain_services.specs.declared.last.Last.{Last}
+use Rattle.conode_explain_services.specs.declared.node.Node.{Node}
+use Rattle.conode_explain_services.specs.Nodes.{last_of, nodes_after, nodes_asked, nothing_seen}
+
+-- what the last frames of the node of a frame had: of one with an identifier of 11 bits
+abbrev pub last_in : List Node → List ℕ → Identifier → Last
+last_in nodes interface (Base id) = last_of nodes interface id
+last_in nodes interface (Extended id) = nothing_seen
+last_in nodes interface (Error class) = nothing_seen
+
+abbrev pub last_at : List Node → Record → Last
+last_at nodes frame = last_in nodes frame.interface frame.id
+
+-- the nodes after a frame with an identifier of 11 bits: a CAN FD frame doesn't count
+abbrev pub nodes_of_base : List Node → List ℕ → ℕ → Content → List Node
+nodes_of_base nodes interface id (Data bytes) = nodes_after nodes interface (record { id = id; bytes = bytes })
+nodes_of_base nodes interface id (Remote count) = nodes_asked nodes interface id
+nodes_of_base nodes interface id (Fd flags bytes) = nodes
+
+-- and after any frame
+abbrev pub nodes_in : List Node → List ℕ → Identifier → Content → List Node
+nodes_in nodes interface (Base id) content = nodes_of_base nodes interface id content
+nodes_in nodes interface (Extended id) content = nodes
+nodes_in nodes interface (Error class) content = nodes
+
+unfoldable pub nodes_with : List Node → Record → List Node
+nodes_with nodes frame = nodes_in nodes frame.interface frame.id frame.content
