@@ -12,11 +12,10 @@ use Rattle.co_frame.specs.declared.sdo_response.SdoResponse.TheVariants.{UploadE
 use Rattle.co_frame.specs.SdoRequests.{request_in}
 use Rattle.co_frame.specs.SdoResponses.{response_in}
 use Rattle.co_sheet.specs.Content.{Row}
-use Rattle.co_sheet_names.specs.Names.{Names, entry_of, shown_name}
+use Rattle.co_sheet_names.specs.Names.{Names, entry_of}
 use Rattle.conode_explain.specs.declared.transfer.Transfer.{Transfer}
 use Rattle.conode_explain_pdo.specs.Buses.{Bus, names_at}
-use Rattle.conode_explain_pdo.specs.Types.{type_in}
-use Rattle.conode_explain_values.specs.Values.{entry_text}
+use Rattle.conode_explain_pdo.specs.KnownEntries.{known_text}
 
 -- ---- which frame is one
 
@@ -57,11 +56,11 @@ front_of transfer =
     if transfer.asked then service_text (codes "SDO request node ") transfer.node (codes " download: ")
     else service_text (codes "SDO answer node ") transfer.node (codes " upload: ")
 
--- the entry of a transfer with its value, in its type
+-- the entry of a transfer with its value, in its type, and of a drive what that means
 unfoldable pub transfer_text : Names → Transfer → Row → List ℕ
 transfer_text names transfer row =
     let bytes = value_bytes row.data_type transfer.content in
-    front_of transfer ++ entry_text (shown_name row) transfer.key (type_in names row) (8 * length bytes) bytes
+    front_of transfer ++ known_text names transfer.node transfer.key row (8 * length bytes) bytes
 
 -- where the node's sheet has the entry
 abbrev pub entry_words : Names → Transfer → Option (List ℕ)

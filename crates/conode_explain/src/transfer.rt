@@ -17,11 +17,10 @@ ghost use Rattle.conode_explain.specs.Transfers.{
 
 use co_frame::{ExpeditedData, Frame, SdoRequest, SdoResponse};
 use co_sheet::EntryRow;
-use co_sheet_names::{Names, shown_name};
+use co_sheet_names::Names;
 use co_text::push_decimal;
 use co_value::{DataType, Key};
-use conode_explain_pdo::type_in;
-use conode_explain_values::push_entry;
+use conode_explain_pdo::push_known;
 use std::alloc::AllocError;
 
 /// An expedited transfer, by the frame that has its value.
@@ -124,8 +123,8 @@ fn push_front(text: &mut String, transfer: &Transfer) -> Result<(), AllocError>
     }
 }
 
-/// Appends the entry of a transfer, as its row in the sheet has it, with its value: `SDO request
-/// node 5 download: Temperature 2001:01 = 1000`. On an `Err` memory ran out, and a part of it may
+/// Appends the entry of a transfer, as its row in the sheet has it, with its value, and of a drive
+/// what that means: `SDO request node 5 download: Temperature 2001:01 = 1000`. On an `Err` memory ran out, and a part of it may
 /// be there.
 #[tactic(auto, unfolding(crate::specs::Transfers::transfer_text))]
 pub(crate) fn push_transfer(
@@ -140,13 +139,6 @@ pub(crate) fn push_transfer(
 {
     let bytes = value_bytes(row.data_type, &transfer.content);
     push_front(text, transfer)?;
-    let value_type = type_in(names, row);
-    push_entry(
-        text,
-        shown_name(row),
-        transfer.key,
-        value_type,
-        8 * bytes.len(),
-        bytes,
-    )
+    let (node, key) = (transfer.node, transfer.key);
+    push_known(text, names, node, key, row, 8 * bytes.len(), bytes)
 }

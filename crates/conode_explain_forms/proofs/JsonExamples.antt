@@ -15,7 +15,7 @@ use Rattle.conode_explain_filter.specs.declared.kind.Kind.TheVariants.{Sdo, Sync
 use Rattle.conode_explain_text.specs.declared.so_far.Times.{Times}
 use Rattle.conode_explain_text.specs.declared.stamps.StampForm.TheVariants.{Relative, Absolute, Delta, Date as AsDate}
 use Rattle.conode_explain_text.specs.Dates.{date_in_year, date_of, day_of_year, year_of_cycle}
-use Rattle.conode_explain_text.specs.Lines.{content, gap, identifier, interface, line_parts, note, own_parts, said, stamp}
+use Rattle.conode_explain_text.specs.Lines.{content, gap, identifier, interface, line_parts, odd_words, note, own_parts, said, stamp}
 use Rattle.conode_explain_text.specs.SoFar.{nothing_seen, seen_with}
 use Rattle.conode_explain_text.specs.Stamps.{date_text, moment_text, time_of_day_text}
 use Rattle.conode_json.specs.Members.{flag_member, number_member, numbers_member, text_member}
@@ -116,12 +116,12 @@ sync micros name = record { micros = micros; interface = name; id = Base 0x80; c
 
 first_line : json_line Sync None (line_parts Relative nothing_seen (sync 5 (codes "can0")) (codes "SYNC \"7\""))
     ≡ codes "{\"stamp\":0,\"gap\":0,\"id\":\"080\",\"frame\":\"data\",\"length\":1,\"data\":[7],\"raw\":\"07\",\"text\":\"SYNC \\\"7\\\"\",\"kind\":\"sync\"}\n"
-unfolding sync json_line line_tokens line_parts stamp_member kind_members data_members numbers_member text_member number_member characters_of is_utf8 chars encode digits_text digits print_from escape_byte
+unfolding sync json_line line_tokens line_parts odd_words stamp_member kind_members data_members numbers_member text_member number_member characters_of is_utf8 chars encode digits_text digits print_from escape_byte
 first_line = refl
 
 line_back_on_another : json_line Sync None (line_parts Relative (seen_with nothing_seen 5 (codes "can0")) (sync 4 (codes "can1")) (codes "SYNC"))
     ≡ codes "{\"stamp\":-1,\"gap\":-1,\"interface\":\"can1\",\"id\":\"080\",\"frame\":\"data\",\"length\":1,\"data\":[7],\"raw\":\"07\",\"text\":\"SYNC\",\"note\":\"the stamp steps back\",\"kind\":\"sync\"}\n"
-unfolding sync json_line line_tokens line_parts stamp_member kind_members data_members numbers_member text_member number_member characters_of is_utf8 chars encode digits_text digits print_from escape_byte
+unfolding sync json_line line_tokens line_parts odd_words stamp_member kind_members data_members numbers_member text_member number_member characters_of is_utf8 chars encode digits_text digits print_from escape_byte
 line_back_on_another = refl
 
 transfer : json_line Sdo (Some 5) (own_parts Relative (times 5 5 6) true (codes "can1") (codes "node 5  done"))

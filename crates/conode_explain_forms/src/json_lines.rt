@@ -25,7 +25,7 @@ ghost use Rattle.conode_explain_forms.specs.JsonLines.{
 use crate::json_content::{put_content, put_id, put_interface};
 use crate::kind_name::kind_name;
 use conode_explain_filter::Kind;
-use conode_explain_text::{Seen, StampForm, Times, push_moment};
+use conode_explain_text::{Seen, StampForm, Times, odd_words, push_moment};
 use conode_json::JsonWriter;
 use conode_record::Record;
 use std::alloc::{AllocError, Global};
@@ -70,13 +70,13 @@ fn put_said(alloc: Global, writer: &mut JsonWriter, words: &[u8]) -> Result<(), 
     writer.put_bytes(alloc, "text", words)
 }
 
+#[tactic(auto, unfolding(conode_json::specs::Members::text_member))]
 fn put_notes(writer: &mut JsonWriter, times: Times) -> Result<(), AllocError>
     ensures { OnOk result (writer.new ≡ writer.old ++ flat_map part_tokens (notes times)) }
 {
-    if times.now < times.before {
-        writer.put_text("note", "the stamp steps back")
-    } else {
-        Ok(())
+    match odd_words(times) {
+        Some(words) => writer.put_text("note", words),
+        None => Ok(()),
     }
 }
 
@@ -150,7 +150,7 @@ fn put_line(
 /// what the recording showed before it: its stamp and the time since the frame before it in
 /// microseconds (a stamp as a date in the form `Date`), its interface where there are several, its
 /// identifier as it is printed, its length and its data as numbers and as hexadecimal digits, the
-/// words, a note where its stamp steps back, its kind and its node, where it is of one. On an `Err`
+/// words, a note where its stamp is odd, its kind and its node, where it is of one. On an `Err`
 /// memory ran out.
 pub fn json_line(
     alloc: Global,

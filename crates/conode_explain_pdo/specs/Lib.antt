@@ -5,6 +5,7 @@ pub mod Content
 pub mod EntryBits
 pub mod InForce
 pub mod Known
+pub mod KnownEntries
 pub mod Mappings
 pub mod Pdos
 pub mod Sheets

@@ -7,10 +7,9 @@ use Rattle.co_value.specs.declared.key.Key.{Key}
 use Rattle.co_value.specs.KeyTexts.{key_text}
 use Rattle.co_value.specs.Numbers.{low_bytes, unsigned_of}
 use Rattle.co_sheet.specs.Content.{Row}
-use Rattle.co_sheet_names.specs.Names.{Names, entry_of, shown_name}
-use Rattle.conode_explain_values.specs.Values.{entry_text}
+use Rattle.co_sheet_names.specs.Names.{Names, entry_of}
 use Rattle.conode_explain_pdo.specs.Content.{Mapping}
-use Rattle.conode_explain_pdo.specs.Types.{type_in}
+use Rattle.conode_explain_pdo.specs.KnownEntries.{known_text}
 
 -- ---- a word of a mapping: index, sub-index and length in bits
 
@@ -43,16 +42,15 @@ part_bytes bytes offset bits = low_bytes (bytes_for bits) (bits_at bytes offset 
 abbrev pub is_gap : Key → Bool
 is_gap key = (nat_lt 0 key.index && nat_lt key.index 0x20) && (key.sub == 0)
 
--- an entry of the sheet with the bits at the offset
-abbrev pub value_part : Names → Key → List ℕ → ℕ → ℕ → Row → List ℕ
-value_part names key bytes offset bits row =
-    entry_text (shown_name row) key (type_in names row) bits (part_bytes bytes offset bits)
+-- an entry of a node's sheet with the bits at the offset
+abbrev pub value_part : Names → ℕ → Key → List ℕ → ℕ → ℕ → Row → List ℕ
+value_part names node key bytes offset bits row = known_text names node key row bits (part_bytes bytes offset bits)
 
 -- what a word says of the data from an offset on
 unfoldable pub part_text : Names → ℕ → List ℕ → ℕ → ℕ → List ℕ
 part_text names node bytes offset word =
     if is_gap (word_key word) then codes "-"
-    else option_map_or (value_part names (word_key word) bytes offset (word_bits word))
+    else option_map_or (value_part names node (word_key word) bytes offset (word_bits word))
     (entry_of names node (word_key word)) (key_text (word_key word) ++ codes " (not in sheet)")
 
 -- the parts one after another from an offset on, each after a semicolon

@@ -27,13 +27,12 @@ ghost use Rattle.conode_explain_pdo.specs.Mappings.{
   word_key,
 };
 
-use crate::value_type::type_in;
+use crate::known_entry::push_known;
 use arrayvec::ArrayVec;
 use co_sheet::EntryRow;
-use co_sheet_names::{Names, shown_name};
+use co_sheet_names::Names;
 use co_text::{push_bytes, push_decimal};
 use co_value::{Key, read_u16, unsigned_of};
-use conode_explain_values::push_entry;
 use std::alloc::AllocError;
 use std::marker::Model;
 
@@ -127,6 +126,7 @@ pub(crate) fn part_bytes(bytes: &[u8], offset: usize, bits: usize) -> ArrayVec<u
 fn push_value_part(
     text: &mut String,
     names: Names<'_, '_>,
+    node: u8,
     row: &EntryRow<'_>,
     key: Key,
     bytes: &[u8],
@@ -137,18 +137,10 @@ fn push_value_part(
     requires within { offset + bits ≤ 64 }
     ensures { OnOk result (string_bytes text.new
         ≡ string_bytes text.old
-        ++ value_part (names_view names.entry) key bytes.now offset bits (row_view row.now)) }
+        ++ value_part (names_view names.entry) node key bytes.now offset bits (row_view row.now)) }
 {
     let part = part_bytes(bytes, offset, bits);
-    let value_type = type_in(names, row);
-    push_entry(
-        text,
-        shown_name(row),
-        key,
-        value_type,
-        bits,
-        part.as_slice(),
-    )
+    push_known(text, names, node, key, row, bits, part.as_slice())
 }
 
 // what a word says of the data from an offset on
@@ -171,7 +163,7 @@ fn push_part(
         return text.push_str("-");
     }
     match names.entry(node, key) {
-        Some(row) => push_value_part(text, names, row, key, bytes, offset, word_bits(word)),
+        Some(row) => push_value_part(text, names, node, row, key, bytes, offset, word_bits(word)),
         None => {
             text.push_str(key.text().as_str())?;
             text.push_str(" (not in sheet)")

@@ -38,7 +38,8 @@ pub struct SheetPdo {
     pub mapping: Mapping,
 }
 
-fn number_of(default: Preset<'_>) -> u32
+/// The number of 32 bits, without the node-ID, that an entry begins with; 0 where there is none.
+pub(crate) fn number_of(default: Preset<'_>) -> u32
     ensures { result ≡ number_of (default_view default.entry) }
 {
     match default {

@@ -1,6 +1,6 @@
 -- What the values of a drive's entries mean (CiA 402): the controlword, the statusword, the error
 -- code, the mode of operation.
-use Rattle.std.specs.Prelude.{ℕ, ◌+◌, ◌%◌, ◌==◌, nat_lt, Bool, ◌&&◌, if◌then◌else◌, bit_and, List, [], ◌∷◌, ◌++◌, codes, find, length, slice_index, Option, None, option_map, true, false}
+use Rattle.std.specs.Prelude.{ℕ, ◌+◌, ◌%◌, ◌==◌, nat_lt, Bool, ◌&&◌, if◌then◌else◌, bit_and, List, [], ◌∷◌, ◌++◌, codes, find, is_some, length, slice_index, Option, None, option_map, true, false}
 use Rattle.std.specs.Option.{option_map_or}
 use Rattle.co_value.specs.declared.key.Key.{Key}
 use Rattle.co_value.specs.Numbers.{unsigned_of}
@@ -35,6 +35,9 @@ is_mode Mode = true
 
 abbrev pub meaning_of : Key → Option Meaning
 meaning_of key = if key.sub == 0 then meaning_at (axis_index key.index) else None
+
+abbrev pub has_meaning : Key → Bool
+has_meaning key = is_some (meaning_of key)
 
 -- ---- what they mean
 

@@ -7,6 +7,7 @@ ghost use Rattle.conode_explain_services.specs.Drives.{
   command_words,
   controlword_words,
   drive_words,
+  has_meaning,
   is_drive,
   is_mode,
   known_or,
@@ -187,6 +188,13 @@ fn meaning_of(key: Key) -> Option<Meaning>
     } else {
         None
     }
+}
+
+/// Whether the values of an entry of a drive have a meaning.
+pub fn has_meaning(key: Key) -> bool
+    ensures { result ≡ has_meaning key }
+{
+    meaning_of(key).is_some()
 }
 
 #[tactic(auto, unfolding(crate::specs::Drives::word_text))]

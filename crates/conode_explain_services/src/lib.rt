@@ -18,7 +18,7 @@ mod services;
 mod texts;
 mod times;
 
-pub use drives::{is_drive, push_drive};
+pub use drives::{has_meaning, is_drive, push_drive};
 pub use guarding::Guarding;
 pub use last::Last;
 pub use node::Node;

@@ -11,7 +11,7 @@ use Rattle.conode_explain_text.specs.declared.so_far.Times.{Times}
 use Rattle.conode_explain_text.specs.declared.stamps.StampForm.TheVariants.{Relative, Absolute, Delta, Date as AsDate}
 use Rattle.conode_explain_text.specs.Columns.{bytes_text, content_text, escaped_name, id_text}
 use Rattle.conode_explain_text.specs.Dates.{date_in_year, date_of, day_of_year, year_of_cycle}
-use Rattle.conode_explain_text.specs.Lines.{line_parts, line_text, own_parts}
+use Rattle.conode_explain_text.specs.Lines.{line_parts, line_text, odd_words, own_parts}
 use Rattle.conode_explain_text.specs.Said.{shown}
 use Rattle.conode_explain_text.specs.SoFar.{SoFar, nothing_seen, seen_with, shows_interface, times_at}
 use Rattle.conode_explain_text.specs.Stamps.{date_text, difference_text, gap_text, moment_text, stamp_text, time_of_day_text, time_text}
@@ -193,20 +193,30 @@ line_of : SoFar → Record → List ℕ
 line_of so_far frame = line_text (line_parts Relative so_far frame (codes "SYNC"))
 
 first_line : line_of nothing_seen (sync 5 (codes "can0")) ≡ codes "     0.000000  +0.000000  080  [0]                          SYNC\n"
-unfolding line_of sync line_text line_parts stamp_text gap_text difference_text time_text bytes_text digits_text digits
+unfolding line_of sync line_text line_parts odd_words stamp_text gap_text difference_text time_text bytes_text digits_text digits
 first_line = refl
 
 line_of_other : line_of started (sync 6 (codes "can1")) ≡ codes "     0.000001  +0.000001  can1  080  [0]                          SYNC\n"
-unfolding line_of started sync line_text line_parts stamp_text gap_text difference_text time_text bytes_text digits_text digits
+unfolding line_of started sync line_text line_parts odd_words stamp_text gap_text difference_text time_text bytes_text digits_text digits
 line_of_other = refl
 
 line_back : line_of started (sync 4 (codes "can0")) ≡ codes "-    0.000001  -0.000001  080  [0]                          SYNC  note: the stamp steps back\n"
-unfolding line_of started sync line_text line_parts stamp_text gap_text difference_text time_text bytes_text digits_text digits
+unfolding line_of started sync line_text line_parts odd_words stamp_text gap_text difference_text time_text bytes_text digits_text digits
 line_back = refl
 
 line_at_once : line_of started (sync 5 (codes "can0")) ≡ codes "     0.000000  +0.000000  080  [0]                          SYNC\n"
-unfolding line_of started sync line_text line_parts stamp_text gap_text difference_text time_text bytes_text digits_text digits
+unfolding line_of started sync line_text line_parts odd_words stamp_text gap_text difference_text time_text bytes_text digits_text digits
 line_at_once = refl
+
+-- an hour, and a microsecond more
+line_in_an_hour : line_of started (sync 3600000005 (codes "can0")) ≡ codes "  3600.000000  +3600.000000  080  [0]                          SYNC\n"
+unfolding line_of started sync line_text line_parts odd_words stamp_text gap_text difference_text time_text bytes_text digits_text digits
+line_in_an_hour = refl
+
+line_far_ahead : line_of started (sync 3600000006 (codes "can0"))
+    ≡ codes "  3600.000001  +3600.000001  080  [0]                          SYNC  note: the stamp is more than an hour ahead\n"
+unfolding line_of started sync line_text line_parts odd_words stamp_text gap_text difference_text time_text bytes_text digits_text digits
+line_far_ahead = refl
 
 -- ---- lines of their own
 

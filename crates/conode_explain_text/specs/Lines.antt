@@ -1,5 +1,5 @@
 -- The line of a frame: its parts, and their text.
-use Rattle.std.specs.Prelude.{ℕ, Bool, nat_lt, if◌then◌else◌, List, [], ◌∷◌, ◌++◌, codes}
+use Rattle.std.specs.Prelude.{ℕ, ◌-◌, Bool, nat_lt, if◌then◌else◌, List, [], ◌∷◌, ◌++◌, codes, Option, Some, None}
 use Rattle.std.specs.List.{flat_map}
 use Rattle.conode_record.specs.declared.content.Content.{Content}
 use Rattle.conode_record.specs.declared.fields.Identifier.{Identifier}
@@ -26,9 +26,22 @@ pub data Part : Type 0 where
 abbrev pub interface_parts : Bool → List ℕ → List Part
 interface_parts shows name = if shows then interface name ∷ [] else []
 
--- the stamp is earlier than that of the frame before
+-- an hour in microseconds
+abbrev pub an_hour : ℕ
+an_hour = 3600000000
+
+-- what is odd about a stamp: it is earlier than that of the frame before, or more than an hour later
+unfoldable pub odd_words : Times → Option (List ℕ)
+odd_words times =
+    if nat_lt times.now times.before then Some (codes "the stamp steps back")
+    else (if nat_lt an_hour (times.now - times.before) then Some (codes "the stamp is more than an hour ahead") else None)
+
+abbrev pub note_parts : Option (List ℕ) → List Part
+note_parts None = []
+note_parts (Some words) = note words ∷ []
+
 abbrev pub notes : Times → List Part
-notes times = if nat_lt times.now times.before then note (codes "the stamp steps back") ∷ [] else []
+notes times = note_parts (odd_words times)
 
 -- the parts of a frame that says these words
 unfoldable pub line_parts : StampForm → SoFar → Record → List ℕ → List Part

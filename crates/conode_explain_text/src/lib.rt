@@ -11,7 +11,7 @@ mod so_far;
 mod stamps;
 
 pub use columns::{push_id, push_name};
-pub use line::set_line;
+pub use line::{odd_words, set_line};
 pub use own_line::set_own_line;
 pub use so_far::{Seen, Times};
 pub use stamps::{StampForm, push_day, push_micros, push_moment, push_time_of_day};

@@ -2,6 +2,7 @@
 
 ghost use Rattle.std.specs.Prelude.{◌≡◌, ◌++◌, [], ◌∷◌, OnOk, string_bytes};
 ghost use Rattle.std.specs.List.{flat_map};
+ghost use Rattle.std.specs.Option.{option_copied};
 ghost use Rattle.conode_record.specs.Grammar.{IsIdentifier};
 ghost use Rattle.conode_explain_text.specs.Lines.{
   stamp,
@@ -13,6 +14,7 @@ ghost use Rattle.conode_explain_text.specs.Lines.{
   after_blanks,
   interface_parts,
   notes,
+  odd_words,
   front_text,
   line_parts,
   line_text,
@@ -100,13 +102,32 @@ pub(crate) fn add_said(line: &mut Vec<u8>, words: &[u8]) -> Result<(), AllocErro
     add_shown(line, words)
 }
 
+// an hour in microseconds
+const AN_HOUR: u64 = 3_600_000_000;
+
+/// What is odd about a stamp: it is earlier than that of the frame before, or more than an hour
+/// later. `None` for every other one.
+#[tactic(auto, unfolding(crate::specs::Lines::odd_words))]
+pub fn odd_words(times: Times) -> Option<&'static str>
+    ensures { option_copied result ≡ odd_words times }
+{
+    if times.now < times.before {
+        return Some("the stamp steps back");
+    }
+    if times.now - times.before > AN_HOUR {
+        return Some("the stamp is more than an hour ahead");
+    }
+    None
+}
+
 // what comes after what the frame says
 fn add_end(line: &mut Vec<u8>, times: Times) -> Result<(), AllocError>
     ensures { OnOk result
         (line.new.items ≡ line.old.items ++ flat_map after_blanks (notes times) ++ 10 ∷ []) }
 {
-    if times.now < times.before {
-        return line.extend_from_slice(b"  note: the stamp steps back\n");
+    if let Some(words) = odd_words(times) {
+        line.extend_from_slice(b"  note: ")?;
+        line.extend_from_slice(words.as_bytes())?;
     }
     line.extend_from_slice(b"\n")
 }
@@ -155,8 +176,8 @@ fn write_line(
 
 /// Sets `line` to the line of a frame that says these words; `seen` is what the recording showed
 /// before it. The line has its stamp, the time since the frame before it, its interface where there
-/// are several, its identifier, its length and data, the words, a note where its stamp steps back,
-/// and a line feed, as `    12.345678  +0.000412  185  [4] E8 03 10 27              TPDO1 node 5`.
+/// are several, its identifier, its length and data, the words, a note where its stamp is odd, and a
+/// line feed, as `    12.345678  +0.000412  185  [4] E8 03 10 27              TPDO1 node 5`.
 /// `text` is scratch space. On an `Err` memory ran out, and the line is incomplete.
 pub fn set_line(
     line: &mut Vec<u8>,

@@ -1,0 +1,64 @@
+//! An entry of a node's sheet with its value, and of a drive what the value means (CiA 402).
+
+ghost use Rattle.std.specs.Prelude.{◌≡◌, ◌++◌, OnOk, string_bytes};
+ghost use Rattle.co_sheet.specs.SheetViews.{row_view};
+ghost use Rattle.co_sheet_names.specs.Names.{names_view};
+ghost use Rattle.conode_explain_values.specs.Values.{HasBits};
+ghost use Rattle.conode_explain_pdo.specs.KnownEntries.{is_node_drive, known_text, shows_meaning};
+
+use crate::sheet::number_of;
+use crate::value_type::type_in;
+use co_sheet::EntryRow;
+use co_sheet_names::{Names, shown_name};
+use co_value::Key;
+use conode_explain_services::{has_meaning, is_drive, push_drive};
+use conode_explain_values::push_entry;
+use std::alloc::AllocError;
+
+/// The device type (CiA 301, 7.5.2.1).
+const DEVICE_TYPE: Key = Key {
+    index: 0x1000,
+    sub: 0,
+};
+
+#[tactic(auto, unfolding(crate::specs::KnownEntries::is_node_drive))]
+fn is_node_drive(names: Names<'_, '_>, node: u8) -> bool
+    ensures { result ≡ is_node_drive (names_view names.entry) node }
+{
+    match names.entry(node, DEVICE_TYPE) {
+        Some(row) => is_drive(number_of(row.default)),
+        None => false,
+    }
+}
+
+// The sheet is asked last, since few entries have a meaning.
+fn shows_meaning(names: Names<'_, '_>, node: u8, key: Key, bits: usize) -> bool
+    ensures { result ≡ shows_meaning (names_view names.entry) node key bits }
+{
+    has_meaning(key) && bits % 8 == 0 && is_node_drive(names, node)
+}
+
+/// Appends an entry of a node's sheet with its value, and where the device is a drive what that
+/// means: `Statusword 6041:00 = 1079 (operation enabled, target reached)`. On an `Err` memory ran
+/// out, and a part of it may be there.
+#[tactic(auto, unfolding(crate::specs::KnownEntries::known_text))]
+pub fn push_known(
+    text: &mut String,
+    names: Names<'_, '_>,
+    node: u8,
+    key: Key,
+    row: &EntryRow<'_>,
+    bits: usize,
+    bytes: &[u8],
+) -> Result<(), AllocError>
+    requires { HasBits bits bytes.now }
+    ensures { OnOk result (string_bytes text.new ≡ string_bytes text.old
+        ++ known_text (names_view names.entry) node key (row_view row.now) bits bytes.now) }
+{
+    let value_type = type_in(names, row);
+    push_entry(text, shown_name(row), key, value_type, bits, bytes)?;
+    if shows_meaning(names, node, key, bits) {
+        return push_drive(text, key, bytes);
+    }
+    Ok(())
+}
