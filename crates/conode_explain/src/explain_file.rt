@@ -9,13 +9,14 @@ use crate::sheets::{ReadSheet, known_sheets};
 use crate::writes::{Settings, write_header};
 use co_sheet::{FaultKind, GREATEST_SIZE, SheetFault, read};
 use co_sheet_changes::Originals;
+use co_sheet_mend::readable;
 use conode_convert::{SheetText, SheetWord, bad_sheet, bad_sheet_word, sheet_words, texts_of};
 use conode_explain_filter::{Filter, FilterFault, FilterWords};
 use conode_explain_forms::{Signal, SignalFault, first_missing};
 use conode_explain_text::StampForm;
 use conode_io::{CmdFault, cannot_read, flushed, stopped};
 use conode_logs::Form;
-use std::alloc::Global;
+use std::alloc::{AllocError, Global};
 use std::fs;
 use std::io::{Input, Read, Write};
 use std::process::ExitCode;
@@ -126,6 +127,26 @@ fn explain_by<R: Files + AllocGlobal + Input, O: Write, E: Write>(
     }
 }
 
+// Replaces the texts of data sheets that aren't accepted by those by which they are read all the
+// same, and says of which something is left out. On an `Err` memory ran out.
+fn make_readable<E: Write>(
+    alloc: Global,
+    texts: &mut [SheetText<'_>],
+    err: &mut E,
+) -> Result<(), AllocError> {
+    for text in texts.iter_mut() {
+        let Some(made) = readable(alloc, text.text.as_slice())? else {
+            continue;
+        };
+        if made.is_mended {
+            let path = text.word.path;
+            let _ = writeln!(err, "{path}: what is at fault is left out; see conode lint");
+        }
+        text.text = made.text;
+    }
+    Ok(())
+}
+
 // a data sheet, and its original data types
 fn sheet_in<'t>(alloc: Global, of: &'t SheetText<'_>) -> Result<ReadSheet<'t>, SheetFault> {
     let sheet = read(alloc, of.text.as_slice())?;
@@ -174,10 +195,13 @@ fn explain_named<R: Files + AllocGlobal + Input, O: Write, E: Write>(
 ) -> ExitCode
     ensures { (exit_status result ≡ 0) ⊎ ((exit_status result ≡ 1) ⊎ (exit_status result ≡ 2)) }
 {
-    let texts = match texts_of(rt, words, out, err) {
+    let mut texts = match texts_of(rt, words, out, err) {
         Ok(texts) => texts,
         Err(status) => return status,
     };
+    if make_readable(rt.alloc(), texts.as_mut_slice(), err).is_err() {
+        return stopped(CmdFault::Memory, out, err).status();
+    }
     let mut sheets = Vec::new(rt.alloc());
     if let Err(status) = add_sheets(rt.alloc(), &mut sheets, texts.as_slice(), out, err) {
         return status;

@@ -1,0 +1,2 @@
+pub mod ReadableTexts
+pub mod Repairs

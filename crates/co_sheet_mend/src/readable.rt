@@ -1,0 +1,87 @@
+//! The text by which a data sheet that isn't accepted is read all the same.
+
+ghost use Rattle.std.specs.Prelude.{◌≡◌, ◌≤◌, length, option_map, IfOk};
+ghost use Rattle.co_sheet_mend.specs.ReadableTexts.{is_accepted, mended_in, readable, readable_view};
+
+use crate::mended::mended;
+use co_sheet::{FaultKind, GREATEST_SIZE, read};
+use co_sheet_adapt::adapt;
+use co_sheet_changes::AdaptFault;
+use std::alloc::{AllocError, Global};
+
+/// How often a text is mended at most.
+const ROUNDS: usize = 4;
+
+/// A text that is accepted, in place of one that isn't.
+#[derive(Drop)]
+pub struct Readable {
+    pub text: Vec<u8>,
+    /// Whether something that was at fault is left out of it; else it is as `adapt` rewrites it.
+    pub is_mended: bool,
+}
+
+// whether a text is a data sheet, by reading it
+fn is_accepted(alloc: Global, text: &[u8]) -> Result<bool, AllocError>
+    ensures { IfOk result (λ is. is ≡ is_accepted text.now) }
+{
+    match read(alloc, text) {
+        Ok(_) => Ok(true),
+        Err(fault) if fault.kind == FaultKind::Memory => Err(AllocError),
+        Err(_) => Ok(false),
+    }
+}
+
+// mends a text until it is accepted; `None` where it never is
+fn mended_in(alloc: Global, text: Vec<u8>) -> Result<Option<Vec<u8>>, AllocError>
+    ensures { IfOk result (λ made. option_map (λ m. m.items) made
+        ≡ mended_in 4 text.entry.items) }
+{
+    let mut before = text;
+    for _ in 0..ROUNDS {
+        if before.len() > GREATEST_SIZE {
+            return Ok(None);
+        }
+        let after = mended(alloc, before.as_slice())?;
+        if is_accepted(alloc, after.as_slice())? {
+            return Ok(Some(after));
+        }
+        before = after;
+    }
+    Ok(None)
+}
+
+// a text as `adapt` rewrites it, or mended
+fn rewritten(alloc: Global, text: &[u8]) -> Result<Option<Readable>, AllocError> {
+    let adapted = match adapt(alloc, text, b"") {
+        Ok(adapted) => adapted,
+        Err(AdaptFault::TooLarge) => return Ok(None),
+        Err(AdaptFault::Memory) => return Err(AllocError),
+    };
+    if adapted.is_accepted {
+        return Ok(Some(Readable {
+            text: adapted.text,
+            is_mended: false,
+        }));
+    }
+    match mended_in(alloc, adapted.text)? {
+        Some(text) => Ok(Some(Readable {
+            text,
+            is_mended: true,
+        })),
+        None => Ok(None),
+    }
+}
+
+/// The text by which a data sheet (CiA 306) that isn't accepted is read all the same: as
+/// `co_sheet_adapt` rewrites it; where that isn't accepted, without the lines at fault, so that an
+/// entry at fault keeps its name, and one whose type can't be read has values that are bytes.
+/// `None`: the text is accepted as it is, or it can't be read so either. `Err`: out of memory.
+#[tactic(auto, unfolding(crate::specs::ReadableTexts::readable))]
+pub fn readable(alloc: Global, text: &[u8]) -> Result<Option<Readable>, AllocError>
+    ensures { IfOk result (λ made. option_map readable_view made ≡ readable text.now) }
+{
+    if text.len() > GREATEST_SIZE || is_accepted(alloc, text)? {
+        return Ok(None);
+    }
+    rewritten(alloc, text)
+}

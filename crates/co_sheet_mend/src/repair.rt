@@ -1,0 +1,48 @@
+//! What comes in place of a line at fault.
+
+ghost use Rattle.std.specs.Prelude.{◌≡◌};
+ghost use Rattle.co_sheet_mend.specs.Repairs.{repair_for};
+
+use co_sheet_faults::FaultKind;
+
+/// What comes in place of a line at fault.
+#[derive(Clone, Copy, PartialEq, Eq)]
+pub enum Repair {
+    /// Nothing, and of a section line one that begins a section which nothing reads.
+    Emptied,
+    /// Of a data type DOMAIN, whose values are bytes; nothing of another property.
+    Bytes,
+    /// An entry that is read and written.
+    ReadWrite,
+    /// The section line, and after it a data type and an access type, those that the section lacks.
+    Completed,
+}
+
+/// What comes in place of a line with a fault of this kind; `None`: nothing helps, as where an
+/// object has no section.
+#[tactic(auto, unfolding(crate::specs::Repairs::repair_for))]
+pub(crate) fn repair_for(kind: FaultKind) -> Option<Repair>
+    ensures { result ≡ repair_for kind }
+{
+    match kind {
+        FaultKind::BadLine
+        | FaultKind::KeyOutsideSection
+        | FaultKind::DuplicateSection
+        | FaultKind::DuplicateKey
+        | FaultKind::BadNumber
+        | FaultKind::AmbiguousNumber
+        | FaultKind::BadLimits
+        | FaultKind::BadDefault => Some(Repair::Emptied),
+        FaultKind::BadType | FaultKind::LeftOutType => Some(Repair::Bytes),
+        FaultKind::BadAccess => Some(Repair::ReadWrite),
+        FaultKind::MissingKey => Some(Repair::Completed),
+        FaultKind::TooLarge
+        | FaultKind::MissingSection
+        | FaultKind::BadList
+        | FaultKind::ListedTwice
+        | FaultKind::MissingSub0
+        | FaultKind::CompactForm
+        | FaultKind::MissingMandatory
+        | FaultKind::Memory => None,
+    }
+}
