@@ -1,7 +1,7 @@
 -- What a log is explained as: the lines of its frames that are asked for, in order, each with that
 -- of the transfer that ended with it, and at the end those of the transfers that are open. A bad
 -- line has none here, and is counted.
-use Rattle.std.specs.Prelude.{ℕ, ◌+◌, ◌==◌, Bool, false, nat_lt, ◌||◌, if◌then◌else◌, List, [], ◌∷◌, ◌++◌, length, Option, Some, None}
+use Rattle.std.specs.Prelude.{ℕ, ◌+◌, ◌==◌, Bool, false, min, nat_lt, ◌&&◌, ◌||◌, if◌then◌else◌, List, [], ◌∷◌, ◌++◌, length, Option, Some, None}
 use Rattle.std.specs.List.{flat_map}
 use Rattle.std.specs.Str.Lines.{lines}
 use Rattle.co_bounded_lines.specs.Founds.{is_closed}
@@ -202,22 +202,7 @@ unfinished_in form sheets so_far track =
 unfoldable pub unfinished_lines : Layout → List KnownSheet → Progress → List (List ℕ)
 unfinished_lines form sheets progress = flat_map (unfinished_in form sheets progress.seen) progress.channels
 
--- ---- all of it
-
--- lines explained, from this progress on; one of more than 512 bytes is bad, and says nothing of
--- the log
-unfoldable pub explained_from : Layout → List KnownSheet → Log → Progress → List (List ℕ) → List (List ℕ)
-explained_from form sheets log progress [] = unfinished_lines form sheets progress
-explained_from form sheets log progress (line ∷ more) =
-    if nat_lt 512 (length line) then explained_from form sheets log progress more
-    else said_lines form sheets progress (line_at log line)
-    ++ explained_from form sheets (says log line).0 (progress_after form sheets progress (line_at log line)) more
-
--- a log explained
-abbrev pub explained : Layout → List KnownSheet → List ℕ → List (List ℕ)
-explained form sheets text = explained_from form sheets (at_start form.log) nothing_known (lines text)
-
--- ---- how many lines are bad
+-- ---- bad lines
 
 -- 1 for a line that is bad
 abbrev pub faults_in : Option RecordLine → ℕ
@@ -227,6 +212,28 @@ faults_in None = 1
 -- 1 for a bad line that has its line feed
 abbrev pub faults_of : Log → List ℕ → ℕ
 faults_of log line = if nat_lt 512 (length line) then 1 else faults_in (line_at log line)
+
+-- ---- all of it
+
+-- a bad line ends what is explained, where that is asked for
+abbrev pub stops : Layout → Log → List ℕ → Bool
+stops form log line = form.stop && (faults_of log line == 1)
+
+-- lines explained, from this progress on; one of more than 512 bytes is bad, and says nothing of
+-- the log
+unfoldable pub explained_from : Layout → List KnownSheet → Log → Progress → List (List ℕ) → List (List ℕ)
+explained_from form sheets log progress [] = unfinished_lines form sheets progress
+explained_from form sheets log progress (line ∷ more) =
+    if stops form log line then unfinished_lines form sheets progress
+    else (if nat_lt 512 (length line) then explained_from form sheets log progress more
+    else said_lines form sheets progress (line_at log line)
+    ++ explained_from form sheets (says log line).0 (progress_after form sheets progress (line_at log line)) more)
+
+-- a log explained
+abbrev pub explained : Layout → List KnownSheet → List ℕ → List (List ℕ)
+explained form sheets text = explained_from form sheets (at_start form.log) nothing_known (lines text)
+
+-- ---- how many lines are bad
 
 -- the log after a line
 abbrev pub log_after : Log → List ℕ → Log
@@ -242,3 +249,7 @@ bad_from closed log (line ∷ next ∷ more) = faults_of log line + bad_from clo
 -- how many lines of a text are bad, from this log on
 abbrev pub bad_count : Log → List ℕ → ℕ
 bad_count log text = bad_from (is_closed text) log (lines text)
+
+-- how many of them were read: where the first one ends it, at most that one
+abbrev pub bad_read : Layout → List ℕ → ℕ
+bad_read form text = if form.stop then min 1 (bad_count (at_start form.log) text) else bad_count (at_start form.log) text

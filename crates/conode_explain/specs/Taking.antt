@@ -9,7 +9,7 @@ use Rattle.conode_io.specs.Written.{WritesLines}
 use Rattle.conode_logs.specs.declared.log.Log.{Log}
 use Rattle.conode_explain.specs.declared.progress.Layout.{Layout}
 use Rattle.conode_explain.specs.declared.progress.Progress.{Progress}
-use Rattle.conode_explain.specs.Explained.{bad_count, explained, explained_from}
+use Rattle.conode_explain.specs.Explained.{bad_count, bad_read, explained, explained_from}
 
 -- known bytes give these lines, then those of the bytes that are left; and so many bad lines, then
 -- those of the bytes that are left
@@ -31,7 +31,8 @@ pub record Takes (form : Layout) (sheets : List KnownSheet)
   pub gives : Gave held.ended holds.ended before after
       (λ had has. Gives form sheets (to_come held had) (to_come holds has) log left first next written bad)
 
--- all of a text is explained, and so many of its lines are bad
+-- all of a text is explained, or where the first bad line ends it all up to there, and so many of the
+-- lines that were read are bad
 abbrev pub Explains : Layout → List KnownSheet → Option (List ℕ) → Option (List ℕ) → ℕ → List ℕ → Type 0
 Explains form sheets old new bad text =
-    WritesLines old new (explained form sheets text) × (bad ≡ bad_count (at_start form.log) text)
+    WritesLines old new (explained form sheets text) × (bad ≡ bad_read form text)

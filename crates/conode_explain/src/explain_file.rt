@@ -236,6 +236,8 @@ pub struct ExplainOptions<'a> {
     pub transfers: bool,
     /// Whether a PDO, a heartbeat and a SYNC have lines only where what they say changes.
     pub changes: bool,
+    /// Whether the first bad line ends it.
+    pub stop: bool,
     /// How lines are written.
     pub format: LineFormat,
     /// In which form the log is.
@@ -322,6 +324,7 @@ fn explain_filtered<R: Files + AllocGlobal + Input, O: Write, E: Write>(
                 stamps: options.stamps,
                 transfers: options.transfers,
                 changes: options.changes,
+                stop: options.stop,
                 format: options.format,
                 log: options.log,
                 filter,

@@ -37,7 +37,13 @@ fn explain_all<R: Read, W: Write, E: Write>(
     for number in 1..u64::MAX {
         explaining.let_out(out)?;
         match explaining.take_line(reader, settings, number, out, err)? {
-            Some(more) => bad += more,
+            Some(more) => {
+                bad += more;
+                if settings.form.stop && bad > 0 {
+                    explaining.finish(settings, out)?;
+                    return Ok(bad);
+                }
+            }
             None => {
                 explaining.finish(settings, out)?;
                 return Ok(bad);
@@ -51,8 +57,9 @@ fn explain_all<R: Read, W: Write, E: Write>(
 /// constant memory: for each frame a line is written on `out`, with its times and what it says, and
 /// after it one for the SDO transfer that ended with it; at the end one for each that is open. A
 /// bad line, or one of more than 512 bytes, is named on `err` with its number and what is wrong
-/// with it, and the rest goes on. Returns the number of bad lines; a last line that no line feed
-/// ends is counted only where it is too long, since whoever stops a recording cuts it off there.
+/// with it, and the rest goes on, or where the form says so the recording ends there. Returns the
+/// number of bad lines; a last line that no line feed ends is counted only where it is too long,
+/// since whoever stops a recording cuts it off there.
 ///
 /// `out` is flushed before each read, and not while a whole line is held.
 ///

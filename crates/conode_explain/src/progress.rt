@@ -36,6 +36,8 @@ pub struct Layout<'f> {
     pub transfers: bool,
     /// Whether a PDO, a heartbeat and a SYNC have lines only where what they say changes.
     pub changes: bool,
+    /// Whether the first bad line ends it.
+    pub stop: bool,
     /// How lines are written.
     pub format: LineFormat,
     /// In which form the log is.

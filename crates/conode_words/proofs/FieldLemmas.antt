@@ -363,11 +363,11 @@ adapt_is rows a (name_is, sheet, z, force) =
 
 explain_is : (rows : List Row) (a : AskedExplain) → AsksFor (codes "explain") rows (explain a) → asked_explain rows ≡ Some (explain a)
 unfolding asked_explain asked_explain_of stamps_for lines_as_for log_form_for
-explain_is rows a (name_is, trace, sheets, s, transfers, changes, l, f, only, signals) =
+explain_is rows a (name_is, trace, sheets, s, transfers, changes, stop, l, f, only, signals) =
     let stamps = choice_is stamps_of (first_of (codes "stamps") rows) a.stamps s in
     let lines_as = choice_is lines_as_of (first_of (codes "format") rows) a.lines_as l in
     let form = choice_is log_form_of (first_of (codes "log") rows) a.form f in
-    rw (trace, stamps, lines_as, form, ← sheets, ← transfers, ← changes, ← only, ← signals) refl
+    rw (trace, stamps, lines_as, form, ← sheets, ← transfers, ← changes, ← stop, ← only, ← signals) refl
 
 convert_is : (rows : List Row) (a : AskedConvert) → AsksFor (codes "convert") rows (convert a) → asked_convert rows ≡ Some (convert a)
 unfolding asked_convert log_form_for

@@ -87,6 +87,7 @@ pub record AskedExplain : Type 0 where
   pub stamps : Stamps
   pub transfers : Bool
   pub changes : Bool
+  pub stop : Bool
   pub lines_as : LinesAs
   pub form : LogForm
   pub only : AskedLines
@@ -164,13 +165,14 @@ asked_by (LoopBack sheet key bytes mode device) =
 asked_by (Show sheet node form) = show (record { sheet = sheet.now; node = node; shown_as = form })
 asked_by (Adapt sheet zeros force) =
     adapt (record { sheet = sheet.now; leading_zeros = zeros; force = force })
-asked_by (Explain trace sheets stamps transfers changes lines_as form only signals) =
+asked_by (Explain trace sheets stamps transfers changes stop lines_as form only signals) =
     explain (record {
       trace = trace.now;
       sheets = map (λ word. word.now) sheets.items;
       stamps = stamps;
       transfers = transfers;
       changes = changes;
+      stop = stop;
       lines_as = lines_as;
       form = form;
       only = lines_by only;
@@ -313,6 +315,7 @@ asked_explain_of sheets rows =
       stamps = stamps;
       transfers = is_used (codes "transfers") rows;
       changes = is_used (codes "changes") rows;
+      stop = is_used (codes "stop") rows;
       lines_as = lines_as;
       form = form;
       only = asked_lines rows;

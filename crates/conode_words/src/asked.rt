@@ -212,6 +212,7 @@ fn explain_of<'a>(found: &ArgMatches<'a>, sheets: Vec<&'a str>) -> Option<Task<'
         stamps,
         transfers: is_used(found, "transfers"),
         changes: is_used(found, "changes"),
+        stop: is_used(found, "stop"),
         lines_as,
         form,
         only: only_words(found),

@@ -187,7 +187,7 @@ const ADAPT: [Word; 3] = [
     ),
 ];
 
-const EXPLAIN: [Word; 13] = [
+const EXPLAIN: [Word; 14] = [
     RECORDING,
     Word(
         "sheet",
@@ -209,6 +209,7 @@ const EXPLAIN: [Word; 13] = [
         Flag,
         "PDOs, heartbeats, SYNCs only where they change",
     ),
+    Word("stop", Flag, "End at the first bad line"),
     Word(
         "signal",
         Valued("SIGNALS"),

@@ -233,6 +233,8 @@ pub enum Task<'a> {
         transfers: bool,
         /// Whether PDOs, heartbeats and SYNCs have lines only where they change.
         changes: bool,
+        /// Whether the first bad line ends it.
+        stop: bool,
         /// How lines are written.
         lines_as: LinesAs,
         /// In which form the recording is.
