@@ -118,7 +118,7 @@ fn adapt_words(leading_zeros: Option<LeadingZeros>, force: bool) -> AdaptWords {
     }
 }
 
-/// Whether findings are written in colours. `auto`: on a terminal, unless the environment has a
+/// Whether lines are written in colours. `auto`: on a terminal, unless the environment has a
 /// NO_COLOR that isn't empty.
 fn has_colours(rt: &HostRuntime, colours: Colours) -> bool {
     match colours {
@@ -227,6 +227,7 @@ fn carry_out_task<O: Write, E: Write>(
             transfers,
             changes,
             stop,
+            colours,
             lines_as,
             form,
             only,
@@ -237,6 +238,7 @@ fn carry_out_task<O: Write, E: Write>(
                 transfers,
                 changes,
                 stop,
+                colours: has_colours(rt, colours),
                 format: line_format(lines_as),
                 log: recorded_form(form),
                 filter: filter_words(only),

@@ -47,6 +47,8 @@ use Rattle.conode_explain.specs.LogLines.{line_at}
 use Rattle.conode_explain.specs.Filtered.{data_of, is_news, lasts_told, shows_end, shows_frame, subject_in}
 use Rattle.conode_explain.specs.Nodes.{last_at, nodes_with}
 use Rattle.conode_explain.specs.ToldWords.{ended_words, told_words}
+use Rattle.conode_explain.specs.declared.tones.Tone.{Tone}
+use Rattle.conode_explain.specs.Tones.{ending_tone, frame_tone, toned}
 
 -- ---- the lines of frames
 
@@ -77,15 +79,18 @@ abbrev pub claims_at : Bus → Identifier → List Claim
 claims_at bus (Base id) = claims_with bus id
 claims_at bus _ = []
 
--- a line as text or as an object of JSON, of a kind and a node
-abbrev pub line_as : LineFormat → Kind → Option ℕ → List Part → List ℕ
-line_as Text kind whose parts = line_text parts
-line_as Json kind whose parts = json_line kind whose parts
+-- a line as text, perhaps in the colour of a tone, or as an object of JSON, of a kind and a node
+abbrev pub line_by : LineFormat → Bool → Tone → Kind → Option ℕ → List Part → List ℕ
+line_by Text colours tone kind whose parts = toned colours tone (line_text parts)
+line_by Json colours tone kind whose parts = json_line kind whose parts
+
+abbrev pub line_as : Layout → Tone → Kind → Option ℕ → List Part → List ℕ
+line_as form tone kind whose parts = line_by form.format form.colours tone kind whose parts
 
 -- the line of a frame that says these words
 unfoldable pub frame_line : Layout → SoFar → Subject → Record → List ℕ → List ℕ
 frame_line form so_far subject frame words =
-    line_as form.format subject.kind subject.node (line_parts form.stamps so_far frame words)
+    line_as form (frame_tone so_far subject frame) subject.kind subject.node (line_parts form.stamps so_far frame words)
 
 -- where it says something new
 abbrev pub news_lines : Layout → SoFar → List Said → Subject → Record → List ℕ → List (List ℕ)
@@ -129,7 +134,7 @@ first_lines form bus claims last so_far lasts frame told =
 -- the line of a transfer of a node that ended, where one did and it is asked for
 unfoldable pub end_line : Layout → List KnownSheet → SoFar → ℕ → List ℕ → ℕ → Ended → List ℕ
 end_line form sheets so_far micros interface node e =
-    line_as form.format Sdo (Some node)
+    line_as form (ending_tone e.ending) Sdo (Some node)
     (own_parts form.stamps (times_at so_far micros) (shows_interface so_far interface) interface (ended_words (names_for sheets interface node) node e))
 
 abbrev pub ended_lines : Layout → List KnownSheet → SoFar → ℕ → List ℕ → ℕ → Option Ended → List (List ℕ)

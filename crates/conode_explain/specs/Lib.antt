@@ -8,4 +8,5 @@ pub mod Nodes
 pub mod Sheets
 pub mod Taking
 pub mod ToldWords
+pub mod Tones
 pub mod Transfers

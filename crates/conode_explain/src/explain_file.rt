@@ -240,6 +240,8 @@ pub struct ExplainOptions<'a> {
     pub stop: bool,
     /// How lines are written.
     pub format: LineFormat,
+    /// Whether the lines of text are in colours.
+    pub colours: bool,
     /// In which form the log is.
     pub log: Form,
     /// Which lines are printed.
@@ -326,6 +328,7 @@ fn explain_filtered<R: Files + AllocGlobal + Input, O: Write, E: Write>(
                 changes: options.changes,
                 stop: options.stop,
                 format: options.format,
+                colours: options.colours,
                 log: options.log,
                 filter,
                 signals: signals.as_slice(),

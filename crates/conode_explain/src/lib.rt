@@ -12,6 +12,7 @@ mod progress;
 mod sheets;
 mod step;
 mod told_words;
+mod tones;
 mod transfer;
 mod writes;
 

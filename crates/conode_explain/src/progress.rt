@@ -40,6 +40,8 @@ pub struct Layout<'f> {
     pub stop: bool,
     /// How lines are written.
     pub format: LineFormat,
+    /// Whether the lines of text are in colours.
+    pub colours: bool,
     /// In which form the log is.
     pub log: Form,
     /// Which lines are printed.

@@ -33,6 +33,7 @@ ghost use Rattle.conode_explain.specs.Sheets.{sheets_of};
 use crate::filtered::{data_of, is_news, shows_end, shows_frame, subject_in};
 use crate::progress::{Layout, LineFormat, Progress, may_be_told};
 use crate::told_words::{set_ended_words, set_told_words};
+use crate::tones::{Tone, ending_tone, frame_tone, put_tone};
 use conode_explain_channels::Told;
 use conode_explain_entries::Entries;
 use conode_explain_filter::{Kind, Lasts, Subject};
@@ -123,7 +124,10 @@ fn set_frame_line(
 {
     let stamps = form.stamps;
     match form.format {
-        LineFormat::Text => set_line(line, text, stamps, seen, frame, words),
+        LineFormat::Text => {
+            set_line(line, text, stamps, seen, frame, words)?;
+            put_tone(alloc, line, form.colours, frame_tone(seen, subject, frame))
+        }
         LineFormat::Json => {
             let (kind, node) = (subject.kind, subject.node);
             *line = json_line(alloc, stamps, seen, frame, words, kind, node)?;
@@ -266,7 +270,7 @@ fn write_first<W: Write>(
     write_signals(&mut room.text, form, seen, bus, claims, frame, told, out)
 }
 
-// Sets `line` to the line of an ended transfer, with these words.
+// Sets `line` to the line of an ended transfer, with these words, in a tone.
 fn set_end_line(
     alloc: Global,
     line: &mut Vec<u8>,
@@ -276,9 +280,10 @@ fn set_end_line(
     micros: u64,
     interface: &[u8],
     node: u8,
+    tone: Tone,
     words: &[u8],
 ) -> Result<(), AllocError>
-    ensures { OnOk result (line.new.items ≡ line_as form.now.format Kind.Sdo (Some node)
+    ensures { OnOk result (line.new.items ≡ line_as form.now tone Kind.Sdo (Some node)
         (own_parts form.now.stamps (times_at seen.now micros)
         (shows_interface seen.now interface.now) interface.now words.now)) }
 {
@@ -286,7 +291,10 @@ fn set_end_line(
     let shows = seen.shows_interface(interface);
     let stamps = form.stamps;
     match form.format {
-        LineFormat::Text => set_own_line(line, text, stamps, times, shows, interface, words),
+        LineFormat::Text => {
+            set_own_line(line, text, stamps, times, shows, interface, words)?;
+            put_tone(alloc, line, form.colours, tone)
+        }
         LineFormat::Json => {
             let (kind, of) = (Kind::Sdo, Some(node));
             *line = own_json_line(alloc, stamps, times, shows, interface, words, kind, of)?;
@@ -330,6 +338,7 @@ fn write_end<W: Write>(
         micros,
         interface,
         node,
+        ending_tone(ended.ending),
         room.said.as_bytes(),
     )?;
     hand_over(room.line.as_slice(), out)

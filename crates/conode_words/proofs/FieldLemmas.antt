@@ -138,12 +138,13 @@ adapt_fields rows a e =
     subst (AsksFor (codes "adapt") rows) is (refl, e0, chosen_if_used zeros_of (first_of (codes "leading-zeros") rows) zeros e1, refl)))
 
 explain_fields : (rows : List Row) (a : Asked) → asked_explain rows ≡ Some a → AsksFor (codes "explain") rows a
-unfolding asked_explain asked_explain_of stamps_for lines_as_for log_form_for
+unfolding asked_explain asked_explain_of stamps_for colours_for lines_as_for log_form_for
 explain_fields rows a e =
     option_and_then_some _ (first_of (codes "TRACE") rows) a e (λ trace e0 f0.
     option_and_then_some _ (stamps_for rows) a f0 (λ stamps e1 f1.
-    option_and_then_some _ (lines_as_for rows) a f1 (λ lines_as e2 f2.
-    mapped _ (log_form_for rows) a f2 (λ form e3 is.
+    option_and_then_some _ (colours_for rows) a f1 (λ colours e2 f2.
+    option_and_then_some _ (lines_as_for rows) a f2 (λ lines_as e3 f3.
+    mapped _ (log_form_for rows) a f3 (λ form e4 is.
     subst (AsksFor (codes "explain") rows) is (
       refl,
       e0,
@@ -151,11 +152,13 @@ explain_fields rows a e =
       chosen stamps_of (first_of (codes "stamps") rows) stamps e1,
       refl,
       refl,
-      chosen lines_as_of (first_of (codes "format") rows) lines_as e2,
-      chosen log_form_of (first_of (codes "log") rows) form e3,
+      refl,
+      chosen colours_of (first_of (codes "color") rows) colours e2,
+      chosen lines_as_of (first_of (codes "format") rows) lines_as e3,
+      chosen log_form_of (first_of (codes "log") rows) form e4,
       refl,
       refl,
-    )))))
+    ))))))
 
 convert_fields : (rows : List Row) (a : Asked) → asked_convert rows ≡ Some a → AsksFor (codes "convert") rows a
 unfolding asked_convert log_form_for
@@ -362,12 +365,13 @@ adapt_is rows a (name_is, sheet, z, force) =
     rw (sheet, zeros, ← force) refl
 
 explain_is : (rows : List Row) (a : AskedExplain) → AsksFor (codes "explain") rows (explain a) → asked_explain rows ≡ Some (explain a)
-unfolding asked_explain asked_explain_of stamps_for lines_as_for log_form_for
-explain_is rows a (name_is, trace, sheets, s, transfers, changes, stop, l, f, only, signals) =
+unfolding asked_explain asked_explain_of stamps_for colours_for lines_as_for log_form_for
+explain_is rows a (name_is, trace, sheets, s, transfers, changes, stop, c, l, f, only, signals) =
     let stamps = choice_is stamps_of (first_of (codes "stamps") rows) a.stamps s in
+    let colours = choice_is colours_of (first_of (codes "color") rows) a.colours c in
     let lines_as = choice_is lines_as_of (first_of (codes "format") rows) a.lines_as l in
     let form = choice_is log_form_of (first_of (codes "log") rows) a.form f in
-    rw (trace, stamps, lines_as, form, ← sheets, ← transfers, ← changes, ← stop, ← only, ← signals) refl
+    rw (trace, stamps, colours, lines_as, form, ← sheets, ← transfers, ← changes, ← stop, ← only, ← signals) refl
 
 convert_is : (rows : List Row) (a : AskedConvert) → AsksFor (codes "convert") rows (convert a) → asked_convert rows ≡ Some (convert a)
 unfolding asked_convert log_form_for

@@ -218,13 +218,13 @@ adapt_without_sheet = refl
 abbrev all_lines : AskedLines
 all_lines = record { of = None; id = None; kind = None; from = None; to = None }
 
-explain_of_a_trace : asked_after explain_command (codes "explain") (codes "t" ∷ []) ≡ Some (explain (record { trace = codes "t"; sheets = []; stamps = Relative; transfers = false; changes = false; stop = false; lines_as = lines.Text; form = log_form.Auto; only = all_lines; signals = None }))
+explain_of_a_trace : asked_after explain_command (codes "explain") (codes "t" ∷ []) ≡ Some (explain (record { trace = codes "t"; sheets = []; stamps = Relative; transfers = false; changes = false; stop = false; colours = Auto; lines_as = lines.Text; form = log_form.Auto; only = all_lines; signals = None }))
 unfolding words_on_literals
 explain_of_a_trace = refl
 
 explain_with_options : asked_after explain_command (codes "explain")
-    (codes "-t" ∷ codes "A" ∷ codes "-" ∷ codes "--transfers" ∷ codes "--changes" ∷ codes "--stop" ∷ codes "--format=json" ∷ codes "--log" ∷ codes "trc" ∷ codes "--sheet" ∷ codes "5=s" ∷ codes "--sheet=can1:d" ∷ [])
-    ≡ Some (explain (record { trace = codes "-"; sheets = codes "5=s" ∷ codes "can1:d" ∷ []; stamps = Date; transfers = true; changes = true; stop = true; lines_as = lines.Json; form = log_form.Trc; only = all_lines; signals = None }))
+    (codes "-t" ∷ codes "A" ∷ codes "-" ∷ codes "--transfers" ∷ codes "--changes" ∷ codes "--stop" ∷ codes "--color=never" ∷ codes "--format=json" ∷ codes "--log" ∷ codes "trc" ∷ codes "--sheet" ∷ codes "5=s" ∷ codes "--sheet=can1:d" ∷ [])
+    ≡ Some (explain (record { trace = codes "-"; sheets = codes "5=s" ∷ codes "can1:d" ∷ []; stamps = Date; transfers = true; changes = true; stop = true; colours = Never; lines_as = lines.Json; form = log_form.Trc; only = all_lines; signals = None }))
 unfolding words_on_literals
 explain_with_options = refl
 
@@ -236,6 +236,7 @@ explain_some_lines : asked_after explain_command (codes "explain") (codes "t" �
       transfers = false;
       changes = false;
       stop = false;
+      colours = Auto;
       lines_as = lines.Text;
       form = log_form.Auto;
       only = record { of = Some (codes "5"); id = Some (codes "185"); kind = Some (codes "pdo"); from = Some (codes "1"); to = Some (codes "2") };
@@ -244,8 +245,12 @@ explain_some_lines : asked_after explain_command (codes "explain") (codes "t" �
 unfolding words_on_literals
 explain_some_lines = refl
 
+explain_in_other_colours : fault_after explain_command (codes "explain") (codes "t" ∷ codes "--color" ∷ codes "red" ∷ []) ≡ kind.InvalidValue ∷ []
+unfolding words_on_literals
+explain_in_other_colours = refl
+
 explain_signals : asked_after explain_command (codes "explain") (codes "t" ∷ codes "--signal" ∷ codes "5:2001:01" ∷ codes "-ta" ∷ [])
-    ≡ Some (explain (record { trace = codes "t"; sheets = []; stamps = Absolute; transfers = false; changes = false; stop = false; lines_as = lines.Text; form = log_form.Auto; only = all_lines; signals = Some (codes "5:2001:01") }))
+    ≡ Some (explain (record { trace = codes "t"; sheets = []; stamps = Absolute; transfers = false; changes = false; stop = false; colours = Auto; lines_as = lines.Text; form = log_form.Auto; only = all_lines; signals = Some (codes "5:2001:01") }))
 unfolding words_on_literals
 explain_signals = refl
 

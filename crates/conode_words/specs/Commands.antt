@@ -133,12 +133,12 @@ abbrev pub stamps_option : Rule
 stamps_option = lettered (codes "stamps") 116 (codes "relative")
 
 -- `explain TRACE [--sheet SHEET].. [--stamps FORM|-t FORM] [--transfers] [--changes] [--stop]
--- [--signal SIGNALS] [--format FORMAT] [--log FORM] [--of NODES] [--id IDS] [--kind KINDS]
+-- [--color WHEN] [--signal SIGNALS] [--format FORMAT] [--log FORM] [--of NODES] [--id IDS] [--kind KINDS]
 -- [--from TIME] [--to TIME]`
 unfoldable pub explain_command : App
 explain_command =
-    with_filters (with_rule (with_rule (with_rule (with_rule (with_rule (with_rule (with_rule (with_rule (with_rule (new_app (codes "explain"))
-    (wanted (codes "TRACE"))) (repeated (codes "sheet"))) stamps_option) (flag (codes "transfers"))) (flag (codes "changes"))) (flag (codes "stop")))
+    with_filters (with_rule (with_rule (with_rule (with_rule (with_rule (with_rule (with_rule (with_rule (with_rule (with_rule (new_app (codes "explain"))
+    (wanted (codes "TRACE"))) (repeated (codes "sheet"))) stamps_option) (flag (codes "transfers"))) (flag (codes "changes"))) (flag (codes "stop"))) (worded (codes "color") (codes "auto")))
     (valued (codes "signal"))) (worded (codes "format") (codes "text"))) log_option)
 
 -- `convert LOG [--log FORM]`

@@ -80,7 +80,7 @@ AsksFor name rows (explain a) =
     (name ≡ codes "explain") × IsWord (codes "TRACE") rows a.trace
     × (a.sheets ≡ words_for (codes "sheet") rows) × IsChoice stamps_of (codes "stamps") rows a.stamps
     × (a.transfers ≡ is_used (codes "transfers") rows) × (a.changes ≡ is_used (codes "changes") rows)
-    × (a.stop ≡ is_used (codes "stop") rows)
+    × (a.stop ≡ is_used (codes "stop") rows) × IsChoice colours_of (codes "color") rows a.colours
     × IsChoice lines_as_of (codes "format") rows a.lines_as × IsChoice log_form_of (codes "log") rows a.form
     × (a.only ≡ asked_lines rows) × (a.signals ≡ first_of (codes "signal") rows)
 AsksFor name rows (convert a) =

@@ -88,6 +88,7 @@ pub record AskedExplain : Type 0 where
   pub transfers : Bool
   pub changes : Bool
   pub stop : Bool
+  pub colours : Colours
   pub lines_as : LinesAs
   pub form : LogForm
   pub only : AskedLines
@@ -165,7 +166,7 @@ asked_by (LoopBack sheet key bytes mode device) =
 asked_by (Show sheet node form) = show (record { sheet = sheet.now; node = node; shown_as = form })
 asked_by (Adapt sheet zeros force) =
     adapt (record { sheet = sheet.now; leading_zeros = zeros; force = force })
-asked_by (Explain trace sheets stamps transfers changes stop lines_as form only signals) =
+asked_by (Explain trace sheets stamps transfers changes stop colours lines_as form only signals) =
     explain (record {
       trace = trace.now;
       sheets = map (λ word. word.now) sheets.items;
@@ -173,6 +174,7 @@ asked_by (Explain trace sheets stamps transfers changes stop lines_as form only 
       transfers = transfers;
       changes = changes;
       stop = stop;
+      colours = colours;
       lines_as = lines_as;
       form = form;
       only = lines_by only;
@@ -308,7 +310,7 @@ asked_lines rows = record {
 -- what the matches of `explain` ask for, with its sheets
 unfoldable pub asked_explain_of : List Text → List Row → Option Asked
 asked_explain_of sheets rows =
-    option_and_then (λ trace. option_and_then (λ stamps. option_and_then (λ lines_as. option_map (λ form.
+    option_and_then (λ trace. option_and_then (λ stamps. option_and_then (λ colours. option_and_then (λ lines_as. option_map (λ form.
     explain (record {
       trace = trace;
       sheets = sheets;
@@ -316,12 +318,13 @@ asked_explain_of sheets rows =
       transfers = is_used (codes "transfers") rows;
       changes = is_used (codes "changes") rows;
       stop = is_used (codes "stop") rows;
+      colours = colours;
       lines_as = lines_as;
       form = form;
       only = asked_lines rows;
       signals = first_of (codes "signal") rows;
     }))
-    (log_form_for rows)) (lines_as_for rows)) (stamps_for rows)) (first_of (codes "TRACE") rows)
+    (log_form_for rows)) (lines_as_for rows)) (colours_for rows)) (stamps_for rows)) (first_of (codes "TRACE") rows)
 
 unfoldable pub asked_explain : List Row → Option Asked
 asked_explain rows = asked_explain_of (words_for (codes "sheet") rows) rows
@@ -405,9 +408,9 @@ is_other_lint rows = is_none (format_for rows) || is_none (colours_for rows)
 unfoldable pub is_other_stats : List Row → Bool
 is_other_stats rows = is_none (lines_as_for rows) || is_none (log_form_for rows)
 
--- the same for `explain`: also its stamps
+-- the same for `explain`: also its stamps and its colours
 unfoldable pub is_other_explain : List Row → Bool
-is_other_explain rows = is_none (stamps_for rows) || is_other_stats rows
+is_other_explain rows = (is_none (stamps_for rows) || is_none (colours_for rows)) || is_other_stats rows
 
 -- the same for `compare`: its format, the log's form
 unfoldable pub is_other_compare : List Row → Bool

@@ -204,6 +204,7 @@ fn explain_of<'a>(found: &ArgMatches<'a>, sheets: Vec<&'a str>) -> Option<Task<'
 {
     let trace = word_for(found, "TRACE")?;
     let stamps = stamps_for(found)?;
+    let colours = colours_for(found)?;
     let lines_as = lines_as_for(found)?;
     let form = log_form_for(found)?;
     Some(Task::Explain {
@@ -213,6 +214,7 @@ fn explain_of<'a>(found: &ArgMatches<'a>, sheets: Vec<&'a str>) -> Option<Task<'
         transfers: is_used(found, "transfers"),
         changes: is_used(found, "changes"),
         stop: is_used(found, "stop"),
+        colours,
         lines_as,
         form,
         only: only_words(found),

@@ -58,7 +58,7 @@ pub(crate) fn format_for(found: &ArgMatches<'_>) -> Option<Format>
     )
 }
 
-/// When `lint` writes in colours.
+/// When `lint` and `explain` write in colours.
 #[tactic(auto, unfolding(crate::specs::Choices::colours_for, crate::specs::Choices::colours_of))]
 pub(crate) fn colours_for(found: &ArgMatches<'_>) -> Option<Colours>
     ensures { result ≡ colours_for (rows_of (found_of found.now)) }

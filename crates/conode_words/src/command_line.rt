@@ -60,7 +60,9 @@ fn other_stats(found: &ArgMatches<'_>) -> Option<&'static str>
 fn other_explain(found: &ArgMatches<'_>) -> Option<&'static str>
     ensures { is_some result ≡ is_other_explain (rows_of (found_of found.now)) }
 {
-    said_if(stamps_for(found).is_none(), help::STAMPS).or(other_stats(found))
+    let stamps = said_if(stamps_for(found).is_none(), help::STAMPS);
+    let colours = said_if(colours_for(found).is_none(), help::COLOURS);
+    stamps.or(colours).or(other_stats(found))
 }
 
 // the same for the words of `compare`

@@ -187,7 +187,7 @@ const ADAPT: [Word; 3] = [
     ),
 ];
 
-const EXPLAIN: [Word; 14] = [
+const EXPLAIN: [Word; 15] = [
     RECORDING,
     Word(
         "sheet",
@@ -210,6 +210,11 @@ const EXPLAIN: [Word; 14] = [
         "PDOs, heartbeats, SYNCs only where they change",
     ),
     Word("stop", Flag, "End at the first bad line"),
+    Word(
+        "color",
+        Worded("WHEN", "auto"),
+        "Colours: auto, always or never",
+    ),
     Word(
         "signal",
         Valued("SIGNALS"),

@@ -112,7 +112,7 @@ Status: 0 without errors, 1 with an error (with --strict also with a warning),
 if the output can't be written or memory ran out, 2 if a file can't be read or
 the command line is wrong.";
 
-/// The messages about unknown formats and colours of `lint`.
+/// The messages about unknown formats of `lint`, and colours of it and of `explain`.
 pub const FORMATS: &str = "invalid value for '--format <FORMAT>': text, json or sarif";
 
 pub const COLOURS: &str = "invalid value for '--color <WHEN>': auto, always or never";
@@ -266,7 +266,8 @@ the interface, then the first that is given.
 
 Empty lines, comments (`;`) and event lines (`!`) print nothing. A bad line is
 named on standard error, with its number and what is wrong, and reading
-continues; with --stop it ends there. `-` as TRACE is standard input; output is
+continues; with --stop it ends there. On a terminal lines that say of a failure
+are red, of a transfer that is done green, unless NO_COLOR is set. `-` as TRACE is standard input; output is
 flushed before each read that could wait. --stamps also takes candump's letters
 z, a, d and A. Logs of other recorders are read as `convert` reads them: see
 `conode convert --help` for --log.

@@ -116,7 +116,7 @@ pub enum Format {
     Sarif,
 }
 
-/// When `lint` writes in colours.
+/// When `lint` and `explain` write in colours.
 #[derive(Clone, Copy)]
 pub enum Colours {
     /// On a terminal, unless the environment has NO_COLOR.
@@ -235,6 +235,8 @@ pub enum Task<'a> {
         changes: bool,
         /// Whether the first bad line ends it.
         stop: bool,
+        /// When it writes in colours.
+        colours: Colours,
         /// How lines are written.
         lines_as: LinesAs,
         /// In which form the recording is.

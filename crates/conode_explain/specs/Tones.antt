@@ -1,0 +1,80 @@
+-- The colour of a line on a terminal.
+use Rattle.std.specs.Prelude.{ℕ, ◌==◌, Bool, ◌&&◌, not, if◌then◌else◌, List, [], ◌∷◌, ◌++◌, codes, length, slice_index, take, Option, Some, None, is_some}
+use Rattle.co_value.specs.Numbers.{unsigned_of}
+use Rattle.conode_record.specs.declared.fields.Identifier.{Identifier}
+use Rattle.conode_record.specs.declared.fields.Identifier.TheVariants.{Base, Extended, Error}
+use Rattle.conode_record.specs.declared.line.Record.{Record}
+use Rattle.conode_explain_filter.specs.declared.kind.Kind.{Kind}
+use Rattle.conode_explain_filter.specs.declared.kind.Kind.TheVariants.{Sdo, Pdo, Emergency, Nmt, Heartbeat, Sync, Other}
+use Rattle.conode_explain_filter.specs.declared.subject.Subject.{Subject}
+use Rattle.conode_explain_text.specs.Lines.{odd_words}
+use Rattle.conode_explain_text.specs.SoFar.{SoFar, times_at}
+use Rattle.conode_explain_transfers.specs.declared.ended.Ending.{Ending}
+use Rattle.conode_explain_transfers.specs.declared.ended.Ending.TheVariants.{Done, Unfinished}
+use Rattle.conode_explain.specs.declared.tones.Tone.{Tone}
+use Rattle.conode_explain.specs.declared.tones.Tone.TheVariants.{Plain, Bad, Odd, Good, Notable}
+use Rattle.conode_explain.specs.Filtered.{data_of}
+
+-- ---- of frames
+
+-- an emergency: one whose code is 0 says that an error is gone (CiA 301, 7.2.7.1)
+abbrev pub emergency_tone : List ℕ → Tone
+emergency_tone bytes = if unsigned_of (take 2 bytes) == 0 then Good else Bad
+
+-- a byte alone, or the first of eight
+abbrev pub is_abort : List ℕ → Bool
+is_abort bytes = (length bytes == 8) && (slice_index bytes 0 == 0x80)
+
+abbrev pub is_boot_up : List ℕ → Bool
+is_boot_up bytes = (length bytes == 1) && (slice_index bytes 0 == 0)
+
+-- of data by its service
+unfoldable pub data_tone : Kind → List ℕ → Tone
+data_tone Emergency bytes = emergency_tone bytes
+data_tone Sdo bytes = if is_abort bytes then Bad else Plain
+data_tone Nmt bytes = Notable
+data_tone Heartbeat bytes = if is_boot_up bytes then Notable else Plain
+data_tone other bytes = Plain
+
+abbrev pub service_tone : Identifier → Kind → List ℕ → Tone
+service_tone (Base id) kind bytes = data_tone kind bytes
+service_tone (Extended id) kind bytes = Plain
+service_tone (Error class) kind bytes = Bad
+
+-- an odd stamp shows where nothing else does
+abbrev pub or_odd : Bool → Tone → Tone
+or_odd is Plain = if is then Odd else Plain
+or_odd is tone = tone
+
+unfoldable pub frame_tone : SoFar → Subject → Record → Tone
+frame_tone so_far subject frame =
+    or_odd (is_some (odd_words (times_at so_far frame.micros))) (service_tone frame.id subject.kind (data_of frame.content))
+
+-- ---- of transfers that ended
+
+abbrev pub ending_tone : Ending → Tone
+ending_tone (Done crc) = Good
+ending_tone Unfinished = Odd
+ending_tone other = Bad
+
+-- ---- the line in it (ECMA-48, SGR)
+
+abbrev pub numbers_of : Tone → List ℕ
+numbers_of Plain = []
+numbers_of Bad = codes "31"
+numbers_of Odd = codes "33"
+numbers_of Good = codes "32"
+numbers_of Notable = codes "36"
+
+-- a line without its line feed
+abbrev pub without_end : List ℕ → List ℕ
+without_end [] = []
+without_end (byte ∷ []) = []
+without_end (byte ∷ next ∷ more) = byte ∷ without_end (next ∷ more)
+
+abbrev pub in_colour : List ℕ → List ℕ → List ℕ
+in_colour [] line = line
+in_colour (digit ∷ digits) line = 27 ∷ codes "[" ++ (digit ∷ digits) ++ codes "m" ++ without_end line ++ 27 ∷ codes "[0m\n"
+
+unfoldable pub toned : Bool → Tone → List ℕ → List ℕ
+toned colours tone line = if colours then in_colour (numbers_of tone) line else line

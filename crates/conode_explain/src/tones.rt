@@ -1,0 +1,154 @@
+//! The colour of a line on a terminal.
+
+ghost use Rattle.std.specs.Prelude.{◌≡◌, OnOk};
+ghost use Rattle.conode_explain.specs.Tones.{
+  data_tone,
+  emergency_tone,
+  ending_tone,
+  frame_tone,
+  is_abort,
+  is_boot_up,
+  numbers_of,
+  or_odd,
+  service_tone,
+  toned,
+};
+
+use crate::filtered::data_of;
+use conode_explain_filter::{Kind, Subject};
+use conode_explain_text::{Seen, odd_words};
+use conode_explain_transfers::Ending;
+use conode_record::{Identifier, Record};
+use std::alloc::{AllocError, Global};
+
+/// What the colour of a line says.
+#[derive(Clone, Copy)]
+pub(crate) enum Tone {
+    /// Nothing: it has none.
+    Plain,
+    /// Something failed: red.
+    Bad,
+    /// A stamp is odd, or a transfer is unfinished: yellow.
+    Odd,
+    /// An error is gone, or a transfer is done: green.
+    Good,
+    /// A command, or a boot-up: cyan.
+    Notable,
+}
+
+fn emergency_tone(bytes: &[u8]) -> Tone
+    ensures { result ≡ emergency_tone bytes.now }
+{
+    match bytes {
+        [] | [0] | [0, 0, ..] => Tone::Good,
+        _ => Tone::Bad,
+    }
+}
+
+fn is_abort(bytes: &[u8]) -> bool
+    ensures { result ≡ is_abort bytes.now }
+{
+    bytes.len() == 8 && bytes[0] == 0x80
+}
+
+fn is_boot_up(bytes: &[u8]) -> bool
+    ensures { result ≡ is_boot_up bytes.now }
+{
+    bytes.len() == 1 && bytes[0] == 0
+}
+
+// the tone of data by its service
+#[tactic(auto, unfolding(crate::specs::Tones::data_tone))]
+fn data_tone(kind: Kind, bytes: &[u8]) -> Tone
+    ensures { result ≡ data_tone kind bytes.now }
+{
+    match kind {
+        Kind::Emergency => emergency_tone(bytes),
+        Kind::Sdo if is_abort(bytes) => Tone::Bad,
+        Kind::Nmt => Tone::Notable,
+        Kind::Heartbeat if is_boot_up(bytes) => Tone::Notable,
+        _ => Tone::Plain,
+    }
+}
+
+fn service_tone(id: Identifier, kind: Kind, bytes: &[u8]) -> Tone
+    ensures { result ≡ service_tone id kind bytes.now }
+{
+    match id {
+        Identifier::Base(_) => data_tone(kind, bytes),
+        Identifier::Extended(_) => Tone::Plain,
+        Identifier::Error(_) => Tone::Bad,
+    }
+}
+
+fn or_odd(is_odd: bool, tone: Tone) -> Tone
+    ensures { result ≡ or_odd is_odd tone }
+{
+    match tone {
+        Tone::Plain if is_odd => Tone::Odd,
+        _ => tone,
+    }
+}
+
+/// The tone of the line of a frame.
+#[tactic(auto, unfolding(crate::specs::Tones::frame_tone))]
+pub(crate) fn frame_tone(seen: &Seen, subject: &Subject, frame: &Record<'_>) -> Tone
+    ensures { result ≡ frame_tone seen.now subject.now frame.now }
+{
+    let data = data_of(&frame.content);
+    let is_odd = odd_words(seen.times(frame.micros)).is_some();
+    or_odd(
+        is_odd,
+        service_tone(frame.id, subject.kind, data.as_slice()),
+    )
+}
+
+/// The tone of the line of a transfer that ended.
+pub(crate) fn ending_tone(ending: Ending) -> Tone
+    ensures { result ≡ ending_tone ending }
+{
+    match ending {
+        Ending::Done { crc: _ } => Tone::Good,
+        Ending::Unfinished => Tone::Odd,
+        _ => Tone::Bad,
+    }
+}
+
+fn numbers_of(tone: Tone) -> &'static str
+    ensures { result.now ≡ numbers_of tone }
+{
+    match tone {
+        Tone::Plain => "",
+        Tone::Bad => "31",
+        Tone::Odd => "33",
+        Tone::Good => "32",
+        Tone::Notable => "36",
+    }
+}
+
+/// Writes a line, which ends in a line feed, in the colour of a tone, where that is asked for. On an
+/// `Err` memory ran out.
+#[tactic(auto, unfolding(crate::specs::Tones::toned))]
+pub(crate) fn put_tone(
+    alloc: Global,
+    line: &mut Vec<u8>,
+    colours: bool,
+    tone: Tone,
+) -> Result<(), AllocError>
+    ensures { OnOk result (line.new.items ≡ toned colours tone line.old.items) }
+{
+    let numbers = numbers_of(tone);
+    if !colours || numbers.is_empty() {
+        return Ok(());
+    }
+    let mut made = Vec::new(alloc);
+    made.extend_from_slice(b"\x1b[")?;
+    made.extend_from_slice(numbers.as_bytes())?;
+    made.extend_from_slice(b"m")?;
+    if let [text @ .., _] = line.as_slice() {
+        made.extend_from_slice(text)?;
+    }
+    made.extend_from_slice(b"\x1b[0m\n")?;
+    *line = made;
+    Ok(())
+}
