@@ -266,11 +266,11 @@ the interface, then the first that is given.
 
 Empty lines, comments (`;`) and event lines (`!`) print nothing. A bad line is
 named on standard error, with its number and what is wrong, and reading
-continues; with --stop it ends there. On a terminal lines that say of a failure
-are red, of a transfer that is done green, unless NO_COLOR is set. `-` as TRACE is standard input; output is
-flushed before each read that could wait. --stamps also takes candump's letters
-z, a, d and A. Logs of other recorders are read as `convert` reads them: see
-`conode convert --help` for --log.
+continues; with --stop it ends there. On a terminal lines of a failure are red,
+and those of a transfer that is done green, unless NO_COLOR is set. `-` as TRACE
+is standard input; output is flushed before each read that could wait. --stamps
+also takes candump's letters z, a, d and A. Logs of other recorders are read as
+`convert` reads them: see `conode convert --help` for --log.
 
 A sheet with faults is read as `adapt` rewrites it, or without what is at fault,
 which is said on standard error.
