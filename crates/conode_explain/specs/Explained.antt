@@ -220,29 +220,34 @@ faults_of log line = if nat_lt 512 (length line) then 1 else faults_in (line_at 
 
 -- ---- all of it
 
--- a bad line ends what is explained, where that is asked for
-abbrev pub stops : Layout → Log → List ℕ → Bool
-stops form log line = form.stop && (faults_of log line == 1)
+-- the log after a line
+abbrev pub log_after : Log → List ℕ → Log
+log_after log line = if nat_lt 512 (length line) then log else (says log line).0
 
 -- lines explained, from this progress on; one of more than 512 bytes is bad, and says nothing of
 -- the log
 unfoldable pub explained_from : Layout → List KnownSheet → Log → Progress → List (List ℕ) → List (List ℕ)
 explained_from form sheets log progress [] = unfinished_lines form sheets progress
 explained_from form sheets log progress (line ∷ more) =
-    if stops form log line then unfinished_lines form sheets progress
-    else (if nat_lt 512 (length line) then explained_from form sheets log progress more
+    if nat_lt 512 (length line) then explained_from form sheets log progress more
     else said_lines form sheets progress (line_at log line)
-    ++ explained_from form sheets (says log line).0 (progress_after form sheets progress (line_at log line)) more)
+    ++ explained_from form sheets (says log line).0 (progress_after form sheets progress (line_at log line)) more
+
+-- a bad line ends what is read, where that is asked for
+abbrev pub stops : Layout → Log → List ℕ → Bool
+stops form log line = form.stop && (faults_of log line == 1)
+
+-- the lines that are read: all, or those up to the first bad one
+unfoldable pub lines_read : Layout → Log → List (List ℕ) → List (List ℕ)
+lines_read form log [] = []
+lines_read form log (line ∷ more) = line ∷ (if stops form log line then [] else lines_read form (log_after log line) more)
 
 -- a log explained
 abbrev pub explained : Layout → List KnownSheet → List ℕ → List (List ℕ)
-explained form sheets text = explained_from form sheets (at_start form.log) nothing_known (lines text)
+explained form sheets text =
+    explained_from form sheets (at_start form.log) nothing_known (lines_read form (at_start form.log) (lines text))
 
 -- ---- how many lines are bad
-
--- the log after a line
-abbrev pub log_after : Log → List ℕ → Log
-log_after log line = if nat_lt 512 (length line) then log else (says log line).0
 
 -- The last line counts only where it has its line feed, or is too long: whoever stops a recording
 -- cuts it off there.

@@ -1,6 +1,6 @@
 //! One line of a log after another.
 
-ghost use Rattle.std.specs.Prelude.{◌≡◌, ◌⊎◌, ◌≤◌, OnOk, IfOk, IfErr, IfSome, IfNone};
+ghost use Rattle.std.specs.Prelude.{◌≡◌, ◌⊎◌, ◌≤◌, ◌==◌, ◌&&◌, OnOk, IfOk, IfErr, IfSome, IfNone};
 ghost use Rattle.std.specs.Io.KnownBytes.{Keeps, IsAtEnd};
 ghost use Rattle.co_bounded_lines.specs.Held.{nothing_held, to_come};
 ghost use Rattle.co_stream.specs.Readings.{Gave};
@@ -164,7 +164,8 @@ impl Explaining {
     }
 
     /// Takes the next line: writes the line of its frame, if it has one, or names a bad line.
-    /// Returns 1 for a bad line that counts, else 0; `None` if no line is left.
+    /// Returns 1 for a bad line that counts, and that ends it where that is asked for, else 0; `None`
+    /// if no line is left.
     pub(crate) fn take_line<R: Read, W: Write, E: Write>(
         &mut self,
         reader: &mut R,
@@ -177,7 +178,8 @@ impl Explaining {
             Takes settings.now.form (sheets_of settings.now)
             self.old.lines self.new.lines (R.remaining reader.old) (R.remaining reader.new)
             self.old.log self.new.log self.old.progress self.new.progress
-            (W.contents out.old) (W.contents out.new) bad)) }
+            (W.contents out.old) (W.contents out.new) bad
+            (settings.now.form.stop && (bad == 1)))) }
         ensures few { IfOk result (λ next. IfSome next (λ bad. bad ≤ 1)) }
         ensures end { IfOk result (λ next. IfNone next ((out.new ≡ out.old)
             × Gave self.old.lines.ended self.new.lines.ended

@@ -1,5 +1,5 @@
 -- The lines so far, and then the next one, or the end.
-use Rattle.std.proofs.Common.{arith}
+use Rattle.std.proofs.Common.{arith, refl}
 use Rattle.co_bounded_lines.specs.Held.{nothing_held}
 use Rattle.conode_convert.specs.Converted.{at_start}
 use Rattle.conode_explain.specs.Explained.{nothing_known}
@@ -15,6 +15,7 @@ loop-number-init g c =
       taken = rw (c.requires.lines, c.requires.log, c.requires.progress)
           (takes_none form sheets nothing_held (g.R.Read.remaining c.args.reader.now) (at_start form.log) nothing_known (g.W.Write.contents c.args.out.now));
       few = omega arith;
+      none = λ _. refl;
     }
 
 pub returns-in-None-clause-known : goal.returns-in-None-clause-known
@@ -34,7 +35,7 @@ returns-in-None-clause-known g c =
     let same = rw c.in-None.is at c.in_ok-more.ensures.progress_kept in
     let last = g.W.Write.contents c.finish.new.out in
     let rest = rw (ended.0, same) at c.in_ok-finish-in-None.ensures.lines in
-    explained_known form sheets so_far.lines c.take_line.new.self.lines before between after so_far.log so_far.progress old out last bad taken rest ended.1
+    explained_known form sheets so_far.lines c.take_line.new.self.lines before between after so_far.log so_far.progress old out last bad taken c.loop-number.invariant.none rest ended.1
 
 pub returns-in-None-clause-any_reader : goal.returns-in-None-clause-any_reader
 returns-in-None-clause-any_reader g c =
@@ -53,7 +54,7 @@ returns-in-None-clause-any_reader g c =
     let same = rw c.in-None.is at c.in_ok-more.ensures.progress_kept in
     let last = g.W.Write.contents c.finish.new.out in
     let rest = rw (ended.0, same) at c.in_ok-finish-in-None.ensures.lines in
-    explained_any form sheets so_far.lines c.take_line.new.self.lines before between after so_far.log so_far.progress old out last bad taken rest ended.1
+    explained_any form sheets so_far.lines c.take_line.new.self.lines before between after so_far.log so_far.progress old out last bad taken c.loop-number.invariant.none rest ended.1
 
 pub loop-number-preserved : goal.loop-number-preserved
 loop-number-preserved g c =
@@ -73,6 +74,7 @@ loop-number-preserved g c =
     let more = rw c.in-Some.is at c.in_ok-more.ensures.line in
     let one = rw c.in-Some.is at c.in_ok-more.ensures.few in
     record {
-      taken = takes_more form sheets nothing_held so_far.lines before between (at_start form.log) so_far.log nothing_known so_far.progress old out bad taken next.lines after next.log next.progress new c.in-Some.more more;
+      -- draft: here it goes on, so `form.stop && (more == 1)` is false, by the test of the loop
+      taken = takes_more form sheets nothing_held so_far.lines before between (at_start form.log) so_far.log nothing_known so_far.progress old out bad taken next.lines after next.log next.progress new c.in-Some.more false more;
       few = omega (arith, one, c.loop-number.invariant.few);
     }

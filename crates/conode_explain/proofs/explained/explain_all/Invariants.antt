@@ -1,4 +1,4 @@
-use Rattle.std.proofs.Common.{◌+◌, ◌≤◌}
+use Rattle.std.proofs.Common.{◌≡◌, ◌+◌, ◌≤◌, true}
 use Rattle.co_bounded_lines.specs.Held.{nothing_held}
 use Rattle.conode_convert.specs.Converted.{at_start}
 use Rattle.conode_explain.specs.Explained.{nothing_known}
@@ -9,6 +9,7 @@ use Rattle.conode_explain.proofs.explained.explain_all.Given as goal
 abbrev pub invariant-loop-number : goal.invariant-loop-number
 invariant-loop-number g l =
     record {
-      taken : Takes l.settings.form (sheets_of l.settings) nothing_held l.explaining.lines (g.R.Read.remaining l.fn.reader) (g.R.Read.remaining l.reader) (at_start l.settings.form.log) l.explaining.log nothing_known l.explaining.progress (g.W.Write.contents l.fn.out) (g.W.Write.contents l.out) l.bad;
+      taken : Takes l.settings.form (sheets_of l.settings) nothing_held l.explaining.lines (g.R.Read.remaining l.fn.reader) (g.R.Read.remaining l.reader) (at_start l.settings.form.log) l.explaining.log nothing_known l.explaining.progress (g.W.Write.contents l.fn.out) (g.W.Write.contents l.out) l.bad false;
+      none : l.settings.form.stop ≡ true → l.bad ≡ 0;
       few : l.bad + 1 ≤ l.number;
     }
