@@ -2,8 +2,10 @@ pub mod AbortLemmas
 pub mod AssumedLemmas
 pub mod Explaining
 pub mod LogLemmas
+pub mod NodeExamples
 pub mod ServiceLemmas
 pub mod SheetExamples
 pub mod TellingLemmas
+pub mod ToneExamples
 pub mod WriteLemmas
 pub mod WriteSets

@@ -2,10 +2,15 @@
 use Rattle.std.proofs.Common.{◌≡◌, ℕ, true, false, List, [], ◌∷◌, refl, map}
 use Rattle.std.specs.Prelude.{codes}
 use Rattle.conode_explain_services.specs.Codes.{code_words, known_class, single_words}
-use Rattle.conode_explain_services.specs.Drives.{command_words, controlword_words, drive_words, is_drive, meaning_at, mode_words, state_words, statusword_words, word_text}
+use Rattle.conode_explain_services.specs.Drives.{command_words, controlword_words, drive_words, has_meaning, is_drive, meaning_at, mode_words, state_words, statusword_words, word_text}
 
 drives : map is_drive (0x00020192 ∷ 0x00000192 ∷ 0x00000191 ∷ 0x01920000 ∷ 0x00000193 ∷ []) ≡ true ∷ true ∷ false ∷ false ∷ false ∷ []
 drives = refl
+
+-- the second axis has them 800h later; a sub-index has none
+meaning_of_keys : map (λ key. has_meaning (record { index = key.0; sub = key.1 })) ((0x6041, 0) ∷ (0x6841, 0) ∷ (0x6041, 1) ∷ (0x6042, 0) ∷ []) ≡ true ∷ true ∷ false ∷ false ∷ []
+unfolding meaning_at
+meaning_of_keys = refl
 
 abbrev means : ℕ → List ℕ → List ℕ
 means index bytes = drive_words (record { index = index; sub = 0 }) bytes

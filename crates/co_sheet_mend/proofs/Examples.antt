@@ -1,0 +1,81 @@
+-- What comes in place of lines at fault, evaluated on both sides of each edge.
+use Rattle.std.proofs.Common.{◌≡◌, ℕ, List, [], ◌∷◌, ◌++◌, Option, Some, None, refl, map}
+use Rattle.std.specs.Prelude.{codes}
+use Rattle.co_sheet_rows.specs.declared.fault.FaultKind.{FaultKind}
+use Rattle.co_sheet_rows.specs.declared.fault.FaultKind.TheVariants.{BadNumber, BadType, BadAccess, BadDefault, MissingKey, MissingSection}
+use Rattle.co_sheet_rows.specs.declared.fault.SheetFault.{SheetFault}
+use Rattle.co_sheet_text.specs.Text.{Line}
+use Rattle.co_sheet_changes.specs.Pieces.{assigned}
+use Rattle.co_sheet_mend.specs.declared.repair.Repair.{Repair}
+use Rattle.co_sheet_mend.specs.declared.repair.Repair.TheVariants.{Emptied, Bytes, ReadWrite, Completed}
+use Rattle.co_sheet_mend.specs.Repairs.{line_as, mended_lines, repair_at, repair_for}
+
+abbrev line : ℕ → List ℕ → Line
+line number bytes = record { number = number; bytes = bytes }
+
+abbrev fault : ℕ → FaultKind → SheetFault
+fault number kind = record { kind = kind; line = number }
+
+-- ---- which repair a line has
+
+at_its_line : map (repair_at (fault 5 BadNumber ∷ [])) (4 ∷ 5 ∷ 6 ∷ []) ≡ None ∷ Some Emptied ∷ None ∷ []
+unfolding repair_at repair_for
+at_its_line = refl
+
+nothing_helps : repair_at (fault 5 MissingSection ∷ []) 5 ≡ None
+unfolding repair_at repair_for
+nothing_helps = refl
+
+-- of two faults at a line, whatever their order
+first_of_two : repair_at (fault 5 BadType ∷ fault 5 BadDefault ∷ []) 5 ≡ Some Emptied
+unfolding repair_at repair_for
+first_of_two = refl
+
+-- ---- what a line becomes
+
+as_it_is : line_as None (line 1 (codes "LowLimit=5")) [] ≡ codes "LowLimit=5\n"
+unfolding line_as
+as_it_is = refl
+
+emptied_value : line_as (Some Emptied) (line 1 (codes "DefaultValue=0x6G")) [] ≡ codes "\n"
+unfolding line_as
+emptied_value = refl
+
+-- a section line, and one that isn't closed
+emptied_section : line_as (Some Emptied) (line 1 (codes "[2000]")) [] ≡ codes "[]\n"
+unfolding line_as
+emptied_section = refl
+
+emptied_open_section : line_as (Some Emptied) (line 1 (codes " [2000")) [] ≡ codes "[]\n"
+unfolding line_as
+emptied_open_section = refl
+
+bytes_of_type : line_as (Some Bytes) (line 1 (codes "datatype = 0x0099")) [] ≡ codes "DataType=0x000F\n"
+unfolding line_as assigned
+bytes_of_type = refl
+
+-- of an object type nothing
+no_object_type : line_as (Some Bytes) (line 1 (codes "ObjectType=0x99")) [] ≡ codes "\n"
+unfolding line_as assigned
+no_object_type = refl
+
+read_write : line_as (Some ReadWrite) (line 1 (codes "AccessType=all")) [] ≡ codes "AccessType=rw\n"
+unfolding line_as assigned
+read_write = refl
+
+-- what the section lacks, up to the next section line
+completed : line_as (Some Completed) (line 1 (codes "[2000]")) (line 2 (codes "ParameterName=A") ∷ line 3 (codes "[2001]") ∷ line 4 (codes "DataType=5") ∷ [])
+    ≡ codes "[2000]\nDataType=0x000F\nAccessType=rw\n"
+unfolding line_as assigned
+completed = refl
+
+completed_access : line_as (Some Completed) (line 1 (codes "[2000]")) (line 2 (codes "DataType=5") ∷ []) ≡ codes "[2000]\nAccessType=rw\n"
+unfolding line_as assigned
+completed_access = refl
+
+-- ---- lines one after another
+
+three_lines : mended_lines (fault 1 MissingKey ∷ fault 3 BadAccess ∷ []) (line 1 (codes "[2000]") ∷ line 2 (codes "ParameterName=A") ∷ line 3 (codes "AccessType=all") ∷ [])
+    ≡ codes "[2000]\nDataType=0x000F\nParameterName=A\nAccessType=rw\n"
+unfolding mended_lines repair_at repair_for line_as assigned
+three_lines = refl
