@@ -15,7 +15,7 @@ use Rattle.conode_explain_pdo.specs.declared.claim.Claim.{Claim}
 use Rattle.conode_explain_pdo.specs.Buses.{Bus, names_at}
 use Rattle.conode_explain_services.specs.declared.last.Last.{Last}
 use Rattle.conode_explain_services.specs.Reserved.{is_reserved}
-use Rattle.conode_explain_services.specs.Services.{service_words}
+use Rattle.conode_explain_services.specs.Services.{service_words, state_words}
 use Rattle.conode_explain.specs.AbortWords.{abort_words, is_sdo}
 use Rattle.conode_explain.specs.FrameWords.{assumed_front, assumed_mark, assumed_words, frame_words, is_default_pdo, other_words, plain_words, served_words}
 use Rattle.conode_explain.specs.Transfers.{transfer_in, transfer_words}
@@ -46,6 +46,13 @@ no_abort id bytes is =
     let no : is_sdo id ≡ false = grind (arith, nat_tests, is) in
     rw no refl
 
+no_state : (last : Last) (id : ℕ) (bytes : List ℕ) → is_default_pdo id ≡ true → state_words last (record { id = id; bytes = bytes }) ≡ []
+unfolding state_words
+no_state last id bytes is =
+    let command : eqb id 0 ≡ false = grind (arith, nat_tests, is) in
+    let control : (ltb 0x700 id && ltb id 0x780) ≡ false = grind (arith, nat_tests, is) in
+    rw (command, control) refl
+
 -- its text is that of its service
 by_service : (names : Names) (id : ℕ) (bytes : List ℕ) → is_default_pdo id ≡ true
     → text_of_frame names (record { id = id; bytes = bytes })
@@ -71,21 +78,24 @@ by_step names node step bytes low high =
     (λ f. by_test (eqb step 9) (λ t. let is : step ≡ 9 = eqb-true step 9 t in rw is refl)
     (λ g. let is : step ≡ 10 = grind (arith, nat_tests, a, b, c, d, e, f, g) in rw is refl)))))))
 
-plain : (names : Names) (id : ℕ) (bytes : List ℕ) → is_default_pdo id ≡ true → plain_words names (record { id = id; bytes = bytes }) ≡ assumed_words id
+plain : (names : Names) (last : Last) (id : ℕ) (bytes : List ℕ) → is_default_pdo id ≡ true → plain_words names last (record { id = id; bytes = bytes }) ≡ assumed_words id
 unfolding assumed_words
-plain names id bytes is =
+plain names last id bytes is =
     let low : 3 ≤ id / 128 = grind (arith, nat_tests, is) in
     let high : id / 128 ≤ 10 = grind (arith, nat_tests, is) in
     let base : id - id % 128 ≡ 128 * (id / 128) = omega arith in
     let frame : FrameContent = record { id = id; bytes = bytes } in
     let mark : assumed_mark id ≡ codes "~" = rw is refl in
-    let text : text_of_frame names frame ++ abort_words frame ≡ option_map_or (service_text names (id % 128) bytes) (service_at (128 * (id / 128))) unknown_text =
-    ap (λ (words : List ℕ). text_of_frame names frame ++ words) (no_abort id bytes is)
+    let rest : abort_words frame ++ state_words last frame ≡ [] =
+    ap (λ (words : List ℕ). words ++ state_words last frame) (no_abort id bytes is) ∙ no_state last id bytes is in
+    let text : text_of_frame names frame ++ (abort_words frame ++ state_words last frame) ≡ option_map_or (service_text names (id % 128) bytes) (service_at (128 * (id / 128))) unknown_text =
+    ap (λ (words : List ℕ). text_of_frame names frame ++ words) rest
     ∙ append-nil (text_of_frame names frame)
     ∙ by_service names id bytes is
     ∙ ap (λ (n : ℕ). option_map_or (service_text names (id % 128) bytes) (service_at n) unknown_text) base in
-    append_assoc (assumed_mark id) (text_of_frame names frame) (abort_words frame)
-    ∙ ap (λ (words : List ℕ). words ++ (text_of_frame names frame ++ abort_words frame)) mark
+    append_assoc (assumed_mark id ++ text_of_frame names frame) (abort_words frame) (state_words last frame)
+    ∙ append_assoc (assumed_mark id) (text_of_frame names frame) (abort_words frame ++ state_words last frame)
+    ∙ ap (λ (words : List ℕ). words ++ (text_of_frame names frame ++ (abort_words frame ++ state_words last frame))) mark
     ∙ ap (λ (words : List ℕ). codes "~" ++ words) text
     ∙ by_step names (id % 128) (id / 128) bytes low high
 
@@ -93,7 +103,7 @@ pub assumed : (bus : Bus) (last : Last) (id : ℕ) (bytes : List ℕ) → is_def
     → assumed_words id ≡ frame_words bus [] last (record { id = id; bytes = bytes })
 unfolding frame_words transfer_words other_words served_words
 assumed bus last id bytes is =
-    rw (no_transfer id bytes is, no_service last id bytes is) (sym (plain (names_at bus (id % 128)) id bytes is))
+    rw (no_transfer id bytes is, no_service last id bytes is) (sym (plain (names_at bus (id % 128)) last id bytes is))
 
 pub none_there : (claims : List Claim) → length claims < 1 → claims ≡ []
 none_there [] few = refl

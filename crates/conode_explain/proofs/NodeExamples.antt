@@ -7,6 +7,7 @@ use Rattle.conode_record.specs.declared.fields.Identifier.{Identifier}
 use Rattle.conode_record.specs.declared.fields.Identifier.TheVariants.{Base, Extended, Error}
 use Rattle.conode_record.specs.declared.line.Record.{Record}
 use Rattle.conode_explain_services.specs.declared.guarding.Guarding.TheVariants.{NotSeen, Requested}
+use Rattle.conode_explain_services.specs.declared.nmt_state.KnownState.TheVariants.{Unknown}
 use Rattle.conode_explain_services.specs.Nodes.{last_in as last_of_node, last_of, new_node, nodes_after, nodes_asked, noted}
 use Rattle.conode_explain.specs.Nodes.{last_at, nodes_with}
 
@@ -16,11 +17,11 @@ frame id content = record { micros = 5; interface = codes "can0"; id = id; conte
 abbrev emergency : List ℕ
 emergency = 0x10 ∷ 0x81 ∷ 0x11 ∷ 0 ∷ 0 ∷ 0 ∷ 0 ∷ 0 ∷ []
 
-register_kept : nodes_with [] (frame (Base 0x085) (Data emergency)) ≡ new_node (codes "can0") 5 (record { register = Some 0x11; guarding = NotSeen }) ∷ []
+register_kept : nodes_with [] (frame (Base 0x085) (Data emergency)) ≡ new_node (codes "can0") 5 (record { register = Some 0x11; guarding = NotSeen; state = Unknown }) ∷ []
 unfolding nodes_with nodes_after noted last_of last_of_node
 register_kept = refl
 
-request_kept : nodes_with [] (frame (Base 0x705) (Remote 1)) ≡ new_node (codes "can0") 5 (record { register = None; guarding = Requested None }) ∷ []
+request_kept : nodes_with [] (frame (Base 0x705) (Remote 1)) ≡ new_node (codes "can0") 5 (record { register = None; guarding = Requested None; state = Unknown }) ∷ []
 unfolding nodes_with nodes_asked noted last_of last_of_node
 request_kept = refl
 

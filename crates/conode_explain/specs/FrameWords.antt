@@ -13,7 +13,7 @@ use Rattle.conode_explain_pdo.specs.declared.claim.Claim.{Claim}
 use Rattle.conode_explain_pdo.specs.Buses.{Bus, names_at}
 use Rattle.conode_explain_pdo.specs.Pdos.{pdos_text}
 use Rattle.conode_explain_services.specs.declared.last.Last.{Last}
-use Rattle.conode_explain_services.specs.Services.{remote_words, service_words}
+use Rattle.conode_explain_services.specs.Services.{remote_words, service_words, state_words}
 
 -- an identifier of a PDO in the pre-defined connection set (CiA 301, 7.3.3)
 abbrev pub is_default_pdo : ℕ → Bool
@@ -23,13 +23,14 @@ is_default_pdo id = (nat_lt 0x180 id && nat_lt id 0x580) && not (id % 0x80 == 0)
 abbrev pub assumed_mark : ℕ → List ℕ
 assumed_mark id = if is_default_pdo id then codes "~" else []
 
--- the text of a frame, and what an abort's code means
-abbrev pub plain_words : Names → FrameContent → List ℕ
-plain_words names frame = assumed_mark frame.id ++ text_of_frame names frame ++ abort_words frame
+-- the text of a frame, what an abort's code means, and the NMT state of its node
+abbrev pub plain_words : Names → Last → FrameContent → List ℕ
+plain_words names last frame =
+    assumed_mark frame.id ++ text_of_frame names frame ++ abort_words frame ++ state_words last frame
 
 -- by its service, where the last frames of its node had this, else by its text
 unfoldable pub served_words : Names → Last → FrameContent → List ℕ
-served_words names last frame = unwrap_or (service_words last frame) (plain_words names frame)
+served_words names last frame = unwrap_or (service_words last frame) (plain_words names last frame)
 
 -- as the PDOs that have its identifier, else by its service or its text, of the node of the
 -- pre-defined connection set

@@ -7,16 +7,15 @@ use Rattle.conode_record.specs.declared.fields.Identifier.TheVariants.{Base, Ext
 use Rattle.conode_record.specs.declared.line.Record.{Record}
 use Rattle.conode_explain_services.specs.declared.last.Last.{Last}
 use Rattle.conode_explain_services.specs.declared.node.Node.{Node}
-use Rattle.conode_explain_services.specs.Nodes.{last_of, nodes_after, nodes_asked, nothing_seen}
+use Rattle.conode_explain_services.specs.Nodes.{last_for, nodes_after, nodes_asked, nothing_seen}
 
--- what the last frames of the node of a frame had: of one with an identifier of 11 bits
-abbrev pub last_in : List Node → List ℕ → Identifier → Last
-last_in nodes interface (Base id) = last_of nodes interface id
-last_in nodes interface (Extended id) = nothing_seen
-last_in nodes interface (Error class) = nothing_seen
+-- what the last frames of the node of a frame had: of a data frame with an identifier of 11 bits
+abbrev pub last_in : List Node → List ℕ → Identifier → Content → Last
+last_in nodes interface (Base id) (Data bytes) = last_for nodes interface (record { id = id; bytes = bytes })
+last_in nodes interface id content = nothing_seen
 
-abbrev pub last_at : List Node → Record → Last
-last_at nodes frame = last_in nodes frame.interface frame.id
+unfoldable pub last_at : List Node → Record → Last
+last_at nodes frame = last_in nodes frame.interface frame.id frame.content
 
 -- the nodes after a frame with an identifier of 11 bits: a CAN FD frame doesn't count
 abbrev pub nodes_of_base : List Node → List ℕ → ℕ → Content → List Node

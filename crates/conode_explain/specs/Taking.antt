@@ -23,7 +23,7 @@ Gives form sheets None left log after first next written bad stopped = ⊤
 Gives form sheets (Some text) None log after first next written bad stopped = ⊥
 Gives form sheets (Some text) (Some rest) log after first next written bad stopped =
     (explained_from form sheets log first (lines_read form log (lines text))
-        ≡ written ++ explained_from form sheets after next (lines_left stopped form after rest))
+    ≡ written ++ explained_from form sheets after next (lines_left stopped form after rest))
     × (bad_count log text ≡ bad + bad_count after rest)
 
 -- Lines were taken: a writer has those of their frames, and so many of them are bad. `held` and

@@ -14,7 +14,7 @@ use co_text::push_decimal;
 use co_value::PackedBytes;
 use conode_decode::push_text;
 use conode_explain_pdo::{Bus, Claim, push_pdos};
-use conode_explain_services::{Last, push_remote, push_service};
+use conode_explain_services::{Last, push_remote, push_service, push_state};
 use conode_record::{Content, Identifier};
 use std::alloc::AllocError;
 
@@ -34,18 +34,20 @@ fn push_assumed_mark(said: &mut String, id: u16) -> Result<(), AllocError>
     }
 }
 
-// the text of a frame, and what an abort's code means
+// the text of a frame, what an abort's code means, and the NMT state of its node
 fn push_plain_words(
     said: &mut String,
     names: Names<'_, '_>,
+    last: Last,
     frame: &Frame,
 ) -> Result<(), AllocError>
     ensures { OnOk result (string_bytes said.new
-        ≡ string_bytes said.old ++ plain_words (names_view names.entry) frame.now) }
+        ≡ string_bytes said.old ++ plain_words (names_view names.entry) last frame.now) }
 {
     push_assumed_mark(said, frame.id())?;
     push_text(said, names, frame)?;
-    push_abort_words(said, frame)
+    push_abort_words(said, frame)?;
+    push_state(said, last, frame)
 }
 
 // by its service, else by its text
@@ -62,7 +64,7 @@ fn push_served_words(
     if push_service(said, last, frame)? {
         return Ok(());
     }
-    push_plain_words(said, names, frame)
+    push_plain_words(said, names, last, frame)
 }
 
 // what a frame says as these PDOs, else by its service or its text

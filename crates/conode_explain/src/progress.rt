@@ -128,13 +128,19 @@ impl Progress {
             .take(name, frame.micros, &Frame::packed(id, bytes))
     }
 
-    /// What the last frames of a frame's node had; nothing where its identifier has 29 bits.
+    /// What the last frames of the node of a data frame had; nothing where its identifier has 29
+    /// bits, and of every other frame.
+    #[tactic(auto, unfolding(crate::specs::Nodes::last_at))]
     pub(crate) fn last(&self, frame: &Record<'_>) -> Last
+        requires { IsIdentifier frame.now.id }
         ensures { result ≡ last_at self.now.nodes frame.now }
     {
-        match frame.id {
-            Identifier::Base(id) => self.nodes.last(frame.interface.bytes(), id),
-            Identifier::Extended(_) | Identifier::Error(_) => Last::new(),
+        match (frame.id, &frame.content) {
+            (Identifier::Base(id), Content::Data(bytes)) => {
+                let name = frame.interface.bytes();
+                self.nodes.last_for(name, &Frame::packed(id, bytes))
+            }
+            _ => Last::new(),
         }
     }
 

@@ -123,7 +123,7 @@ emergency : says nothing_seen 0x085 (eight 0x10 0x82 0x11 0x01 0x02 0x03 0x04 0x
 unfolding service_words emergency_words bytes_after of_node code_text code_words known_class single_words register_text bits_text low_bits_text high_bits_text bit_text bit_word digits_text digits
 emergency = refl
 
-next_emergency : says (record { register = Some 0x11; guarding = NotSeen }) 0x0FF (eight 0 0 0 0 0 0 0 0)
+next_emergency : says (record { register = Some 0x11; guarding = NotSeen; state = Unknown }) 0x0FF (eight 0 0 0 0 0 0 0 0)
     ≡ Some (codes "EMCY node 127 code 0000 (error reset or no error) register 00 (no error; went: generic, communication) manufacturer 0000000000")
 unfolding service_words emergency_words bytes_after of_node code_text code_words known_class single_words register_text bits_text low_bits_text high_bits_text bit_text bit_word digits_text digits
 next_emergency = refl
@@ -152,7 +152,7 @@ unfolding service_words
 heartbeats = refl
 
 abbrev guarded : Guarding → Last
-guarded guarding = record { register = None; guarding = guarding }
+guarded guarding = record { register = None; guarding = guarding; state = Unknown }
 
 answers : map (λ byte. says (guarded (Requested None)) 0x77F (byte ∷ [])) (0x00 ∷ 0x04 ∷ 0x85 ∷ [])
     ≡ None ∷ Some (codes "guarding answer node 127 stopped toggle 0") ∷ Some (codes "guarding answer node 127 operational toggle 1") ∷ []

@@ -14,7 +14,7 @@ abbrev emergency_of : ℕ → List ℕ
 emergency_of register = 0 ∷ 0 ∷ register ∷ 0 ∷ 0 ∷ 0 ∷ 0 ∷ 0 ∷ []
 
 abbrev had : ℕ → Guarding → Last
-had register guarding = record { register = Some register; guarding = guarding }
+had register guarding = record { register = Some register; guarding = guarding; state = Unknown }
 
 -- two emergencies of one node: its register is the second's; another node and another interface have theirs
 abbrev three : List Node

@@ -3,6 +3,7 @@ pub mod Drives
 pub mod Emergencies
 pub mod Guardings
 pub mod Lss
+pub mod NmtStates
 pub mod Nodes
 pub mod Parts
 pub mod Registers

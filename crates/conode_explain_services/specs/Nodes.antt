@@ -1,5 +1,5 @@
 -- What the last frames of each node had, by interface and node.
-use Rattle.std.specs.Prelude.{ℕ, ◌-◌, ◌==◌, ◌&&◌, nat_lt, Bool, if◌then◌else◌, List, [], ◌∷◌, ◌++◌, length, slice_index, slice_set, position, Option, Some, None}
+use Rattle.std.specs.Prelude.{ℕ, ◌-◌, ◌==◌, ◌&&◌, nat_lt, Bool, if◌then◌else◌, List, [], ◌∷◌, ◌++◌, length, map, slice_index, slice_set, position, Option, Some, None}
 use Rattle.std.specs.List.{slice_index_or}
 use Rattle.std.specs.Str.{bytes_eq}
 use Rattle.co_frame.specs.FrameContent.{FrameContent}
@@ -7,6 +7,8 @@ use Rattle.conode_explain_services.specs.declared.last.Last.{Last}
 use Rattle.conode_explain_services.specs.declared.guarding.Guarding.TheVariants.{NotSeen}
 use Rattle.conode_explain_services.specs.declared.node.Node.{Node}
 use Rattle.conode_explain_services.specs.Guardings.{guarding_after, guarding_asked}
+use Rattle.conode_explain_services.specs.declared.nmt_state.KnownState.TheVariants.{Unknown}
+use Rattle.conode_explain_services.specs.NmtStates.{is_command, state_after, state_commanded}
 
 -- at most so many nodes are kept: 127 on each of 8 interfaces
 abbrev pub most_nodes : ℕ
@@ -14,7 +16,7 @@ most_nodes = 1016
 
 -- nothing came from a node
 abbrev pub nothing_seen : Last
-nothing_seen = record { register = None; guarding = NotSeen }
+nothing_seen = record { register = None; guarding = NotSeen; state = Unknown }
 
 -- the node of a node-ID on an interface
 abbrev pub is_of : List ℕ → ℕ → Node → Bool
@@ -70,6 +72,29 @@ last_of nodes interface id =
     if nat_lt 0x080 id && nat_lt id 0x100 then last_in nodes interface (id - 0x080)
     else (if is_error_control_id id then last_in nodes interface (id - 0x700) else nothing_seen)
 
+-- ---- commands
+
+-- a node of the interface is commanded
+abbrev pub commanded : List ℕ → ℕ → Node → Node
+commanded interface command node =
+    if bytes_eq node.interface.items interface
+    then record node { last = record node.last { state = state_commanded node.last.state command } } else node
+
+-- all nodes that are kept; of others nothing is known anyway
+unfoldable pub all_commanded : List Node → List ℕ → ℕ → List Node
+all_commanded nodes interface command = map (commanded interface command) nodes
+
+-- a node, or all
+unfoldable pub nodes_commanded : List Node → List ℕ → ℕ → ℕ → List Node
+nodes_commanded nodes interface command id =
+    if id == 0 then all_commanded nodes interface command
+    else noted nodes interface id (record (last_in nodes interface id) { state = state_commanded (last_in nodes interface id).state command })
+
+-- what the last frames of the node of a data frame had: of a command, the node that it is for
+unfoldable pub last_for : List Node → List ℕ → FrameContent → Last
+last_for nodes interface frame =
+    if is_command frame then last_in nodes interface (slice_index frame.bytes 1) else last_of nodes interface frame.id
+
 -- the nodes after a data frame on an interface
 unfoldable pub nodes_after : List Node → List ℕ → FrameContent → List Node
 nodes_after nodes interface frame =
@@ -78,8 +103,12 @@ nodes_after nodes interface frame =
     (record (last_of nodes interface frame.id) { register = Some (slice_index frame.bytes 2) })
     else (if is_error_control frame
     then noted nodes interface (frame.id - 0x700)
-    (record (last_of nodes interface frame.id) { guarding = guarding_after (last_of nodes interface frame.id).guarding (slice_index frame.bytes 0) })
-    else nodes)
+    (record (last_of nodes interface frame.id) {
+      guarding = guarding_after (last_of nodes interface frame.id).guarding (slice_index frame.bytes 0);
+      state = state_after (last_of nodes interface frame.id).state (slice_index frame.bytes 0);
+    })
+    else (if is_command frame
+    then nodes_commanded nodes interface (slice_index frame.bytes 0) (slice_index frame.bytes 1) else nodes))
 
 -- the nodes after a remote frame
 unfoldable pub nodes_asked : List Node → List ℕ → ℕ → List Node

@@ -1,6 +1,6 @@
 -- What a frame says by its service, where the text of `conode decode` says less or nothing (CiA
 -- 301, 7.3.3; CiA 305).
-use Rattle.std.specs.Prelude.{ℕ, ◌-◌, ◌==◌, ◌&&◌, Bool, if◌then◌else◌, List, codes, length, slice_index, take, drop, Option, Some, None}
+use Rattle.std.specs.Prelude.{ℕ, ◌-◌, ◌==◌, ◌&&◌, Bool, if◌then◌else◌, List, [], codes, length, slice_index, take, drop, Option, Some, None}
 use Rattle.co_frame.specs.FrameContent.{FrameContent}
 use Rattle.co_frame.specs.declared.emergency.Emergency.{Emergency}
 use Rattle.co_value.specs.Numbers.{unsigned_of}
@@ -9,6 +9,7 @@ use Rattle.conode_explain_services.specs.Emergencies.{emergency_words}
 use Rattle.conode_explain_services.specs.Guardings.{guarding_answer_words, guarding_request_words, is_answer}
 use Rattle.conode_explain_services.specs.Lss.{lss_answer_words, lss_request_words}
 use Rattle.conode_explain_services.specs.Nodes.{is_emergency, is_error_control, is_error_control_id}
+use Rattle.conode_explain_services.specs.NmtStates.{found_words, is_command, shown_words}
 use Rattle.conode_explain_services.specs.Times.{time_words}
 use Rattle.conode_explain_services.specs.Reserved.{is_reserved, lss_answer_id, lss_request_id, reserved_words}
 
@@ -42,6 +43,13 @@ service_words last frame =
     else (if is_lss lss_request_id frame then Some (lss_request_words frame.bytes)
     else (if is_lss lss_answer_id frame then Some (lss_answer_words frame.bytes)
     else (if is_reserved frame.id then Some reserved_words else None)))))
+
+-- after the text of a data frame: of a command for one node the state in which it finds the node, of
+-- error control the state that was commanded, where it shows another one
+unfoldable pub state_words : Last → FrameContent → List ℕ
+state_words last frame =
+    if is_command frame then (if slice_index frame.bytes 1 == 0 then [] else found_words last.state)
+    else (if is_error_control frame then shown_words last.state (slice_index frame.bytes 0) else [])
 
 -- what a remote frame says
 unfoldable pub remote_words : ℕ → List ℕ

@@ -1,6 +1,7 @@
-//! What the last frames of a node had.
+//! What the last frames of a node had, and what was commanded.
 
 use crate::guarding::Guarding;
+use crate::nmt_state::KnownState;
 
 /// What the last frames of a node had.
 #[derive(Clone, Copy)]
@@ -9,4 +10,6 @@ pub struct Last {
     pub register: Option<u8>,
     /// How it is guarded.
     pub guarding: Guarding,
+    /// What is known of its NMT state.
+    pub state: KnownState,
 }

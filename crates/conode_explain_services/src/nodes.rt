@@ -2,13 +2,16 @@
 
 ghost use Rattle.std.specs.Prelude.{◌≡◌, ◌<◌, ◌≤◌, [], length, OnOk, IfSome};
 ghost use Rattle.conode_explain_services.specs.Nodes.{
+  all_commanded,
   is_emergency,
   is_error_control,
   is_error_control_id,
+  last_for,
   last_in,
   last_of,
   nodes_after,
   nodes_asked,
+  nodes_commanded,
   noted,
   nothing_seen,
   place_of,
@@ -17,6 +20,8 @@ ghost use Rattle.conode_explain_services.specs.Nodes.{
 use crate::guarding::Guarding;
 use crate::guardings::{guarding_after, guarding_asked};
 use crate::last::Last;
+use crate::nmt_state::KnownState;
+use crate::nmt_states::{is_command, state_after, state_commanded};
 use crate::node::Node;
 use co_frame::Frame;
 use std::alloc::{AllocError, Global};
@@ -78,6 +83,7 @@ impl Last {
         Last {
             register: None,
             guarding: Guarding::NotSeen,
+            state: KnownState::Unknown,
         }
     }
 }
@@ -150,9 +156,52 @@ impl Nodes {
         if is_error_control(frame) {
             let mut last = self.last(interface, frame.id());
             last.guarding = guarding_after(last.guarding, bytes[0]);
+            last.state = state_after(last.state, bytes[0]);
             return self.note(interface, (frame.id() - 0x700) as u8, last);
         }
+        if is_command(frame) {
+            return self.command(interface, bytes[0], bytes[1]);
+        }
         Ok(())
+    }
+
+    // Takes a command for all nodes of an interface that are kept.
+    #[tactic(auto, unfolding(crate::specs::Nodes::all_commanded))]
+    fn command_all(&mut self, interface: &[u8], command: u8)
+        ensures { self.new ≡ all_commanded self.old interface.now command }
+    {
+        for node in self.nodes.iter_mut() {
+            if node.interface.as_slice() == interface {
+                node.last.state = state_commanded(node.last.state, command);
+            }
+        }
+    }
+
+    // Takes a command for a node, or for all.
+    #[tactic(auto, unfolding(crate::specs::Nodes::nodes_commanded))]
+    fn command(&mut self, interface: &[u8], command: u8, id: u8) -> Result<(), AllocError>
+        requires { length interface.now ≤ 15 }
+        ensures { OnOk result (self.new ≡ nodes_commanded self.old interface.now command id) }
+    {
+        if id == 0 {
+            self.command_all(interface, command);
+            return Ok(());
+        }
+        let mut last = self.last_in(interface, id);
+        last.state = state_commanded(last.state, command);
+        self.note(interface, id, last)
+    }
+
+    /// What the last frames of the node of a data frame on an interface had: of an NMT command, the
+    /// node that it is for.
+    #[tactic(auto, unfolding(crate::specs::Nodes::last_for))]
+    pub fn last_for(&self, interface: &[u8], frame: &Frame) -> Last
+        ensures { result ≡ last_for self.now interface.now frame.now }
+    {
+        if is_command(frame) {
+            return self.last_in(interface, frame.bytes()[1]);
+        }
+        self.last(interface, frame.id())
     }
 
     /// Takes a remote frame with this identifier on an interface, as `take` does.

@@ -7,12 +7,14 @@ ghost use Rattle.conode_explain_services.specs.Services.{
   is_time,
   remote_words,
   service_words,
+  state_words,
 };
 
 use crate::emergencies::push_emergency;
 use crate::guardings::{is_answer, push_answer};
 use crate::last::Last;
 use crate::lss::{push_lss_answer, push_lss_request};
+use crate::nmt_states::{is_command, push_found, push_shown};
 use crate::nodes::{is_emergency, is_error_control, is_error_control_id};
 use crate::reserved::{LSS_ANSWER, LSS_REQUEST, is_reserved, reserved_words};
 use crate::texts::{push_of_node, push_words};
@@ -76,6 +78,28 @@ pub fn push_service(text: &mut String, last: Last, frame: &Frame) -> Result<bool
         return Ok(true);
     }
     Ok(false)
+}
+
+/// Appends what the NMT state of its node is, after the text of a data frame: of a command for one
+/// node the state in which it finds the node, ` (pre-operational seen)`; of error control the state
+/// that was commanded, where it shows another one; nothing of every other frame. On an `Err` memory
+/// ran out, and a part of it may be there.
+#[tactic(auto, unfolding(crate::specs::Services::state_words))]
+pub fn push_state(text: &mut String, last: Last, frame: &Frame) -> Result<(), AllocError>
+    ensures { OnOk result
+        (string_bytes text.new ≡ string_bytes text.old ++ state_words last frame.now) }
+{
+    let bytes = frame.bytes();
+    if is_command(frame) {
+        if bytes[1] == 0 {
+            return Ok(());
+        }
+        return push_found(text, last.state);
+    }
+    if is_error_control(frame) {
+        return push_shown(text, last.state, bytes[0]);
+    }
+    Ok(())
 }
 
 /// Appends what a remote frame with this identifier, at most 7FFh, says. On an `Err` memory ran

@@ -1,0 +1,68 @@
+-- The NMT states of nodes, as a recording shows them (CiA 301, 7.3.2.2): by frames of error control,
+-- and by commands.
+use Rattle.std.specs.Prelude.{ℕ, ◌%◌, ◌==◌, nat_lt, Bool, true, false, not, ◌&&◌, if◌then◌else◌, List, [], ◌++◌, codes, length, slice_index, Option, Some, None, unwrap_or}
+use Rattle.std.specs.Option.{option_map_or}
+use Rattle.co_frame.specs.FrameContent.{FrameContent}
+use Rattle.conode_explain_services.specs.declared.nmt_state.NmtState.{NmtState}
+use Rattle.conode_explain_services.specs.declared.nmt_state.NmtState.TheVariants.{Stopped, Operational, PreOperational}
+use Rattle.conode_explain_services.specs.declared.nmt_state.KnownState.{KnownState}
+use Rattle.conode_explain_services.specs.declared.nmt_state.KnownState.TheVariants.{Unknown, Seen, Commanded}
+
+-- ---- by frames
+
+-- a byte of error control: a boot-up leads to pre-operational; the upper bit is the toggle bit of
+-- guarding
+unfoldable pub state_at : ℕ → Option NmtState
+state_at byte =
+    if byte == 0 then Some PreOperational
+    else (if byte % 128 == 4 then Some Stopped
+    else (if byte % 128 == 5 then Some Operational
+    else (if byte % 128 == 127 then Some PreOperational else None)))
+
+abbrev pub seen_or : Option NmtState → KnownState → KnownState
+seen_or None known = known
+seen_or (Some state) known = Seen state
+
+-- what is known after a byte of error control
+abbrev pub state_after : KnownState → ℕ → KnownState
+state_after known byte = seen_or (state_at byte) known
+
+-- a command: two bytes, which command and for which node, 0 for all (CiA 301, 7.2.8.3.1)
+abbrev pub is_command : FrameContent → Bool
+is_command frame = (frame.id == 0) && ((length frame.bytes == 2) && nat_lt (slice_index frame.bytes 1) 128)
+
+-- what is known after a command: a reset leads to the boot-up, which isn't due at once
+unfoldable pub state_commanded : KnownState → ℕ → KnownState
+state_commanded known command =
+    if command == 1 then Commanded Operational
+    else (if command == 2 then Commanded Stopped
+    else (if command == 128 then Commanded PreOperational
+    else (if command == 129 then Unknown
+    else (if command == 130 then Unknown else known))))
+
+-- ---- in words
+
+abbrev pub nmt_words : NmtState → List ℕ
+nmt_words Stopped = codes "stopped"
+nmt_words Operational = codes "operational"
+nmt_words PreOperational = codes "pre-operational"
+
+-- what a command finds
+unfoldable pub found_words : KnownState → List ℕ
+found_words Unknown = codes " (state ?)"
+found_words (Seen state) = codes " (" ++ nmt_words state ++ codes " seen)"
+found_words (Commanded state) = codes " (" ++ nmt_words state ++ codes " commanded)"
+
+abbrev pub same_state : NmtState → NmtState → Bool
+same_state Stopped Stopped = true
+same_state Operational Operational = true
+same_state PreOperational PreOperational = true
+same_state a b = false
+
+-- a frame of error control that shows another state than the commanded one
+abbrev pub differs_words : NmtState → NmtState → List ℕ
+differs_words commanded shown = if same_state commanded shown then [] else codes " (" ++ nmt_words commanded ++ codes " commanded)"
+
+unfoldable pub shown_words : KnownState → ℕ → List ℕ
+shown_words (Commanded state) byte = option_map_or (differs_words state) (state_at byte) []
+shown_words known byte = []

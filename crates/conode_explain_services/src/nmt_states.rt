@@ -1,0 +1,106 @@
+//! The NMT states of nodes, as a recording shows them: by frames of error control, and by commands.
+
+ghost use Rattle.std.specs.Prelude.{◌≡◌, ◌++◌, OnOk, string_bytes};
+ghost use Rattle.conode_explain_services.specs.NmtStates.{
+  differs_words,
+  found_words,
+  is_command,
+  nmt_words,
+  seen_or,
+  shown_words,
+  state_after,
+  state_at,
+  state_commanded,
+};
+
+use crate::nmt_state::{KnownState, NmtState};
+use crate::texts::push_words;
+use co_frame::Frame;
+use std::alloc::AllocError;
+
+#[tactic(auto, unfolding(crate::specs::NmtStates::state_at))]
+fn state_at(byte: u8) -> Option<NmtState>
+    ensures { result ≡ state_at byte }
+{
+    if byte == 0 {
+        return Some(NmtState::PreOperational);
+    }
+    match byte % 128 {
+        4 => Some(NmtState::Stopped),
+        5 => Some(NmtState::Operational),
+        127 => Some(NmtState::PreOperational),
+        _ => None,
+    }
+}
+
+/// What is known after a byte of error control.
+pub(crate) fn state_after(known: KnownState, byte: u8) -> KnownState
+    ensures { result ≡ state_after known byte }
+{
+    match state_at(byte) {
+        Some(state) => KnownState::Seen(state),
+        None => known,
+    }
+}
+
+/// Whether a frame is an NMT command, for one node or for all.
+pub(crate) fn is_command(frame: &Frame) -> bool
+    ensures { result ≡ is_command frame.now }
+{
+    frame.id() == 0 && frame.bytes().len() == 2 && frame.bytes()[1] < 128
+}
+
+/// What is known of a node after a command that is for it.
+#[tactic(auto, unfolding(crate::specs::NmtStates::state_commanded))]
+pub(crate) fn state_commanded(known: KnownState, command: u8) -> KnownState
+    ensures { result ≡ state_commanded known command }
+{
+    match command {
+        1 => KnownState::Commanded(NmtState::Operational),
+        2 => KnownState::Commanded(NmtState::Stopped),
+        128 => KnownState::Commanded(NmtState::PreOperational),
+        129 | 130 => KnownState::Unknown,
+        _ => known,
+    }
+}
+
+fn nmt_words(state: NmtState) -> &'static str
+    ensures { result.now ≡ nmt_words state }
+{
+    match state {
+        NmtState::Stopped => "stopped",
+        NmtState::Operational => "operational",
+        NmtState::PreOperational => "pre-operational",
+    }
+}
+
+/// Appends the state in which a command finds its node: ` (pre-operational seen)`. On an `Err`
+/// memory ran out, and a part of it may be there.
+#[tactic(auto, unfolding(crate::specs::NmtStates::found_words))]
+pub(crate) fn push_found(text: &mut String, known: KnownState) -> Result<(), AllocError>
+    ensures { OnOk result (string_bytes text.new ≡ string_bytes text.old ++ found_words known) }
+{
+    let (state, how) = match known {
+        KnownState::Unknown => return push_words(text, " (state ?)"),
+        KnownState::Seen(state) => (state, " seen)"),
+        KnownState::Commanded(state) => (state, " commanded)"),
+    };
+    push_words(text, " (")?;
+    push_words(text, nmt_words(state))?;
+    push_words(text, how)
+}
+
+/// Appends the state that was commanded, where a byte of error control shows another one: `
+/// (operational commanded)`. On an `Err` memory ran out, and a part of it may be there.
+#[tactic(auto, unfolding(crate::specs::NmtStates::shown_words))]
+pub(crate) fn push_shown(text: &mut String, known: KnownState, byte: u8) -> Result<(), AllocError>
+    ensures { OnOk result (string_bytes text.new ≡ string_bytes text.old ++ shown_words known byte) }
+{
+    let KnownState::Commanded(commanded) = known else {
+        return Ok(());
+    };
+    match state_at(byte) {
+        Some(shown) if shown != commanded => push_found(text, known),
+        _ => Ok(()),
+    }
+}
