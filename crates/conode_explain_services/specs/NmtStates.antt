@@ -1,6 +1,6 @@
 -- The NMT states of nodes, as a recording shows them (CiA 301, 7.3.2.2): by frames of error control,
 -- and by commands.
-use Rattle.std.specs.Prelude.{ℕ, ◌%◌, ◌==◌, nat_lt, Bool, true, false, not, ◌&&◌, if◌then◌else◌, List, [], ◌++◌, codes, length, slice_index, Option, Some, None, unwrap_or}
+use Rattle.std.specs.Prelude.{ℕ, ◌%◌, ◌==◌, nat_lt, Bool, true, false, not, ◌&&◌, ◌||◌, if◌then◌else◌, List, [], ◌++◌, codes, length, slice_index, Option, Some, None, unwrap_or}
 use Rattle.std.specs.Option.{option_map_or}
 use Rattle.co_frame.specs.FrameContent.{FrameContent}
 use Rattle.conode_explain_services.specs.declared.nmt_state.NmtState.{NmtState}
@@ -27,9 +27,14 @@ seen_or (Some state) known = Seen state
 abbrev pub state_after : KnownState → ℕ → KnownState
 state_after known byte = seen_or (state_at byte) known
 
+-- start, stop, enter pre-operational, reset node, reset communication
+abbrev pub is_service : ℕ → Bool
+is_service command = (command == 1) || ((command == 2) || (nat_lt 127 command && nat_lt command 131))
+
 -- a command: two bytes, which command and for which node, 0 for all (CiA 301, 7.2.8.3.1)
 abbrev pub is_command : FrameContent → Bool
-is_command frame = (frame.id == 0) && ((length frame.bytes == 2) && nat_lt (slice_index frame.bytes 1) 128)
+is_command frame =
+    (frame.id == 0) && ((length frame.bytes == 2) && (is_service (slice_index frame.bytes 0) && nat_lt (slice_index frame.bytes 1) 128))
 
 -- what is known after a command: a reset leads to the boot-up, which isn't due at once
 unfoldable pub state_commanded : KnownState → ℕ → KnownState

@@ -5,6 +5,7 @@ ghost use Rattle.conode_explain_services.specs.NmtStates.{
   differs_words,
   found_words,
   is_command,
+  is_service,
   nmt_words,
   seen_or,
   shown_words,
@@ -43,11 +44,18 @@ pub(crate) fn state_after(known: KnownState, byte: u8) -> KnownState
     }
 }
 
+fn is_service(command: u8) -> bool
+    ensures { result ≡ is_service command }
+{
+    command == 1 || command == 2 || (127 < command && command < 131)
+}
+
 /// Whether a frame is an NMT command, for one node or for all.
 pub(crate) fn is_command(frame: &Frame) -> bool
     ensures { result ≡ is_command frame.now }
 {
-    frame.id() == 0 && frame.bytes().len() == 2 && frame.bytes()[1] < 128
+    let bytes = frame.bytes();
+    frame.id() == 0 && bytes.len() == 2 && is_service(bytes[0]) && bytes[1] < 128
 }
 
 /// What is known of a node after a command that is for it.

@@ -1,0 +1,50 @@
+-- The NMT states of nodes, computed from the definitions on both sides of each edge.
+use Rattle.std.proofs.Common.{◌≡◌, ℕ, Bool, true, false, List, [], ◌∷◌, Some, None, refl, map}
+use Rattle.std.specs.Prelude.{codes}
+use Rattle.conode_explain_services.specs.declared.nmt_state.NmtState.TheVariants.{Stopped, Operational, PreOperational}
+use Rattle.conode_explain_services.specs.declared.nmt_state.KnownState.TheVariants.{Unknown, Seen, Commanded}
+use Rattle.conode_explain_services.specs.declared.guarding.Guarding.TheVariants.{NotSeen}
+use Rattle.conode_explain_services.specs.Nodes.{all_commanded, last_for, last_in, last_of, new_node, nodes_after, nodes_commanded, noted, nothing_seen}
+use Rattle.conode_explain_services.specs.NmtStates.{found_words, is_command, shown_words, state_after, state_at, state_commanded}
+use Rattle.conode_explain_services.specs.Services.{state_words}
+
+states : map state_at (0 ∷ 1 ∷ 3 ∷ 4 ∷ 5 ∷ 6 ∷ 126 ∷ 127 ∷ 128 ∷ 132 ∷ 133 ∷ 255 ∷ [])
+    ≡ Some PreOperational ∷ None ∷ None ∷ Some Stopped ∷ Some Operational ∷ None ∷ None ∷ Some PreOperational ∷ None ∷ Some Stopped ∷ Some Operational ∷ Some PreOperational ∷ []
+unfolding state_at
+states = refl
+
+seen : map (state_after (Commanded Stopped)) (5 ∷ 1 ∷ []) ≡ Seen Operational ∷ Commanded Stopped ∷ []
+unfolding state_at
+seen = refl
+
+commands : map (state_commanded (Seen Operational)) (1 ∷ 2 ∷ 128 ∷ 129 ∷ 130 ∷ [])
+    ≡ Commanded Operational ∷ Commanded Stopped ∷ Commanded PreOperational ∷ Unknown ∷ Unknown ∷ []
+unfolding state_commanded
+commands = refl
+
+are_commands : map (λ bytes. is_command (record { id = 0; bytes = bytes }))
+    ((1 ∷ 5 ∷ []) ∷ (1 ∷ 127 ∷ []) ∷ (1 ∷ 128 ∷ []) ∷ (3 ∷ 5 ∷ []) ∷ (127 ∷ 5 ∷ []) ∷ (131 ∷ 5 ∷ []) ∷ (1 ∷ []) ∷ (1 ∷ 5 ∷ 0 ∷ []) ∷ [])
+    ≡ true ∷ true ∷ false ∷ false ∷ false ∷ false ∷ false ∷ false ∷ []
+are_commands = refl
+
+found : map found_words (Unknown ∷ Seen PreOperational ∷ Commanded Stopped ∷ [])
+    ≡ codes " (state ?)" ∷ codes " (pre-operational seen)" ∷ codes " (stopped commanded)" ∷ []
+unfolding found_words
+found = refl
+
+-- what was seen is no command; the same state; no state
+shown : shown_words (Commanded Operational) 127 ∷ shown_words (Commanded Operational) 5 ∷ shown_words (Commanded Operational) 1 ∷ shown_words (Seen Operational) 127 ∷ []
+    ≡ codes " (operational commanded)" ∷ [] ∷ [] ∷ [] ∷ []
+unfolding shown_words state_at
+shown = refl
+
+-- a command to all is for the nodes of its interface that are kept
+to_all : nodes_commanded (new_node (codes "a") 5 nothing_seen ∷ new_node (codes "b") 5 nothing_seen ∷ []) (codes "a") 1 0
+    ≡ new_node (codes "a") 5 (record { register = None; guarding = NotSeen; state = Commanded Operational }) ∷ new_node (codes "b") 5 nothing_seen ∷ []
+unfolding nodes_commanded all_commanded state_commanded
+to_all = refl
+
+to_one : nodes_after [] (codes "a") (record { id = 0; bytes = 2 ∷ 5 ∷ [] })
+    ≡ new_node (codes "a") 5 (record { register = None; guarding = NotSeen; state = Commanded Stopped }) ∷ []
+unfolding nodes_after nodes_commanded noted last_in state_commanded
+to_one = refl
