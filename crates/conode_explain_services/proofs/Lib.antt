@@ -1,3 +1,4 @@
 mod DriveExamples
 mod Examples
 mod NodeExamples
+mod StateExamples
