@@ -9,7 +9,7 @@ use Rattle.co_sheet_mend.specs.declared.readable.Readable.{Readable}
 
 -- a text without what is at fault in it
 abbrev pub mended : List ℕ → List ℕ
-mended text = mended_lines (faults_of text) (lines_of text)
+mended text = mended_lines (faults_of text) false (lines_of text)
 
 abbrev pub is_accepted : List ℕ → Bool
 is_accepted text = is_none (first_fault text)
@@ -32,11 +32,11 @@ abbrev pub as_mended : Option (List ℕ) → Option ReadableText
 as_mended None = None
 as_mended (Some text) = Some (record { text = text; is_mended = true })
 
--- a text that isn't accepted: as `adapt` rewrites it, else mended four times at most; none where
+-- a text that isn't accepted: as `adapt` rewrites it, else mended eight times at most; none where
 -- that doesn't help, and where it is accepted as it is
 unfoldable pub readable : List ℕ → Option ReadableText
 readable text =
     if is_accepted text then None
     else (if nat_lt 1048576 (length text) then None
     else (if is_accepted (adapted_text [] text) then Some (record { text = adapted_text [] text; is_mended = false })
-    else as_mended (mended_in 4 (adapted_text [] text))))
+    else as_mended (mended_in 8 (adapted_text [] text))))

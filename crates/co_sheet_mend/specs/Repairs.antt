@@ -1,16 +1,17 @@
 -- What comes in place of the lines at fault of a data sheet's text (CiA 306).
-use Rattle.std.specs.Prelude.{ℕ, ◌==◌, Bool, true, false, not, ◌&&◌, ◌||◌, if◌then◌else◌, List, [], ◌∷◌, ◌++◌, codes, Option, Some, None, is_some}
-use Rattle.std.specs.List.{list_any}
+use Rattle.std.specs.Prelude.{ℕ, suc, ◌==◌, Bool, true, false, not, ◌&&◌, ◌||◌, if◌then◌else◌, List, [], ◌∷◌, ◌++◌, codes, decimal, length, Option, Some, None, is_some, option_and_then}
+use Rattle.std.specs.List.{cons_option, list_any}
 use Rattle.std.specs.Option.{option_map_or}
 use Rattle.co_sheet_rows.specs.declared.fault.FaultKind.{FaultKind}
 use Rattle.co_sheet_rows.specs.declared.fault.FaultKind.TheVariants as kind
 use Rattle.co_sheet_rows.specs.declared.fault.SheetFault.{SheetFault}
 use Rattle.co_sheet_text.specs.LinesAtFault.{emptied}
+use Rattle.co_sheet_text.specs.LinesRead.{all_digits}
 use Rattle.co_sheet_text.specs.Text.{Line, lines_of, same_name}
 use Rattle.co_sheet_changes.specs.Groups.{property_in, section_in}
 use Rattle.co_sheet_changes.specs.Pieces.{assigned}
 use Rattle.co_sheet_mend.specs.declared.repair.Repair.{Repair}
-use Rattle.co_sheet_mend.specs.declared.repair.Repair.TheVariants.{Emptied, Bytes, ReadWrite, Completed}
+use Rattle.co_sheet_mend.specs.declared.repair.Repair.TheVariants.{Emptied, Bytes, ReadWrite, Completed, Counted}
 
 -- by the kind of the fault
 unfoldable pub repair_for : FaultKind → Option Repair
@@ -18,6 +19,8 @@ repair_for kind.BadLine = Some Emptied
 repair_for kind.KeyOutsideSection = Some Emptied
 repair_for kind.DuplicateSection = Some Emptied
 repair_for kind.DuplicateKey = Some Emptied
+repair_for kind.MissingSection = Some Emptied
+repair_for kind.ListedTwice = Some Emptied
 repair_for kind.BadNumber = Some Emptied
 repair_for kind.AmbiguousNumber = Some Emptied
 repair_for kind.BadLimits = Some Emptied
@@ -26,6 +29,7 @@ repair_for kind.BadType = Some Bytes
 repair_for kind.LeftOutType = Some Bytes
 repair_for kind.BadAccess = Some ReadWrite
 repair_for kind.MissingKey = Some Completed
+repair_for kind.BadList = Some Counted
 repair_for other = None
 
 -- ---- of a line
@@ -35,6 +39,7 @@ same_repair Emptied Emptied = true
 same_repair Bytes Bytes = true
 same_repair ReadWrite ReadWrite = true
 same_repair Completed Completed = true
+same_repair Counted Counted = true
 same_repair a b = false
 
 -- a fault at a line asks for a repair
@@ -50,7 +55,8 @@ repair_at faults line =
     if has_repair faults line Emptied then Some Emptied
     else (if has_repair faults line Bytes then Some Bytes
     else (if has_repair faults line ReadWrite then Some ReadWrite
-    else (if has_repair faults line Completed then Some Completed else None)))
+    else (if has_repair faults line Completed then Some Completed
+    else (if has_repair faults line Counted then Some Counted else None))))
 
 -- a line gives a property of a name
 abbrev pub gives : List ℕ → Line → Bool
@@ -72,7 +78,29 @@ lacking name value lines = if gives_any name lines then [] else assigned name va
 abbrev pub bytes_type : List ℕ
 bytes_type = assigned (codes "DataType") (codes "0x000F")
 
--- what a line becomes, which these lines follow
+-- ---- of an object list (CiA 306, lists of objects)
+
+-- the object at a place: what comes after a number and `=`
+abbrev pub place_value : Line → Option (List ℕ)
+place_value line = option_and_then (λ given. if all_digits given.name then Some given.value else None) (property_in line)
+
+-- the objects that the lines up to the next section line name
+abbrev pub objects_named : List Line → List (List ℕ)
+objects_named [] = []
+objects_named (line ∷ lines) =
+    if is_some (section_in line) then [] else cons_option (place_value line) (objects_named lines)
+
+abbrev pub numbered_from : ℕ → List (List ℕ) → List ℕ
+numbered_from number [] = []
+numbered_from number (value ∷ values) = assigned (decimal number) value ++ numbered_from (suc number) values
+
+-- counted, and numbered from 1
+unfoldable pub list_text : List Line → List ℕ
+list_text lines =
+    assigned (codes "SupportedObjects") (decimal (length (objects_named lines))) ++ numbered_from 1 (objects_named lines)
+
+-- ---- what a line becomes, which these lines follow
+
 unfoldable pub line_as : Option Repair → Line → List Line → List ℕ
 line_as None line more = ended line.bytes
 line_as (Some Emptied) line more = ended (emptied line).bytes
@@ -80,9 +108,17 @@ line_as (Some Bytes) line more = if gives (codes "DataType") line then bytes_typ
 line_as (Some ReadWrite) line more = assigned (codes "AccessType") (codes "rw")
 line_as (Some Completed) line more =
     ended line.bytes ++ lacking (codes "DataType") (codes "0x000F") more ++ lacking (codes "AccessType") (codes "rw") more
+line_as (Some Counted) line more = ended line.bytes ++ list_text more
 
 -- ---- of a text
 
-unfoldable pub mended_lines : List SheetFault → List Line → List ℕ
-mended_lines faults [] = []
-mended_lines faults (line ∷ more) = line_as (repair_at faults line.number) line more ++ mended_lines faults more
+-- whether the lines up to the next section line are those of a list that was counted anew
+abbrev pub is_counted : Option Repair → Bool
+is_counted None = false
+is_counted (Some repair) = same_repair Counted repair
+
+unfoldable pub mended_lines : List SheetFault → Bool → List Line → List ℕ
+mended_lines faults counted [] = []
+mended_lines faults counted (line ∷ more) =
+    if counted && not (is_some (section_in line)) then ended [] ++ mended_lines faults true more
+    else line_as (repair_at faults line.number) line more ++ mended_lines faults (is_counted (repair_at faults line.number)) more

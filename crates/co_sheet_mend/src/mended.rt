@@ -1,6 +1,7 @@
 //! A text without what is at fault in it.
 
 ghost use Rattle.std.specs.Prelude.{◌≡◌, ◌++◌, ◌∷◌, [], map, IfOk, OnOk};
+ghost use Rattle.std.specs.Option.{option_copied};
 ghost use Rattle.co_sheet_text.specs.Text.{lines_of};
 ghost use Rattle.co_sheet_changes.specs.Views.{line_view};
 ghost use Rattle.co_sheet_mend.specs.Repairs.{
@@ -9,6 +10,8 @@ ghost use Rattle.co_sheet_mend.specs.Repairs.{
   has_repair,
   lacking,
   line_as,
+  list_text,
+  place_value,
   mended_lines,
   repair_at,
 };
@@ -16,9 +19,9 @@ ghost use Rattle.co_sheet_mend.specs.ReadableTexts.{mended};
 ghost use Rattle.co_sheet_text.specs.LinesAtFault.{emptied};
 
 use crate::repair::{Repair, repair_for};
-use co_sheet_changes::{Line, lines_in};
+use co_sheet_changes::{Line, lines_in, push_number};
 use co_sheet_faults::{SheetFault, find_faults};
-use co_sheet_text::{same_name, trim};
+use co_sheet_text::{all_digits, same_name, trim};
 use std::alloc::{AllocError, Global};
 
 const DATA_TYPE: &[u8] = b"DataType";
@@ -49,6 +52,8 @@ fn repair_at(faults: &[SheetFault], line: usize) -> Option<Repair>
         Some(Repair::ReadWrite)
     } else if has_repair(faults, line, Repair::Completed) {
         Some(Repair::Completed)
+    } else if has_repair(faults, line, Repair::Counted) {
+        Some(Repair::Counted)
     } else {
         None
     }
@@ -105,6 +110,50 @@ fn push_lacking(
     push_assigned(made, name, value)
 }
 
+// the object at a place of a list
+fn place_value<'a>(line: &Line<'a>) -> Option<&'a [u8]>
+    ensures { option_copied result ≡ place_value (line_view line.now) }
+{
+    let (name, value) = line.property()?;
+    if all_digits(name, 10) {
+        Some(value)
+    } else {
+        None
+    }
+}
+
+// the lines up to the next section line
+fn up_to_section<'l, 'a>(lines: &'l [Line<'a>]) -> &'l [Line<'a>] {
+    match lines.iter().position(|line| line.section().is_some()) {
+        Some(count) => &lines[..count],
+        None => lines,
+    }
+}
+
+// the objects that lines name, counted and numbered from 1
+#[tactic(auto, unfolding(crate::specs::Repairs::list_text))]
+fn push_list(alloc: Global, made: &mut Vec<u8>, lines: &[Line<'_>]) -> Result<(), AllocError>
+    ensures { OnOk result (made.new.items ≡ made.old.items ++ list_text (map line_view lines.now)) }
+{
+    let mut values = Vec::new(alloc);
+    for line in up_to_section(lines) {
+        if let Some(value) = place_value(line) {
+            values.push(value)?;
+        }
+    }
+    made.extend_from_slice(b"SupportedObjects=")?;
+    push_number(alloc, made, values.len() as u64)?;
+    made.extend_from_slice(b"\n")?;
+    let mut number: u64 = 1;
+    for value in values.as_slice() {
+        push_number(alloc, made, number)?;
+        made.extend_from_slice(b"=")?;
+        push_ended(made, value)?;
+        number += 1;
+    }
+    Ok(())
+}
+
 // what a line at fault is read as
 fn emptied(line: &Line<'_>) -> &'static [u8]
     ensures { result.now ≡ (emptied (line_view line.now)).bytes }
@@ -118,6 +167,7 @@ fn emptied(line: &Line<'_>) -> &'static [u8]
 // what a line becomes, which these lines follow
 #[tactic(auto, unfolding(crate::specs::Repairs::line_as))]
 fn push_line(
+    alloc: Global,
     made: &mut Vec<u8>,
     repair: Option<Repair>,
     line: &Line<'_>,
@@ -140,6 +190,10 @@ fn push_line(
             push_ended(made, line.bytes)?;
             push_lacking(made, DATA_TYPE, BYTES, more)?;
             push_lacking(made, ACCESS_TYPE, READ_WRITE, more)
+        }
+        Some(Repair::Counted) => {
+            push_ended(made, line.bytes)?;
+            push_list(alloc, made, more)
         }
     }
 }
@@ -164,9 +218,16 @@ pub(crate) fn mended(alloc: Global, text: &[u8]) -> Result<Vec<u8>, AllocError>
     let mut made = Vec::new(alloc);
     let mut left = faults.as_slice();
     let mut rest = lines.as_slice();
+    let mut counted = false;
     while let [line, more @ ..] = rest {
         let (here, later) = split_line_faults(left, line.number);
-        push_line(&mut made, repair_at(here, line.number), line, more)?;
+        if counted && line.section().is_none() {
+            push_ended(&mut made, b"")?;
+        } else {
+            let repair = repair_at(here, line.number);
+            push_line(alloc, &mut made, repair, line, more)?;
+            counted = repair == Some(Repair::Counted);
+        }
         left = later;
         rest = more;
     }

@@ -10,7 +10,7 @@ use co_sheet_changes::AdaptFault;
 use std::alloc::{AllocError, Global};
 
 /// How often a text is mended at most.
-const ROUNDS: usize = 4;
+const ROUNDS: usize = 8;
 
 /// A text that is accepted, in place of one that isn't.
 #[derive(Drop)]
@@ -34,7 +34,7 @@ fn is_accepted(alloc: Global, text: &[u8]) -> Result<bool, AllocError>
 // mends a text until it is accepted; `None` where it never is
 fn mended_in(alloc: Global, text: Vec<u8>) -> Result<Option<Vec<u8>>, AllocError>
     ensures { IfOk result (λ made. option_map (λ m. m.items) made
-        ≡ mended_in 4 text.entry.items) }
+        ≡ mended_in 8 text.entry.items) }
 {
     let mut before = text;
     for _ in 0..ROUNDS {

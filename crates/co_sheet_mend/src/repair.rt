@@ -16,10 +16,13 @@ pub enum Repair {
     ReadWrite,
     /// The section line, and after it a data type and an access type, those that the section lacks.
     Completed,
+    /// Of the section line of an object list: that line, and the objects that the list names, counted
+    /// and numbered from 1.
+    Counted,
 }
 
 /// What comes in place of a line with a fault of this kind; `None`: nothing helps, as where an
-/// object has no section.
+/// ARRAY has no sub-index 0.
 #[tactic(auto, unfolding(crate::specs::Repairs::repair_for))]
 pub(crate) fn repair_for(kind: FaultKind) -> Option<Repair>
     ensures { result ≡ repair_for kind }
@@ -29,17 +32,17 @@ pub(crate) fn repair_for(kind: FaultKind) -> Option<Repair>
         | FaultKind::KeyOutsideSection
         | FaultKind::DuplicateSection
         | FaultKind::DuplicateKey
+        | FaultKind::MissingSection
         | FaultKind::BadNumber
         | FaultKind::AmbiguousNumber
+        | FaultKind::ListedTwice
         | FaultKind::BadLimits
         | FaultKind::BadDefault => Some(Repair::Emptied),
         FaultKind::BadType | FaultKind::LeftOutType => Some(Repair::Bytes),
         FaultKind::BadAccess => Some(Repair::ReadWrite),
         FaultKind::MissingKey => Some(Repair::Completed),
+        FaultKind::BadList => Some(Repair::Counted),
         FaultKind::TooLarge
-        | FaultKind::MissingSection
-        | FaultKind::BadList
-        | FaultKind::ListedTwice
         | FaultKind::MissingSub0
         | FaultKind::CompactForm
         | FaultKind::MissingMandatory
