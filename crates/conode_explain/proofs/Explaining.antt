@@ -199,16 +199,17 @@ module _ (form : Layout) (sheets : List KnownSheet) where
     )
 
     -- the last one, without it
-    gives_last : (old new : Option (List ℕ)) → GivesLine old new line → length line ≤ 512 → IfSome old (λ bytes. has_line_feed bytes ≡ false)
-        → Gives form sheets old new log (says log line).0 so_far (progress_after form sheets so_far (line_at log line)) (said_lines form sheets so_far (line_at log line)) 0 false
-    gives_last None new gives few none = tt
-    gives_last (Some xs) None gives few none = absurd gives
-    gives_last (Some xs) (Some ys) gives few none = (
+    gives_last : (old new : Option (List ℕ)) (stopped : Bool) → GivesLine old new line → length line ≤ 512 → IfSome old (λ bytes. has_line_feed bytes ≡ false)
+        → Gives form sheets old new log (says log line).0 so_far (progress_after form sheets so_far (line_at log line)) (said_lines form sheets so_far (line_at log line)) 0 stopped
+    gives_last None new stopped gives few none = tt
+    gives_last (Some xs) None stopped gives few none = absurd gives
+    gives_last (Some xs) (Some ys) stopped gives few none = (
       ap (λ (ls : List (List ℕ)). explained_from form sheets log so_far (lines_read form log ls)) gives
           ∙ ap (explained_from form sheets log so_far) (read_short form log line (lines ys) few)
           ∙ one_line form sheets log so_far line (lines_left (form.stop && (faults_in (line_at log line) == 1)) form (says log line).0 ys) few
           ∙ ap (λ (ls : List (List ℕ)). said_lines form sheets so_far (line_at log line) ++ explained_from form sheets (says log line).0 (progress_after form sheets so_far (line_at log line)) ls)
-          (none_read (form.stop && (faults_in (line_at log line) == 1)) form (says log line).0 (lines ys) (nothing_left xs ys line gives none)),
+          (none_read (form.stop && (faults_in (line_at log line) == 1)) form (says log line).0 (lines ys) (nothing_left xs ys line gives none)
+              ∙ sym (none_read stopped form (says log line).0 (lines ys) (nothing_left xs ys line gives none))),
       counted_last log (says log line).0 xs ys line gives none few ∙ omega arith,
     )
 
@@ -291,17 +292,17 @@ module _ (form : Layout) (sheets : List KnownSheet) where
           (so (faults_in (line_at log line)) (form.stop && (faults_in (line_at log line) == 1)) (whole_line found))
 
       last_line : Gave held.ended holds.ended before after (λ had has. Finds (to_come held had) (to_come holds has) line Last)
-          → Takes form sheets held holds before after log (says log line).0 so_far (progress_after form sheets so_far (line_at log line)) old new 0 false
+          → Takes form sheets held holds before after log (says log line).0 so_far (progress_after form sheets so_far (line_at log line)) old new 0 (form.stop && (0 == 1))
       last_line found = record {
         written = said_lines form sheets so_far (line_at log line);
         appended = written;
         gives = gave_so held.ended holds.ended before after _ _ found
-            (λ had has f. gives_last log so_far line (to_come held had) (to_come holds has) f.0 f.1 f.2);
+            (λ had has f. gives_last log so_far line (to_come held had) (to_come holds has) (form.stop && (0 == 1)) f.0 f.1 f.2);
       }
 
       pub takes_last : Gave held.ended holds.ended before after (λ had has. Finds (to_come held had) (to_come holds has) line Last)
-          → Takes form sheets held holds before after log then so_far next old new 0 false
-      takes_last found = so 0 false (last_line found)
+          → Takes form sheets held holds before after log then so_far next old new 0 (form.stop && (0 == 1))
+      takes_last found = so 0 (form.stop && (0 == 1)) (last_line found)
 
     pub takes_long : (line : List ℕ) → Gave held.ended holds.ended before after (λ had has. Finds (to_come held had) (to_come holds has) line TooLong)
         → old ≡ new → Takes form sheets held holds before after log log so_far so_far old new 1 (form.stop && (1 == 1))
