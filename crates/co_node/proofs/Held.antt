@@ -15,10 +15,10 @@ use Rattle.co_sdo.specs.Log.{Log}
 use Rattle.co_sdo.specs.OpenTransfers.{Transfer, open_transfer}
 use Rattle.co_sdo.specs.Opened.{OpenTransfer, opened, opened_by, opened_after, bytes_held, held_bytes}
 use Rattle.co_sdo.specs.Standing.{is_under_way, is_transfer_after, room_after}
-use Rattle.co_sdo_bank.specs.declared.channels.NumberedChannel.{NumberedChannel}
-use Rattle.co_sdo_bank.specs.Banks.{all_settings, settings_of}
-use Rattle.co_sdo_bank.specs.Channels.{ChannelSettings, HaveRoom, channels_below, settings_for}
-use Rattle.co_sdo_bank.specs.Events.{held_on}
+use Rattle.co_sdo.specs.declared.channels.NumberedChannel.{NumberedChannel}
+use Rattle.co_sdo.specs.Banks.{all_settings, settings_of}
+use Rattle.co_sdo.specs.Channels.{ChannelSettings, HaveRoom, channels_below, settings_for}
+use Rattle.co_sdo.specs.Events.{held_on}
 use Rattle.co_node_model.specs.Inputs.{Inputs}
 use Rattle.co_node_model.specs.Moments.{Constants, channels}
 use Rattle.co_node_model.specs.Sdo.{channel_logs}

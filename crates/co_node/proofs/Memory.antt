@@ -19,7 +19,7 @@ use Rattle.co_dict_image.proofs.Entries.{entries_increase, entries_len}
 use Rattle.co_pdo.specs.declared.tpdo.Tpdo.{Tpdo as Counted}
 use Rattle.co_pdo.specs.Schedules.{History, IsScheduleAfter, Timetable}
 use Rattle.co_pdo.specs.Tpdos.{places_of, tpdos_of}
-use Rattle.co_sdo_bank.specs.Channels.{ChannelSettings}
+use Rattle.co_sdo.specs.Channels.{ChannelSettings}
 use Rattle.co_node_model.specs.Inputs.{Inputs}
 use Rattle.co_node_model.specs.Moments.{Constants}
 use Rattle.co_node_device.specs.MappingTables.{Covers}

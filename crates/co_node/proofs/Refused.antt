@@ -3,7 +3,7 @@ use Rattle.std.proofs.Common.{◌≡◌, ℕ, List, ◌∷◌, Some, sym, ap, �
 use Rattle.co_frame.specs.FrameContent.{FrameContent}
 use Rattle.co_dict.specs.Rows.{Contents}
 use Rattle.co_dict.specs.Stores.{Description}
-use Rattle.co_sdo_bank.specs.Banks.{BankStands}
+use Rattle.co_sdo.specs.Banks.{BankStands}
 use Rattle.co_node_parts.specs.ConsumerTables.{ConsumersStand}
 use Rattle.co_node_parts.specs.EmergencyQueues.{EmergenciesStand}
 use Rattle.co_node_parts.specs.Producers.{ProducerStands}

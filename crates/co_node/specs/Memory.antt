@@ -2,8 +2,8 @@
 -- size, by the invariants of its types: eight emergencies, and two tables of 2,048 identifiers.
 use Rattle.std.specs.Prelude.{ℕ, ◌+◌, List, length, map}
 use Rattle.std.specs.Box.{boxed_slice_items}
-use Rattle.co_sdo_bank.specs.Channels.{ChannelSettings}
-use Rattle.co_sdo_bank.specs.Banks.{all_settings}
+use Rattle.co_sdo.specs.Channels.{ChannelSettings}
+use Rattle.co_sdo.specs.Banks.{all_settings}
 use Rattle.co_node.specs.declared.node.Node.{Node}
 
 pub record Memory : Type 0 where

@@ -2,7 +2,7 @@
 use Rattle.std.proofs.Common.{◌≡◌, ℕ, subst}
 use Rattle.co_dict.specs.Rows.{Contents}
 use Rattle.co_dict.specs.Stores.{Description}
-use Rattle.co_sdo_bank.specs.Banks.{BankStands}
+use Rattle.co_sdo.specs.Banks.{BankStands}
 use Rattle.co_node_device.specs.AddressTables.{IsTableOf}
 use Rattle.co_node_model.specs.Inputs.{Inputs}
 use Rattle.co_node_model.specs.declared.address.Address.{Address}

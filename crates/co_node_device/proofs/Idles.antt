@@ -1,7 +1,7 @@
 -- Of a device that stands nothing is due for as many ticks as of none of its parts.
 use Rattle.std.proofs.Common.{◌≡◌, ℕ, Bool, false, sym, ap, ◌∙◌, subst}
 use Rattle.co_dict.specs.Rows.{Contents}
-use Rattle.co_sdo_bank.specs.Events.{NoTimeOutFor}
+use Rattle.co_sdo.specs.Events.{NoTimeOutFor}
 use Rattle.co_pdo.specs.Schedules.{AllCurrent, NoTpdoDueFor}
 use Rattle.co_node_parts.specs.declared.nmt_state.NodeState.{NodeState}
 use Rattle.co_node_parts.specs.declared.nmt_state.NodeState.TheVariants.{Operational}

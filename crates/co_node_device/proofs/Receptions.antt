@@ -7,9 +7,9 @@ use Rattle.co_dict.specs.Rows.{Contents}
 use Rattle.co_dict.specs.Stores.{Description}
 use Rattle.co_sdo.specs.Downloads.{Download}
 use Rattle.co_sdo.specs.Completed.{contents_with, key_set}
-use Rattle.co_sdo_bank.specs.declared.channels.NumberedChannel.{NumberedChannel}
-use Rattle.co_sdo_bank.specs.Banks.{BankStands}
-use Rattle.co_sdo_bank.specs.Events.{ChannelEvent, exchange_of, frames_at, logs_after, number_in, set_of}
+use Rattle.co_sdo.specs.declared.channels.NumberedChannel.{NumberedChannel}
+use Rattle.co_sdo.specs.Banks.{BankStands}
+use Rattle.co_sdo.specs.Events.{ChannelEvent, exchange_of, frames_at, logs_after, number_in, set_of}
 use Rattle.co_node_parts.specs.declared.nmt_state.NodeState.{NodeState}
 use Rattle.co_node_parts.specs.declared.nmt_state.NodeState.TheVariants.{Operational, Stopped}
 use Rattle.co_node_parts.specs.NmtStates.{is_state}

@@ -5,8 +5,8 @@ use Rattle.co_frame.specs.declared.emergency.Emergency.{Emergency}
 use Rattle.co_frame.specs.declared.heartbeat.Heartbeat.{Heartbeat}
 use Rattle.co_dict.specs.Rows.{Contents, number_at}
 use Rattle.co_dict.specs.Stores.{Description}
-use Rattle.co_sdo_bank.specs.declared.channels.NumberedChannel.{NumberedChannel}
-use Rattle.co_sdo_bank.specs.Banks.{BankStands}
+use Rattle.co_sdo.specs.declared.channels.NumberedChannel.{NumberedChannel}
+use Rattle.co_sdo.specs.Banks.{BankStands}
 use Rattle.co_pdo.specs.Schedules.{History as Schedule, Timetable, IsScheduleAfter}
 use Rattle.co_node_parts.specs.declared.nmt_state.NodeState.{NodeState}
 use Rattle.co_node_parts.specs.declared.nmt_state.NodeState.TheVariants.{Stopped}

@@ -4,9 +4,9 @@ use Rattle.co_frame.specs.FrameContent.{FrameContent}
 use Rattle.co_dict.specs.Rows.{Contents}
 use Rattle.co_dict.specs.Stores.{Description}
 use Rattle.co_sdo.specs.Log.{Log}
-use Rattle.co_sdo_bank.specs.declared.channels.NumberedChannel.{NumberedChannel}
-use Rattle.co_sdo_bank.specs.Banks.{BankStands}
-use Rattle.co_sdo_bank.specs.Events.{logs_after}
+use Rattle.co_sdo.specs.declared.channels.NumberedChannel.{NumberedChannel}
+use Rattle.co_sdo.specs.Banks.{BankStands}
+use Rattle.co_sdo.specs.Events.{logs_after}
 use Rattle.co_node_parts.specs.declared.nmt_state.NodeState.{NodeState}
 use Rattle.co_node_model.specs.Moments.{Constants, Moment, History, channels, contents_at}
 use Rattle.co_node_model.specs.Nmt.{state_at}

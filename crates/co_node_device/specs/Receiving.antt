@@ -3,9 +3,9 @@ use Rattle.std.specs.Prelude.{◌≡◌, Bool, is_some, List, [], ◌++◌, ◌|
 use Rattle.co_frame.specs.FrameContent.{FrameContent}
 use Rattle.co_dict.specs.Rows.{Contents}
 use Rattle.co_dict.specs.Stores.{Description}
-use Rattle.co_sdo_bank.specs.declared.channels.NumberedChannel.{NumberedChannel}
-use Rattle.co_sdo_bank.specs.Banks.{BankStands}
-use Rattle.co_sdo_bank.specs.Events.{ChannelEvent, frames_at}
+use Rattle.co_sdo.specs.declared.channels.NumberedChannel.{NumberedChannel}
+use Rattle.co_sdo.specs.Banks.{BankStands}
+use Rattle.co_sdo.specs.Events.{ChannelEvent, frames_at}
 use Rattle.co_node_model.specs.Inputs.{AppView, Framed, Applied}
 use Rattle.co_node_model.specs.AppEvents.{event_refusal, with_app_event}
 use Rattle.co_node_model.specs.Moments.{Constants, Moment, History, channels, contents_at, nothing_of}

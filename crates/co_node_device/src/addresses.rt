@@ -17,7 +17,7 @@ ghost use Rattle.std.specs.List.{slice_index_or};
 ghost use Rattle.std.specs.Option.{option_or};
 ghost use Rattle.co_node_model.specs.Sync.{is_sync_id};
 ghost use Rattle.co_dict.specs.Stores.{Description};
-ghost use Rattle.co_sdo_bank.specs.Banks.{BankStands};
+ghost use Rattle.co_sdo.specs.Banks.{BankStands};
 ghost use Rattle.co_node_model.specs.Moments.{Constants, History, channels, contents_at};
 ghost use Rattle.co_node_model.specs.Sdo.{channel_logs};
 
@@ -27,7 +27,7 @@ use co_frame::Frame;
 use co_node_model::{Address, Mark, may_change_addresses};
 use co_pdo::{PdoNumber, cob_id, is_active};
 use co_profile::keys;
-use co_sdo_bank::Bank;
+use co_sdo::Bank;
 use std::alloc::{AllocError, Global};
 use std::boxed::BoxedSlice;
 use std::marker::Model;

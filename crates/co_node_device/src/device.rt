@@ -3,8 +3,8 @@
 ghost use Rattle.std.specs.Prelude.{◌≡◌, ◌<◌, ◌≤◌, ◌∷◌, length, true, IfSome, Some, if◌then◌else◌};
 ghost use Rattle.std.proofs.Props.{props};
 ghost use Rattle.co_pdo_compiled.proofs.Props.{part_prop};
-ghost use Rattle.co_sdo_bank.specs.Banks.{all_settings};
-ghost use Rattle.co_sdo_bank.specs.Channels.{HaveRoom};
+ghost use Rattle.co_sdo.specs.Banks.{all_settings};
+ghost use Rattle.co_sdo.specs.Channels.{HaveRoom};
 ghost use Rattle.co_frame.specs.SegmentSizes.{segments_per_sub_block};
 ghost use Rattle.co_dict.specs.Places.{key_at};
 ghost use Rattle.co_node_model.specs.Inputs.{Applied, Framed, Inputs, InputView, Ticked, Written, app_view};

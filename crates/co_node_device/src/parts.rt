@@ -8,7 +8,7 @@ use co_node_parts::{
     Emergencies, HeartbeatConsumers, HeartbeatProducer, LostHeartbeats, NmtState, RpdoSlots,
 };
 use co_pdo::{Due, Schedule};
-use co_sdo_bank::Bank;
+use co_sdo::Bank;
 
 /// The parts of a device besides its dictionary. Each part notes one event per input.
 #[derive(Drop)]

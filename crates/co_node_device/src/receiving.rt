@@ -4,9 +4,9 @@ ghost use Rattle.std.specs.Prelude.{◌≡◌, ◌+◌, ◌<◌, ◌≤◌, ◌+
 ghost use Rattle.arrayvec.specs.ArrayVec.{array_vec_len};
 ghost use Rattle.co_frame.specs.Outboxes.{HasRoomFor};
 ghost use Rattle.co_frame.specs.SegmentSizes.{segments_per_sub_block};
-ghost use Rattle.co_sdo_bank.specs.Banks.{BankStands, all_settings};
-ghost use Rattle.co_sdo_bank.specs.Channels.{HaveRoom};
-ghost use Rattle.co_sdo_bank.specs.Events.{frames_at};
+ghost use Rattle.co_sdo.specs.Banks.{BankStands, all_settings};
+ghost use Rattle.co_sdo.specs.Channels.{HaveRoom};
+ghost use Rattle.co_sdo.specs.Events.{frames_at};
 ghost use Rattle.co_node_model.specs.declared.address.Address.TheVariants.{Channel};
 ghost use Rattle.co_node_model.specs.Moments.{Constants, History, channels};
 ghost use Rattle.co_node_device.specs.Befores.{IsBefore, IsAddressed, logs_received};
@@ -24,7 +24,7 @@ use co_dict::ObjectStore;
 use co_frame::{Frame, Outbox};
 use co_node_model::{Address, AppAnswer, Mark, error_control_mark, rpdo_mark, sync_mark};
 use co_node_parts::{Emergencies, NodeState};
-use co_sdo_bank::Bank;
+use co_sdo::Bank;
 
 /// Hands a frame to its addressee.
 #[inline(always)]

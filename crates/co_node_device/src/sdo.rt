@@ -7,9 +7,9 @@ ghost use Rattle.co_frame.specs.Outboxes.{HasRoomFor};
 ghost use Rattle.co_frame.specs.SegmentSizes.{segments_per_sub_block};
 ghost use Rattle.co_dict.specs.Stores.{Description};
 ghost use Rattle.co_sdo.specs.Log.{Log, Ticked};
-ghost use Rattle.co_sdo_bank.specs.Banks.{BankStands, all_settings};
-ghost use Rattle.co_sdo_bank.specs.Channels.{ChannelSettings, HaveRoom};
-ghost use Rattle.co_sdo_bank.specs.Events.{frames_at, logs_after, time_out_of, with_each};
+ghost use Rattle.co_sdo.specs.Banks.{BankStands, all_settings};
+ghost use Rattle.co_sdo.specs.Channels.{ChannelSettings, HaveRoom};
+ghost use Rattle.co_sdo.specs.Events.{frames_at, logs_after, time_out_of, with_each};
 ghost use Rattle.co_node_model.specs.declared.address.Address.TheVariants.{Channel};
 ghost use Rattle.co_node_model.specs.Moments.{Constants, History};
 ghost use Rattle.co_node_device.specs.Befores.{IsBefore};
@@ -25,7 +25,7 @@ use co_dict::ObjectStore;
 use co_frame::{Frame, Outbox};
 use co_node_model::Mark;
 use co_node_parts::{NodeState, Transition};
-use co_sdo_bank::Bank;
+use co_sdo::Bank;
 
 /// A frame to an SDO channel: it is ignored while the device is stopped (CiA 301, 7.2.4).
 #[inline(always)]

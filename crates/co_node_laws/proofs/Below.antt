@@ -12,8 +12,8 @@ use Rattle.co_dict.specs.WriteRefusals.{writing_refusal, app_refusal}
 use Rattle.co_sdo.specs.Downloads.{Download}
 use Rattle.co_sdo.specs.Log.{Log}
 use Rattle.co_sdo.specs.Refused.{completion_refusal}
-use Rattle.co_sdo_bank.specs.Channels.{ChannelSettings}
-use Rattle.co_sdo_bank.specs.Events.{set_of}
+use Rattle.co_sdo.specs.Channels.{ChannelSettings}
+use Rattle.co_sdo.specs.Events.{set_of}
 use Rattle.co_pdo.specs.Mappings.{mapping_of}
 use Rattle.co_pdo.specs.Images.{contents_after}
 

@@ -14,8 +14,8 @@ use Rattle.co_dict.specs.Rows.{Contents, number_at}
 use Rattle.co_dict.specs.Stores.{Description, IsDictionary}
 use Rattle.co_sdo.specs.Log.{Log}
 use Rattle.co_sdo.specs.Log as sdo
-use Rattle.co_sdo_bank.specs.Channels.{ChannelSettings}
-use Rattle.co_sdo_bank.specs.Events.{ChannelEvent, frames_at, time_out_on, expired_in, with_each}
+use Rattle.co_sdo.specs.Channels.{ChannelSettings}
+use Rattle.co_sdo.specs.Events.{ChannelEvent, frames_at, time_out_on, expired_in, with_each}
 use Rattle.co_pdo.specs.declared.settings.Settings.{Settings}
 use Rattle.co_pdo.specs.declared.tpdo.Part.{Part}
 use Rattle.co_pdo.specs.declared.tpdo.Occasion.{Occasion}

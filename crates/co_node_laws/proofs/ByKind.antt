@@ -18,7 +18,7 @@ use Rattle.co_dict.specs.Rows.{Contents, number_at, written}
 use Rattle.co_dict.specs.Stores.{Description}
 use Rattle.co_sdo.specs.Completed.{contents_with, key_set}
 use Rattle.co_sdo.specs.Downloads.{Download}
-use Rattle.co_sdo_bank.specs.Events.{ChannelEvent, exchange_of, frames_at, logs_after, set_of}
+use Rattle.co_sdo.specs.Events.{ChannelEvent, exchange_of, frames_at, logs_after, set_of}
 use Rattle.co_pdo.specs.declared.tpdo.Part.{Part}
 use Rattle.co_pdo.specs.Schedules.{History as Schedule}
 use Rattle.co_node_parts.specs.declared.heartbeat_producer.ProducerEvent.TheVariants as producer

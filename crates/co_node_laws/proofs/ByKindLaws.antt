@@ -6,7 +6,7 @@ use Rattle.co_frame.specs.FrameContent.{FrameContent}
 use Rattle.co_frame.specs.declared.nmt.NmtService.{NmtService}
 use Rattle.co_frame.specs.declared.nmt.NmtService.TheVariants.{Start, Stop, EnterPreOperational, ResetNode, ResetCommunication}
 use Rattle.co_sdo.specs.Downloads.{Download}
-use Rattle.co_sdo_bank.specs.Events.{exchange_of, logs_after, set_of}
+use Rattle.co_sdo.specs.Events.{exchange_of, logs_after, set_of}
 use Rattle.co_pdo.specs.Tpdos.{tpdo_numbers}
 use Rattle.co_node_parts.specs.declared.nmt_state.NodeState.{NodeState}
 use Rattle.co_node_parts.specs.declared.nmt_state.NodeState.TheVariants.{PreOperational, Operational, Stopped}

@@ -3,8 +3,8 @@ use Rattle.std.proofs.Common.{◌≡◌, ℕ, ◌+◌, Bool, true, false, List, 
 use Rattle.std.specs.Prelude.{◌==◌, find}
 use Rattle.std.specs.List.{filter, range_with_len}
 use Rattle.std.proofs.lemmas.Bool.Decides.{nat_tests}
-use Rattle.co_sdo_bank.specs.Channels.{ChannelSettings, settings_for, channels_below}
-use Rattle.co_sdo_bank.specs.Events.{receiver}
+use Rattle.co_sdo.specs.Channels.{ChannelSettings, settings_for, channels_below}
+use Rattle.co_sdo.specs.Events.{receiver}
 use Rattle.co_dict.specs.SdoChannels.{is_channel}
 use Rattle.co_node_model.specs.Sync.{is_sync_id}
 use Rattle.co_node_model.specs.declared.address.Address.TheVariants.{Channel}

@@ -10,8 +10,8 @@ use Rattle.co_dict.specs.Stores.{Description}
 use Rattle.co_sdo.specs.Log.{Answer, Ticked as TickOf, Dropped, Log, frames_on}
 use Rattle.co_sdo.specs.OpenTransfers.{since_initiate}
 use Rattle.co_sdo.specs.Replies.{reply_to}
-use Rattle.co_sdo_bank.specs.Channels.{ChannelSettings}
-use Rattle.co_sdo_bank.specs.Events.{ChannelEvent, frames_at, logs_after, with_each, receiver, exchange_on, exchange_at, time_out_on, expired_in}
+use Rattle.co_sdo.specs.Channels.{ChannelSettings}
+use Rattle.co_sdo.specs.Events.{ChannelEvent, frames_at, logs_after, with_each, receiver, exchange_on, exchange_at, time_out_on, expired_in}
 use Rattle.co_node_parts.specs.declared.nmt_state.NodeState.TheVariants.{Operational, Stopped}
 use Rattle.co_node_parts.specs.NmtStates.{is_state}
 use Rattle.co_node_model.specs.declared.address.Address.{Address}

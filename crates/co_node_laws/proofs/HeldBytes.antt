@@ -17,8 +17,8 @@ use Rattle.co_sdo.specs.Opened.{opened, opened_by, bytes_held, held_bytes}
 use Rattle.co_sdo.specs.Refused.{capacity_at}
 use Rattle.co_sdo.specs.Standing.{is_under_way, is_transfer_after, room_after}
 use Rattle.co_sdo.proofs.TakeLemmas.{steps_to}
-use Rattle.co_sdo_bank.specs.Channels.{ChannelSettings}
-use Rattle.co_sdo_bank.specs.Events.{ChannelEvent, logs_after, with_each, receiver, exchange_on, exchange_at, time_out_on, expired_in}
+use Rattle.co_sdo.specs.Channels.{ChannelSettings}
+use Rattle.co_sdo.specs.Events.{ChannelEvent, logs_after, with_each, receiver, exchange_on, exchange_at, time_out_on, expired_in}
 use Rattle.co_node_parts.specs.declared.nmt_state.NodeState.TheVariants.{Operational, Stopped}
 use Rattle.co_node_parts.specs.NmtStates.{is_state}
 use Rattle.co_node_model.specs.declared.address.Address.{Address}

@@ -9,8 +9,8 @@ use Rattle.co_dict.specs.Stores.{Description}
 use Rattle.co_sdo.specs.Log.{Log, Ticked as TickOfChannel}
 use Rattle.co_sdo.specs.Opened.{bytes_held, held_bytes}
 use Rattle.co_sdo.proofs.Idles.{opened_tick}
-use Rattle.co_sdo_bank.specs.Channels.{ChannelSettings}
-use Rattle.co_sdo_bank.specs.Events.{ChannelEvent, NoTimeOutFor, held_on, with_each}
+use Rattle.co_sdo.specs.Channels.{ChannelSettings}
+use Rattle.co_sdo.specs.Events.{ChannelEvent, NoTimeOutFor, held_on, with_each}
 use Rattle.co_pdo.specs.Schedules.{History as Schedule, NoTpdoDueFor, all_due, with_tick as with_tick_of_schedule}
 use Rattle.co_pdo.specs.declared.tpdo.Occasion.TheVariants as occasion
 use Rattle.co_node_parts.specs.declared.nmt_state.NodeState.{NodeState}

@@ -16,7 +16,7 @@ use Rattle.co_node_parts.specs.ConsumerTables.{ConsumersLog, Noted, event_of, en
 use Rattle.co_node_parts.specs.Consumers.{ConsumerLog, is_lost}
 use Rattle.co_frame.specs.FrameContent.{FrameContent}
 use Rattle.co_sdo.specs.Completed.{contents_with}
-use Rattle.co_sdo_bank.specs.Events.{set_of}
+use Rattle.co_sdo.specs.Events.{set_of}
 use Rattle.co_node_model.specs.declared.address.Address.{Address}
 use Rattle.co_node_model.specs.declared.address.Address.TheVariants.{Channel}
 use Rattle.co_node_model.specs.declared.mark.Mark.{Mark}

@@ -14,7 +14,7 @@ use Rattle.co_sdo.specs.Downloads.{Download}
 use Rattle.co_sdo.specs.Log.{Log}
 use Rattle.co_sdo.specs.Refused.{completion_refusal}
 use Rattle.co_sdo.specs.Completed.{contents_with, key_set}
-use Rattle.co_sdo_bank.specs.Events.{set_of}
+use Rattle.co_sdo.specs.Events.{set_of}
 use Rattle.co_node_parts.specs.declared.rpdo_slots.KeptFrame.{KeptFrame}
 use Rattle.co_node_parts.specs.declared.nmt_state.NodeState.TheVariants.{Operational, Stopped}
 use Rattle.co_node_parts.specs.NmtStates.{is_state}

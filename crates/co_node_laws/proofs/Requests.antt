@@ -11,7 +11,7 @@ use Rattle.co_dict.specs.CobIds.{is_valid}
 use Rattle.co_sdo.specs.Completed.{contents_with, key_set, set_by}
 use Rattle.co_sdo.specs.Log.{Log, Exchanged, frames_on}
 use Rattle.co_sdo.specs.Replies.{reply_to}
-use Rattle.co_sdo_bank.specs.Events.{ChannelEvent, exchange_of, exchange_on, frames_at, logs_after, set_of, set_at}
+use Rattle.co_sdo.specs.Events.{ChannelEvent, exchange_of, exchange_on, frames_at, logs_after, set_of, set_at}
 use Rattle.co_pdo.specs.Schedules.{History as Schedule}
 use Rattle.co_pdo.specs.declared.tpdo.Part.{Part}
 use Rattle.co_node_parts.specs.declared.nmt_state.NodeState.{NodeState}

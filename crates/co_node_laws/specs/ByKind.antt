@@ -16,7 +16,7 @@ use Rattle.co_dict.specs.Rows.{number_at, written}
 use Rattle.co_dict.specs.Stores.{Description}
 use Rattle.co_sdo.specs.Downloads.{Download}
 use Rattle.co_sdo.specs.Log.{Ticked as TickOfChannel}
-use Rattle.co_sdo_bank.specs.Events.{ChannelEvent, exchange_of, frames_at, logs_after, number_for, set_of, time_out_of, with_each}
+use Rattle.co_sdo.specs.Events.{ChannelEvent, exchange_of, frames_at, logs_after, number_for, set_of, time_out_of, with_each}
 use Rattle.co_pdo.specs.Schedules.{all_due, all_due_among, sync_with, with_events, with_sync, with_tick}
 use Rattle.co_pdo.specs.Tpdos.{tpdo_numbers}
 use Rattle.co_pdo.specs.declared.tpdo.Occasion.TheVariants as occasion

@@ -14,7 +14,7 @@ use Rattle.co_dict.specs.ConsumerHeartbeats.{consumer_key}
 use Rattle.co_dict.specs.Rows.{Contents, number_at, restored}
 use Rattle.co_dict.specs.Stores.{Description}
 use Rattle.co_sdo.specs.Log.{Log, Dropped}
-use Rattle.co_sdo_bank.specs.Events.{with_each}
+use Rattle.co_sdo.specs.Events.{with_each}
 use Rattle.co_pdo.specs.declared.tpdo.Part.{Part}
 use Rattle.co_pdo.specs.Schedules.{History as Schedule, with_start, with_all_started}
 use Rattle.co_node_parts.specs.declared.nmt_state.NodeState.{NodeState}

@@ -1,6 +1,6 @@
 -- Ticks at which no part of a device has anything due, by the log of each part.
 use Rattle.std.specs.Prelude.{◌≡◌, ℕ, false}
-use Rattle.co_sdo_bank.specs.Events.{NoTimeOutFor}
+use Rattle.co_sdo.specs.Events.{NoTimeOutFor}
 use Rattle.co_pdo.specs.Schedules.{NoTpdoDueFor}
 use Rattle.co_node_parts.specs.declared.nmt_state.NodeState.TheVariants.{Operational}
 use Rattle.co_node_parts.specs.ConsumerTables.{NoneLostFor}

@@ -1,7 +1,7 @@
 //! A device by the kind of its inputs. Each is a law: a call of it changes nothing.
 
 ghost use Rattle.std.specs.Prelude.{◌≡◌, ◌∷◌, ℕ, [], true, false};
-ghost use Rattle.co_sdo_bank.specs.Events.{held_on};
+ghost use Rattle.co_sdo.specs.Events.{held_on};
 ghost use Rattle.co_node_model.specs.Inputs.{InputView, Inputs};
 ghost use Rattle.co_node_model.specs.Moments.{Constants, channels};
 ghost use Rattle.co_node_model.specs.Device.{prescribed, state_of, contents_of, held_of};
@@ -23,7 +23,7 @@ ghost use Rattle.co_node_laws.specs.Devices.{emergency_at_end};
 
 use co_dict::{invalid_pdo_law, own_rule_law};
 use co_pdo::written_from_2000;
-use co_sdo_bank::Bank;
+use co_sdo::Bank;
 
 /// After any inputs, a device is as `specs/ByKind.antt` describes it by the kind of each input: its
 /// frames (`frames`), its NMT state (`state`), its entries (`entries`), and the bytes held for the

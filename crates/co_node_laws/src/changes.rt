@@ -3,7 +3,7 @@
 ghost use Rattle.std.specs.Prelude.{◌≡◌, ◌∷◌, ℕ, Some, None, true, false};
 ghost use Rattle.co_frame.specs.FrameContent.{FrameContent};
 ghost use Rattle.co_sdo.specs.Completed.{contents_with};
-ghost use Rattle.co_sdo_bank.specs.Events.{set_of};
+ghost use Rattle.co_sdo.specs.Events.{set_of};
 ghost use Rattle.co_node_parts.specs.NmtStates.{is_state};
 ghost use Rattle.co_node_parts.specs.declared.nmt_state.NodeState.TheVariants.{Stopped};
 ghost use Rattle.co_node_model.specs.declared.address.Address.TheVariants.{Channel};

@@ -24,7 +24,7 @@ ghost use Rattle.co_node_laws.specs.Distances.{
 
 use co_dict::{invalid_pdo_law, own_rule_law};
 use co_pdo::written_from_2000;
-use co_sdo_bank::Bank;
+use co_sdo::Bank;
 
 /// A heartbeat is sent at a tick if and only if the number of ticks since the last reset or write
 /// of 1017:00, or since the device was built, is a positive multiple of the value of 1017:00 (in

@@ -8,7 +8,7 @@ ghost use Rattle.co_node_laws.specs.Apart.{AreApart, BeginsApart};
 
 use co_dict::{invalid_pdo_law, own_rule_law};
 use co_pdo::written_from_2000;
-use co_sdo_bank::Bank;
+use co_sdo::Bank;
 
 /// If a device begins with SYNC and EMCY apart from its default SDO channel, they stay apart after
 /// any inputs. Only resets, which restore 1005:00 and 1014:00, and writes change these entries; a

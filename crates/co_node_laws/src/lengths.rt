@@ -3,7 +3,7 @@
 ghost use Rattle.std.specs.Prelude.{◌≡◌, ◌≤◌, ◌+◌, length, max, true};
 ghost use Rattle.co_frame.specs.FrameContent.{FrameContent};
 ghost use Rattle.co_node_model.specs.Inputs.{InputView, Inputs, Framed};
-ghost use Rattle.co_sdo_bank.specs.Events.{frames_at};
+ghost use Rattle.co_sdo.specs.Events.{frames_at};
 ghost use Rattle.co_node_model.specs.Moments.{Constants};
 ghost use Rattle.co_node_model.specs.Device.{moment, moments, prescribed, frame_bound};
 ghost use Rattle.co_node_model.specs.Addresses.{address_at};

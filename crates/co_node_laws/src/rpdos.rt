@@ -12,7 +12,7 @@ ghost use Rattle.co_node_model.specs.Mappings.{may_change_mappings, AgreeOnMappi
 
 use co_dict::{invalid_pdo_law, own_rule_law};
 use co_pdo::written_from_2000;
-use co_sdo_bank::Bank;
+use co_sdo::Bank;
 
 /// An input that is no reset and writes neither 1005h nor a parameter of an RPDO leaves 1005h and
 /// 1400h to 17FFh as they are. So the identifiers of SYNC and RPDOs have to be looked up again only

@@ -12,7 +12,7 @@ ghost use Rattle.co_node_laws.specs.Calls.{is_asked};
 
 use co_dict::{invalid_pdo_law, own_rule_law};
 use co_pdo::written_from_2000;
-use co_sdo_bank::Bank;
+use co_sdo::Bank;
 
 /// In operational, after any inputs, each active TPDO had its last whole start with the
 /// transmission type and the inhibit time that its entries have now, and the last start of its

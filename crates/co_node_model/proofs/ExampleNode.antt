@@ -14,7 +14,7 @@ use Rattle.co_dict.specs.declared.row.Row.{Row}
 use Rattle.co_dict.specs.Rows.{Rows, Contents, number_at}
 use Rattle.co_dict.specs.Objects.{has_object, subs_present}
 use Rattle.co_dict.specs.SdoChannels.{is_sdo_id}
-use Rattle.co_sdo_bank.specs.Channels.{channels_below}
+use Rattle.co_sdo.specs.Channels.{channels_below}
 use Rattle.co_dict.specs.ConsumerHeartbeats.{is_consumed_elsewhere}
 use Rattle.co_dict.proofs.ExampleDevice.{at, number_row, text_row}
 use Rattle.co_node_parts.specs.declared.nmt_state.NodeState.{NodeState}

@@ -5,7 +5,7 @@ use Rattle.co_value.specs.declared.key.Key.{Key}
 use Rattle.co_value.specs.Keys.{same_key}
 use Rattle.co_profile.specs.Indices.{rpdo_communication, rpdo_mapping, is_within}
 use Rattle.co_dict.specs.Rows.{Contents}
-use Rattle.co_sdo_bank.specs.Events.{number_for}
+use Rattle.co_sdo.specs.Events.{number_for}
 use Rattle.co_node_model.specs.declared.address.Address.{Address}
 use Rattle.co_node_model.specs.declared.address.Address.TheVariants.{ErrorControl, Nobody, Rpdo, Channel, Nmt, Sync}
 use Rattle.co_node_model.specs.Rpdos.{rpdo_with}

@@ -4,7 +4,7 @@ use Rattle.co_frame.specs.FrameContent.{FrameContent}
 use Rattle.co_frame.specs.Nmt.{nmt_command_in}
 use Rattle.co_dict.specs.Rows.{Contents}
 use Rattle.co_sdo.specs.Standing.{room_after}
-use Rattle.co_sdo_bank.specs.Events.{frames_at, held_on}
+use Rattle.co_sdo.specs.Events.{frames_at, held_on}
 use Rattle.co_node_parts.specs.declared.nmt_state.NodeState.{NodeState}
 use Rattle.co_node_model.specs.Nmt.{service_for, with_service, state_at}
 use Rattle.co_node_model.specs.Sync.{with_sync}

@@ -4,8 +4,8 @@ use Rattle.co_frame.specs.declared.emergency.Emergency.{Emergency}
 use Rattle.co_frame.specs.declared.heartbeat.Heartbeat.{Heartbeat}
 use Rattle.co_dict.specs.Rows.{Contents}
 use Rattle.co_dict.specs.Stores.{Description}
-use Rattle.co_sdo_bank.specs.Channels.{ChannelSettings, channels_of}
-use Rattle.co_sdo_bank.specs.Events.{ChannelEvent}
+use Rattle.co_sdo.specs.Channels.{ChannelSettings, channels_of}
+use Rattle.co_sdo.specs.Events.{ChannelEvent}
 use Rattle.co_node_parts.specs.declared.nmt_state.StateEvent.{StateEvent}
 use Rattle.co_node_parts.specs.declared.rpdo_slots.KeptFrame.{KeptFrame}
 use Rattle.co_node_parts.specs.declared.nmt_state.StateEvent.TheVariants as state

@@ -3,7 +3,7 @@ use Rattle.std.specs.Prelude.{ℕ, Bool, true, false, ◌||◌, [], ◌∷◌, i
 use Rattle.co_frame.specs.FrameContent.{FrameContent}
 use Rattle.co_sdo.specs.Log.{Log, Ticked, Dropped}
 use Rattle.co_sdo.specs.Completed.{contents_with, key_set}
-use Rattle.co_sdo_bank.specs.Events.{with_each, logs_after, exchange_of, set_of, ChannelEvent, time_out_of}
+use Rattle.co_sdo.specs.Events.{with_each, logs_after, exchange_of, set_of, ChannelEvent, time_out_of}
 use Rattle.co_node_parts.specs.declared.nmt_state.NodeState.TheVariants.{Stopped}
 use Rattle.co_node_parts.specs.NmtStates.{enters, is_state}
 use Rattle.co_node_model.specs.Nmt.{transition_of, is_reset, state_at}

@@ -12,3 +12,11 @@ pub mod SubBlockLemmas
 pub mod RoomLemmas
 pub mod TakeLemmas
 pub mod Idles
+mod Searches
+mod Numbers
+mod Changes
+mod Places
+mod Outcomes
+mod Permitted
+mod Examples
+pub mod BankIdles

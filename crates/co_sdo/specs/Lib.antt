@@ -10,3 +10,6 @@ pub mod Completed
 pub mod Steps
 pub mod Standing
 pub mod Fields
+pub mod Channels
+pub mod Banks
+pub mod Events

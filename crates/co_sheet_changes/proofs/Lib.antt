@@ -2,3 +2,6 @@ pub mod LineLemmas
 mod OriginalLemmas
 mod OriginalExamples
 mod RequestExamples
+pub mod Finds
+pub mod SearchedKeys
+pub mod Utf8

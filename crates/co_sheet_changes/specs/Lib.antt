@@ -8,3 +8,4 @@ pub mod Views
 pub mod Words
 pub mod ZeroNames
 pub mod Zeros
+pub mod Names

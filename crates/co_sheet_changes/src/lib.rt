@@ -10,6 +10,7 @@ mod forced;
 mod group;
 mod limits;
 mod line;
+mod names;
 mod originals;
 mod pieces;
 mod request;
@@ -25,6 +26,7 @@ pub use limits::{
     data_type_of, has_unsigned_limits, is_limit, is_preset, power_of_two, signed_width,
 };
 pub use line::{Line, lines_in};
+pub use names::{Names, row_at, shown_name};
 pub use originals::Originals;
 pub use pieces::{assigned, joined, piece_of, push_kept, push_pieces, with_value};
 pub use request::{LeadingZeros, Request};

@@ -6,5 +6,5 @@ mod mended;
 mod readable;
 mod repair;
 
-pub use readable::{Readable, readable};
+pub use readable::{Readable, readable_text};
 pub use repair::Repair;

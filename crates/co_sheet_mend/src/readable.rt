@@ -77,7 +77,7 @@ fn rewritten(alloc: Global, text: &[u8]) -> Result<Option<Readable>, AllocError>
 /// entry at fault keeps its name, and one whose type can't be read has values that are bytes.
 /// `None`: the text is accepted as it is, or it can't be read so either. `Err`: out of memory.
 #[tactic(auto, unfolding(crate::specs::ReadableTexts::readable))]
-pub fn readable(alloc: Global, text: &[u8]) -> Result<Option<Readable>, AllocError>
+pub fn readable_text(alloc: Global, text: &[u8]) -> Result<Option<Readable>, AllocError>
     ensures { IfOk result (λ made. option_map readable_view made ≡ readable text.now) }
 {
     if text.len() > GREATEST_SIZE || is_accepted(alloc, text)? {

@@ -4,3 +4,5 @@ pub mod ReadingLemmas
 pub mod Readers
 pub mod TextLemmas
 pub mod Examples
+pub mod Passing
+pub mod WindowLemmas

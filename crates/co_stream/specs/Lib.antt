@@ -4,3 +4,5 @@ pub mod Lines
 pub mod Readings
 pub mod Texts
 pub mod Nexts
+pub mod Held
+pub mod Founds

@@ -2,7 +2,7 @@
 use Rattle.std.proofs.Common.{◌≡◌, ℕ, List, [], ◌∷◌, ◌++◌, Option, None, Some, IfSome, sym, subst}
 use Rattle.conode_io.specs.Written.{WritesLines}
 use Rattle.conode_io.proofs.WriteLemmas.{lines_after}
-use Rattle.conode_lines.specs.TraceTexts.{GaveText}
+use Rattle.conode_io.specs.TraceTexts.{GaveText}
 use Rattle.conode_logs.specs.declared.log.Form.{Form}
 use Rattle.conode_compare.specs.declared.comparing.Comparing.{Comparing}
 use Rattle.conode_compare.specs.declared.document.Format.{Format}

@@ -3,7 +3,7 @@ use Rattle.std.specs.Prelude.{ℕ, nat_lt, if◌then◌else◌, List, [], ◌∷
 use Rattle.std.specs.List.{flat_map}
 use Rattle.co_sheet.specs.Content.{Row}
 use Rattle.co_value.specs.Types.{width_of}
-use Rattle.co_sheet_names.specs.Names.{shown_name}
+use Rattle.co_sheet_changes.specs.Names.{shown_name}
 use Rattle.conode_explain_values.specs.Types.{type_of}
 use Rattle.conode_compare_notes.specs.declared.learned.Shown.{Shown}
 use Rattle.conode_compare_notes.specs.LearnedValues.{number_of as shown_number}

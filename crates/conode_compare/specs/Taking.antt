@@ -1,8 +1,8 @@
 -- How far a recording is compared.
 use Rattle.std.specs.Prelude.{◌≡◌, ℕ, List, ◌++◌, Option, Some, None, ⊤}
 use Rattle.std.specs.Str.Lines.{lines}
-use Rattle.co_bounded_lines.specs.Founds.{is_closed}
-use Rattle.co_bounded_lines.specs.Held.{Held, to_come}
+use Rattle.co_stream.specs.Founds.{is_closed}
+use Rattle.co_stream.specs.Held.{Held, to_come}
 use Rattle.co_stream.specs.Readings.{Gave}
 use Rattle.conode_io.specs.Written.{WritesLines}
 use Rattle.conode_logs.specs.declared.log.Form.{Form}

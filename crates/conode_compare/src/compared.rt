@@ -3,7 +3,7 @@
 ghost use Rattle.std.specs.Prelude.{◌≡◌, IfOk, IfSome, true};
 ghost use Rattle.std.specs.List.{AllPairs};
 ghost use Rattle.co_value.specs.Keys.{is_key_before};
-ghost use Rattle.conode_lines.specs.TraceTexts.{GaveText};
+ghost use Rattle.conode_io.specs.TraceTexts.{GaveText};
 ghost use Rattle.conode_compare.specs.Taking.{Compares};
 ghost use Rattle.conode_compare.specs.Views.{comparison_view};
 

@@ -9,7 +9,7 @@ ghost use Rattle.conode_compare.specs.Views.{comparison_view};
 use crate::comparing::Comparing;
 use crate::writes::Settings;
 use co_sheet::EntryRow;
-use co_sheet_names::shown_name;
+use co_sheet_changes::shown_name;
 use conode_compare_notes::Learned;
 use conode_compare_pdos::number_of;
 use conode_compare_text::{set_choices_summary, set_learned_line, set_summary};

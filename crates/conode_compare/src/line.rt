@@ -3,7 +3,7 @@
 ghost use Rattle.std.specs.Prelude.{◌≡◌, ◌⊎◌, ◌+◌, OnOk, IfOk, IfErr, IfSome, IfNone, true};
 ghost use Rattle.std.specs.List.{AllPairs};
 ghost use Rattle.std.specs.Io.KnownBytes.{Keeps, IsAtEnd};
-ghost use Rattle.co_bounded_lines.specs.Held.{nothing_held, to_come};
+ghost use Rattle.co_stream.specs.Held.{nothing_held, to_come};
 ghost use Rattle.co_stream.specs.Readings.{Gave};
 ghost use Rattle.co_value.specs.Keys.{is_key_before};
 ghost use Rattle.conode_convert.specs.Converted.{at_start};
@@ -17,13 +17,12 @@ ghost use Rattle.conode_compare.specs.Views.{comparison_view};
 
 use crate::comparing::Comparing;
 use crate::writes::Settings;
-use co_bounded_lines::{BoundedLines, Found, ReadFault};
+use co_stream::{BoundedLines, Found, ReadFault};
 use conode_compare_report::Report;
 use conode_convert::add_frame;
 use conode_io::{CmdFault, flush};
-use conode_log_parts::LogLine;
 use conode_logs::{Form, Log};
-use conode_record::RecordLine;
+use conode_record::{LogLine, RecordLine};
 use std::alloc::Global;
 use std::io::{Read, Write};
 

@@ -18,8 +18,7 @@ ghost use Rattle.conode_compare.specs.Views.{comparison_view};
 
 use crate::notes::{Noted, write_choice};
 use co_sheet::EntryRow;
-use co_sheet_changes::Originals;
-use co_sheet_names::row_at;
+use co_sheet_changes::{Originals, row_at};
 use co_value::{DataType, Key};
 use conode_compare_notes::Warning;
 use conode_compare_report::SheetNames;

@@ -9,7 +9,7 @@ use Rattle.co_sheet.specs.Content.{Row}
 use Rattle.co_value.specs.declared.key.Key.{Key}
 use Rattle.co_value.specs.Numbers.{unsigned_of}
 use Rattle.co_value.specs.Types.{width_of}
-use Rattle.co_sheet_names.specs.Names.{row_at}
+use Rattle.co_sheet_changes.specs.Names.{row_at}
 use Rattle.conode_compare_transfers.specs.Breaches.{byte_at}
 use Rattle.conode_compare_values.specs.declared.mismatch.Mismatch.{Mismatch}
 use Rattle.conode_compare_values.specs.declared.mismatch.Mismatch.TheVariants.{AboveLimit, BelowLimit}

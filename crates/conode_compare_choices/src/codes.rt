@@ -21,7 +21,7 @@ use crate::choice::Choice;
 use crate::request::{Request, missing_code};
 use co_frame::{AbortCode, Frame};
 use co_sheet::EntryRow;
-use co_sheet_names::row_at;
+use co_sheet_changes::row_at;
 use conode_compare_transfers::{Asked, key_in};
 use conode_compare_values::{is_read_only, is_readable};
 use conode_explain_transfers::{Direction, Ended};

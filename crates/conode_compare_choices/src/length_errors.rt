@@ -48,7 +48,7 @@ use co_frame::Frame;
 use co_profile::keys::SYNC_COUNTER_OVERFLOW;
 use co_profile::{PDO_COB_ID, TRANSMISSION_TYPE};
 use co_sheet::EntryRow;
-use co_sheet_names::row_at;
+use co_sheet_changes::row_at;
 use co_value::Key;
 use conode_compare_pdos::{identifier_of, is_id, length_of, number_of, preset_at};
 use conode_compare_rules::{FrameKind, Limits, NmtState, Progress, Subject};

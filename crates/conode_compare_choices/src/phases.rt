@@ -36,7 +36,7 @@ use crate::choice::Choice;
 use co_frame::{Frame, NmtService};
 use co_profile::SYNC_START_VALUE;
 use co_sheet::EntryRow;
-use co_sheet_names::row_at;
+use co_sheet_changes::row_at;
 use co_value::Key;
 use conode_compare_pdos::{Pdos, Tpdo, is_id, number_of};
 use conode_compare_rules::{FrameKind, NmtState, Progress, Subject};

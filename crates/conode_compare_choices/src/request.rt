@@ -29,7 +29,7 @@ ghost use Rattle.conode_compare_choices.specs.Requests.{
 use co_frame::{AbortCode, Frame};
 use co_profile::{RESTORE_PARAMETERS, STORE_PARAMETERS};
 use co_sheet::EntryRow;
-use co_sheet_names::row_at;
+use co_sheet_changes::row_at;
 use co_value::{Key, unsigned_of};
 use conode_compare_transfers::byte_at;
 use conode_compare_values::{Mismatch, beyond_mismatch};

@@ -8,7 +8,7 @@ use Rattle.co_value.specs.declared.key.Key.{Key}
 use Rattle.co_value.specs.Keys.{same_key}
 use Rattle.co_value.specs.KeyTexts.{key_in}
 use Rattle.co_value.specs.Types.{width_of}
-use Rattle.co_sheet_names.specs.Names.{row_at}
+use Rattle.co_sheet_changes.specs.Names.{row_at}
 use Rattle.conode_compare_held.specs.declared.entries.HeldEntry.{HeldEntry}
 use Rattle.conode_compare_held.specs.declared.entries.HeldFault.{HeldFault}
 use Rattle.conode_compare_held.specs.declared.entries.HeldFault.TheVariants.{Word, Entry, TooMany}

@@ -18,7 +18,7 @@ ghost use Rattle.conode_compare_held.specs.HeldWords.{
 
 use arrayvec::ArrayVec;
 use co_sheet::EntryRow;
-use co_sheet_names::row_at;
+use co_sheet_changes::row_at;
 use co_text::split_at_first;
 use co_value::{DataType, Key};
 

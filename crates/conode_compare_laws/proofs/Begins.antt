@@ -20,7 +20,7 @@ use Rattle.co_dict_build.specs.Built.{Plan, built, built_contents, built_descrip
 use Rattle.co_dict_build.specs.BuildFaults.{bad_cob_id, build_fault, fault_if, is_bad_channel_word, is_bad_cob_id, is_bad_word, is_channel_key, is_node, is_sync_key, is_used_before, is_word_key}
 use Rattle.co_dict_build.specs.ListedEntries.{ListedEntry, entry_at, keys_in}
 use Rattle.co_dict_build.proofs.Plans.{begins_initially}
-use Rattle.co_sdo_bank.specs.Channels.{ChannelSettings, channels_below, channels_of, settings_for}
+use Rattle.co_sdo.specs.Channels.{ChannelSettings, channels_below, channels_of, settings_for}
 use Rattle.co_pdo.specs.Tpdos.{tpdo_key}
 use Rattle.co_node_model.specs.Moments.{Constants}
 use Rattle.co_node.specs.Built.{IsBuilt}

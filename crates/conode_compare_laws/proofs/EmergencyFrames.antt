@@ -15,7 +15,7 @@ use Rattle.co_dict.specs.CobIds.{identifier_of, is_valid}
 use Rattle.co_dict.specs.Rows.{Contents, number_at}
 use Rattle.co_sheet.specs.Content.{Row}
 use Rattle.co_value.specs.Numbers.{unsigned_of}
-use Rattle.co_sdo_bank.specs.Events.{frames_at}
+use Rattle.co_sdo.specs.Events.{frames_at}
 use Rattle.co_node_parts.specs.EmergencyQueues.{EmergencyLog, is_inhibit_over, queue_of}
 use Rattle.co_node_parts.specs.NmtStates.{is_state}
 use Rattle.co_node_parts.specs.Producers.{is_heartbeat_due}

@@ -9,7 +9,7 @@ use Rattle.co_frame.specs.declared.heartbeat.Heartbeat.TheVariants.{BootUp}
 use Rattle.co_profile.specs.Keys.{producer_key}
 use Rattle.co_dict.specs.Rows.{number_at}
 use Rattle.co_sheet.specs.Content.{Row}
-use Rattle.co_sdo_bank.specs.Events.{frames_at}
+use Rattle.co_sdo.specs.Events.{frames_at}
 use Rattle.co_node_parts.specs.NmtStates.{heartbeat_of}
 use Rattle.co_node_parts.specs.Producers.{ProducerLog, is_heartbeat_due, period_of, ticks}
 use Rattle.co_node_parts.specs.declared.heartbeat_producer.ProducerEvent.TheVariants as producer

@@ -9,7 +9,7 @@ use Rattle.co_frame.specs.declared.nmt.NmtService.{NmtService}
 use Rattle.co_dict.specs.Rows.{Contents, number_at}
 use Rattle.co_dict.specs.Stores.{Description}
 use Rattle.co_sdo.specs.Completed.{key_set}
-use Rattle.co_sdo_bank.specs.Events.{number_for, set_of}
+use Rattle.co_sdo.specs.Events.{number_for, set_of}
 use Rattle.co_profile.specs.Keys.{error_behaviour_key}
 use Rattle.co_node_parts.specs.declared.nmt_state.NodeState.{NodeState}
 use Rattle.co_node_parts.specs.declared.nmt_state.NodeState.TheVariants.{Operational, Stopped}

@@ -15,7 +15,7 @@ use Rattle.co_dict.specs.CobIds.{identifier_of, is_valid}
 use Rattle.co_dict.specs.Rows.{Contents, number_at}
 use Rattle.co_dict.specs.Stores.{Description}
 use Rattle.co_sdo.specs.Completed.{key_set}
-use Rattle.co_sdo_bank.specs.Events.{frames_at, set_of}
+use Rattle.co_sdo.specs.Events.{frames_at, set_of}
 use Rattle.co_sheet.specs.Content.{Row}
 use Rattle.co_node_parts.specs.EmergencyQueues.{EmergencyLog, Noted, Sending, is_inhibit_over, is_past, older, queue_of, sendings, with_queued, with_sending}
 use Rattle.co_node_parts.specs.NmtStates.{heartbeat_of, is_state}

@@ -11,8 +11,8 @@ use Rattle.co_dict.specs.Rows.{Contents, number_at}
 use Rattle.co_dict.specs.Stores.{Description}
 use Rattle.co_sdo.specs.Log.{Answer, Log, Ticked as Elapsed, frames_on}
 use Rattle.co_sdo.specs.Opened.{is_time_over}
-use Rattle.co_sdo_bank.specs.Channels.{ChannelSettings}
-use Rattle.co_sdo_bank.specs.Events.{exchange_at, exchange_on, expired_in, frames_at, receiver, time_out_on, with_each}
+use Rattle.co_sdo.specs.Channels.{ChannelSettings}
+use Rattle.co_sdo.specs.Events.{exchange_at, exchange_on, expired_in, frames_at, receiver, time_out_on, with_each}
 use Rattle.co_pdo.specs.declared.settings.Settings.{Settings}
 use Rattle.co_pdo.specs.declared.tpdo.Occasion.{Occasion}
 use Rattle.co_pdo.specs.declared.tpdo.Occasion.TheVariants as occasion

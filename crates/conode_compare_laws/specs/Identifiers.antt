@@ -5,7 +5,7 @@ use Rattle.co_frame.specs.FrameContent.{FrameContent}
 use Rattle.co_profile.specs.Keys.{emergency_key}
 use Rattle.co_dict.specs.CobIds.{identifier_of, is_valid}
 use Rattle.co_dict.specs.Rows.{Contents, number_at}
-use Rattle.co_sdo_bank.specs.Events.{frames_at}
+use Rattle.co_sdo.specs.Events.{frames_at}
 use Rattle.co_pdo.specs.Tpdos.{tpdo_key}
 use Rattle.co_node_model.specs.Inputs.{InputView, Inputs, Framed, Ticked, Applied}
 use Rattle.co_node_model.specs.Moments.{Constants, Moment, channels}

@@ -7,7 +7,7 @@ ghost use Rattle.conode_compare_laws.specs.Recordings.{Stamped};
 
 use co_dict::{invalid_pdo_law, own_rule_law};
 use co_pdo::written_from_2000;
-use co_sdo_bank::Bank;
+use co_sdo::Bank;
 
 /// A device that is built with its SDO channels, EMCY and TPDOs aside from the identifiers of NMT
 /// and of its error control never sends one of these there, whatever inputs come: a write of such a

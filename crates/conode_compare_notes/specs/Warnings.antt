@@ -5,7 +5,7 @@ use Rattle.std.specs.Option.{option_map_or, option_or}
 use Rattle.co_frame.specs.FrameContent.{FrameContent}
 use Rattle.co_sheet.specs.Content.{Row}
 use Rattle.co_value.specs.declared.key.Key.{Key}
-use Rattle.co_sheet_names.specs.Names.{row_at}
+use Rattle.co_sheet_changes.specs.Names.{row_at}
 use Rattle.conode_explain_transfers.specs.declared.ended.Ended.{Ended}
 use Rattle.conode_explain_transfers.specs.declared.kinds.Direction.{Direction}
 use Rattle.conode_explain_transfers.specs.declared.kinds.Direction.TheVariants.{Download, Upload}

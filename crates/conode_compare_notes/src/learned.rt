@@ -16,7 +16,7 @@ ghost use Rattle.conode_compare_notes.specs.LearnedValues.{
 };
 
 use co_sheet::EntryRow;
-use co_sheet_names::row_at;
+use co_sheet_changes::row_at;
 use co_value::Key;
 use conode_compare_held::is_whole;
 use conode_compare_transfers::Exchange;

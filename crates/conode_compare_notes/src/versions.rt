@@ -23,7 +23,7 @@ ghost use Rattle.conode_compare_notes.specs.Versions.{
 
 use crate::warning::Warning;
 use co_sheet::EntryRow;
-use co_sheet_names::row_at;
+use co_sheet_changes::row_at;
 use co_sheet_rows::Preset;
 use co_value::Key;
 use conode_compare_pdos::number_of;

@@ -38,7 +38,7 @@ use crate::writes::Writes;
 use co_frame::Frame;
 use co_profile::{RESTORE_PARAMETERS, STORE_PARAMETERS};
 use co_sheet::EntryRow;
-use co_sheet_names::row_at;
+use co_sheet_changes::row_at;
 use co_value::Key;
 use conode_compare_held::{differs, held_width, is_whole, number_written};
 use conode_compare_pdos::number_of;

@@ -4,7 +4,7 @@ use Rattle.std.specs.Option.{option_map_or}
 use Rattle.co_sheet.specs.Content.{Row}
 use Rattle.co_sheet.specs.Limits.{Default, number, node_id}
 use Rattle.co_value.specs.declared.key.Key.{Key}
-use Rattle.co_sheet_names.specs.Names.{row_at}
+use Rattle.co_sheet_changes.specs.Names.{row_at}
 
 -- the number that a value is, for a node
 abbrev pub number_of : ℕ → Default → Option ℕ

@@ -15,7 +15,7 @@ ghost use Rattle.conode_compare_pdos.specs.SheetNumbers.{
 };
 
 use co_sheet::{EntryRow, Preset};
-use co_sheet_names::row_at;
+use co_sheet_changes::row_at;
 use co_value::Key;
 
 // one more than the greatest number of 32 bits

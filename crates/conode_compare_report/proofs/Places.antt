@@ -11,7 +11,7 @@ use Rattle.co_value.specs.declared.key.Key.{Key}
 use Rattle.co_value.specs.Keys.{same_key, same_key-refl, is_key_before, key_cmp, key_cmp_total, key_cmp_exact, is_lt-key_cmp}
 use Rattle.co_sheet_rows.specs.declared.entry.EntryRow.{EntryRow}
 use Rattle.co_sheet.specs.SheetViews.{row_view}
-use Rattle.co_sheet_names.proofs.Finds.{before_differs, after_isnt_before, other_differs}
+use Rattle.co_sheet_changes.proofs.Finds.{before_differs, after_isnt_before, other_differs}
 use Rattle.conode_compare_report.specs.Coverages.{place_of}
 
 -- ---- the place of the first element that passes

@@ -44,7 +44,7 @@ ghost use Rattle.conode_compare_report.specs.Occasions.{
 use crate::before::{Before, Role};
 use crate::kind::{Counted, KINDS, Kind};
 use co_sheet::EntryRow;
-use co_sheet_names::row_at;
+use co_sheet_changes::row_at;
 use conode_compare_pdos::Parameters;
 use conode_compare_rules::{FrameKind, NmtState, Verdict};
 use conode_compare_values::{has_limits, is_held, is_read_only, is_readable};

@@ -8,7 +8,7 @@ use Rattle.co_profile.specs.Keys.{producer_key, emergency_key, emergency_inhibit
 use Rattle.co_sheet.specs.Content.{Row}
 use Rattle.co_value.specs.declared.key.Key.{Key}
 use Rattle.co_value.specs.Keys.{same_key}
-use Rattle.co_sheet_names.specs.Names.{row_at}
+use Rattle.co_sheet_changes.specs.Names.{row_at}
 use Rattle.conode_explain_transfers.specs.declared.ended.Ended.{Ended}
 use Rattle.conode_explain_transfers.specs.declared.ended.Ending.{Ending}
 use Rattle.conode_explain_transfers.specs.declared.ended.Ending.TheVariants.{Done}

@@ -25,7 +25,7 @@ use co_frame::Frame;
 use co_profile::keys::{EMERGENCY_COB_ID, EMERGENCY_INHIBIT_TIME, PRODUCER_HEARTBEAT};
 use co_profile::{Access, STORE_PARAMETERS};
 use co_sheet::EntryRow;
-use co_sheet_names::row_at;
+use co_sheet_changes::row_at;
 use co_value::Key;
 use conode_compare_pdos::{
     Pdos, first_word, may_change, may_get, may_have, number_of, pdos_of, preset_at, small,

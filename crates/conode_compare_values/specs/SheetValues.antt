@@ -14,7 +14,7 @@ use Rattle.co_value.specs.declared.key.Key.{Key}
 use Rattle.co_value.specs.Numbers as numbers
 use Rattle.co_value.specs.Numbers.{unsigned_of}
 use Rattle.co_value.specs.Types.{width_of}
-use Rattle.co_sheet_names.specs.Names.{row_at}
+use Rattle.co_sheet_changes.specs.Names.{row_at}
 use Rattle.conode_explain_transfers.specs.declared.ended.Ended.{Ended}
 use Rattle.conode_explain_transfers.specs.declared.ended.Ending.{Ending}
 use Rattle.conode_explain_transfers.specs.declared.ended.Ending.TheVariants.{Done, Aborted}

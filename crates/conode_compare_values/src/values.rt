@@ -31,7 +31,7 @@ use crate::mismatch::Mismatch;
 use co_frame::AbortCode;
 use co_profile::{Access, DEVICE_TYPE};
 use co_sheet::EntryRow;
-use co_sheet_names::row_at;
+use co_sheet_changes::row_at;
 use co_value::{DataType, Key, from_bytes, unsigned_of};
 use conode_compare_pdos::number_of;
 use conode_explain_transfers::{Direction, Ended, Ending, Protocol, Side};

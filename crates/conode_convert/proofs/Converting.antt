@@ -7,16 +7,16 @@ use Rattle.std.specs.Str.Lines.{lines, strip_carriage_return}
 use Rattle.std.proofs.KnownBytes.{Appends-nil, Appends-kept}
 use Rattle.std.proofs.lemmas.Bool.Decides.{nat_tests}
 use Rattle.co_text.proofs.Tests.{by_test}
-use Rattle.co_bounded_lines.specs.declared.bounded_lines.Found.TheVariants.{Line, Last, TooLong}
-use Rattle.co_bounded_lines.specs.Founds.{is_closed, ClosesAlike, Finds}
-use Rattle.co_bounded_lines.specs.Held.{Held, nothing_held, to_come}
+use Rattle.co_stream.specs.declared.bounded_lines.Found.TheVariants.{Line, Last, TooLong}
+use Rattle.co_stream.specs.Founds.{is_closed, ClosesAlike, Finds}
+use Rattle.co_stream.specs.Held.{Held, nothing_held, to_come}
 use Rattle.co_stream.specs.Lines.{has_line_feed, GivesLine}
 use Rattle.co_stream.specs.Readings.{Gave, known_bytes}
 use Rattle.co_stream.proofs.LineLemmas.{cut_at_feed, lines-feed, lines-last}
 use Rattle.co_stream.proofs.Readers.{gave_nothing, gave_so, gave_then, of_given, of_known}
 use Rattle.conode_io.specs.Written.{WritesLines}
 use Rattle.conode_io.proofs.WriteLemmas.{lines_after}
-use Rattle.conode_lines.specs.TraceTexts.{GaveText}
+use Rattle.conode_io.specs.TraceTexts.{GaveText}
 use Rattle.conode_logs.specs.declared.log.Form.{Form}
 use Rattle.conode_logs.specs.declared.log.Log.{Log}
 use Rattle.conode_logs.specs.Logs.{says}

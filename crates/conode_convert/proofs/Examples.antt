@@ -16,11 +16,11 @@ use Rattle.conode_record.specs.declared.line.RecordLine.TheVariants as record_li
 use Rattle.conode_record.specs.Contents.{content_in}
 use Rattle.conode_record.specs.Fields.{stamp_at, interface_at, identifier_at}
 use Rattle.conode_record.specs.Lines.{frame_in, line_in}
-use Rattle.conode_log_parts.specs.declared.frame.LogContent.{LogContent}
-use Rattle.conode_log_parts.specs.declared.frame.LogContent.TheVariants.{Data, Remote, Fd}
-use Rattle.conode_log_parts.specs.declared.frame.LogFrame.{LogFrame}
-use Rattle.conode_log_parts.specs.declared.frame.Place.{Place}
-use Rattle.conode_log_parts.specs.declared.frame.Place.TheVariants.{Interface, Channel}
+use Rattle.conode_record.specs.declared.frame.LogContent.{LogContent}
+use Rattle.conode_record.specs.declared.frame.LogContent.TheVariants.{Data, Remote, Fd}
+use Rattle.conode_record.specs.declared.frame.LogFrame.{LogFrame}
+use Rattle.conode_record.specs.declared.frame.Place.{Place}
+use Rattle.conode_record.specs.declared.frame.Place.TheVariants.{Interface, Channel}
 use Rattle.conode_convert.specs.Printed.{frame_text, line_text, stamp_text}
 
 -- a frame at 1.0125 s

@@ -2,10 +2,10 @@
 -- line gives none, and is counted.
 use Rattle.std.specs.Prelude.{ℕ, ◌+◌, Bool, true, false, nat_lt, ◌||◌, if◌then◌else◌, List, [], ◌∷◌, ◌++◌, length, Result, Ok, Err}
 use Rattle.std.specs.Str.Lines.{lines}
-use Rattle.co_bounded_lines.specs.Founds.{is_closed}
-use Rattle.conode_log_parts.specs.declared.bad_line.BadLogLine.{BadLogLine}
-use Rattle.conode_log_parts.specs.declared.frame.LogLine.{LogLine}
-use Rattle.conode_log_parts.specs.declared.frame.LogLine.TheVariants.{Skipped, AsItIs, Frame}
+use Rattle.co_stream.specs.Founds.{is_closed}
+use Rattle.conode_record.specs.declared.bad_log_line.BadLogLine.{BadLogLine}
+use Rattle.conode_record.specs.declared.frame.LogLine.{LogLine}
+use Rattle.conode_record.specs.declared.frame.LogLine.TheVariants.{Skipped, AsItIs, Frame}
 use Rattle.conode_logs.specs.declared.log.Form.{Form}
 use Rattle.conode_logs.specs.declared.log.Log.{Log}
 use Rattle.conode_logs.specs.Logs.{says}

@@ -7,11 +7,11 @@ use Rattle.conode_record.specs.declared.content.Direction.{Direction}
 use Rattle.conode_record.specs.declared.content.Direction.TheVariants.{Received, Sent}
 use Rattle.conode_record.specs.declared.fields.Identifier.{Identifier}
 use Rattle.conode_record.specs.declared.fields.Identifier.TheVariants.{Base, Extended, Error}
-use Rattle.conode_log_parts.specs.declared.frame.LogContent.{LogContent}
-use Rattle.conode_log_parts.specs.declared.frame.LogContent.TheVariants.{Data, Remote, Fd}
-use Rattle.conode_log_parts.specs.declared.frame.LogFrame.{LogFrame}
-use Rattle.conode_log_parts.specs.declared.frame.Place.{Place}
-use Rattle.conode_log_parts.specs.declared.frame.Place.TheVariants.{Interface, Channel}
+use Rattle.conode_record.specs.declared.frame.LogContent.{LogContent}
+use Rattle.conode_record.specs.declared.frame.LogContent.TheVariants.{Data, Remote, Fd}
+use Rattle.conode_record.specs.declared.frame.LogFrame.{LogFrame}
+use Rattle.conode_record.specs.declared.frame.Place.{Place}
+use Rattle.conode_record.specs.declared.frame.Place.TheVariants.{Interface, Channel}
 
 -- seconds in ten digits, or in more where ten don't suffice, and microseconds, in parentheses
 unfoldable pub stamp_text : ℕ → List ℕ

@@ -1,6 +1,6 @@
 //! What is said of a line that can't be converted, and why the next one can't be read.
 
-use co_bounded_lines::ReadFault;
+use co_stream::ReadFault;
 use conode_io::CmdFault;
 use std::io::Write;
 

@@ -1,7 +1,7 @@
 //! A log converted: each of its frames on a line as `candump -L` writes it.
 
 ghost use Rattle.std.specs.Prelude.{IfOk, IfSome};
-ghost use Rattle.conode_lines.specs.TraceTexts.{GaveText};
+ghost use Rattle.conode_io.specs.TraceTexts.{GaveText};
 ghost use Rattle.conode_convert.specs.Taking.{Converts};
 
 use crate::step::Converting;

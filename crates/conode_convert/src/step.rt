@@ -2,7 +2,7 @@
 
 ghost use Rattle.std.specs.Prelude.{◌≡◌, ◌⊎◌, ◌≤◌, ◌++◌, [], ◌∷◌, OnOk, IfOk, IfErr, IfSome, IfNone};
 ghost use Rattle.std.specs.Io.KnownBytes.{Keeps, IsAtEnd};
-ghost use Rattle.co_bounded_lines.specs.Held.{nothing_held, to_come};
+ghost use Rattle.co_stream.specs.Held.{nothing_held, to_come};
 ghost use Rattle.co_stream.specs.Readings.{Gave};
 ghost use Rattle.conode_io.specs.Written.{WritesLines};
 ghost use Rattle.conode_logs.specs.Logs.{says};
@@ -12,7 +12,7 @@ ghost use Rattle.conode_convert.specs.Taking.{Takes};
 
 use crate::bad_lines::{TOO_LONG, name_bad_line, read_fault};
 use crate::text::add_line;
-use co_bounded_lines::{BoundedLines, Found};
+use co_stream::{BoundedLines, Found};
 use conode_io::{CmdFault, flush, hand_over};
 use conode_logs::{Form, Log, LogFrame, LogLine};
 use std::alloc::Global;

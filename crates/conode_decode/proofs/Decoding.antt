@@ -19,9 +19,9 @@ use Rattle.conode_io.specs.declared.fault.CmdFault.{CmdFault}
 use Rattle.conode_io.specs.declared.fault.CmdFault.TheVariants.{Read, Write, BadLine, Memory, NeverEnds}
 use Rattle.conode_io.specs.Written.{WritesFront, WritesFrontOrLines, WritesLines, WritesSome}
 use Rattle.conode_io.proofs.WriteLemmas.{lines_after, front_of_more, front_after_lines, some_of_more, some_after_lines}
-use Rattle.conode_lines.specs.TraceTexts.{NamesLongLine}
-use Rattle.conode_lines.proofs.Taking.{HasTaken, taken_none, taken_more, at_end, at_bad_line, at_long_line, within_line, before_end, in_line}
-use Rattle.co_sheet_names.specs.Names.{Names}
+use Rattle.conode_io.specs.TraceTexts.{NamesLongLine}
+use Rattle.conode_io.proofs.Taking.{HasTaken, taken_none, taken_more, at_end, at_bad_line, at_long_line, within_line, before_end, in_line}
+use Rattle.co_sheet_changes.specs.Names.{Names}
 use Rattle.conode_decode.specs.DecodedTraces.{decoded_lines, input_lines, said_lines, Decoded}
 
 -- what the inputs of a trace write, one by one

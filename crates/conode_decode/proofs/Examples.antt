@@ -13,7 +13,7 @@ use Rattle.co_sheet.specs.Limits.{absent}
 use Rattle.co_sheet.specs.Content.{Row, SheetContent}
 use Rattle.co_text.specs.Printed.{digits_text}
 use Rattle.conode_trace.specs.Printed.{frame_text}
-use Rattle.co_sheet_names.specs.Names.{Names, name_of}
+use Rattle.co_sheet_changes.specs.Names.{Names, name_of}
 use Rattle.conode_decode.specs.Names.{name_text}
 use Rattle.conode_decode.specs.SdoTexts.{expedited_text, initiate_text, segment_text, abort_text, acknowledge_text, block_end_text, request_text, request_key, answer_text, answer_key}
 use Rattle.conode_decode.specs.Texts.{nmt_text, sync_text, of_node, emergency_text, pdo_text, named_request, named_answer, sdo_request_text, sdo_answer_text, text_of_frame, decoded_line}

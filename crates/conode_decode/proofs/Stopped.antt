@@ -9,8 +9,8 @@ use Rattle.conode_io.specs.declared.fault.CmdFault.TheVariants.{Read, Write, Bad
 use Rattle.conode_io.specs.Endings.{stopped_line, SomeStopped, WritesStopped}
 use Rattle.conode_io.specs.Written.{WritesFrontOrLines, WritesLines, WritesSome}
 use Rattle.conode_io.proofs.StoppedLemmas.{some_stopped, stopped_after}
-use Rattle.conode_lines.specs.TraceTexts.{FailsWithinLine, trace_in}
-use Rattle.co_sheet_names.specs.Names.{Names}
+use Rattle.conode_io.specs.TraceTexts.{FailsWithinLine, trace_in}
+use Rattle.co_sheet_changes.specs.Names.{Names}
 use Rattle.conode_decode.specs.DecodedTraces.{Decoded, lines_of, trace_lines}
 
 -- ---- how decoding ended, by its result

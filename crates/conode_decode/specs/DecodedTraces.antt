@@ -8,8 +8,8 @@ use Rattle.conode_trace.specs.Traces.{Input, frame, tick, app, TimedInput, trace
 use Rattle.conode_io.specs.declared.fault.CmdFault.{CmdFault}
 use Rattle.conode_io.specs.declared.fault.CmdFault.TheVariants.{Read, Write, BadLine, Memory, NeverEnds}
 use Rattle.conode_io.specs.Written.{WritesFrontOrLines, WritesLines, WritesSome}
-use Rattle.conode_lines.specs.TraceTexts.{trace_in, FailsWithinLine}
-use Rattle.co_sheet_names.specs.Names.{Names, originals_in}
+use Rattle.conode_io.specs.TraceTexts.{trace_in, FailsWithinLine}
+use Rattle.co_sheet_changes.specs.Names.{Names, originals_in}
 use Rattle.conode_decode.specs.Texts.{decoded_line}
 
 -- the names of a data sheet, if there is one, for one node or for all

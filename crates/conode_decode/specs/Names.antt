@@ -2,7 +2,7 @@
 use Rattle.std.specs.Prelude.{ℕ, List, [], ◌∷◌, ◌++◌, codes, Option, option_and_then}
 use Rattle.std.specs.Option.{option_map_or}
 use Rattle.co_value.specs.declared.key.Key.{Key}
-use Rattle.co_sheet_names.specs.Names.{Names, name_of}
+use Rattle.co_sheet_changes.specs.Names.{Names, name_of}
 
 -- a space and a name in double quotes, if there is one
 abbrev pub quoted : Option (List ℕ) → List ℕ

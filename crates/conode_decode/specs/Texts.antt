@@ -19,7 +19,7 @@ use Rattle.co_frame.specs.SdoRequests.{request_in}
 use Rattle.co_frame.specs.SdoResponses.{response_in}
 use Rattle.conode_decode.specs.declared.service.Service.{Service}
 use Rattle.conode_decode.specs.declared.service.Service.TheVariants as services
-use Rattle.co_sheet_names.specs.Names.{Names}
+use Rattle.co_sheet_changes.specs.Names.{Names}
 use Rattle.conode_decode.specs.Names.{name_text}
 use Rattle.conode_decode.specs.SdoTexts.{request_text, request_key, answer_text, answer_key}
 use Rattle.conode_decode.specs.Services.{node_of, base_of, service_at}

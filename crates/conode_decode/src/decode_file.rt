@@ -3,7 +3,7 @@
 ghost use Rattle.std.specs.Prelude.{◌≡◌, ◌⊎◌, ℕ, [], IfSome, Some, None};
 ghost use Rattle.std.specs.Option.{option_copied};
 ghost use Rattle.std.specs.Process.{exit_status};
-ghost use Rattle.conode_lines.specs.TraceTexts.{trace_in, FailsWithinLine};
+ghost use Rattle.conode_io.specs.TraceTexts.{trace_in, FailsWithinLine};
 ghost use Rattle.conode_decode.specs.DecodedTraces.{lines_of, names_in, trace_lines};
 ghost use Rattle.conode_io.specs.Endings.{SomeStopped, WritesStopped};
 ghost use Rattle.conode_io.specs.Written.{WritesFrontOrLines, WritesLines};
@@ -11,9 +11,9 @@ ghost use Rattle.conode_io.specs.Written.{WritesFrontOrLines, WritesLines};
 use crate::decoded_trace::decode_from;
 use co_sheet::{Sheet, read};
 use conode_io::{
-    CmdFault, Ending, cannot_read, faulty_sheet, file_text, flushed, no_text, stopped,
+    BufferedRead, CmdFault, Ending, Waits, cannot_read, faulty_sheet, file_text, flushed, no_text,
+    stopped,
 };
-use conode_lines::{BufferedRead, Waits};
 use std::alloc::Global;
 use std::fs;
 use std::io::{BufReader, Input, Read, Write};

@@ -2,19 +2,18 @@
 
 ghost use Rattle.std.specs.Prelude.{◌≡◌, ◌⊎◌, ℕ, Bool, true, false, [], OnOk, IfErr, IfSome, Err, Some, None};
 ghost use Rattle.std.specs.Option.{option_copied};
-ghost use Rattle.co_sheet_names.specs.Names.{names_view};
+ghost use Rattle.co_sheet_changes.specs.Names.{names_view};
 ghost use Rattle.co_stream.specs.Nexts.{new_reader};
 ghost use Rattle.co_stream.specs.Readings.{Gave};
-ghost use Rattle.conode_lines.specs.TraceTexts.{trace_in, FailsWithinLine, GaveText};
+ghost use Rattle.conode_io.specs.TraceTexts.{trace_in, FailsWithinLine, GaveText};
 ghost use Rattle.conode_decode.specs.DecodedTraces.{names_in, said_lines, trace_lines, lines_of, Decoded};
 ghost use Rattle.conode_io.specs.Written.{WritesFront, WritesFrontOrLines, WritesLines, WritesSome};
 
 use crate::line::set_decoded_line;
 use co_sheet::Sheet;
-use co_sheet_names::Names;
+use co_sheet_changes::Names;
 use co_stream::LineReader;
-use conode_io::{CmdFault, hand_over};
-use conode_lines::{AnyRead, Waits, let_out, line_fault};
+use conode_io::{AnyRead, CmdFault, Waits, hand_over, let_out, line_fault};
 use conode_trace::{BadLine, TimedLine, TraceLine, TraceProgress};
 use std::alloc::Global;
 use std::io::{Read, Write};

@@ -1,13 +1,13 @@
 //! The line of a frame.
 
 ghost use Rattle.std.specs.Prelude.{◌≡◌, OnOk, string_bytes};
-ghost use Rattle.co_sheet_names.specs.Names.{names_view};
+ghost use Rattle.co_sheet_changes.specs.Names.{names_view};
 ghost use Rattle.conode_decode.specs.Texts.{decoded_line};
 
 use crate::node_services::push_text;
 use crate::numbers::push_words;
 use co_frame::Frame;
-use co_sheet_names::Names;
+use co_sheet_changes::Names;
 use co_text::push_decimal;
 use conode_trace::push_frame;
 use std::alloc::AllocError;

@@ -1,11 +1,11 @@
 //! The name of an entry behind a text with its key.
 
 ghost use Rattle.std.specs.Prelude.{◌≡◌, ◌++◌, OnOk, string_bytes};
-ghost use Rattle.co_sheet_names.specs.Names.{names_view};
+ghost use Rattle.co_sheet_changes.specs.Names.{names_view};
 ghost use Rattle.conode_decode.specs.Names.{name_text};
 
 use crate::numbers::push_words;
-use co_sheet_names::Names;
+use co_sheet_changes::Names;
 use co_value::Key;
 use std::alloc::AllocError;
 

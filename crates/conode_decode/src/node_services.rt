@@ -2,7 +2,7 @@
 //! of the text may be there.
 
 ghost use Rattle.std.specs.Prelude.{◌≡◌, ◌<◌, ◌++◌, OnOk, string_bytes};
-ghost use Rattle.co_sheet_names.specs.Names.{names_view};
+ghost use Rattle.co_sheet_changes.specs.Names.{names_view};
 ghost use Rattle.conode_decode.specs.Texts.{
   emergency_text,
   heartbeat_text,
@@ -27,7 +27,7 @@ use crate::service::Service;
 use co_frame::{
     Emergency, Frame, Heartbeat, NmtCommand, NmtService, SdoRequest, SdoResponse, Sync,
 };
-use co_sheet_names::Names;
+use co_sheet_changes::Names;
 use co_text::{push_byte, push_decimal, push_u16};
 use std::alloc::AllocError;
 

@@ -7,7 +7,7 @@ use Rattle.std.proofs.lemmas.Bool.{eqb-true}
 use Rattle.std.proofs.lemmas.Bool.Decides.{nat_tests}
 use Rattle.std.proofs.lemmas.List.{append-nil}
 use Rattle.co_text.proofs.Tests.{by_test}
-use Rattle.co_sheet_names.specs.Names.{Names}
+use Rattle.co_sheet_changes.specs.Names.{Names}
 use Rattle.conode_decode.specs.Services.{service_at}
 use Rattle.conode_decode.specs.Texts.{of_node, pdo_text, service_text, text_of_frame, unknown_text}
 use Rattle.co_frame.specs.FrameContent.{FrameContent}

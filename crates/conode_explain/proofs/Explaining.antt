@@ -7,9 +7,9 @@ use Rattle.std.specs.Str.Lines.{lines}
 use Rattle.std.proofs.KnownBytes.{Appends-nil, Appends-kept}
 use Rattle.std.proofs.lemmas.Bool.Decides.{nat_tests}
 use Rattle.co_text.proofs.Tests.{by_test}
-use Rattle.co_bounded_lines.specs.declared.bounded_lines.Found.TheVariants.{Line, Last, TooLong}
-use Rattle.co_bounded_lines.specs.Founds.{is_closed, ClosesAlike, Finds}
-use Rattle.co_bounded_lines.specs.Held.{Held, nothing_held, to_come}
+use Rattle.co_stream.specs.declared.bounded_lines.Found.TheVariants.{Line, Last, TooLong}
+use Rattle.co_stream.specs.Founds.{is_closed, ClosesAlike, Finds}
+use Rattle.co_stream.specs.Held.{Held, nothing_held, to_come}
 use Rattle.co_stream.specs.Lines.{has_line_feed, GivesLine}
 use Rattle.co_stream.specs.Readings.{Gave}
 use Rattle.co_stream.proofs.LineLemmas.{cut_at_feed, lines-feed, lines-last}
@@ -17,7 +17,7 @@ use Rattle.co_stream.proofs.Readers.{gave_nothing, gave_so, gave_then, of_given,
 use Rattle.conode_explain_pdo.specs.Known.{KnownSheet}
 use Rattle.conode_io.specs.Written.{WritesLines}
 use Rattle.conode_io.proofs.WriteLemmas.{lines_after}
-use Rattle.conode_lines.specs.TraceTexts.{GaveText}
+use Rattle.conode_io.specs.TraceTexts.{GaveText}
 use Rattle.conode_convert.specs.Converted.{at_start}
 use Rattle.conode_logs.specs.declared.log.Log.{Log}
 use Rattle.conode_logs.specs.Logs.{says}
@@ -209,7 +209,7 @@ module _ (form : Layout) (sheets : List KnownSheet) where
           ∙ one_line form sheets log so_far line (lines_left (form.stop && (faults_in (line_at log line) == 1)) form (says log line).0 ys) few
           ∙ ap (λ (ls : List (List ℕ)). said_lines form sheets so_far (line_at log line) ++ explained_from form sheets (says log line).0 (progress_after form sheets so_far (line_at log line)) ls)
           (none_read (form.stop && (faults_in (line_at log line) == 1)) form (says log line).0 (lines ys) (nothing_left xs ys line gives none)
-              ∙ sym (none_read stopped form (says log line).0 (lines ys) (nothing_left xs ys line gives none))),
+          ∙ sym (none_read stopped form (says log line).0 (lines ys) (nothing_left xs ys line gives none))),
       counted_last log (says log line).0 xs ys line gives none few ∙ omega arith,
     )
 

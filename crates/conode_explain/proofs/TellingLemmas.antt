@@ -7,8 +7,8 @@ use Rattle.conode_record.specs.declared.content.Content.TheVariants.{Data, Remot
 use Rattle.conode_record.specs.declared.fields.Identifier.{Identifier}
 use Rattle.conode_record.specs.declared.fields.Identifier.TheVariants.{Base, Extended, Error}
 use Rattle.conode_record.specs.declared.line.Record.{Record}
-use Rattle.conode_explain_channels.specs.declared.track.Track.{Track}
-use Rattle.conode_explain_channels.specs.Tellings.{telling}
+use Rattle.conode_explain_transfers.specs.declared.track.Track.{Track}
+use Rattle.conode_explain_transfers.specs.Tellings.{telling}
 use Rattle.conode_explain.specs.Explained.{may_be_told, telling_in, telling_of}
 
 untold_data : (channels : List Track) (interface : List ℕ) (micros id : ℕ) (bytes : List ℕ) → ltb 0x580 id ≡ false

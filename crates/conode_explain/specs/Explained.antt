@@ -4,7 +4,7 @@
 use Rattle.std.specs.Prelude.{ℕ, ◌+◌, ◌==◌, Bool, false, min, nat_lt, ◌&&◌, ◌||◌, if◌then◌else◌, List, [], ◌∷◌, ◌++◌, length, Option, Some, None}
 use Rattle.std.specs.List.{flat_map}
 use Rattle.std.specs.Str.Lines.{lines}
-use Rattle.co_bounded_lines.specs.Founds.{is_closed}
+use Rattle.co_stream.specs.Founds.{is_closed}
 use Rattle.conode_convert.specs.Converted.{at_start}
 use Rattle.conode_logs.specs.declared.log.Log.{Log}
 use Rattle.conode_logs.specs.Logs.{says}
@@ -15,10 +15,10 @@ use Rattle.conode_record.specs.declared.fields.Identifier.TheVariants.{Base}
 use Rattle.conode_record.specs.declared.line.Record.{Record}
 use Rattle.conode_record.specs.declared.line.RecordLine.{RecordLine}
 use Rattle.conode_record.specs.declared.line.RecordLine.TheVariants.{Skipped, Frame}
-use Rattle.conode_explain_channels.specs.declared.told.Told.{Told}
-use Rattle.conode_explain_channels.specs.declared.track.Track.{Track}
-use Rattle.conode_explain_channels.specs.Tellings.{telling}
-use Rattle.conode_explain_channels.specs.Tracks.{Telling}
+use Rattle.conode_explain_transfers.specs.declared.told.Told.{Told}
+use Rattle.conode_explain_transfers.specs.declared.track.Track.{Track}
+use Rattle.conode_explain_transfers.specs.Tellings.{telling}
+use Rattle.conode_explain_transfers.specs.Tracks.{Telling}
 use Rattle.conode_explain_entries.specs.declared.entries.ShownPdo.{ShownPdo}
 use Rattle.conode_explain_entries.specs.Tables.{entries_with}
 use Rattle.conode_explain_pdo.specs.Buses.{Bus}

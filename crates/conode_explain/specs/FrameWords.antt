@@ -1,6 +1,6 @@
 -- What a frame says.
 use Rattle.std.specs.Prelude.{ℕ, ◌/◌, ◌%◌, ◌==◌, nat_lt, Bool, not, ◌&&◌, if◌then◌else◌, List, [], ◌∷◌, ◌++◌, codes, decimal, unwrap_or}
-use Rattle.co_sheet_names.specs.Names.{Names}
+use Rattle.co_sheet_changes.specs.Names.{Names}
 use Rattle.conode_decode.specs.Texts.{text_of_frame}
 use Rattle.conode_record.specs.declared.content.Content.{Content}
 use Rattle.conode_record.specs.declared.content.Content.TheVariants.{Data, Remote, Fd}

@@ -2,9 +2,9 @@
 -- recorder's log is read as the line that `convert` writes of it.
 use Rattle.std.specs.Prelude.{ℕ, List, Option, Some, None, Result, Ok, Err}
 use Rattle.conode_convert.specs.Printed.{frame_text}
-use Rattle.conode_log_parts.specs.declared.bad_line.BadLogLine.{BadLogLine}
-use Rattle.conode_log_parts.specs.declared.frame.LogLine.{LogLine}
-use Rattle.conode_log_parts.specs.declared.frame.LogLine.TheVariants as log_line
+use Rattle.conode_record.specs.declared.bad_log_line.BadLogLine.{BadLogLine}
+use Rattle.conode_record.specs.declared.frame.LogLine.{LogLine}
+use Rattle.conode_record.specs.declared.frame.LogLine.TheVariants as log_line
 use Rattle.conode_logs.specs.declared.log.Log.{Log}
 use Rattle.conode_logs.specs.Logs.{says}
 use Rattle.conode_record.specs.declared.bad_line.BadLine.{BadLine}

@@ -2,7 +2,7 @@
 use Rattle.std.specs.Prelude.{ℕ, Bool, true, false, ◌&&◌, List, ◌++◌, filter, map, Option, Some, None, is_some}
 use Rattle.std.specs.Option.{option_copied}
 use Rattle.co_frame.specs.Segments.{same_bool}
-use Rattle.co_sheet_names.specs.Names.{originals_in}
+use Rattle.co_sheet_changes.specs.Names.{originals_in}
 use Rattle.conode_explain_pdo.specs.Known.{KnownSheet, known_sheet, known_view}
 use Rattle.conode_explain.specs.declared.sheets.ReadSheet.{ReadSheet}
 use Rattle.conode_explain.specs.declared.writes.Settings.{Settings}

@@ -1,7 +1,7 @@
 -- How far a log is explained.
 use Rattle.std.specs.Prelude.{◌≡◌, ℕ, ◌+◌, Bool, if◌then◌else◌, List, [], ◌++◌, Option, Some, None, ⊤}
 use Rattle.std.specs.Str.Lines.{lines}
-use Rattle.co_bounded_lines.specs.Held.{Held, to_come}
+use Rattle.co_stream.specs.Held.{Held, to_come}
 use Rattle.co_stream.specs.Readings.{Gave}
 use Rattle.conode_explain_pdo.specs.Known.{KnownSheet}
 use Rattle.conode_convert.specs.Converted.{at_start}

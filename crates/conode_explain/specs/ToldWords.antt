@@ -1,10 +1,10 @@
 -- What is said of SDO transfers: of their frames, and of those that ended.
 use Rattle.std.specs.Prelude.{ℕ, List, [], ◌++◌, codes, decimal, Option, Some, None, option_and_then, unwrap_or}
 use Rattle.co_value.specs.declared.key.Key.{Key}
-use Rattle.co_sheet_names.specs.Names.{Names, entry_of, shown_name}
+use Rattle.co_sheet_changes.specs.Names.{Names, entry_of, shown_name}
 use Rattle.conode_record.specs.declared.line.Record.{Record}
-use Rattle.conode_explain_channels.specs.declared.told.Part.{Part}
-use Rattle.conode_explain_channels.specs.declared.told.Told.{Told}
+use Rattle.conode_explain_transfers.specs.declared.told.Part.{Part}
+use Rattle.conode_explain_transfers.specs.declared.told.Told.{Told}
 use Rattle.conode_explain_services.specs.declared.last.Last.{Last}
 use Rattle.conode_explain_transfers.specs.declared.ended.Ended.{Ended}
 use Rattle.conode_explain_transfers.specs.declared.ended.Ending.{Ending}

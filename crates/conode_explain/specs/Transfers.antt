@@ -12,7 +12,7 @@ use Rattle.co_frame.specs.declared.sdo_response.SdoResponse.TheVariants.{UploadE
 use Rattle.co_frame.specs.SdoRequests.{request_in}
 use Rattle.co_frame.specs.SdoResponses.{response_in}
 use Rattle.co_sheet.specs.Content.{Row}
-use Rattle.co_sheet_names.specs.Names.{Names, entry_of}
+use Rattle.co_sheet_changes.specs.Names.{Names, entry_of}
 use Rattle.conode_explain.specs.declared.transfer.Transfer.{Transfer}
 use Rattle.conode_explain_pdo.specs.Buses.{Bus, names_at}
 use Rattle.conode_explain_pdo.specs.KnownEntries.{known_text}

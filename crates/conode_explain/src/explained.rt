@@ -1,9 +1,9 @@
 //! A recording explained: each of its frames on a line.
 
 ghost use Rattle.std.specs.Prelude.{◌≡◌, IfOk, IfSome};
-ghost use Rattle.co_bounded_lines.specs.Held.{nothing_held};
+ghost use Rattle.co_stream.specs.Held.{nothing_held};
 ghost use Rattle.conode_convert.specs.Converted.{at_start};
-ghost use Rattle.conode_lines.specs.TraceTexts.{GaveText};
+ghost use Rattle.conode_io.specs.TraceTexts.{GaveText};
 ghost use Rattle.conode_explain.specs.Explained.{nothing_known};
 ghost use Rattle.conode_explain.specs.Taking.{Explains};
 ghost use Rattle.conode_explain.specs.Sheets.{sheets_of};

@@ -1,7 +1,7 @@
 //! What a frame says.
 
 ghost use Rattle.std.specs.Prelude.{◌≡◌, ◌++◌, ◌<◌, true, OnOk, string_bytes};
-ghost use Rattle.co_sheet_names.specs.Names.{names_view};
+ghost use Rattle.co_sheet_changes.specs.Names.{names_view};
 ghost use Rattle.conode_explain_pdo.specs.Buses.{bus_view};
 ghost use Rattle.conode_record.specs.Grammar.{IsIdentifier};
 ghost use Rattle.conode_explain.specs.FrameWords.{assumed_front, assumed_mark, assumed_words, data_words, frame_words, is_default_pdo, other_words, plain_words, remote_content, served_words, words_of_content};
@@ -9,7 +9,7 @@ ghost use Rattle.conode_explain.specs.FrameWords.{assumed_front, assumed_mark, a
 use crate::abort_words::push_abort_words;
 use crate::transfer::{push_transfer, transfer_in};
 use co_frame::Frame;
-use co_sheet_names::Names;
+use co_sheet_changes::Names;
 use co_text::push_decimal;
 use co_value::PackedBytes;
 use conode_decode::push_text;

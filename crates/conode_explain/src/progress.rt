@@ -8,12 +8,12 @@ ghost use Rattle.conode_explain.specs.Explained.{may_be_told, nothing_known, tel
 ghost use Rattle.conode_explain.specs.Nodes.{last_at, nodes_with};
 
 use co_frame::Frame;
-use conode_explain_channels::{Channels, Told};
 use conode_explain_entries::Entries;
 use conode_explain_filter::{Filter, Lasts};
 use conode_explain_forms::Signal;
 use conode_explain_services::{Last, Nodes};
 use conode_explain_text::{Seen, StampForm};
+use conode_explain_transfers::{Channels, Told};
 use conode_logs::Form;
 use conode_record::{Content, Identifier, Record};
 use std::alloc::{AllocError, Global};

@@ -1,13 +1,12 @@
 //! The data sheets by which a recording is explained.
 
 ghost use Rattle.std.specs.Prelude.{◌≡◌, ◌++◌, IfOk, map};
-ghost use Rattle.co_sheet_names.specs.Names.{names_view};
+ghost use Rattle.co_sheet_changes.specs.Names.{names_view};
 ghost use Rattle.conode_explain_pdo.specs.Known.{known_view};
 ghost use Rattle.conode_explain.specs.Sheets.{in_order, is_kind, node_for, of_kind, read_view};
 
 use co_sheet::Sheet;
-use co_sheet_changes::Originals;
-use co_sheet_names::Names;
+use co_sheet_changes::{Names, Originals};
 use conode_convert::SheetWord;
 use conode_explain_pdo::KnownSheet;
 use std::alloc::{AllocError, Global};

@@ -2,7 +2,7 @@
 
 ghost use Rattle.std.specs.Prelude.{◌≡◌, ◌⊎◌, ◌≤◌, ◌==◌, ◌&&◌, OnOk, IfOk, IfErr, IfSome, IfNone};
 ghost use Rattle.std.specs.Io.KnownBytes.{Keeps, IsAtEnd};
-ghost use Rattle.co_bounded_lines.specs.Held.{nothing_held, to_come};
+ghost use Rattle.co_stream.specs.Held.{nothing_held, to_come};
 ghost use Rattle.co_stream.specs.Readings.{Gave};
 ghost use Rattle.conode_io.specs.Written.{WritesLines};
 ghost use Rattle.conode_convert.specs.Converted.{at_start};
@@ -22,13 +22,12 @@ ghost use Rattle.conode_explain.specs.Sheets.{sheets_of};
 use crate::bad_words::{TOO_LONG, bad_words};
 use crate::progress::Progress;
 use crate::writes::{Room, Settings, write_frame, write_unfinished};
-use co_bounded_lines::{BoundedLines, Found, ReadFault};
+use co_stream::{BoundedLines, Found, ReadFault};
 use conode_convert::add_frame;
 use conode_explain_pdo::Claim;
 use conode_io::{CmdFault, flush};
-use conode_log_parts::LogLine;
 use conode_logs::{Form, Log};
-use conode_record::RecordLine;
+use conode_record::{LogLine, RecordLine};
 use std::alloc::Global;
 use std::io::{Read, Write};
 

@@ -1,7 +1,7 @@
 //! What is said of SDO transfers: of their frames, and of those that ended.
 
 ghost use Rattle.std.specs.Prelude.{◌≡◌, ◌++◌, OnOk, string_bytes};
-ghost use Rattle.co_sheet_names.specs.Names.{names_view};
+ghost use Rattle.co_sheet_changes.specs.Names.{names_view};
 ghost use Rattle.conode_explain_pdo.specs.Buses.{bus_view};
 ghost use Rattle.conode_record.specs.Grammar.{IsIdentifier};
 ghost use Rattle.conode_explain.specs.ToldWords.{
@@ -16,14 +16,13 @@ ghost use Rattle.conode_explain.specs.ToldWords.{
 
 use crate::abort_words::words_of;
 use crate::frame_words::set_words;
-use co_sheet_names::{Names, shown_name};
+use co_sheet_changes::{Names, shown_name};
 use co_text::push_decimal;
 use co_value::Key;
-use conode_explain_channels::{Part, Told};
 use conode_explain_pdo::{Bus, Claim};
 use conode_explain_services::Last;
 use conode_explain_transfer_text::{push_after, push_end, push_segment, segment_number};
-use conode_explain_transfers::{Ended, Ending, Side};
+use conode_explain_transfers::{Ended, Ending, Part, Side, Told};
 use conode_record::Record;
 use std::alloc::AllocError;
 

@@ -2,7 +2,7 @@
 
 ghost use Rattle.std.specs.Prelude.{◌≡◌, ◌++◌, ◌≤◌, OnOk, length, string_bytes};
 ghost use Rattle.co_sheet.specs.SheetViews.{row_view};
-ghost use Rattle.co_sheet_names.specs.Names.{names_view};
+ghost use Rattle.co_sheet_changes.specs.Names.{names_view};
 ghost use Rattle.conode_explain.specs.Transfers.{
   download_in,
   front_of,
@@ -17,7 +17,7 @@ ghost use Rattle.conode_explain.specs.Transfers.{
 
 use co_frame::{ExpeditedData, Frame, SdoRequest, SdoResponse};
 use co_sheet::EntryRow;
-use co_sheet_names::Names;
+use co_sheet_changes::Names;
 use co_text::push_decimal;
 use co_value::{DataType, Key};
 use conode_explain_pdo::push_known;

@@ -19,7 +19,7 @@ ghost use Rattle.conode_explain_entries.specs.Tables.{
 use crate::event::{Event, event_in};
 use crate::state::PdoState;
 use arrayvec::ArrayVec;
-use conode_explain_channels::Told;
+use conode_explain_transfers::Told;
 use std::alloc::{AllocError, Global};
 use std::marker::Model;
 

@@ -22,8 +22,7 @@ ghost use Rattle.conode_explain_entries.specs.Events.{
 
 use co_profile::{IndexRange, PDO_COB_ID, RESTORE_PARAMETERS, STORE_PARAMETERS};
 use co_value::{Key, unsigned_of};
-use conode_explain_channels::Told;
-use conode_explain_transfers::{Direction, Ended, Ending, Side};
+use conode_explain_transfers::{Direction, Ended, Ending, Side, Told};
 
 /// Which entry of a PDO.
 #[derive(Clone, Copy)]

@@ -12,8 +12,8 @@ use Rattle.co_value.specs.KeyTexts.{key_in}
 use Rattle.co_profile.specs.declared.access.Access.TheVariants.{Rw}
 use Rattle.co_sheet.specs.Limits.{absent}
 use Rattle.co_sheet.specs.Content.{Row}
-use Rattle.co_sheet_names.specs.Names.{entry_of}
-use Rattle.conode_explain_channels.specs.declared.told.Told.{Told}
+use Rattle.co_sheet_changes.specs.Names.{entry_of}
+use Rattle.conode_explain_transfers.specs.declared.told.Told.{Told}
 use Rattle.conode_explain_transfers.specs.declared.ended.Ended.{Ended}
 use Rattle.conode_explain_transfers.specs.declared.ended.Ending.{Ending}
 use Rattle.conode_explain_transfers.specs.declared.ended.Ending.TheVariants.{Done, Irregular, Unfinished}

@@ -6,8 +6,8 @@ use Rattle.co_value.specs.Keys.{same_key}
 use Rattle.co_value.specs.Numbers.{unsigned_of}
 use Rattle.co_value.specs.Types.{width_of}
 use Rattle.co_sheet.specs.Content.{Row}
-use Rattle.co_sheet_names.specs.Names.{Names, entry_of}
-use Rattle.conode_explain_channels.specs.declared.told.Told.{Told}
+use Rattle.co_sheet_changes.specs.Names.{Names, entry_of}
+use Rattle.conode_explain_transfers.specs.declared.told.Told.{Told}
 use Rattle.conode_explain_transfers.specs.declared.ended.Ended.{Ended}
 use Rattle.conode_explain_transfers.specs.declared.ended.Ending.{Ending}
 use Rattle.conode_explain_transfers.specs.declared.ended.Ending.TheVariants.{Done}

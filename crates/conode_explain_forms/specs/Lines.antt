@@ -4,7 +4,7 @@ use Rattle.std.specs.List.{flat_map, list_any}
 use Rattle.std.specs.Option.{option_map_or}
 use Rattle.co_value.specs.KeyTexts.{key_text}
 use Rattle.co_sheet.specs.Content.{Row}
-use Rattle.co_sheet_names.specs.Names.{entry_of, shown_name}
+use Rattle.co_sheet_changes.specs.Names.{entry_of, shown_name}
 use Rattle.conode_explain_pdo.specs.Known.{KnownSheet, names_for}
 use Rattle.conode_explain_text.specs.Said.{is_control, shown_byte}
 use Rattle.conode_explain_text.specs.declared.so_far.Times.{Times}

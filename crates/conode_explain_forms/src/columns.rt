@@ -25,7 +25,7 @@ ghost use Rattle.conode_explain_forms.specs.Lines.{
 use crate::signal::Signal;
 use crate::words::push_words;
 use co_sheet::EntryRow;
-use co_sheet_names::shown_name;
+use co_sheet_changes::shown_name;
 use co_text::{byte_digits, decimal_digits};
 use conode_explain_pdo::{KnownSheet, names_for};
 use std::alloc::{AllocError, Global};

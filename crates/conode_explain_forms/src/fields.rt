@@ -3,7 +3,7 @@
 ghost use Rattle.std.specs.Prelude.{◌≡◌, ◌++◌, ◌≤◌, [], OnOk, IfOk, IfSome, is_some, length, string_bytes, take, unwrap_or};
 ghost use Rattle.std.specs.Option.{option_copied};
 ghost use Rattle.co_sheet.specs.SheetViews.{row_view};
-ghost use Rattle.co_sheet_names.specs.Names.{names_view};
+ghost use Rattle.co_sheet_changes.specs.Names.{names_view};
 ghost use Rattle.conode_explain_pdo.specs.Buses.{bus_view};
 ghost use Rattle.conode_explain_values.specs.Types.{is_boolean_type};
 ghost use Rattle.conode_explain_values.specs.Values.{HasBits};
@@ -26,12 +26,11 @@ ghost use Rattle.conode_explain_forms.specs.Fields.{
 
 use crate::signal::Signal;
 use co_sheet::EntryRow;
-use co_sheet_names::Names;
+use co_sheet_changes::Names;
 use co_text::push_decimal;
 use co_value::{DataType, unsigned_of};
-use conode_explain_channels::Told;
 use conode_explain_pdo::{Bus, Claim, EntryBits, type_in};
-use conode_explain_transfers::{Direction, Ended, Ending, Protocol};
+use conode_explain_transfers::{Direction, Ended, Ending, Protocol, Told};
 use conode_explain_values::{ValueType, push_value};
 use std::alloc::AllocError;
 

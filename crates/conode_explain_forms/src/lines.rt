@@ -9,9 +9,9 @@ ghost use Rattle.conode_explain_forms.specs.Lines.{after_comma, has_one, signal_
 use crate::fields::push_field;
 use crate::signal::Signal;
 use crate::stamps::push_stamp;
-use conode_explain_channels::Told;
 use conode_explain_pdo::{Bus, Claim};
 use conode_explain_text::{StampForm, Times};
+use conode_explain_transfers::Told;
 use std::alloc::AllocError;
 
 fn push_after_comma<'b>(

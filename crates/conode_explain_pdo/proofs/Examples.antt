@@ -10,7 +10,7 @@ use Rattle.co_profile.specs.declared.access.Access.TheVariants.{Rw}
 use Rattle.co_sheet.specs.Limits.{Default, absent, number, node_id}
 use Rattle.co_sheet.specs.Content.{Row}
 use Rattle.co_text.specs.Printed.{digits_text}
-use Rattle.co_sheet_names.specs.Names.{Names, entry_of}
+use Rattle.co_sheet_changes.specs.Names.{Names, entry_of}
 use Rattle.conode_explain_values.specs.Numbers.{number_text}
 use Rattle.conode_explain_values.specs.Unicode.{characters_text}
 use Rattle.conode_explain_values.specs.Values.{entry_text, value_text}
@@ -136,8 +136,8 @@ one_more = refl
 abbrev drive : ℕ → List ℕ → List ℕ → List ℕ
 drive device_type words bytes =
     mapped_text (names_with (
-        row 0x1000 0 Unsigned32 (number (pos device_type)) (codes "D") ∷ row 0x6041 0 Unsigned16 absent (codes "S") ∷ row 0x6061 0 Unsigned8 absent (codes "M") ∷ []
-        )) 5 words bytes
+    row 0x1000 0 Unsigned32 (number (pos device_type)) (codes "D") ∷ row 0x6041 0 Unsigned16 absent (codes "S") ∷ row 0x6061 0 Unsigned8 absent (codes "M") ∷ []
+    )) 5 words bytes
 
 in_words : drive 0x00020192 (0x60410010 ∷ 0x60610008 ∷ []) (0x37 ∷ 0x04 ∷ 0x08 ∷ []) ≡ codes "S 6041:00 = 1079 (operation enabled, target reached); M 6061:00 = 8 (cyclic synchronous position)"
 unfolding mapped_text parts_text more_parts part_text part_bytes short_text more_text bytes_words entry_of known_text is_node_drive drive_words meaning_at word_text statusword_words state_words mode_words entry_text value_text number_text digits digits_text is_utf8 chars encode

@@ -1,6 +1,6 @@
 -- What is known of the PDOs of a bus.
 use Rattle.std.specs.Prelude.{ℕ, List, map}
-use Rattle.co_sheet_names.specs.Names.{Names}
+use Rattle.co_sheet_changes.specs.Names.{Names}
 use Rattle.conode_explain_entries.specs.declared.entries.ShownPdo.{ShownPdo}
 use Rattle.conode_explain_pdo.specs.declared.bus.Bus.{Bus as BusOfCode}
 use Rattle.conode_explain_pdo.specs.Known.{KnownSheet, known_view, names_for}

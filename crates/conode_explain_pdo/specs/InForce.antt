@@ -3,7 +3,7 @@ use Rattle.std.specs.Prelude.{ℕ, zero, suc, ◌+◌, ◌%◌, ◌==◌, nat_le
 use Rattle.std.specs.List.{flat_map, list_all}
 use Rattle.std.specs.Option.{option_map_or}
 use Rattle.co_text.specs.Printed.{byte_text}
-use Rattle.co_sheet_names.specs.Names.{Names}
+use Rattle.co_sheet_changes.specs.Names.{Names}
 use Rattle.conode_explain_entries.specs.declared.state.PdoState.{PdoState}
 use Rattle.conode_explain_entries.specs.declared.state.Value.{Value}
 use Rattle.conode_explain_entries.specs.declared.state.Value.TheVariants.{Assumed, Seen, Saved, Unknown}

@@ -2,7 +2,7 @@
 use Rattle.std.specs.Prelude.{ℕ, Bool, true, ◌&&◌, List, [], find, Option, None}
 use Rattle.std.specs.Option.{option_copied, option_map_or}
 use Rattle.std.specs.Str.{bytes_eq}
-use Rattle.co_sheet_names.specs.Names.{Names, are_for, names_view}
+use Rattle.co_sheet_changes.specs.Names.{Names, are_for, names_view}
 use Rattle.conode_explain_pdo.specs.declared.known_sheet.KnownSheet.{KnownSheet as KnownSheetOfCode}
 use Rattle.conode_explain_pdo.specs.declared.sheet.SheetPdo.{SheetPdo}
 use Rattle.conode_explain_pdo.specs.Sheets.{sheet_pdos}

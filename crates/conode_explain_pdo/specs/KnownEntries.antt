@@ -3,7 +3,7 @@ use Rattle.std.specs.Prelude.{ℕ, ◌%◌, ◌==◌, Bool, false, ◌&&◌, if�
 use Rattle.std.specs.Option.{option_map_or}
 use Rattle.co_value.specs.declared.key.Key.{Key}
 use Rattle.co_sheet.specs.Content.{Row}
-use Rattle.co_sheet_names.specs.Names.{Names, entry_of, shown_name}
+use Rattle.co_sheet_changes.specs.Names.{Names, entry_of, shown_name}
 use Rattle.conode_explain_services.specs.Drives.{drive_words, has_meaning, is_drive}
 use Rattle.conode_explain_values.specs.Values.{entry_text}
 use Rattle.conode_explain_pdo.specs.Sheets.{number_of}

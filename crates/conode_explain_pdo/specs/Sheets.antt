@@ -6,7 +6,7 @@ use Rattle.co_profile.specs.declared.indices.IndexRange.{IndexRange}
 use Rattle.co_profile.specs.Indices.{is_within, rpdo_communication, tpdo_communication}
 use Rattle.co_sheet.specs.Limits.{Default, number}
 use Rattle.co_sheet.specs.Content.{Row}
-use Rattle.co_sheet_names.specs.Names.{Names, row_at}
+use Rattle.co_sheet_changes.specs.Names.{Names, row_at}
 use Rattle.conode_explain_pdo.specs.declared.sheet.SheetPdo.{SheetPdo}
 use Rattle.conode_explain_pdo.specs.CobIds.{cob_id_of}
 use Rattle.conode_explain_pdo.specs.Content.{Mapping}

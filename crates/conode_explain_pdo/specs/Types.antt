@@ -1,6 +1,6 @@
 -- The data types of the values of a sheet's entries.
 use Rattle.co_sheet.specs.Content.{Row}
-use Rattle.co_sheet_names.specs.Names.{Names, original_of}
+use Rattle.co_sheet_changes.specs.Names.{Names, original_of}
 use Rattle.conode_explain_values.specs.declared.value_type.ValueType.{ValueType}
 use Rattle.conode_explain_values.specs.Types.{type_of}
 

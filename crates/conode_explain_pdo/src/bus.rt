@@ -1,12 +1,12 @@
 //! What is known of the PDOs of a bus.
 
 ghost use Rattle.std.specs.Prelude.{◌≡◌};
-ghost use Rattle.co_sheet_names.specs.Names.{names_view};
+ghost use Rattle.co_sheet_changes.specs.Names.{names_view};
 ghost use Rattle.conode_explain_pdo.specs.Buses.{bus_view, names_at};
 
 use crate::known::names_for;
 use crate::known_sheet::KnownSheet;
-use co_sheet_names::Names;
+use co_sheet_changes::Names;
 use conode_explain_entries::Entries;
 
 /// What is known of the PDOs of a bus.

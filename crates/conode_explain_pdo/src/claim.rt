@@ -2,7 +2,7 @@
 
 ghost use Rattle.std.specs.Prelude.{◌≡◌, ◌++◌, [], OnOk, filter_map, map};
 ghost use Rattle.std.specs.List.{list_any};
-ghost use Rattle.co_sheet_names.specs.Names.{names_view};
+ghost use Rattle.co_sheet_changes.specs.Names.{names_view};
 ghost use Rattle.conode_explain_pdo.specs.Buses.{bus_view};
 ghost use Rattle.conode_explain_pdo.specs.Known.{known_view};
 ghost use Rattle.conode_explain_pdo.specs.Claims.{

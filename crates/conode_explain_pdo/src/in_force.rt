@@ -3,7 +3,7 @@
 ghost use Rattle.std.specs.Prelude.{◌≡◌, ◌+◌, ◌≤◌, ◌++◌, OnOk, length, option_map, slice_index, slice_index_or, string_bytes, take};
 ghost use Rattle.std.specs.List.{list_all};
 ghost use Rattle.std.specs.Option.{option_copied};
-ghost use Rattle.co_sheet_names.specs.Names.{names_view};
+ghost use Rattle.co_sheet_changes.specs.Names.{names_view};
 ghost use Rattle.conode_explain_pdo.specs.Buses.{bus_view};
 ghost use Rattle.conode_explain_pdo.specs.InForce.{
   assumed_text,
@@ -37,7 +37,7 @@ use crate::known::sheet_for;
 use crate::mapping::{Mapping, push_data};
 use crate::sheet::SheetPdo;
 use arrayvec::ArrayVec;
-use co_sheet_names::Names;
+use co_sheet_changes::Names;
 use co_text::push_bytes;
 use conode_explain_entries::{PdoState, Value};
 use std::alloc::AllocError;

@@ -2,12 +2,12 @@
 
 ghost use Rattle.std.specs.Prelude.{◌≡◌, IfOk, is_none, map, option_map};
 ghost use Rattle.std.specs.Option.{option_copied};
-ghost use Rattle.co_sheet_names.specs.Names.{are_for, names_view};
+ghost use Rattle.co_sheet_changes.specs.Names.{are_for, names_view};
 ghost use Rattle.conode_explain_pdo.specs.Known.{fits, is_on, known_sheet, known_view, names_for, sheet_for};
 
 use crate::known_sheet::KnownSheet;
 use crate::sheet::sheet_pdos;
-use co_sheet_names::Names;
+use co_sheet_changes::Names;
 use std::alloc::{AllocError, Global};
 
 fn are_for(only: Option<u8>, node: u8) -> bool

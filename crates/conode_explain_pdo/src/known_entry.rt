@@ -2,14 +2,14 @@
 
 ghost use Rattle.std.specs.Prelude.{◌≡◌, ◌++◌, OnOk, string_bytes};
 ghost use Rattle.co_sheet.specs.SheetViews.{row_view};
-ghost use Rattle.co_sheet_names.specs.Names.{names_view};
+ghost use Rattle.co_sheet_changes.specs.Names.{names_view};
 ghost use Rattle.conode_explain_values.specs.Values.{HasBits};
 ghost use Rattle.conode_explain_pdo.specs.KnownEntries.{is_node_drive, known_text, shows_meaning};
 
 use crate::sheet::number_of;
 use crate::value_type::type_in;
 use co_sheet::EntryRow;
-use co_sheet_names::{Names, shown_name};
+use co_sheet_changes::{Names, shown_name};
 use co_value::Key;
 use conode_explain_services::{has_meaning, is_drive, push_drive};
 use conode_explain_values::push_entry;

@@ -1,11 +1,11 @@
 //! A data sheet that is known.
 
 ghost use Rattle.std.specs.Prelude.{◌≡◌};
-ghost use Rattle.co_sheet_names.specs.Names.{names_view};
+ghost use Rattle.co_sheet_changes.specs.Names.{names_view};
 ghost use Rattle.conode_explain_pdo.specs.Sheets.{sheet_pdos};
 
 use crate::sheet::SheetPdo;
-use co_sheet_names::Names;
+use co_sheet_changes::Names;
 
 /// A data sheet with its PDOs, and the nodes and the interface that it is for.
 #[derive(Drop)]

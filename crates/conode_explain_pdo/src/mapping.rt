@@ -4,7 +4,7 @@
 ghost use Rattle.std.specs.Prelude.{◌≡◌, ◌+◌, ◌*◌, ◌/◌, ◌%◌, ◌^◌, ◌++◌, ◌≤◌, [], OnOk, length, string_bytes, take};
 ghost use Rattle.co_value.specs.Numbers.{low_bytes, unsigned_of};
 ghost use Rattle.co_sheet.specs.SheetViews.{row_view};
-ghost use Rattle.co_sheet_names.specs.Names.{names_view};
+ghost use Rattle.co_sheet_changes.specs.Names.{names_view};
 ghost use Rattle.conode_explain_values.specs.Values.{HasBits};
 ghost use Rattle.conode_explain_pdo.specs.Mappings.{
   addressing_word,
@@ -30,7 +30,7 @@ ghost use Rattle.conode_explain_pdo.specs.Mappings.{
 use crate::known_entry::push_known;
 use arrayvec::ArrayVec;
 use co_sheet::EntryRow;
-use co_sheet_names::Names;
+use co_sheet_changes::Names;
 use co_text::{push_bytes, push_decimal};
 use co_value::{Key, read_u16, unsigned_of};
 use std::alloc::AllocError;

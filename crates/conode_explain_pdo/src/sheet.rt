@@ -6,7 +6,7 @@ ghost use Rattle.co_profile.specs.Indices.{is_within};
 ghost use Rattle.co_sheet.specs.SheetViews.{row_view};
 ghost use Rattle.co_sheet.specs.Views.{default_view};
 ghost use Rattle.co_value.specs.Keys.{is_key_before};
-ghost use Rattle.co_sheet_names.specs.Names.{names_view};
+ghost use Rattle.co_sheet_changes.specs.Names.{names_view};
 ghost use Rattle.conode_explain_pdo.specs.Sheets.{
   is_cob_id,
   mapping_at,
@@ -23,7 +23,7 @@ use crate::mapping::Mapping;
 use arrayvec::ArrayVec;
 use co_profile::IndexRange;
 use co_sheet::{EntryRow, Preset};
-use co_sheet_names::{Names, row_at};
+use co_sheet_changes::{Names, row_at};
 use co_value::Key;
 use std::alloc::{AllocError, Global};
 

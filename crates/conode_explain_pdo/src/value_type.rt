@@ -2,11 +2,11 @@
 
 ghost use Rattle.std.specs.Prelude.{◌≡◌};
 ghost use Rattle.co_sheet.specs.SheetViews.{row_view};
-ghost use Rattle.co_sheet_names.specs.Names.{names_view};
+ghost use Rattle.co_sheet_changes.specs.Names.{names_view};
 ghost use Rattle.conode_explain_pdo.specs.Types.{type_in};
 
 use co_sheet::EntryRow;
-use co_sheet_names::Names;
+use co_sheet_changes::Names;
 use conode_explain_values::ValueType;
 
 /// The data type of an entry's values: its original one, where its sheet was adapted

@@ -5,3 +5,4 @@ pub mod Dialogues
 pub mod DoneLemmas
 pub mod Kept
 mod SegmentedExamples
+pub mod Places

@@ -10,3 +10,5 @@ pub mod SegmentedTurns
 pub mod Stages
 pub mod Transfers
 pub mod Turns
+pub mod Tellings
+pub mod Tracks

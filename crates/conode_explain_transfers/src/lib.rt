@@ -4,6 +4,7 @@
 
 mod block;
 mod channel;
+mod channels;
 mod crc;
 mod digest;
 mod ended;
@@ -15,9 +16,14 @@ mod requests;
 mod responses;
 mod segments;
 mod stage;
+mod told;
+mod track;
 mod transfer;
 
 pub use channel::{Channel, Heard};
+pub use channels::Channels;
 pub use ended::{Ended, Ending};
 pub use kinds::{Direction, Protocol, Side, What};
 pub use laws::{done_is_confirmed, kept_data};
+pub use told::{Part, Told};
+pub use track::Track;

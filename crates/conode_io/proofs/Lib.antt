@@ -1,3 +1,4 @@
 pub mod Examples
 pub mod StoppedLemmas
 pub mod WriteLemmas
+pub mod Taking

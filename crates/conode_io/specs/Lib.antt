@@ -1,3 +1,5 @@
 pub mod Endings
 pub mod Messages
 pub mod Written
+pub mod LetOuts
+pub mod TraceTexts

@@ -6,14 +6,14 @@ use Rattle.conode_record.specs.declared.content.Direction.{Direction}
 use Rattle.conode_record.specs.declared.content.Direction.TheVariants.{Received, Sent}
 use Rattle.conode_record.specs.declared.fields.Identifier.{Identifier}
 use Rattle.conode_record.specs.declared.fields.Identifier.TheVariants.{Base as Short, Extended, Error}
-use Rattle.conode_log_parts.specs.declared.bad_line.BadLogLine.{BadLogLine}
-use Rattle.conode_log_parts.specs.declared.bad_line.BadLogLine.TheVariants as bad
-use Rattle.conode_log_parts.specs.declared.frame.LogContent.{LogContent}
-use Rattle.conode_log_parts.specs.declared.frame.LogContent.TheVariants.{Data, Remote, Fd}
-use Rattle.conode_log_parts.specs.declared.frame.LogLine.{LogLine}
-use Rattle.conode_log_parts.specs.declared.frame.LogLine.TheVariants.{Skipped}
-use Rattle.conode_log_parts.specs.declared.frame.Place.TheVariants.{Interface}
-use Rattle.conode_log_parts.specs.Parts.{frame_of}
+use Rattle.conode_record.specs.declared.bad_log_line.BadLogLine.{BadLogLine}
+use Rattle.conode_record.specs.declared.bad_log_line.BadLogLine.TheVariants as bad
+use Rattle.conode_record.specs.declared.frame.LogContent.{LogContent}
+use Rattle.conode_record.specs.declared.frame.LogContent.TheVariants.{Data, Remote, Fd}
+use Rattle.conode_record.specs.declared.frame.LogLine.{LogLine}
+use Rattle.conode_record.specs.declared.frame.LogLine.TheVariants.{Skipped}
+use Rattle.conode_record.specs.declared.frame.Place.TheVariants.{Interface}
+use Rattle.conode_record.specs.Parts.{frame_of}
 use Rattle.conode_logs.specs.Screen.{screen_line}
 use Rattle.conode_logs.proofs.OnLines.{logs_on_lines}
 

@@ -10,19 +10,19 @@ use Rattle.co_text.specs.Texts.{◌>>=◌, is_digit}
 use Rattle.conode_record.specs.declared.content.Direction.{Direction}
 use Rattle.conode_record.specs.declared.fields.Identifier.{Identifier}
 use Rattle.conode_logs.specs.declared.asc.AscForm.{AscForm}
-use Rattle.conode_log_parts.specs.declared.bad_line.BadLogLine.{BadLogLine}
-use Rattle.conode_log_parts.specs.declared.bad_line.BadLogLine.TheVariants as bad
-use Rattle.conode_log_parts.specs.declared.frame.LogContent.{LogContent}
-use Rattle.conode_log_parts.specs.declared.frame.LogContent.TheVariants.{Data, Remote, Fd}
-use Rattle.conode_log_parts.specs.declared.frame.LogLine.{LogLine}
-use Rattle.conode_log_parts.specs.declared.frame.LogLine.TheVariants.{Skipped}
-use Rattle.conode_log_parts.specs.declared.frame.Place.TheVariants.{Channel}
-use Rattle.conode_log_parts.specs.declared.numbers.Base.{Base}
-use Rattle.conode_log_parts.specs.declared.numbers.Base.TheVariants.{Hexadecimal, Decimal}
-use Rattle.conode_log_parts.specs.Needs.{need, and_then}
-use Rattle.conode_log_parts.specs.Numbers.{moved, number_in, seconds_in}
-use Rattle.conode_log_parts.specs.Parts.{bytes_at, channel_at, count_at, direction_at, error_frame, extended_id, frame_of, short_id}
-use Rattle.conode_log_parts.specs.Words.{is_over, next_is, word_at}
+use Rattle.conode_record.specs.declared.bad_log_line.BadLogLine.{BadLogLine}
+use Rattle.conode_record.specs.declared.bad_log_line.BadLogLine.TheVariants as bad
+use Rattle.conode_record.specs.declared.frame.LogContent.{LogContent}
+use Rattle.conode_record.specs.declared.frame.LogContent.TheVariants.{Data, Remote, Fd}
+use Rattle.conode_record.specs.declared.frame.LogLine.{LogLine}
+use Rattle.conode_record.specs.declared.frame.LogLine.TheVariants.{Skipped}
+use Rattle.conode_record.specs.declared.frame.Place.TheVariants.{Channel}
+use Rattle.conode_record.specs.declared.numbers.Base.{Base}
+use Rattle.conode_record.specs.declared.numbers.Base.TheVariants.{Hexadecimal, Decimal}
+use Rattle.conode_record.specs.Needs.{need, and_then}
+use Rattle.conode_record.specs.Numbers.{moved, number_in, seconds_in}
+use Rattle.conode_record.specs.Parts.{bytes_at, channel_at, count_at, direction_at, error_frame, extended_id, frame_of, short_id}
+use Rattle.conode_record.specs.Words.{is_over, next_is, word_at}
 
 -- ---- the header
 

@@ -6,19 +6,19 @@ use Rattle.conode_record.specs.declared.line.RecordLine.{RecordLine}
 use Rattle.conode_record.specs.declared.line.RecordLine.TheVariants as record_line
 use Rattle.conode_record.specs.Lines.{is_skipped, line_in}
 use Rattle.conode_logs.specs.declared.asc.AscForm.{AscForm}
-use Rattle.conode_log_parts.specs.declared.bad_line.BadLogLine.{BadLogLine}
-use Rattle.conode_log_parts.specs.declared.bad_line.BadLogLine.TheVariants as bad
-use Rattle.conode_log_parts.specs.declared.frame.LogLine.{LogLine}
-use Rattle.conode_log_parts.specs.declared.frame.LogLine.TheVariants.{Skipped, AsItIs, Frame}
+use Rattle.conode_record.specs.declared.bad_log_line.BadLogLine.{BadLogLine}
+use Rattle.conode_record.specs.declared.bad_log_line.BadLogLine.TheVariants as bad
+use Rattle.conode_record.specs.declared.frame.LogLine.{LogLine}
+use Rattle.conode_record.specs.declared.frame.LogLine.TheVariants.{Skipped, AsItIs, Frame}
 use Rattle.conode_logs.specs.declared.log.Form.{Form}
 use Rattle.conode_logs.specs.declared.log.Form.TheVariants.{Unknown, Candump, Screen, Deltas, Trc, Asc}
 use Rattle.conode_logs.specs.declared.log.Log.{Log}
-use Rattle.conode_log_parts.specs.declared.numbers.Base.TheVariants.{Hexadecimal}
+use Rattle.conode_record.specs.declared.numbers.Base.TheVariants.{Hexadecimal}
 use Rattle.conode_logs.specs.Asc.{asc_line}
-use Rattle.conode_log_parts.specs.BadWords.{of_record}
+use Rattle.conode_record.specs.BadWords.{of_record}
 use Rattle.conode_logs.specs.Screen.{is_screen_note, screen_line}
 use Rattle.conode_logs.specs.Trc.{is_version, trc_line, version_of}
-use Rattle.conode_log_parts.specs.Words.{is_over, word_at}
+use Rattle.conode_record.specs.Words.{is_over, word_at}
 
 -- a `.asc` until its header says otherwise
 abbrev pub asc_of_old : AscForm

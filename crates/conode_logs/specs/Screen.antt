@@ -8,19 +8,19 @@ use Rattle.conode_record.specs.declared.content.Direction.{Direction}
 use Rattle.conode_record.specs.declared.content.Direction.TheVariants.{Received, Sent}
 use Rattle.conode_record.specs.declared.fields.Identifier.{Identifier}
 use Rattle.conode_record.specs.Fields.{eight_digits, hex_number, stamp_at}
-use Rattle.conode_log_parts.specs.declared.bad_line.BadLogLine.{BadLogLine}
-use Rattle.conode_log_parts.specs.declared.bad_line.BadLogLine.TheVariants as bad
-use Rattle.conode_log_parts.specs.declared.frame.LogContent.{LogContent}
-use Rattle.conode_log_parts.specs.declared.frame.LogContent.TheVariants.{Data, Remote, Fd}
-use Rattle.conode_log_parts.specs.declared.frame.LogLine.{LogLine}
-use Rattle.conode_log_parts.specs.declared.frame.LogLine.TheVariants.{Skipped}
-use Rattle.conode_log_parts.specs.declared.frame.Place.TheVariants.{Interface}
-use Rattle.conode_log_parts.specs.declared.numbers.Base.TheVariants.{Hexadecimal}
+use Rattle.conode_record.specs.declared.bad_log_line.BadLogLine.{BadLogLine}
+use Rattle.conode_record.specs.declared.bad_log_line.BadLogLine.TheVariants as bad
+use Rattle.conode_record.specs.declared.frame.LogContent.{LogContent}
+use Rattle.conode_record.specs.declared.frame.LogContent.TheVariants.{Data, Remote, Fd}
+use Rattle.conode_record.specs.declared.frame.LogLine.{LogLine}
+use Rattle.conode_record.specs.declared.frame.LogLine.TheVariants.{Skipped}
+use Rattle.conode_record.specs.declared.frame.Place.TheVariants.{Interface}
+use Rattle.conode_record.specs.declared.numbers.Base.TheVariants.{Hexadecimal}
 use Rattle.conode_logs.specs.declared.screen.Marks.{Marks}
-use Rattle.conode_log_parts.specs.Needs.{need, and_then}
-use Rattle.conode_log_parts.specs.Numbers.{moment_at, moved}
-use Rattle.conode_log_parts.specs.Parts.{bytes_at, frame_of, name_at, short_id}
-use Rattle.conode_log_parts.specs.Words.{is_over, next_is, past_gap, word_at}
+use Rattle.conode_record.specs.Needs.{need, and_then}
+use Rattle.conode_record.specs.Numbers.{moment_at, moved}
+use Rattle.conode_record.specs.Parts.{bytes_at, frame_of, name_at, short_id}
+use Rattle.conode_record.specs.Words.{is_over, next_is, past_gap, word_at}
 
 -- the stamp at the front in microseconds, seconds (`-t a`, `-t z`, `-t d`) or a date in UTC
 -- (`-t A`) in parentheses; 0 if there is none; and what follows

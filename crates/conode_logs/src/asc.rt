@@ -31,12 +31,11 @@ ghost use Rattle.conode_logs.specs.Asc.{
 };
 
 use co_text::is_digit;
-use conode_log_parts::{
-    BadLogLine, Base, LogBytes, LogContent, LogLine, Place, bytes_at, channel_at, count_at,
-    direction_at, error_frame, extended_id, frame_of, is_over, is_word, moved, next_is, number_in,
-    seconds_in, short_id, word_at,
+use conode_record::{
+    BadLogLine, Base, Direction, Identifier, LogBytes, LogContent, LogLine, Place, bytes_at,
+    channel_at, count_at, direction_at, error_frame, extended_id, frame_of, is_over, is_word,
+    moved, next_is, number_in, seconds_in, short_id, word_at,
 };
-use conode_record::{Direction, Identifier};
 
 /// How the numbers and the stamps of a `.asc` are written.
 #[derive(Clone, Copy)]

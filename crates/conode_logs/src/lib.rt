@@ -8,8 +8,6 @@ mod screen;
 mod trc;
 
 pub use asc::AscForm;
-pub use conode_log_parts::{
-    BadLogLine, Base, LogBytes, LogContent, LogFrame, LogLine, Name, Place,
-};
+pub use conode_record::{BadLogLine, Base, LogBytes, LogContent, LogFrame, LogLine, Name, Place};
 pub use log::{Form, Log};
 pub use trc::Columns;

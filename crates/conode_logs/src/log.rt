@@ -21,8 +21,7 @@ ghost use Rattle.conode_logs.specs.declared.log.Form.TheVariants.{Trc, Asc};
 use crate::asc::{AscForm, asc_line};
 use crate::screen::screen_line;
 use crate::trc::{Columns, is_version, trc_line};
-use conode_log_parts::{BadLogLine, Base, LogLine, is_over, is_word, word_at};
-use conode_record::RecordLine;
+use conode_record::{BadLogLine, Base, LogLine, RecordLine, is_over, is_word, word_at};
 
 /// The form of a log.
 #[derive(Clone, Copy)]

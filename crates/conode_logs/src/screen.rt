@@ -24,11 +24,11 @@ ghost use Rattle.conode_logs.specs.Screen.{
 };
 
 use co_text::decimal_in;
-use conode_log_parts::{
-    BadLogLine, Base, LogBytes, LogContent, LogLine, Place, bytes_at, frame_of, hex_number,
-    is_over, is_word, moment_at, moved, name_at, next_is, past_gap, short_id, stamp_at, word_at,
+use conode_record::{
+    BadLogLine, Base, Direction, Identifier, LogBytes, LogContent, LogLine, Place, bytes_at,
+    frame_of, hex_number, is_over, is_word, moment_at, moved, name_at, next_is, past_gap, short_id,
+    stamp_at, word_at,
 };
-use conode_record::{Direction, Identifier};
 
 /// What `candump -x` shows between the interface and the identifier.
 #[derive(Clone, Copy)]

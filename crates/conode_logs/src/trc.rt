@@ -32,12 +32,11 @@ ghost use Rattle.conode_logs.specs.Trc.{
   trc_line,
 };
 
-use conode_log_parts::{
-    BadLogLine, Base, LogBytes, LogContent, LogLine, Place, bytes_at, channel_at, count_at,
-    direction_at, direction_of, error_frame, extended_id, fd_length, frame_of, hex_number, is_over,
-    is_word, millis_in, next_is, short_id, word_at,
+use conode_record::{
+    BadLogLine, Base, Direction, Identifier, LogBytes, LogContent, LogLine, Place, bytes_at,
+    channel_at, count_at, direction_at, direction_of, error_frame, extended_id, fd_length,
+    frame_of, hex_number, is_over, is_word, millis_in, next_is, short_id, word_at,
 };
-use conode_record::{Direction, Identifier};
 
 /// The columns of a `.trc`.
 #[derive(Clone, Copy)]

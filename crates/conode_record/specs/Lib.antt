@@ -2,3 +2,8 @@ pub mod Contents
 pub mod Fields
 pub mod Grammar
 pub mod Lines
+pub mod BadWords
+pub mod Needs
+pub mod Numbers
+pub mod Parts
+pub mod Words

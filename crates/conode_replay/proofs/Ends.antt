@@ -4,7 +4,7 @@ use Rattle.std.specs.Prelude.{◌⊎◌, IfErr, IfOk, OnOk}
 use Rattle.conode_trace.specs.Traces.{TimedInput, trace_of}
 use Rattle.conode_io.specs.declared.fault.CmdFault.{CmdFault}
 use Rattle.conode_io.specs.declared.fault.CmdFault.TheVariants.{Read, Write, BadLine, Memory, NeverEnds}
-use Rattle.conode_lines.specs.TraceTexts.{trace_in, FailsWithinLine}
+use Rattle.conode_io.specs.TraceTexts.{trace_in, FailsWithinLine}
 use Rattle.co_node_model.specs.Inputs.{Inputs}
 use Rattle.co_node_model.specs.Moments.{Constants}
 use Rattle.co_node.specs.declared.node.Node.{Node}

@@ -14,8 +14,8 @@ use Rattle.conode_io.specs.declared.fault.CmdFault.{CmdFault}
 use Rattle.conode_io.specs.declared.fault.CmdFault.TheVariants.{Read, Write, BadLine, Memory, NeverEnds}
 use Rattle.conode_io.specs.Written.{WritesFront, WritesLines, WritesSome}
 use Rattle.conode_io.proofs.WriteLemmas.{lines_after}
-use Rattle.conode_lines.specs.TraceTexts.{trace_in, FailsWithinLine, NamesLongLine}
-use Rattle.conode_lines.proofs.Taking.{HasTaken, taken_none, taken_more, at_end, at_bad_line, at_long_line, within_line, before_end, in_line}
+use Rattle.conode_io.specs.TraceTexts.{trace_in, FailsWithinLine, NamesLongLine}
+use Rattle.conode_io.proofs.Taking.{HasTaken, taken_none, taken_more, at_end, at_bad_line, at_long_line, within_line, before_end, in_line}
 use Rattle.co_node_model.specs.Inputs.{Inputs}
 use Rattle.co_node_model.specs.Moments.{Constants}
 use Rattle.co_node.specs.declared.node.Node.{Node}

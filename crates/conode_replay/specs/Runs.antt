@@ -29,7 +29,7 @@ use Rattle.co_frame.specs.FrameContent.{FrameContent}
 use Rattle.conode_io.specs.declared.fault.CmdFault.{CmdFault}
 use Rattle.conode_io.specs.declared.fault.CmdFault.TheVariants.{Read, Write, BadLine, Memory, NeverEnds}
 use Rattle.conode_io.specs.Written.{IsFront, WritesFront, WritesLines, WritesSome}
-use Rattle.conode_lines.specs.TraceTexts.{trace_in, FailsWithinLine}
+use Rattle.conode_io.specs.TraceTexts.{trace_in, FailsWithinLine}
 use Rattle.co_node_model.specs.Inputs.{Inputs}
 use Rattle.co_node_model.specs.Moments.{Constants}
 use Rattle.co_node_model.specs.Device.{all_frames, prescribed}

@@ -4,7 +4,7 @@ ghost use Rattle.std.specs.Prelude.{◌≡◌, ◌⊎◌, ℕ, List, [], None, I
 ghost use Rattle.std.specs.Option.{option_or};
 ghost use Rattle.std.specs.Process.{exit_status};
 ghost use Rattle.co_node.specs.Nodes.{built_constants, planned};
-ghost use Rattle.conode_lines.specs.TraceTexts.{GaveText};
+ghost use Rattle.conode_io.specs.TraceTexts.{GaveText};
 ghost use Rattle.conode_replay.specs.Runs.{AfterAny, ReplaysAll};
 
 use crate::replayed_trace::replay_from;
@@ -12,10 +12,9 @@ use co_dict_build::Limits;
 use co_node::{Config, Node};
 use co_sheet::{Sheet, read};
 use conode_io::{
-    CmdFault, Ending, cannot_read, faulty_build, faulty_sheet, file_text, flushed, no_node_id,
-    no_text, stopped,
+    BufferedRead, CmdFault, Ending, Waits, cannot_read, faulty_build, faulty_sheet, file_text,
+    flushed, no_node_id, no_text, stopped,
 };
-use conode_lines::{BufferedRead, Waits};
 use std::alloc::Global;
 use std::fs;
 use std::io::{BufReader, Input, Read, Write};

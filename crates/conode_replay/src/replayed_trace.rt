@@ -20,7 +20,7 @@ ghost use Rattle.std.specs.Prelude.{
 ghost use Rattle.co_stream.specs.Nexts.{new_reader};
 ghost use Rattle.co_stream.specs.Readings.{Gave};
 ghost use Rattle.conode_trace.specs.Traces.{trace_of};
-ghost use Rattle.conode_lines.specs.TraceTexts.{trace_in, FailsWithinLine, GaveText};
+ghost use Rattle.conode_io.specs.TraceTexts.{trace_in, FailsWithinLine, GaveText};
 ghost use Rattle.conode_replay.specs.Lines.{boot_line};
 ghost use Rattle.conode_replay.specs.Runs.{
   AfterAny,
@@ -40,8 +40,7 @@ use crate::totals::Totals;
 use co_frame::Outbox;
 use co_node::Node;
 use co_stream::LineReader;
-use conode_io::CmdFault;
-use conode_lines::{AnyRead, Waits, let_out, line_fault};
+use conode_io::{AnyRead, CmdFault, Waits, let_out, line_fault};
 use conode_trace::{BadLine, TraceProgress};
 use std::alloc::Global;
 use std::io::{Read, Write};

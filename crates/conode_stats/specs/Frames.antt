@@ -2,12 +2,12 @@
 -- of another form of log is read as the line that `convert` writes for it.
 use Rattle.std.specs.Prelude.{ℕ, ◌+◌, Bool, nat_lt, ◌||◌, if◌then◌else◌, List, [], ◌∷◌, length, Option, Some, None, Result, Ok, Err}
 use Rattle.std.specs.Str.Lines.{lines}
-use Rattle.co_bounded_lines.specs.Founds.{is_closed}
+use Rattle.co_stream.specs.Founds.{is_closed}
 use Rattle.conode_convert.specs.Converted.{at_start}
 use Rattle.conode_convert.specs.Printed.{frame_text}
-use Rattle.conode_log_parts.specs.declared.bad_line.BadLogLine.{BadLogLine}
-use Rattle.conode_log_parts.specs.declared.frame.LogLine.{LogLine}
-use Rattle.conode_log_parts.specs.declared.frame.LogLine.TheVariants as log_line
+use Rattle.conode_record.specs.declared.bad_log_line.BadLogLine.{BadLogLine}
+use Rattle.conode_record.specs.declared.frame.LogLine.{LogLine}
+use Rattle.conode_record.specs.declared.frame.LogLine.TheVariants as log_line
 use Rattle.conode_logs.specs.declared.log.Form.{Form}
 use Rattle.conode_logs.specs.declared.log.Log.{Log}
 use Rattle.conode_logs.specs.Logs.{says}

@@ -1,7 +1,7 @@
 -- Progress through a recording.
 use Rattle.std.specs.Prelude.{◌≡◌, ℕ, ◌+◌, List, Option, Some, None, ⊤}
 use Rattle.std.specs.Str.Lines.{lines}
-use Rattle.co_bounded_lines.specs.Held.{Held, to_come}
+use Rattle.co_stream.specs.Held.{Held, to_come}
 use Rattle.co_stream.specs.Readings.{Gave}
 use Rattle.conode_convert.specs.Converted.{at_start}
 use Rattle.conode_logs.specs.declared.log.Form.{Form}

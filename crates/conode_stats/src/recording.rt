@@ -1,7 +1,7 @@
 //! The frames of a recording, counted.
 
 ghost use Rattle.std.specs.Prelude.{IfOk, IfSome};
-ghost use Rattle.conode_lines.specs.TraceTexts.{GaveText};
+ghost use Rattle.conode_io.specs.TraceTexts.{GaveText};
 ghost use Rattle.conode_stats.specs.Taking.{CountsText};
 
 use crate::step::Counting;

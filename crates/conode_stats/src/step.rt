@@ -2,7 +2,7 @@
 
 ghost use Rattle.std.specs.Prelude.{◌≡◌, ◌≤◌, List, [], OnOk, IfOk, IfSome, IfNone};
 ghost use Rattle.std.specs.Io.KnownBytes.{IsAtEnd};
-ghost use Rattle.co_bounded_lines.specs.Held.{nothing_held, to_come};
+ghost use Rattle.co_stream.specs.Held.{nothing_held, to_come};
 ghost use Rattle.co_stream.specs.Readings.{Gave};
 ghost use Rattle.conode_convert.specs.Converted.{at_start};
 ghost use Rattle.conode_logs.specs.Logs.{says};
@@ -12,12 +12,11 @@ ghost use Rattle.conode_stats_counts.specs.Buses.{counts_of};
 ghost use Rattle.conode_stats.specs.Frames.{counts_after, faults_in, good, line_at};
 ghost use Rattle.conode_stats.specs.Taking.{Takes};
 
-use co_bounded_lines::{BoundedLines, Found};
+use co_stream::{BoundedLines, Found};
 use conode_convert::{TOO_LONG, add_frame, name_bad_line, read_fault};
 use conode_io::CmdFault;
-use conode_log_parts::{BadLogLine, LogLine};
 use conode_logs::{Form, Log};
-use conode_record::RecordLine;
+use conode_record::{BadLogLine, LogLine, RecordLine};
 use conode_stats_counts::Counts;
 use std::alloc::Global;
 use std::io::{Read, Write};

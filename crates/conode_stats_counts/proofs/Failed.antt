@@ -3,7 +3,7 @@ use Rattle.std.proofs.Common.{ℕ, ◌+◌, List, [], ◌∷◌, ◌≡◌, ◌�
 use Rattle.std.specs.Prelude.{◌==◌}
 use Rattle.std.specs.Bool.{Decides}
 use Rattle.std.proofs.lemmas.Bool.Decides.{Decides-and, Decides-eqb, Decides-like}
-use Rattle.conode_explain_channels.specs.declared.track.Track.{Track}
+use Rattle.conode_explain_transfers.specs.declared.track.Track.{Track}
 use Rattle.conode_record.specs.declared.line.Record.{Record}
 use Rattle.conode_stats_counts.specs.declared.failure.Cause.{Cause}
 use Rattle.conode_stats_counts.specs.declared.failure.Failure.{Failure}

@@ -1,10 +1,10 @@
 -- SDO transfers that failed, on the default channels of the nodes of a bus (CiA 301, 7.2.4.3).
 use Rattle.std.specs.Prelude.{ℕ, ◌+◌, ◌==◌, ◌&&◌, Bool, true, false, if◌then◌else◌, List, [], ◌∷◌, Option, Some, None, length}
 use Rattle.co_frame.specs.FrameContent.{FrameContent}
-use Rattle.conode_explain_channels.specs.declared.told.Told.{Told}
-use Rattle.conode_explain_channels.specs.declared.track.Track.{Track}
-use Rattle.conode_explain_channels.specs.Tellings.{telling}
-use Rattle.conode_explain_channels.specs.Tracks.{Telling}
+use Rattle.conode_explain_transfers.specs.declared.told.Told.{Told}
+use Rattle.conode_explain_transfers.specs.declared.track.Track.{Track}
+use Rattle.conode_explain_transfers.specs.Tellings.{telling}
+use Rattle.conode_explain_transfers.specs.Tracks.{Telling}
 use Rattle.conode_explain_transfers.specs.declared.ended.Ended.{Ended}
 use Rattle.conode_explain_transfers.specs.declared.ended.Ending.{Ending}
 use Rattle.conode_explain_transfers.specs.declared.ended.Ending.TheVariants.{Aborted, Unanswered, Repeated}

@@ -6,7 +6,7 @@ use Rattle.conode_record.specs.declared.content.Content.TheVariants.{Data}
 use Rattle.conode_record.specs.declared.fields.Identifier.{Identifier}
 use Rattle.conode_record.specs.declared.fields.Identifier.TheVariants.{Base}
 use Rattle.conode_record.specs.declared.line.Record.{Record}
-use Rattle.conode_explain_channels.specs.declared.track.Track.{Track}
+use Rattle.conode_explain_transfers.specs.declared.track.Track.{Track}
 use Rattle.conode_stats_counts.specs.declared.node.Node.{Node}
 use Rattle.conode_stats_counts.specs.declared.shown_time.ShownTime.{ShownTime}
 use Rattle.conode_stats_counts.specs.declared.sign.Sign.{Sign}

@@ -1,7 +1,7 @@
 -- The producer heartbeat time of a node, 1017:00 (CiA 301, 7.5.2.20), as SDO transfers show it.
 use Rattle.std.specs.Prelude.{ℕ, ◌+◌, ◌*◌, ◌==◌, Bool, true, false, ◌&&◌, if◌then◌else◌, List, ◌∷◌, Option, Some, None, option_map}
 use Rattle.co_value.specs.declared.key.Key.{Key}
-use Rattle.conode_explain_channels.specs.declared.told.Told.{Told}
+use Rattle.conode_explain_transfers.specs.declared.told.Told.{Told}
 use Rattle.conode_explain_transfers.specs.declared.ended.Ended.{Ended}
 use Rattle.conode_explain_transfers.specs.declared.ended.Ending.{Ending}
 use Rattle.conode_explain_transfers.specs.declared.ended.Ending.TheVariants.{Done}

@@ -15,8 +15,7 @@ ghost use Rattle.conode_stats_counts.specs.Failures.{
 };
 
 use crate::tally::counted;
-use conode_explain_channels::Told;
-use conode_explain_transfers::{Ended, Ending};
+use conode_explain_transfers::{Ended, Ending, Told};
 use std::alloc::AllocError;
 
 /// The most nodes and codes counted on a bus.

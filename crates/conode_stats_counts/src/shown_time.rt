@@ -4,8 +4,7 @@ ghost use Rattle.std.specs.Prelude.{◌≡◌};
 ghost use Rattle.conode_stats_counts.specs.ShownTimes.{first_word, is_done, is_heartbeat_time, time_by, time_in, time_of};
 
 use co_value::Key;
-use conode_explain_channels::Told;
-use conode_explain_transfers::{Direction, Ended, Ending};
+use conode_explain_transfers::{Direction, Ended, Ending, Told};
 
 /// The index of the producer heartbeat time (CiA 301, 7.5.2.20).
 const PRODUCER_HEARTBEAT: u16 = 0x1017;

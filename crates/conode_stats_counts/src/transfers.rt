@@ -9,7 +9,7 @@ use crate::failure::{Failure, FailureRow, add_failure};
 use crate::shown_time::ShownTime;
 use crate::tally::counted;
 use co_frame::Frame;
-use conode_explain_channels::{Channels, Told, Track};
+use conode_explain_transfers::{Channels, Told, Track};
 use conode_record::{Content, Identifier, Record};
 use std::alloc::{AllocError, Global};
 use std::marker::Model;

@@ -1,5 +1,5 @@
 use Rattle.std.proofs.Common.{◌≡◌, ap, ◌∙◌}
-use Rattle.co_sdo_bank.specs.Events.{number_for}
+use Rattle.co_sdo.specs.Events.{number_for}
 use Rattle.co_node_model.specs.Addresses.{address_of}
 use Rattle.co_node_model.specs.Moments.{channels, contents_at}
 use Rattle.co_node_model.specs.Sdo.{channel_logs}

@@ -1,5 +1,5 @@
 use Rattle.std.proofs.Common.{sym, subst}
-use Rattle.co_sdo_bank.specs.Banks.{BankStands}
+use Rattle.co_sdo.specs.Banks.{BankStands}
 use Rattle.co_node_model.specs.Sdo.{with_drop}
 use Rattle.co_node_device.proofs.sdo.drop_if.Goals as goal
 

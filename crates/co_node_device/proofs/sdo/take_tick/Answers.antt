@@ -1,7 +1,7 @@
 use Rattle.std.proofs.Common.{◌≡◌, Bool, ap, ◌∙◌}
 use Rattle.std.specs.Prelude.{is_some}
 use Rattle.co_sdo.specs.Log.{Ticked}
-use Rattle.co_sdo_bank.specs.Events.{time_out_of, with_each}
+use Rattle.co_sdo.specs.Events.{time_out_of, with_each}
 use Rattle.co_node_model.specs.declared.mark.Mark.TheVariants as was
 use Rattle.co_node_device.proofs.Receptions.{is_some_number}
 use Rattle.co_node_device.proofs.sdo.take_tick.Goals as goal

@@ -1,5 +1,5 @@
 use Rattle.std.proofs.Common.{ap}
-use Rattle.co_sdo_bank.specs.Events.{held_on}
+use Rattle.co_sdo.specs.Events.{held_on}
 use Rattle.co_node_model.specs.Moments.{channels}
 use Rattle.co_node_laws.proofs.ByKind.{frames_are, state_is, entries_are, transfers_are}
 use Rattle.co_node_laws.proofs.by_kind.device_by_kind.Goals as goal

@@ -1,6 +1,6 @@
 -- The lines so far, and then the next one, or the end.
 use Rattle.std.proofs.Common.{◌+◌}
-use Rattle.co_bounded_lines.specs.Held.{nothing_held}
+use Rattle.co_stream.specs.Held.{nothing_held}
 use Rattle.conode_compare.specs.Compared.{at_first}
 use Rattle.conode_compare.specs.Views.{comparison_view}
 use Rattle.conode_compare.proofs.LineLoop.{compared_any, compared_known, takes_flushed, takes_more, takes_none}

@@ -1,4 +1,4 @@
-use Rattle.co_bounded_lines.specs.Held.{nothing_held}
+use Rattle.co_stream.specs.Held.{nothing_held}
 use Rattle.conode_compare.specs.Compared.{at_first}
 use Rattle.conode_compare.specs.Taking.{Takes}
 use Rattle.conode_compare.specs.Views.{comparison_view}

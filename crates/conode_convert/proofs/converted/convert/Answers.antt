@@ -1,6 +1,6 @@
 -- The lines so far, and then the next one, or the end.
 use Rattle.std.proofs.Common.{arith}
-use Rattle.co_bounded_lines.specs.Held.{nothing_held}
+use Rattle.co_stream.specs.Held.{nothing_held}
 use Rattle.conode_convert.specs.Converted.{at_start}
 use Rattle.conode_convert.proofs.Converting.{converted_any, converted_known, takes_flushed, takes_more, takes_none}
 use Rattle.conode_convert.proofs.converted.convert.Goals as goal

@@ -1,5 +1,5 @@
 use Rattle.std.proofs.Common.{◌+◌, ◌≤◌}
-use Rattle.co_bounded_lines.specs.Held.{nothing_held}
+use Rattle.co_stream.specs.Held.{nothing_held}
 use Rattle.conode_convert.specs.Converted.{at_start}
 use Rattle.conode_convert.specs.Taking.{Takes}
 use Rattle.conode_convert.proofs.converted.convert.Given as goal

@@ -5,9 +5,9 @@ use Rattle.co_stream.specs.Readings.{to_come}
 use Rattle.co_stream.proofs.Readers.{gave_nothing, gave_so, gave_then}
 use Rattle.conode_io.specs.declared.fault.CmdFault.{CmdFault}
 use Rattle.conode_io.specs.declared.fault.CmdFault.TheVariants.{Write}
-use Rattle.co_sheet_names.specs.Names.{names_view}
+use Rattle.co_sheet_changes.specs.Names.{names_view}
 use Rattle.conode_decode.specs.DecodedTraces.{Decoded}
-use Rattle.conode_lines.proofs.Taking.{all_to_come, next_line, next_fewer, next_no_fault, next_end, next_fault}
+use Rattle.conode_io.proofs.Taking.{all_to_come, next_line, next_fewer, next_no_fault, next_end, next_fault}
 use Rattle.conode_decode.proofs.Decoding.{decoded_none, decoded_flushed, decoded_more, ends, ends_at_bad_line, ends_at_fault, fails_to_flush, fails_in_line}
 use Rattle.conode_decode.proofs.decoded_trace.decode_all.Goals as goal
 

@@ -1,6 +1,6 @@
 use Rattle.std.proofs.Common.{◌≡◌, ◌+◌, ◌≤◌, false, None}
 use Rattle.co_stream.specs.Readings.{Gave, most_bytes, to_come}
-use Rattle.co_sheet_names.specs.Names.{names_view}
+use Rattle.co_sheet_changes.specs.Names.{names_view}
 use Rattle.conode_decode.proofs.Decoding.{HasDecoded}
 use Rattle.conode_decode.proofs.decoded_trace.decode_all.Given as goal
 

@@ -1,6 +1,6 @@
 -- The lines so far, and then the next one, or the end.
 use Rattle.std.proofs.Common.{arith, refl}
-use Rattle.co_bounded_lines.specs.Held.{nothing_held}
+use Rattle.co_stream.specs.Held.{nothing_held}
 use Rattle.conode_convert.specs.Converted.{at_start}
 use Rattle.conode_explain.specs.Explained.{nothing_known}
 use Rattle.conode_explain.specs.Sheets.{sheets_of}

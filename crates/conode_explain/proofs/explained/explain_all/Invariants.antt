@@ -1,5 +1,5 @@
 use Rattle.std.proofs.Common.{◌≡◌, ◌+◌, ◌≤◌, true}
-use Rattle.co_bounded_lines.specs.Held.{nothing_held}
+use Rattle.co_stream.specs.Held.{nothing_held}
 use Rattle.conode_convert.specs.Converted.{at_start}
 use Rattle.conode_explain.specs.Explained.{nothing_known}
 use Rattle.conode_explain.specs.Taking.{Takes}

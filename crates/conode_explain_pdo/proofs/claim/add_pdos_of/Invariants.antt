@@ -1,7 +1,7 @@
 use Rattle.std.proofs.Common.{◌≡◌, ◌++◌, drop, map}
 use Rattle.std.specs.List.{filter_map}
 use Rattle.conode_explain_pdo.specs.Buses.{bus_view}
-use Rattle.co_sheet_names.specs.Names.{names_view}
+use Rattle.co_sheet_changes.specs.Names.{names_view}
 use Rattle.conode_explain_pdo.specs.Claims.{sheet_claim}
 use Rattle.conode_explain_pdo.specs.Known.{known_view}
 use Rattle.conode_explain_pdo.proofs.claim.add_pdos_of.Given as goal

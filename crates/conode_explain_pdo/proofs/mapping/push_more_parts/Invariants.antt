@@ -1,6 +1,6 @@
 use Rattle.std.proofs.Common.{◌≡◌, ◌+◌, ◌++◌, drop}
 use Rattle.std.specs.Prelude.{string_bytes}
-use Rattle.co_sheet_names.specs.Names.{names_view}
+use Rattle.co_sheet_changes.specs.Names.{names_view}
 use Rattle.conode_explain_pdo.specs.Mappings.{more_parts, total_bits}
 use Rattle.conode_explain_pdo.proofs.mapping.push_more_parts.Given as goal
 

@@ -1,7 +1,7 @@
 use Rattle.std.proofs.Common.{ℕ, List, ◌≡◌, ◌∷◌, [], ◌++◌, length, sym, ap, subst, arith, length-append}
 use Rattle.std.proofs.lemmas.Bool.Decides.{nat_tests}
 use Rattle.co_text.proofs.Pairs.{AreRead, read_more}
-use Rattle.conode_record.proofs.Numbers.{pairs_all}
+use Rattle.conode_record.proofs.FieldNumbers.{pairs_all}
 use Rattle.conode_record.proofs.content.few_pairs_at.Goals as goal
 
 pub loop-byte-preserved : goal.loop-byte-preserved

@@ -1,5 +1,5 @@
 use Rattle.std.proofs.Common.{arith}
-use Rattle.conode_record.proofs.Numbers.{below_eight}
+use Rattle.conode_record.proofs.FieldNumbers.{below_eight}
 use Rattle.conode_record.proofs.fields.hex_number.Goals as goal
 
 pub overflow_mul-number : goal.overflow_mul-number

@@ -5,7 +5,7 @@ use Rattle.co_stream.specs.Readings.{to_come}
 use Rattle.co_stream.proofs.Readers.{gave_nothing, gave_so, gave_then}
 use Rattle.conode_io.specs.declared.fault.CmdFault.{CmdFault}
 use Rattle.conode_io.specs.declared.fault.CmdFault.TheVariants.{NeverEnds, Read, Write}
-use Rattle.conode_lines.proofs.Taking.{all_to_come, next_line, next_fewer, next_no_fault, next_end, next_fault}
+use Rattle.conode_io.proofs.Taking.{all_to_come, next_line, next_fewer, next_no_fault, next_end, next_fault}
 use Rattle.conode_replay.specs.Runs.{HasCounted, Replayed}
 use Rattle.conode_trace.specs.Traces.{inputs_of}
 use Rattle.conode_replay.proofs.Inputs.{printed_not}

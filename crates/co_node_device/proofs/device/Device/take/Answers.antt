@@ -1,6 +1,6 @@
 use Rattle.std.proofs.Common.{◌≡◌, ◌≤◌, ◌++◌, ◌∷◌, length, sym, ap, ◌∙◌, subst}
-use Rattle.co_sdo_bank.specs.Banks.{BankStands}
-use Rattle.co_sdo_bank.specs.Events.{frames_at}
+use Rattle.co_sdo.specs.Banks.{BankStands}
+use Rattle.co_sdo.specs.Events.{frames_at}
 use Rattle.co_pdo.specs.Schedules.{IsScheduleAfter}
 use Rattle.co_dict.specs.Rows.{Contents}
 use Rattle.co_dict.specs.Stores.{Description, IsDictionary}

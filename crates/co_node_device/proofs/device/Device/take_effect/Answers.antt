@@ -1,5 +1,5 @@
 use Rattle.std.proofs.Common.{◌≡◌, false, List, ◌∷◌, sym, ap, ◌∙◌, subst}
-use Rattle.co_sdo_bank.specs.Banks.{BankStands}
+use Rattle.co_sdo.specs.Banks.{BankStands}
 use Rattle.co_node_parts.specs.ConsumerTables.{ConsumersStand}
 use Rattle.co_node_device.specs.SlotTables.{AreSlotsOf}
 use Rattle.co_node_device.proofs.Slots.{each_there}

@@ -1,9 +1,9 @@
 -- What is found next, and what is written of it.
 use Rattle.std.proofs.Common.{◌≡◌, ℕ, List, refl, sym, subst}
-use Rattle.co_bounded_lines.specs.declared.bounded_lines.Found.{Found}
-use Rattle.co_bounded_lines.specs.declared.bounded_lines.Found.TheVariants.{Line, Last}
-use Rattle.co_bounded_lines.specs.Founds.{Finds}
-use Rattle.co_bounded_lines.specs.Held.{to_come}
+use Rattle.co_stream.specs.declared.bounded_lines.Found.{Found}
+use Rattle.co_stream.specs.declared.bounded_lines.Found.TheVariants.{Line, Last}
+use Rattle.co_stream.specs.Founds.{Finds}
+use Rattle.co_stream.specs.Held.{to_come}
 use Rattle.co_stream.specs.Readings.{Gave}
 use Rattle.conode_convert.proofs.Converting.{takes_last, takes_line, takes_long}
 use Rattle.conode_convert.proofs.step.Converting.take_line.Goals as goal

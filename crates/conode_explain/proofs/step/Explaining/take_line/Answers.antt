@@ -1,9 +1,9 @@
 -- What is found next, and what is written of it.
 use Rattle.std.proofs.Common.{ℕ, List, refl, sym, subst}
-use Rattle.co_bounded_lines.specs.declared.bounded_lines.Found.{Found}
-use Rattle.co_bounded_lines.specs.declared.bounded_lines.Found.TheVariants.{Line, Last}
-use Rattle.co_bounded_lines.specs.Founds.{Finds}
-use Rattle.co_bounded_lines.specs.Held.{to_come}
+use Rattle.co_stream.specs.declared.bounded_lines.Found.{Found}
+use Rattle.co_stream.specs.declared.bounded_lines.Found.TheVariants.{Line, Last}
+use Rattle.co_stream.specs.Founds.{Finds}
+use Rattle.co_stream.specs.Held.{to_come}
 use Rattle.co_stream.specs.Readings.{Gave}
 use Rattle.conode_explain.specs.Sheets.{sheets_of}
 use Rattle.conode_explain.proofs.Explaining.{takes_last, takes_line, takes_long}

@@ -1,9 +1,9 @@
 -- What is found next, and what is counted of it.
 use Rattle.std.proofs.Common.{◌≡◌, ℕ, List, sym, subst}
-use Rattle.co_bounded_lines.specs.declared.bounded_lines.Found.{Found}
-use Rattle.co_bounded_lines.specs.declared.bounded_lines.Found.TheVariants.{Line, Last}
-use Rattle.co_bounded_lines.specs.Founds.{Finds}
-use Rattle.co_bounded_lines.specs.Held.{to_come}
+use Rattle.co_stream.specs.declared.bounded_lines.Found.{Found}
+use Rattle.co_stream.specs.declared.bounded_lines.Found.TheVariants.{Line, Last}
+use Rattle.co_stream.specs.Founds.{Finds}
+use Rattle.co_stream.specs.Held.{to_come}
 use Rattle.co_stream.specs.Readings.{Gave}
 use Rattle.conode_stats.specs.Frames.{line_at}
 use Rattle.conode_stats.proofs.Counting.{stands_after, takes_last, takes_line, takes_long}

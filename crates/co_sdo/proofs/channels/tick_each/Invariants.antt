@@ -1,0 +1,18 @@
+use Rattle.std.proofs.Common.{◌≡◌, ℕ, ◌<◌, ◌≤◌, ◌∷◌, false, List, get_or}
+use Rattle.co_dict.specs.Stores.{Description}
+use Rattle.co_sdo.specs.Log.{Log, Ticked}
+use Rattle.co_sdo.specs.Standing.{Stands, is_expired}
+use Rattle.co_sdo.specs.declared.channels.NumberedChannel.{NumberedChannel}
+use Rattle.co_sdo.specs.Channels.{ChannelSettings}
+use Rattle.co_sdo.specs.Banks.{BankStands, all_settings}
+use Rattle.co_sdo.proofs.channels.tick_each.Given as goal
+
+-- those before the index stand after the longer logs, the others are as they were; before it the time of none is over where
+-- none was found
+abbrev pub invariant-loop-numbered : goal.invariant-loop-numbered
+invariant-loop-numbered l = record {
+  settings : all_settings l.bank ≡ all_settings l.fn.bank;
+  rest : (j : ℕ) (e : NumberedChannel) → l.numbered-index ≤ j → get_or l.bank j e ≡ get_or l.fn.bank j e;
+  done : (d : Description) (channels : List ChannelSettings) (logs : ℕ → Log) → BankStands d channels l.fn.bank logs → (j : ℕ) (e : NumberedChannel) → j < l.numbered-index → Stands d (get_or l.bank j e).channel (Ticked ∷ logs (get_or l.bank j e).number);
+  quiet : l.is_over ≡ false → (j : ℕ) (e : NumberedChannel) → j < l.numbered-index → is_expired (get_or l.bank j e).channel ≡ false;
+}

@@ -1,5 +1,0 @@
-use Rattle.co_sdo_bank.proofs.Permitted.{set_permitted}
-use Rattle.co_sdo_bank.proofs.bank.Bank.set_is_permitted.Goals as goal
-
-pub returns : goal.returns
-returns c = set_permitted c.set_is_permitted.ensures.permitted

@@ -1,3 +1,0 @@
-pub mod Channels
-pub mod Banks
-pub mod Events

@@ -1,3 +1,0 @@
-pub mod Finds
-pub mod SearchedKeys
-pub mod Utf8

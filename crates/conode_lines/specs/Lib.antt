@@ -1,2 +1,0 @@
-pub mod LetOuts
-pub mod TraceTexts

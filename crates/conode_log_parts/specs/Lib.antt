@@ -1,5 +1,0 @@
-pub mod BadWords
-pub mod Needs
-pub mod Numbers
-pub mod Parts
-pub mod Words

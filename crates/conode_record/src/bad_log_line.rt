@@ -1,0 +1,96 @@
+//! What is wrong with a line of a log.
+
+ghost use Rattle.std.specs.Prelude.{◌≡◌};
+ghost use Rattle.conode_record.specs.BadWords.{bad_words, of_record};
+
+use crate::BadLine;
+
+/// What is wrong with a line of a log: its first wrong part.
+#[derive(Clone, Copy)]
+pub enum BadLogLine {
+    /// Neither this line nor one before it shows which recorder wrote the log.
+    Unknown,
+    /// A `.trc` of another version than 1.1, 1.3, 2.0 and 2.1.
+    Version,
+    /// A `.trc` with other columns, or in another order.
+    Columns,
+    /// In a `.asc`, `base` isn't followed by `hex` or `dec`, and `timestamps absolute` or
+    /// `relative`.
+    Base,
+    /// There is no stamp, or none of this form.
+    Stamp,
+    /// The stamps, each counted from the one before, add up to 10^12 seconds or more.
+    TooLate,
+    /// There is no interface of 1 to 15 bytes, or no channel from 1 to 255.
+    Interface,
+    /// This form of log has no such type of message.
+    Type,
+    /// There is no direction.
+    Direction,
+    /// The identifier is no number, or above 7FF or 1FFFFFFF.
+    Identifier,
+    /// A CAN FD frame has no flags, or none that can be read.
+    Flags,
+    /// The length is no number, or greater than such a frame may have.
+    Length,
+    /// The data aren't as many bytes as the length says.
+    Data,
+    /// There are more than 8 data bytes, or in a CAN FD frame more than 64.
+    TooManyBytes,
+    /// The frame is followed by something else.
+    Ending,
+}
+
+impl BadLogLine {
+    /// What is wrong with a line of a recording as `candump -L` writes it.
+    pub fn of_record(bad: BadLine) -> BadLogLine
+        ensures { result ≡ of_record bad }
+    {
+        match bad {
+            BadLine::Stamp => BadLogLine::Stamp,
+            BadLine::Interface => BadLogLine::Interface,
+            BadLine::Identifier => BadLogLine::Identifier,
+            BadLine::Flags => BadLogLine::Flags,
+            BadLine::Length => BadLogLine::Length,
+            BadLine::Data => BadLogLine::Data,
+            BadLine::TooManyBytes => BadLogLine::TooManyBytes,
+            BadLine::Ending => BadLogLine::Ending,
+        }
+    }
+
+    /// What is wrong, in words, without a stop at the end.
+    pub fn words(self) -> &'static str
+        ensures { result.now ≡ bad_words self }
+    {
+        match self {
+            BadLogLine::Unknown =>
+                "no recorder is known that writes such a line; --log FORM names one",
+            BadLogLine::Version => "the version of the .trc isn't 1.1, 1.3, 2.0 or 2.1",
+            BadLogLine::Columns => {
+                "the columns aren't N,O,T,B,I,d,R,L,D, where B and R may be left out, and l may be there for L"
+            }
+            BadLogLine::Base => {
+                "after base there is no hex or dec, or after that no timestamps absolute or relative"
+            }
+            BadLogLine::Stamp => "there is no stamp as this form of log has it",
+            BadLogLine::TooLate => "the stamps up to here add up to more than 999999999999 seconds",
+            BadLogLine::Interface => {
+                "there is no interface of at most 15 bytes, or no channel from 1 to 255"
+            }
+            BadLogLine::Type => "the message is of no type that this form of log has",
+            BadLogLine::Direction => "there is no direction, Rx or Tx",
+            BadLogLine::Identifier => {
+                "there is no identifier up to 7FF (11 bits) or 1FFFFFFF (29 bits) as this form of log has it"
+            }
+            BadLogLine::Flags => "there are no flags of a CAN FD frame",
+            BadLogLine::Length => {
+                "there is no length up to 8, or of a CAN FD frame up to 64, as this form of log has it"
+            }
+            BadLogLine::Data => "the data aren't as many bytes as the length says",
+            BadLogLine::TooManyBytes => {
+                "there are more than 8 data bytes, or in a CAN FD frame more than 64"
+            }
+            BadLogLine::Ending => "after the frame comes something else",
+        }
+    }
+}
