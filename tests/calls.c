@@ -623,11 +623,10 @@ static void test_numbers(void)
     check(bafokun_find(&node, 0x2003, 0, &number) && number == 43, "numbers", "find 2003:00");
     check(bafokun_value_at(&node, number, by_number, 1, &of_number) && of_number == 2, "numbers", "a value, room for one");
     check(by_number[0] == 7 && by_number[1] == 0xEE, "numbers", "its first byte");
-    while (bafokun_next_changed(&node, next, &next)) next++;
     check(bafokun_write_at(&node, number, (const uint8_t *)"\x2C\x01", 2, frames, 2) == 0, "numbers", "write 2003:00");
     check(bafokun_answer(&node, &code) == BAFOKUN_DONE && code == 0, "numbers", "done");
     check(run_line(&node, "value 2003:00 2C 01"), "numbers", "it is set");
-    check(!bafokun_next_changed(&node, 0, &next), "numbers", "the program knows what it wrote");
+    check(!bafokun_next_changed(&node, 0, &next), "numbers", "what the program wrote isn't found");
     check(bafokun_write_at(&node, number, by_number, 1, frames, 2) == 0, "numbers", "one byte");
     check(bafokun_answer(&node, &code) == BAFOKUN_REFUSED && code == 0x06070013, "numbers", "is refused: too short");
     check(bafokun_write_at(&node, 46, by_number, 2, frames, 2) == 0, "numbers", "past the last");
@@ -645,7 +644,7 @@ static void test_numbers(void)
     check(bafokun_write_at(&node, 0, by_number, 1, frames, 2) == 0, "numbers", "which takes none");
 }
 
-/* The entries whose bytes the program doesn't know, from a number on: these keys, in this order, and no other. */
+/* The entries that were set, from a number on: these keys, in this order, and no other. */
 static bool are_changed(bafokun_node *node, size_t from, const char *keys)
 {
     bafokun_entry_info entry;
@@ -658,40 +657,76 @@ static bool are_changed(bafokun_node *node, size_t from, const char *keys)
     return *keys == 0;
 }
 
-/* A line of a sequence, and the entries that it changes. */
+/* A line of a sequence, and the entries that it sets. */
 static void check_changes(bafokun_node *node, const char *line, const char *keys)
 {
     check(run_line(node, line) && are_changed(node, 0, keys), "changes", line);
 }
 
-/* What SDO clients, RPDOs, resets and errors change is given once; what the application writes, never. */
+/* How many entries were set, each with an index within these ends. */
+static size_t count_changes(bafokun_node *node, unsigned least, unsigned greatest)
+{
+    bafokun_entry_info entry;
+    size_t next = 0, count = 0;
+    for (; bafokun_next_changed(node, next, &next); next++, count++)
+        if (!bafokun_entry(node, next, &entry) || entry.index < least || entry.index > greatest) return SIZE_MAX;
+    return count;
+}
+
+/* What SDO clients, RPDOs and resets set is given once, also if the bytes are the same; what the application writes, never. */
 static void test_changes(void)
 {
     bafokun_node node = BAFOKUN_EMPTY;
     bafokun_fault fault;
-    bafokun_entry_info entry;
-    size_t number, with_bytes = 0, given = 0, next = 0;
+    size_t next = 45;
     check(bafokun_build(&node, sheet, strlen(sheet), 5, &config, &fault), "changes", "build");
-    for (number = 0; bafokun_entry(&node, number, &entry); number++) with_bytes += entry.length > 0;
-    for (; bafokun_next_changed(&node, next, &next); next++, given++)
-        if (!bafokun_entry(&node, next, &entry) || entry.length == 0) break;
-    check(given == with_bytes && given == 44, "changes", "first each entry that has bytes");
-    check(!bafokun_next_changed(&node, 0, &next) && next == 45, "changes", "then none, and nothing is written");
+    check(!bafokun_next_changed(&node, 0, &next) && next == 45, "changes", "first none, and nothing is written");
     check_changes(&node, "605#2B0320002C010000 = 585#6003200000000000", " 2003:0");
-    check_changes(&node, "605#2B0320002C010000 = 585#6003200000000000", "");
-    check_changes(&node, "605#2B0320002D010000 = 585#6003200000000000", " 2003:0");
+    check(are_changed(&node, 0, ""), "changes", "once");
+    check_changes(&node, "605#2B0320002C010000 = 585#6003200000000000", " 2003:0");
     check_changes(&node, "605#2B03200100000000 = 585#8003200111000906", "");
+    check_changes(&node, "605#4003200000000000 = 585#4B0320002C010000", "");
     check_changes(&node, "write 2003:00 12E", "");
-    check(run_line(&node, "605#2B0320002D010000 = 585#6003200000000000"), "changes", "download");
+    check(run_line(&node, "605#2B0320002D010000 = 585#6003200000000000"), "changes", "a download");
+    check_changes(&node, "write 2003:00 12E", " 2003:0");
+    check_changes(&node, "605#210120000A000000 = 585#6001200000000000", "");
+    check_changes(&node, "605#0030313233343536 = 585#2000000000000000", "");
+    check_changes(&node, "605#1937383900000000 = 585#3000000000000000", " 2001:0");
+    check(run_line(&node, "605#2B0320002D010000 = 585#6003200000000000"), "changes", "a download");
     check(run_line(&node, "605#2302200001020304 = 585#6002200000000000"), "changes", "another");
     check(are_changed(&node, 43, " 2003:0") && are_changed(&node, 0, " 2002:0"), "changes", "from a number on");
-    check(run_line(&node, "605#2302200000000000 = 585#6002200000000000"), "changes", "set");
-    check_changes(&node, "605#2302200001020304 = 585#6002200000000000", "");
+    check(!bafokun_next_changed(&node, SIZE_MAX, &next) && next == 45, "changes", "none past the last");
     check_changes(&node, "000#0105", "");
+    check_changes(&node, "raise 8120 10 = 085#2081110000000000", "");
     check_changes(&node, "205#05060708", " 2002:0");
-    check_changes(&node, "000#8105 = 705#00", " 2002:0 2003:0");
+    check_changes(&node, "205#05060708", " 2002:0");
+    check_changes(&node, "205#050607 = 085#1082110000000000", "");
+    check(run_line(&node, "000#8205 = 705#00") && count_changes(&node, 0x1000, 0x1FFF) == 41, "changes", "reset communication");
+    check(run_line(&node, "000#8105 = 705#00") && count_changes(&node, 0x1000, 0x2100) == 46, "changes", "reset node");
+    check(are_changed(&node, 0, ""), "changes", "once");
     bafokun_free(&node);
     check(!bafokun_next_changed(&node, 0, &next) && next == 45, "changes", "none of an empty place");
+}
+
+/* The entries of several RPDOs that take effect at a SYNC. */
+static void test_changes_at_sync(const char *text)
+{
+    bafokun_node node = BAFOKUN_EMPTY;
+    bafokun_fault fault;
+    check(bafokun_build(&node, text, strlen(text), 5, &config, &fault), "changes", "build an I/O module");
+    check_changes(&node, "605#2F00140201000000 = 585#6000140200000000", " 1400:2");
+    check_changes(&node, "605#2F01140201000000 = 585#6001140200000000", " 1401:2");
+    check_changes(&node, "000#0105", "");
+    check_changes(&node, "305#01000200", "");
+    check_changes(&node, "205#0A0B", "");
+    check_changes(&node, "080#", " 6200:1 6200:2 6411:1 6411:2");
+    check(run_line(&node, "value 6411:02 02 00"), "changes", "they are set");
+    check_changes(&node, "080#", "");
+    check(run_line(&node, "305#01000200") && run_line(&node, "205#0A0B"), "changes", "the same again");
+    check_changes(&node, "080#", " 6200:1 6200:2 6411:1 6411:2");
+    check(run_line(&node, "305#01000080") && run_line(&node, "205#0A0B"), "changes", "-32768, below its limit");
+    check_changes(&node, "080# = 085#0082110000000000", " 6200:1 6200:2");
+    bafokun_free(&node);
 }
 
 /* What happened since the last time: these words, and no other; "-" for nothing. */
@@ -858,8 +893,10 @@ static void test_refused_memory(void)
 
 int main(int argc, char **argv)
 {
-    if (argc != 2) return 2;
+    char *module;
+    if (argc != 3) return 2;
     sheet = read_file(argv[1]);
+    module = read_file(argv[2]);
     check(sizeof(bafokun_frame) == 12, "layout", "frame");
     check(sizeof(bafokun_config) == 6, "layout", "config");
     check(sizeof(bafokun_fault) == 16, "layout", "fault");
@@ -887,11 +924,13 @@ int main(int argc, char **argv)
     test_entries();
     test_numbers();
     test_changes();
+    test_changes_at_sync(module);
     test_happened();
     test_texts();
     test_empty_place();
     test_refused_memory();
     free(sheet);
+    free(module);
     printf("%u passed, %u failed\n", passed, failed);
     return failed != 0;
 }

@@ -337,9 +337,9 @@ class Node:
     # ---- entries
 
     def changed_entries(self) -> List[Entry]:
-        """The entries, by key, with other bytes than the application knows: those that it set, or that they had when this gave them.
+        """The entries, by key, that SDO clients, RPDOs or a reset set since the last call, or since the node was made.
 
-        So first each entry that has bytes; later each that SDO clients, RPDOs, a reset or an error gave other bytes, once.
+        Also those that were set to the bytes that they had, and not those that the application sets.
         """
         entries, found, number = list(self), [], ctypes.c_size_t()
         with self._lock:

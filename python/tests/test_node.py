@@ -254,16 +254,32 @@ class Entries(unittest.TestCase):
             node.write(0x7130, 2, b"\xd7\0")
 
     def test_changed_entries(self):
-        """First all that have bytes; then what comes from the bus and from resets, once, and nothing that the application sets."""
+        """What comes from SDO clients, RPDOs and resets, once, also if the bytes are the same; nothing that the application sets."""
         node = bafokun.Node.from_sheet(SENSOR, 5)
-        self.assertEqual(node.changed_entries(), [it for it in node if it.bytes])
         self.assertEqual(node.changed_entries(), [])
+        for _ in range(2):
+            node.take((0x605, bytes.fromhex("2B002000F4010000")))
+            self.assertEqual([(it.name, it.raw) for it in node.changed_entries()], [("Measuring interval in ms", 500)])
+            self.assertEqual(node.changed_entries(), [])
         node["AI input PV 1"] = -2
         self.assertEqual(node.changed_entries(), [])
-        node.take((0x605, bytes.fromhex("2B002000F4010000")))
-        self.assertEqual([(it.name, it.raw) for it in node.changed_entries()], [("Measuring interval in ms", 500)])
+        node.take((0, bytes.fromhex("8205")))
+        self.assertEqual(node.changed_entries(), [it for it in node if 0x1000 <= it.index <= 0x1FFF])
         node.take((0, bytes.fromhex("8105")))
-        self.assertEqual([it.name for it in node.changed_entries()], ["Measuring interval in ms", "AI input PV 1"])
+        self.assertEqual(node.changed_entries(), list(node))
+
+    def test_changed_entries_at_sync(self):
+        """Those of several RPDOs, by key."""
+        node = bafokun.Node.from_sheet(MODULE, 8)
+        node[0x1400, 2] = node[0x1401, 2] = 1
+        node.take((0, b"\x01\x08"))
+        for _ in range(2):
+            node.take((0x308, bytes.fromhex("01000200")))
+            node.take((0x208, bytes.fromhex("0A0B")))
+            self.assertEqual(node.changed_entries(), [])
+            node.take((0x80, b""))
+            keys = [(it.index, it.sub_index, it.raw) for it in node.changed_entries()]
+            self.assertEqual(keys, [(0x6200, 1, 10), (0x6200, 2, 11), (0x6411, 1, 1), (0x6411, 2, 2)])
 
 
 class Inputs(unittest.TestCase):

@@ -2,10 +2,10 @@ pub mod Added
 pub mod AsBox
 pub mod AsLoss
 pub mod GivenBus
-pub mod KnownSoFar
 pub mod Numbered
 pub mod Put
 pub mod Refused
 pub mod StateKept
 pub mod Terminated
 pub mod Ticks
+pub mod Unchanged

@@ -1,5 +1,6 @@
 -- A device that is built for C, or the fault.
-use Rattle.std.specs.Prelude.{◌≡◌, ℕ, List, [], map, Option, Some, None, option_map}
+use Rattle.std.specs.Prelude.{◌≡◌, ℕ, List, [], length, Option, Some, None, option_map}
+use Rattle.std.specs.Box.{boxed_slice_items}
 use Rattle.co_sheet_rows.specs.declared.fault.SheetFault.{SheetFault}
 use Rattle.co_sheet.specs.Accepted.{IsAnswered, first_fault}
 use Rattle.co_sheet.specs.Content.{SheetContent, IsSheet, IsWhole}
@@ -15,12 +16,12 @@ use Rattle.co_node.specs.Nodes.{Stands, node_constants}
 use Rattle.bafokun.specs.declared.build.Settings.{Settings}
 use Rattle.bafokun.specs.declared.build.Fault.{Fault}
 use Rattle.bafokun.specs.Faults.{device_fault, sheet_fault}
+use Rattle.bafokun.specs.Changes.{no_changes}
 use Rattle.bafokun.specs.Happened.{no_events}
 use Rattle.bafokun.specs.declared.held.Held.{Held}
 use Rattle.bafokun.specs.declared.handle.Handle.{Handle}
 use Rattle.co_sheet_changes.specs.Originals.{original_at}
 use Rattle.co_dict_table.specs.Entries.{EntryContent, contents_of_rows, entry_at}
-use Rattle.co_dict_table.specs.Known.{Known, blank_of}
 
 -- the capacities of strings and of domains; no entry has one of its own
 abbrev pub limits_for : Settings → Limits
@@ -39,22 +40,22 @@ pub record IsNodeOf (node : ℕ) (settings : Settings) (sheet : SheetContent) (m
       → IsGreatestCapacity (built_description (plan_for node settings sheet)).rows greatest
       → Stands (node_constants (plan_for node settings sheet) greatest settings.time) made []
 
--- a node is held with this entry table and these known bytes, and nothing happened to it
-pub record IsHeld (made : Node) (table : List EntryContent) (bytes : List Known) (held : Held) : Type 0 where
+-- a node is held with this entry table and these changes, and nothing happened to it
+pub record IsHeld (made : Node) (table : List EntryContent) (changes : List ℕ) (held : Held) : Type 0 where
   pub node : held.node ≡ made
   pub entries : held.entries ≡ table
-  pub known : held.known ≡ bytes
+  pub changes : boxed_slice_items held.changes ≡ changes
   pub events : held.events ≡ no_events
 
 -- this device was built from this sheet; it has the entry table of the sheet, with these original
--- types by section lines, and the number of an entry is its place in the dictionary; the
--- application knows no bytes of the entries, and nothing happened
+-- types by section lines, and the number of an entry is its place in the dictionary; there is a bit
+-- for each entry, and none of them is set; nothing happened
 pub record IsHeldOf (originals : ℕ → Option (List ℕ)) (node : ℕ) (settings : Settings) (sheet : SheetContent) (held : Held) : Type 0 where
   pub is_built : IsNodeOf node settings sheet held.node
   pub entries : held.entries ≡ contents_of_rows originals (limits_for settings) sheet.rows
   pub numbered : (number : ℕ) → key_at (built_description (plan_for node settings sheet)) number
       ≡ option_map (λ e. e.facts.key) (entry_at held.entries number)
-  pub known : held.known ≡ map blank_of held.entries
+  pub changes : boxed_slice_items held.changes ≡ no_changes (length held.entries)
   pub events : held.events ≡ no_events
 
 -- this device was built from a text

@@ -1,71 +1,87 @@
--- Entries whose bytes differ from those that the application knows.
-use Rattle.std.specs.Prelude.{◌≡◌, ℕ, ◌<◌, ◌≤◌, Bool, true, false, not, bytes_eq, List, [], ◌∷◌, Option, Some, None, option_map, unwrap_or, slice_get}
+-- Entries that were set since the application asked: by SDO, by RPDOs or by a reset, also to the
+-- bytes that they had.
+use Rattle.std.specs.Prelude.{◌≡◌, ℕ, suc, ◌+◌, ◌/◌, ◌<◌, ◌≤◌, Bool, true, false, if◌then◌else◌, List, [], ◌∷◌, Option, Some, None, replicate}
 use Rattle.std.specs.Option.{option_map_or}
-use Rattle.co_value.specs.declared.key.Key.{Key}
-use Rattle.co_dict.specs.Rows.{Contents}
-use Rattle.co_dict_table.specs.Entries.{EntryContent, entry_at}
-use Rattle.co_dict_table.specs.Known.{Known, with_known}
-use Rattle.co_node_model.specs.Inputs.{Applied, Inputs, Written}
+use Rattle.std.specs.Box.{boxed_slice_items}
+use Rattle.co_dict.specs.declared.area.Area.{Area}
+use Rattle.co_dict.specs.declared.area.Area.TheVariants.{All, Communication}
+use Rattle.co_dict.specs.Rows.{is_in_area}
+use Rattle.co_dict_placed.specs.Changes.{is_changed, with_change, with_keys, without_change}
+use Rattle.co_dict_table.specs.Entries.{EntryContent}
+use Rattle.co_node_model.specs.Inputs.{InputView, Inputs}
 use Rattle.co_node_model.specs.Moments.{Constants}
-use Rattle.co_node_model.specs.Device.{app_after, contents_of}
-use Rattle.co_node_model.specs.declared.app_answer.AppAnswer.{AppAnswer}
-use Rattle.co_node_model.specs.declared.app_answer.AppAnswer.TheVariants as app
+use Rattle.co_node_device.specs.declared.seen.Seen.{Seen}
+use Rattle.co_node_device.specs.declared.seen.Seen.TheVariants as seen
+use Rattle.co_node_device.specs.Lasts.{last_seen}
+use Rattle.co_node_device.specs.SetEntries.{last_set}
+use Rattle.bafokun.specs.declared.held.Held.{Held}
+use Rattle.bafokun.specs.declared.handle.Handle.{Handle}
 
--- the bytes of the entry with a key; empty if there is no such entry
-abbrev pub bytes_at : Contents → Key → List ℕ
-bytes_at contents key = unwrap_or (contents key) []
+-- a bit for each of so many entries, none of them set: a byte for each eight, and one more
+abbrev pub no_changes : ℕ → List ℕ
+no_changes count = replicate (count / 8 + 1) 0
 
--- the known bytes of an entry; empty if none are
-abbrev pub known_bytes : Option Known → List ℕ
-known_bytes k = unwrap_or (option_map (λ k. k.bytes) k) []
+-- ---- what one input adds
 
--- the bytes of an entry differ from the known ones
-abbrev pub differs : Contents → Option EntryContent → Option Known → Bool
-differs contents None k = false
-differs contents (Some e) k = not (bytes_eq (bytes_at contents e.facts.key) (known_bytes k))
+-- the area that a reset restores, by what is seen of an input (7.3.2.2.1)
+abbrev pub reset_seen : Seen → Option Area
+reset_seen seen.Nothing = None
+reset_seen seen.ResetNode = Some All
+reset_seen seen.ResetCommunication = Some Communication
+reset_seen seen.Sync = None
+reset_seen seen.Rpdo = None
+reset_seen (seen.Heartbeat node) = None
 
--- the bytes of the entry with a number differ from the known ones; never past the last entry
-abbrev pub is_changed : Contents → List EntryContent → List Known → ℕ → Bool
-is_changed contents entries known number = differs contents (entry_at entries number) (slice_get known number)
+-- the changes with that of an entry with a number, if it is in an area
+abbrev pub with_entry : Area → EntryContent → ℕ → List ℕ → List ℕ
+with_entry area e number changes = if is_in_area area e.facts.key then with_change changes number else changes
 
--- no entry from one number up to another differs
-abbrev pub AreSame : Contents → List EntryContent → List Known → ℕ → ℕ → Type 0
-AreSame contents entries known from to = (n : ℕ) → from ≤ n → n < to → is_changed contents entries known n ≡ false
+-- the changes with those of all entries in an area, which are numbered from a number on
+abbrev pub with_area : Area → List EntryContent → ℕ → List ℕ → List ℕ
+with_area area [] number changes = changes
+with_area area (e ∷ entries) number changes = with_area area entries (suc number) (with_entry area e number changes)
 
--- the first entry from a number on that differs, if any
-abbrev pub IsNext : Contents → List EntryContent → List Known → ℕ → Option ℕ → Type 0
-IsNext contents entries known from None = (n : ℕ) → from ≤ n → is_changed contents entries known n ≡ false
-IsNext contents entries known from (Some number) =
-    (from ≤ number) × (is_changed contents entries known number ≡ true) × AreSame contents entries known from number
+-- the changes with those of a reset, if one is seen: it sets each entry of its area to its default
+abbrev pub with_reset : Seen → List EntryContent → List ℕ → List ℕ
+with_reset s entries changes = option_map_or (λ area. with_area area entries 0 changes) (reset_seen s) changes
 
--- the known bytes once those of an entry are noted
-abbrev pub known_with : Contents → Option EntryContent → List Known → ℕ → List Known
-known_with contents None known number = known
-known_with contents (Some e) known number = with_known known number (bytes_at contents e.facts.key)
+-- the changes with those of one more input: what it sets by SDO and RPDOs, or by a reset
+abbrev pub and_set : Constants → Inputs → InputView → List EntryContent → List ℕ → List ℕ
+and_set k before input entries changes =
+    with_reset (last_seen k (input ∷ before)) entries (with_keys k.description (last_set k (input ∷ before)) changes)
 
--- the known bytes after the entry with a number was returned, if one was
-abbrev pub known_after : Contents → List EntryContent → List Known → Option ℕ → List Known
-known_after contents entries known None = known
-known_after contents entries known (Some number) = known_with contents (entry_at entries number) known number
+-- ---- the answer
 
--- the known bytes after the application wrote into the entry with a key and a number, by the answer
-abbrev pub known_written : Contents → Option ℕ → List Known → Key → AppAnswer → List Known
-known_written contents number known key app.None = known
-known_written contents number known key app.Done =
-    option_map_or (λ number. with_known known number (bytes_at contents key)) number known
-known_written contents number known key (app.Refused code) = known
+-- no entry from one number up to another changed
+abbrev pub AreUnchanged : List ℕ → ℕ → ℕ → Type 0
+AreUnchanged changes from to = (n : ℕ) → from ≤ n → n < to → is_changed changes n ≡ false
 
--- the same for a write that is the last input
-pub record KnowsWritten (k : Constants) (before : Inputs) (key : Key) (bytes : List ℕ)
-    (number : Option ℕ) (known later : List Known) : Type 0 where
-  pub is : later
-      ≡ known_written (contents_of k (Applied (Written key bytes) ∷ before)) number known key
-      (app_after k (Applied (Written key bytes) ∷ before))
+-- the first of so many entries that changed, from a number on, if any
+abbrev pub IsNext : ℕ → List ℕ → ℕ → Option ℕ → Type 0
+IsNext count changes from None = AreUnchanged changes from count
+IsNext count changes from (Some number) =
+    (from ≤ number) × (number < count) × (is_changed changes number ≡ true) × AreUnchanged changes from number
 
--- C gets the number of the first entry that differs, and its bytes are known then; if there is
--- none, nothing changes
-abbrev pub IsGiven : Contents → List EntryContent → List Known → ℕ → ℕ → ℕ → Bool → List Known → Type 0
-IsGiven contents entries known from before after false later =
-    (after ≡ before) × IsNext contents entries known from None × (later ≡ known)
-IsGiven contents entries known from before after true later =
-    IsNext contents entries known from (Some after) × (later ≡ known_with contents (entry_at entries after) known after)
+-- the changes after the number of an entry was returned, if one was
+abbrev pub left_after : List ℕ → Option ℕ → List ℕ
+left_after changes None = changes
+left_after changes (Some number) = without_change changes number
+
+-- C gets the number of the first entry that changed, which is forgotten then; if there is none,
+-- nothing changes
+abbrev pub IsGiven : ℕ → List ℕ → ℕ → ℕ → ℕ → Bool → List ℕ → Type 0
+IsGiven count changes from before after false later =
+    (after ≡ before) × IsNext count changes from None × (later ≡ changes)
+IsGiven count changes from before after true later =
+    IsNext count changes from (Some after) × (later ≡ left_after changes (Some after))
+
+-- ---- of a device
+
+-- the changes of a held device
+abbrev pub changes_in : Option Held → List ℕ
+changes_in None = []
+changes_in (Some held) = boxed_slice_items held.changes
+
+-- the changes of a place's device since the application asked
+abbrev pub changes_of : Handle → List ℕ
+changes_of place = changes_in place.seal.value

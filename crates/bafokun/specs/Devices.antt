@@ -10,7 +10,6 @@ use Rattle.bafokun.specs.declared.frames.CanFrame.{CanFrame}
 use Rattle.bafokun.specs.declared.held.Held.{Held}
 use Rattle.bafokun.specs.declared.handle.Handle.{Handle}
 use Rattle.co_dict_table.specs.Entries.{EntryContent}
-use Rattle.co_dict_table.specs.Known.{Known}
 use Rattle.bafokun.specs.Frames.{ArePut}
 
 -- this held device is in the state after these inputs, newest first
@@ -43,15 +42,6 @@ entries_in (Some held) = held.entries
 -- the entry table of a place's device, in increasing key
 abbrev pub entries_of : Handle → List EntryContent
 entries_of place = entries_in place.seal.value
-
--- the known bytes of a held device
-abbrev pub known_in : Option Held → List Known
-known_in None = []
-known_in (Some held) = held.known
-
--- the bytes that the application knows of the entries of a place's device
-abbrev pub known_of : Handle → List Known
-known_of place = known_in place.seal.value
 
 -- a held device after one more input
 pub record Gave (k : Constants) (before : Inputs) (input : InputView) (held : Held) : Type 0 where

@@ -59,8 +59,3 @@ value_numbered entries contents number = option_and_then (λ e. contents e.facts
 abbrev pub key_named : List EntryContent → Named → Key
 key_named entries (named.Key key) = key
 key_named entries (named.Number number) = key_numbered entries number
-
--- its number, if it is known
-abbrev pub number_named : List EntryContent → Named → Option ℕ
-number_named entries (named.Key key) = number_of entries key
-number_named entries (named.Number number) = Some number

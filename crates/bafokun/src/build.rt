@@ -1,11 +1,12 @@
 //! Building a device for C.
 
-ghost use Rattle.std.specs.Prelude.{◌≡◌, ◌≤◌, None, true, false, length, map, IfErr, IfOk};
+ghost use Rattle.std.specs.Prelude.{◌≡◌, ◌≤◌, None, true, false, length, IfErr, IfOk};
 ghost use Rattle.co_sheet_changes.specs.Originals.{original_at};
 ghost use Rattle.co_dict_build.specs.BuildFaults.{build_fault};
 ghost use Rattle.co_dict_build.specs.Built.{Plan};
 ghost use Rattle.co_dict_table.specs.Entries.{contents_of_rows};
-ghost use Rattle.co_dict_table.specs.Known.{blank_of};
+ghost use Rattle.std.specs.Box.{boxed_slice_items};
+ghost use Rattle.bafokun.specs.Changes.{no_changes};
 ghost use Rattle.bafokun.specs.Builds.{
   IsBuilt,
   IsHeld,
@@ -24,12 +25,13 @@ use crate::handle::Handle;
 use crate::happened::Events;
 use crate::held::Held;
 use co_dict_build::{BuildFault, Limits};
-use co_dict_table::{EntryTable, KnownBytes};
+use co_dict_table::EntryTable;
 use co_frame::Outbox;
 use co_node::{Config, Node};
 use co_sheet::{Sheet, SheetFault, read};
 use co_value::Key;
 use std::alloc::Global;
+use std::boxed::BoxedSlice;
 
 /// The configuration that a data sheet doesn't contain, 6 bytes without padding: `struct
 /// bafokun_config`.
@@ -155,22 +157,22 @@ fn entries_of(
     }
 }
 
-// Moves a node, its entries and their known bytes into memory of their own; no frame has been sent,
-// and nothing happened.
+// Moves a node, its entries and a bit for each of them into memory of their own; no frame has been
+// sent, and nothing happened.
 fn boxed(
     alloc: Global,
     node: Node,
     entries: EntryTable,
-    known: KnownBytes,
+    changes: BoxedSlice<u8>,
 ) -> Result<Box<Held>, Fault>
-    ensures ok { IfOk result (λ held. IsHeld node entries known held.value) }
+    ensures ok { IfOk result (λ held. IsHeld node entries (boxed_slice_items changes) held.value) }
     ensures err { (plan : Plan) → IfErr result (IsUnbuilt plan) }
 {
     let held = Held {
         node,
         sent: Outbox::new(),
         entries,
-        known,
+        changes,
         events: Events::none(),
     };
     match Box::new(alloc, held) {
@@ -179,13 +181,13 @@ fn boxed(
     }
 }
 
-// Room for the known bytes of entries, all unknown.
-fn unknown(alloc: Global, entries: &EntryTable) -> Result<KnownBytes, Fault>
-    ensures ok { IfOk result (λ known. known ≡ map blank_of entries.now) }
+// A bit for each of `count` entries, none of them set.
+fn unchanged(alloc: Global, count: usize) -> Result<BoxedSlice<u8>, Fault>
+    ensures ok { IfOk result (λ changes. boxed_slice_items changes ≡ no_changes count) }
     ensures err { (plan : Plan) → IfErr result (IsUnbuilt plan) }
 {
-    match entries.known_bytes(alloc) {
-        Ok(known) => Ok(known),
+    match vec![in alloc; 0; count / 8 + 1] {
+        Ok(changes) => Ok(changes.into_boxed_slice()),
         Err(_) => Err(Fault::of_build(BuildFault::Memory)),
     }
 }
@@ -205,8 +207,8 @@ fn held_of(
 {
     let node = node_of(alloc, sheet, node_id, settings)?;
     let entries = entries_of(alloc, text, sheet, node_id, settings)?;
-    let known = unknown(alloc, &entries)?;
-    boxed(alloc, node, entries, known)
+    let changes = unchanged(alloc, entries.len())?;
+    boxed(alloc, node, entries, changes)
 }
 
 // The device of a text.

@@ -1,108 +1,58 @@
-//! Entries whose bytes differ from those that the application knows.
+//! Entries that were set since the application asked.
 
-ghost use Rattle.std.specs.Prelude.{◌≡◌, bytes_eq, slice_get};
-ghost use Rattle.co_node_model.specs.Inputs.{Inputs};
-ghost use Rattle.co_node_model.specs.Moments.{Constants};
-ghost use Rattle.co_node_model.specs.Device.{app_after, contents_of};
-ghost use Rattle.co_node.specs.Nodes.{Stands};
+ghost use Rattle.std.specs.Prelude.{◌≡◌};
 ghost use Rattle.co_dict_table.specs.Entries.{entry_at};
-ghost use Rattle.bafokun.specs.Changes.{
-  IsNext,
-  bytes_at,
-  is_changed,
-  known_bytes,
-  known_with,
-  known_written,
-};
+ghost use Rattle.std.specs.Option.{option_map_or};
+ghost use Rattle.bafokun.specs.Changes.{IsNext, with_area, with_entry, with_reset};
 
-use co_dict_table::{EntryTable, KnownBytes};
-use co_node::{AppAnswer, Node};
-use co_value::Key;
+use co_dict::Area;
+use co_dict_placed::{is_changed, note_change};
+use co_dict_table::EntryTable;
+use co_node::Seen;
 
-// The bytes of the entry with a key, and with this number if it is among the entries; empty if there
-// is no such entry.
-fn bytes_at(node: &Node, number: usize, key: Key) -> &[u8]
-    ensures { (k : Constants) (before : Inputs) → Stands k node.now before →
-        result.now ≡ bytes_at (contents_of k before) key }
+/// The first of `count` entries that changed, from a number on.
+pub(crate) fn next_changed(changes: &[u8], from: usize, count: usize) -> Option<usize>
+    ensures { IsNext count changes.now from result }
 {
-    match node.value_at(number, key) {
-        Some(bytes) => bytes,
-        None => &[],
-    }
-}
-
-// The known bytes of the entry with a number; empty if none are.
-fn known_at(known: &KnownBytes, number: usize) -> &[u8]
-    ensures { result.now ≡ known_bytes (slice_get known.now number) }
-{
-    match known.get(number) {
-        Some(bytes) => bytes,
-        None => &[],
-    }
-}
-
-fn is_same(bytes: &[u8], others: &[u8]) -> bool
-    ensures { result ≡ bytes_eq bytes.now others.now }
-{
-    bytes == others
-}
-
-// Whether the bytes of the entry with a number differ from the known ones.
-fn is_changed(node: &Node, entries: &EntryTable, known: &KnownBytes, number: usize) -> bool
-    ensures { (k : Constants) (before : Inputs) → Stands k node.now before →
-        result ≡ is_changed (contents_of k before) entries.now known.now number }
-{
-    match entries.get(number) {
-        Some(described) => {
-            !is_same(
-                bytes_at(node, number, described.facts.key),
-                known_at(known, number),
-            )
-        }
-        None => false,
-    }
-}
-
-/// The first entry from a number on whose bytes differ from the known ones.
-pub(crate) fn next_changed(
-    node: &Node,
-    entries: &EntryTable,
-    known: &KnownBytes,
-    from: usize,
-) -> Option<usize>
-    ensures { (k : Constants) (before : Inputs) → Stands k node.now before →
-        IsNext (contents_of k before) entries.now known.now from result }
-{
-    for number in from..entries.len() {
-        if is_changed(node, entries, known, number) {
+    for number in from..count {
+        if is_changed(changes, number) {
             return Some(number);
         }
     }
     None
 }
 
-/// Notes the current bytes of the entry with a number as known.
-pub(crate) fn note(node: &Node, entries: &EntryTable, known: &mut KnownBytes, number: usize)
-    ensures { (k : Constants) (before : Inputs) → Stands k node.now before → known.new
-        ≡ known_with (contents_of k before) (entry_at entries.now number) known.old number }
+// Notes the entry with a number, if there is one and a reset of this area restores it.
+fn note_in(area: Area, entries: &EntryTable, number: usize, changes: &mut [u8])
+    ensures { changes.new ≡ option_map_or (λ e. with_entry area e number changes.old)
+        (entry_at entries.now number) changes.old }
 {
-    match entries.get(number) {
-        Some(described) => known.set(number, bytes_at(node, number, described.facts.key)),
-        None => {}
+    if let Some(described) = entries.get(number) {
+        if area.contains(described.facts.key) {
+            note_change(changes, number);
+        }
     }
 }
 
-/// Notes the bytes that the application wrote last, into the entry with a key and a number, as
-/// known, if the write was done.
-pub(crate) fn note_written(node: &Node, known: &mut KnownBytes, key: Key, number: Option<usize>)
-    ensures { (k : Constants) (before : Inputs) → Stands k node.now before → known.new
-        ≡ known_written (contents_of k before) number known.old key (app_after k before) }
+// Notes all entries that a reset of this area restores.
+#[cold]
+#[inline(never)]
+fn note_area(area: Area, entries: &EntryTable, changes: &mut [u8])
+    ensures { changes.new ≡ with_area area entries.now 0 changes.old }
 {
-    match node.last_app() {
-        AppAnswer::Done => match number {
-            Some(number) => known.set(number, bytes_at(node, number, key)),
-            None => {}
-        },
-        AppAnswer::None | AppAnswer::Refused(_) => {}
+    for number in 0..entries.len() {
+        note_in(area, entries, number, changes);
+    }
+}
+
+/// Notes the entries that a reset restores, if one was seen of an input.
+#[inline(always)]
+pub(crate) fn note_reset(seen: Seen, entries: &EntryTable, changes: &mut [u8])
+    ensures { changes.new ≡ with_reset seen entries.now changes.old }
+{
+    match seen {
+        Seen::ResetNode => note_area(Area::All, entries, changes),
+        Seen::ResetCommunication => note_area(Area::Communication, entries, changes),
+        Seen::Nothing | Seen::Sync | Seen::Rpdo | Seen::Heartbeat(_) => {}
     }
 }

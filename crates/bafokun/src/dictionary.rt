@@ -1,11 +1,11 @@
 //! The entries of a device for C, by their numbers: from 0 on by increasing key.
 
-ghost use Rattle.std.specs.Prelude.{◌≡◌, false};
+ghost use Rattle.std.specs.Prelude.{◌≡◌, false, length};
 ghost use Rattle.co_node_model.specs.Inputs.{Inputs};
 ghost use Rattle.co_node_model.specs.Moments.{Constants};
 ghost use Rattle.co_node_model.specs.Device.{contents_of};
-ghost use Rattle.bafokun.specs.Changes.{IsGiven};
-ghost use Rattle.bafokun.specs.Devices.{IsDevice, IsEmpty, entries_of, known_of, sent_of};
+ghost use Rattle.bafokun.specs.Changes.{IsGiven, changes_of};
+ghost use Rattle.bafokun.specs.Devices.{IsDevice, IsEmpty, entries_of, sent_of};
 ghost use Rattle.co_dict_table.specs.Entries.{entry_at, name_at, number_of};
 ghost use Rattle.bafokun.specs.Entries.{IsEntry, IsNumber};
 ghost use Rattle.bafokun.specs.Happened.{events_of};
@@ -115,9 +115,9 @@ pub extern "C" fn bafokun_find(
     }
 }
 
-/// Gets the first entry, from number `from` on, whose bytes differ from those that the application
-/// knows: those of its own last write, or those at the last result of this call; at first none. Its
-/// bytes are known then, so that a loop from the number after it visits each such entry once.
+/// Gets the first entry, from number `from` on, that an SDO download, an RPDO or a reset set since
+/// the last result of this call that was this entry, or since the build; also to the bytes that it
+/// had. It is forgotten then, so that a loop from the number after it visits each such entry once.
 /// Returns whether there is one; if not, `number` is unchanged. C must pass what `bafokun_find`
 /// requires.
 #[unsafe(no_mangle)]
@@ -127,9 +127,8 @@ pub extern "C" fn bafokun_next_changed(
     from: usize,
     number: &mut usize,
 ) -> bool
-    ensures given { (k : Constants) (before : Inputs) → IsDevice k node.old before →
-        IsGiven (contents_of k before) (entries_of node.old) (known_of node.old) from
-        number.old number.new result (known_of node.new) }
+    ensures given { IsGiven (length (entries_of node.old)) (changes_of node.old) from
+        number.old number.new result (changes_of node.new) }
     ensures device { (k : Constants) (before : Inputs) → IsDevice k node.old before →
         IsDevice k node.new before }
     ensures sent { sent_of node.new ≡ sent_of node.old }

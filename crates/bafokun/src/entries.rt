@@ -2,7 +2,7 @@
 
 ghost use Rattle.std.specs.Prelude.{◌≡◌};
 ghost use Rattle.co_dict_table.specs.Tables.{described_view};
-ghost use Rattle.bafokun.specs.Entries.{access_code, c_entry, key_named, number_named};
+ghost use Rattle.bafokun.specs.Entries.{access_code, c_entry, key_named};
 
 use co_dict_table::{DescribedEntry, EntryTable};
 use co_profile::Access;
@@ -69,18 +69,24 @@ pub(crate) enum Named {
 }
 
 impl Named {
-    /// The key and the number of the entry. If no entry has the number, the key is 0000:00, which
-    /// none has either.
-    pub(crate) fn find(self, entries: &EntryTable) -> (Key, Option<usize>)
-        ensures key { result.0 ≡ key_named entries.now self }
-        ensures number { result.1 ≡ number_named entries.now self }
+    /// The key of the entry. If no entry has the number, it is 0000:00, which none has either.
+    pub(crate) fn key(self, entries: &EntryTable) -> Key
+        ensures { result ≡ key_named entries.now self }
     {
         match self {
-            Named::Key(key) => (key, entries.number(key)),
+            Named::Key(key) => key,
             Named::Number(number) => match entries.get(number) {
-                Some(described) => (described.facts.key, Some(number)),
-                None => (Key { index: 0, sub: 0 }, Some(number)),
+                Some(described) => described.facts.key,
+                None => Key { index: 0, sub: 0 },
             },
+        }
+    }
+
+    /// The number that C gave; one that no entry has, if C gave the key.
+    pub(crate) fn number(self) -> usize {
+        match self {
+            Named::Key(_) => usize::MAX,
+            Named::Number(number) => number,
         }
     }
 }

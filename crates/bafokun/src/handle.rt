@@ -27,9 +27,9 @@ pub struct Handle {
 impl Handle {
     ghost use Rattle.co_node_model.specs.Inputs.{Inputs, Framed, Ticked, Applied, Written, app_view};
     ghost use Rattle.co_node_model.specs.Moments.{Constants};
-    ghost use Rattle.bafokun.specs.Changes.{KnowsWritten};
-    ghost use Rattle.bafokun.specs.Devices.{Gives, IsDevice, IsEmpty, IsQuiet, entries_of, known_of};
-    ghost use Rattle.bafokun.specs.Entries.{key_named, number_named};
+    ghost use Rattle.bafokun.specs.Changes.{and_set, changes_of};
+    ghost use Rattle.bafokun.specs.Devices.{Gives, IsDevice, IsEmpty, IsQuiet, entries_of};
+    ghost use Rattle.bafokun.specs.Entries.{key_named};
     ghost use Rattle.bafokun.specs.Frames.{ArePut};
     ghost use Rattle.bafokun.specs.Happened.{and_input, events_of};
 
@@ -105,7 +105,9 @@ impl Handle {
             Gives k before (Framed frame.now) self.new frames.old frames.new result }
         ensures empty { IsEmpty self.old → IsQuiet self.new frames.old frames.new result }
         ensures entries { entries_of self.new ≡ entries_of self.old }
-        ensures known { known_of self.new ≡ known_of self.old }
+        ensures changes { (k : Constants) (before : Inputs) → IsDevice k self.old before →
+            changes_of self.new ≡ and_set k before (Framed frame.now) (entries_of self.old)
+            (changes_of self.old) }
         ensures events { (k : Constants) (before : Inputs) → IsDevice k self.old before →
             events_of self.new ≡ and_input k before (Framed frame.now) (events_of self.old) }
     {
@@ -124,7 +126,7 @@ impl Handle {
             Gives k before Ticked self.new frames.old frames.new result }
         ensures empty { IsEmpty self.old → IsQuiet self.new frames.old frames.new result }
         ensures entries { entries_of self.new ≡ entries_of self.old }
-        ensures known { known_of self.new ≡ known_of self.old }
+        ensures changes { changes_of self.new ≡ changes_of self.old }
         ensures events { (k : Constants) (before : Inputs) → IsDevice k self.old before →
             events_of self.new ≡ and_input k before Ticked (events_of self.old) }
     {
@@ -147,7 +149,7 @@ impl Handle {
             Gives k before (Applied (app_view event.entry)) self.new frames.old frames.new result }
         ensures empty { IsEmpty self.old → IsQuiet self.new frames.old frames.new result }
         ensures entries { entries_of self.new ≡ entries_of self.old }
-        ensures known { known_of self.new ≡ known_of self.old }
+        ensures changes { changes_of self.new ≡ changes_of self.old }
         ensures events { (k : Constants) (before : Inputs) → IsDevice k self.old before →
             events_of self.new ≡ and_input k before (Applied (app_view event.entry)) (events_of self.old) }
     {
@@ -160,8 +162,8 @@ impl Handle {
         }
     }
 
-    /// The application writes an entry, and knows its bytes if that is done. The frames that are
-    /// sent are put and counted as by `take_frame`.
+    /// The application writes an entry. The frames that are sent are put and counted as by
+    /// `take_frame`.
     pub(crate) fn write(
         &mut self,
         alloc: Global,
@@ -174,9 +176,7 @@ impl Handle {
             self.new frames.old frames.new result }
         ensures empty { IsEmpty self.old → IsQuiet self.new frames.old frames.new result }
         ensures entries { entries_of self.new ≡ entries_of self.old }
-        ensures known { (k : Constants) (before : Inputs) → IsDevice k self.old before →
-            KnowsWritten k before (key_named (entries_of self.old) name) bytes.now
-            (number_named (entries_of self.old) name) (known_of self.old) (known_of self.new) }
+        ensures changes { changes_of self.new ≡ changes_of self.old }
         ensures events { (k : Constants) (before : Inputs) → IsDevice k self.old before →
             events_of self.new ≡ and_input k before
             (Applied (Written (key_named (entries_of self.old) name) bytes.now))

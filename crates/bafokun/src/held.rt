@@ -5,30 +5,33 @@ ghost use Rattle.co_node_model.specs.Inputs.{Inputs, Framed, Ticked, Applied, Wr
 ghost use Rattle.co_node_model.specs.Moments.{Constants};
 ghost use Rattle.co_node_model.specs.Heartbeats.{boot_up};
 ghost use Rattle.co_node.specs.Nodes.{Stands};
-ghost use Rattle.co_node_model.specs.Device.{contents_of};
-ghost use Rattle.bafokun.specs.Changes.{IsNext, KnowsWritten, known_after};
+ghost use Rattle.std.specs.Prelude.{length};
+ghost use Rattle.std.specs.Box.{boxed_slice_items};
+ghost use Rattle.bafokun.specs.Changes.{IsNext, and_set, left_after};
 ghost use Rattle.bafokun.specs.Bus.{GaveBus, bus_input};
 ghost use Rattle.bafokun.specs.Devices.{Gave};
-ghost use Rattle.bafokun.specs.Entries.{key_named, number_named};
+ghost use Rattle.bafokun.specs.Entries.{key_named};
 ghost use Rattle.bafokun.specs.Happened.{and_bus, and_input, and_ticks, left_of, told_of};
 ghost use Rattle.bafokun.specs.Ticks.{GaveTicks};
 
 use crate::bus::bus_input;
-use crate::changes::{next_changed, note, note_written};
+use crate::changes::{next_changed, note_reset};
 use crate::entries::Named;
 use crate::happened::Events;
-use co_dict_table::{EntryTable, KnownBytes};
+use co_dict_placed::forget_change;
+use co_dict_table::EntryTable;
 use co_frame::{Frame, Outbox};
 use co_node::{AppEvent, Node};
+use std::boxed::BoxedSlice;
 
-/// A device, the frames of its last input, the entry table of its data sheet, the bytes of the
-/// entries that the application knows, and what happened since it asked.
+/// A device, the frames of its last input, the entry table of its data sheet, which of the entries
+/// were set since the application asked, a bit each, and what happened since it asked.
 #[derive(Drop)]
 pub struct Held {
     pub(crate) node: Node,
     pub(crate) sent: Outbox,
     pub(crate) entries: EntryTable,
-    pub(crate) known: KnownBytes,
+    pub(crate) changes: BoxedSlice<u8>,
     pub(crate) events: Events,
 }
 
@@ -39,12 +42,17 @@ impl Held {
         ensures gave { (k : Constants) (before : Inputs) → Stands k self.old.node before →
             Gave k before (Framed frame.now) self.new }
         ensures entries { self.new.entries ≡ self.old.entries }
-        ensures known { self.new.known ≡ self.old.known }
+        ensures changes { (k : Constants) (before : Inputs) → Stands k self.old.node before →
+            boxed_slice_items self.new.changes ≡ and_set k before (Framed frame.now)
+            self.old.entries (boxed_slice_items self.old.changes) }
         ensures events { (k : Constants) (before : Inputs) → Stands k self.old.node before →
             self.new.events ≡ and_input k before (Framed frame.now) self.old.events }
     {
         let state = self.node.state();
-        let seen = self.node.take_frame(frame, &mut self.sent);
+        let seen = self
+            .node
+            .take_frame_noting(frame, &mut self.sent, &mut self.changes);
+        note_reset(seen, &self.entries, &mut self.changes);
         if frame.id() == 0 {
             self.events.note(&self.node, state);
         } else {
@@ -58,7 +66,7 @@ impl Held {
         ensures gave { (k : Constants) (before : Inputs) → Stands k self.old.node before →
             Gave k before Ticked self.new }
         ensures entries { self.new.entries ≡ self.old.entries }
-        ensures known { self.new.known ≡ self.old.known }
+        ensures changes { self.new.changes ≡ self.old.changes }
         ensures events { (k : Constants) (before : Inputs) → Stands k self.old.node before →
             self.new.events ≡ and_input k before Ticked self.old.events }
     {
@@ -73,7 +81,7 @@ impl Held {
         ensures gave { (k : Constants) (before : Inputs) → Stands k self.old.node before →
             GaveTicks k before most result self.new }
         ensures entries { self.new.entries ≡ self.old.entries }
-        ensures known { self.new.known ≡ self.old.known }
+        ensures changes { self.new.changes ≡ self.old.changes }
         ensures events { (k : Constants) (before : Inputs) → Stands k self.old.node before →
             self.new.events ≡ and_ticks k before result self.old.events }
     {
@@ -101,7 +109,7 @@ impl Held {
         ensures gave { (k : Constants) (before : Inputs) → Stands k self.old.node before →
             Gave k before (Applied (app_view event.entry)) self.new }
         ensures entries { self.new.entries ≡ self.old.entries }
-        ensures known { self.new.known ≡ self.old.known }
+        ensures changes { self.new.changes ≡ self.old.changes }
         ensures events { (k : Constants) (before : Inputs) → Stands k self.old.node before →
             self.new.events ≡ and_input k before (Applied (app_view event.entry)) self.old.events }
     {
@@ -110,43 +118,38 @@ impl Held {
         self.events.note(&self.node, state);
     }
 
-    /// The application writes an entry, and knows its bytes if that is done.
+    /// The application writes an entry.
     pub(crate) fn write(&mut self, name: Named, bytes: &[u8])
         ensures gave { (k : Constants) (before : Inputs) → Stands k self.old.node before → Gave k
             before (Applied (Written (key_named self.old.entries name) bytes.now)) self.new }
         ensures entries { self.new.entries ≡ self.old.entries }
-        ensures known { (k : Constants) (before : Inputs) → Stands k self.old.node before →
-            KnowsWritten k before (key_named self.old.entries name) bytes.now
-            (number_named self.old.entries name) self.old.known self.new.known }
+        ensures changes { self.new.changes ≡ self.old.changes }
         ensures events { (k : Constants) (before : Inputs) → Stands k self.old.node before →
             self.new.events ≡ and_input k before
             (Applied (Written (key_named self.old.entries name) bytes.now)) self.old.events }
     {
-        let (key, number) = name.find(&self.entries);
+        let key = name.key(&self.entries);
         let state = self.node.state();
-        // without a search in the node where the number is known
-        let place = number.unwrap_or(usize::MAX);
-        self.node.write_at(place, key, bytes, &mut self.sent);
+        self.node
+            .write_at(name.number(), key, bytes, &mut self.sent);
         self.events.note(&self.node, state);
-        note_written(&self.node, &mut self.known, key, number);
     }
 
-    /// The first entry from a number on whose bytes the application doesn't know; these are known
+    /// The first entry from a number on that was set since the application asked; it is forgotten
     /// then.
     pub(crate) fn next_changed(&mut self, from: usize) -> Option<usize>
-        ensures next { (k : Constants) (before : Inputs) → Stands k self.old.node before →
-            IsNext (contents_of k before) self.old.entries self.old.known from result }
-        ensures known { (k : Constants) (before : Inputs) → Stands k self.old.node before →
-            self.new.known
-            ≡ known_after (contents_of k before) self.old.entries self.old.known result }
+        ensures next { IsNext (length self.old.entries) (boxed_slice_items self.old.changes) from
+            result }
+        ensures changes { boxed_slice_items self.new.changes
+            ≡ left_after (boxed_slice_items self.old.changes) result }
         ensures node { self.new.node ≡ self.old.node }
         ensures sent { self.new.sent ≡ self.old.sent }
         ensures entries { self.new.entries ≡ self.old.entries }
         ensures events { self.new.events ≡ self.old.events }
     {
-        match next_changed(&self.node, &self.entries, &self.known, from) {
+        match next_changed(&self.changes, from, self.entries.len()) {
             Some(number) => {
-                note(&self.node, &self.entries, &mut self.known, number);
+                forget_change(&mut self.changes, number);
                 Some(number)
             }
             None => None,
@@ -161,7 +164,7 @@ impl Held {
         ensures node { self.new.node ≡ self.old.node }
         ensures sent { self.new.sent ≡ self.old.sent }
         ensures entries { self.new.entries ≡ self.old.entries }
-        ensures known { self.new.known ≡ self.old.known }
+        ensures changes { self.new.changes ≡ self.old.changes }
     {
         if !self.events.is_any() {
             return None;
@@ -176,7 +179,7 @@ impl Held {
         ensures gave { (k : Constants) (before : Inputs) → Stands k self.old.node before →
             GaveBus k before (bus_input k before change) self.new }
         ensures entries { self.new.entries ≡ self.old.entries }
-        ensures known { self.new.known ≡ self.old.known }
+        ensures changes { self.new.changes ≡ self.old.changes }
         ensures events { (k : Constants) (before : Inputs) → Stands k self.old.node before →
             self.new.events ≡ and_bus k before (bus_input k before change) self.old.events }
     {
@@ -196,7 +199,7 @@ impl Held {
         ensures sent { (k : Constants) (before : Inputs) → Stands k self.old.node before →
             self.new.sent.items ≡ boot_up k ∷ [] }
         ensures entries { self.new.entries ≡ self.old.entries }
-        ensures known { self.new.known ≡ self.old.known }
+        ensures changes { self.new.changes ≡ self.old.changes }
         ensures events { self.new.events ≡ self.old.events }
     {
         self.node.boot(&mut self.sent);

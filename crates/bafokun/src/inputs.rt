@@ -13,10 +13,9 @@ ghost use Rattle.co_node_model.specs.Inputs.{
   Cleared,
 };
 ghost use Rattle.co_node_model.specs.Moments.{Constants};
-ghost use Rattle.co_dict_table.specs.Entries.{number_of};
 ghost use Rattle.bafokun.specs.Bus.{GivesBus, bus_input};
-ghost use Rattle.bafokun.specs.Devices.{Gives, GivesBootUp, IsDevice, IsEmpty, IsQuiet, entries_of, known_of};
-ghost use Rattle.bafokun.specs.Changes.{KnowsWritten};
+ghost use Rattle.bafokun.specs.Devices.{Gives, GivesBootUp, IsDevice, IsEmpty, IsQuiet, entries_of};
+ghost use Rattle.bafokun.specs.Changes.{and_set, changes_of};
 ghost use Rattle.bafokun.specs.Entries.{key_numbered};
 ghost use Rattle.bafokun.specs.Frames.{IsCan, content_of};
 ghost use Rattle.bafokun.specs.Happened.{and_bus, and_input, and_ticks, events_of};
@@ -37,7 +36,7 @@ pub extern "C" fn bafokun_boot(alloc: Global, node: &mut Handle, frames: &mut [C
         GivesBootUp k before node.new frames.old frames.new result }
     ensures empty { IsEmpty node.old → IsQuiet node.new frames.old frames.new result }
     ensures entries { entries_of node.new ≡ entries_of node.old }
-    ensures known { known_of node.new ≡ known_of node.old }
+    ensures changes { changes_of node.new ≡ changes_of node.old }
     ensures events { events_of node.new ≡ events_of node.old }
 {
     match node.take(alloc) {
@@ -62,7 +61,9 @@ pub extern "C" fn bafokun_take(
         Gives k before (Framed (content_of frame.now)) node.new frames.old frames.new result }
     ensures empty { IsEmpty node.old → IsQuiet node.new frames.old frames.new result }
     ensures entries { entries_of node.new ≡ entries_of node.old }
-    ensures known { known_of node.new ≡ known_of node.old }
+    ensures changes { (k : Constants) (before : Inputs) → IsDevice k node.old before → IsCan frame.now →
+        changes_of node.new ≡ and_set k before (Framed (content_of frame.now)) (entries_of node.old)
+        (changes_of node.old) }
     ensures events { (k : Constants) (before : Inputs) → IsDevice k node.old before → IsCan frame.now →
         events_of node.new ≡ and_input k before (Framed (content_of frame.now)) (events_of node.old) }
     ensures no_frame { (IsCan frame.now → ⊥) → node.new ≡ node.old }
@@ -85,7 +86,7 @@ pub extern "C" fn bafokun_tick(alloc: Global, node: &mut Handle, frames: &mut [C
         Gives k before Ticked node.new frames.old frames.new result }
     ensures empty { IsEmpty node.old → IsQuiet node.new frames.old frames.new result }
     ensures entries { entries_of node.new ≡ entries_of node.old }
-    ensures known { known_of node.new ≡ known_of node.old }
+    ensures changes { changes_of node.new ≡ changes_of node.old }
     ensures events { (k : Constants) (before : Inputs) → IsDevice k node.old before →
         events_of node.new ≡ and_input k before Ticked (events_of node.old) }
 {
@@ -109,7 +110,7 @@ pub extern "C" fn bafokun_ticks(
         GivesTicks k before most elapsed.new node.new frames.old frames.new result }
     ensures empty { IsEmpty node.old → IsQuiet node.new frames.old frames.new result }
     ensures entries { entries_of node.new ≡ entries_of node.old }
-    ensures known { known_of node.new ≡ known_of node.old }
+    ensures changes { changes_of node.new ≡ changes_of node.old }
     ensures events { (k : Constants) (before : Inputs) → IsDevice k node.old before →
         events_of node.new ≡ and_ticks k before elapsed.new (events_of node.old) }
     ensures all { IsEmpty node.old → elapsed.new ≡ most }
@@ -126,9 +127,9 @@ pub extern "C" fn bafokun_ticks(
     }
 }
 
-/// The application writes an entry, even if SDO clients may only read it. If that is done it knows
-/// the bytes; `bafokun_answer` returns the answer. C must pass what `bafokun_tick` requires, and as
-/// many bytes as it states, outside the array.
+/// The application writes an entry, even if SDO clients may only read it; `bafokun_answer` returns
+/// the answer. C must pass what `bafokun_tick` requires, and as many bytes as it states, outside the
+/// array.
 #[unsafe(no_mangle)]
 pub extern "C" fn bafokun_write(
     alloc: Global,
@@ -143,10 +144,7 @@ pub extern "C" fn bafokun_write(
         node.new frames.old frames.new result }
     ensures empty { IsEmpty node.old → IsQuiet node.new frames.old frames.new result }
     ensures entries { entries_of node.new ≡ entries_of node.old }
-    ensures known { (k : Constants) (before : Inputs) → IsDevice k node.old before →
-        KnowsWritten k before (record { index = index; sub = sub_index }) bytes.now
-        (number_of (entries_of node.old) (record { index = index; sub = sub_index }))
-        (known_of node.old) (known_of node.new) }
+    ensures changes { changes_of node.new ≡ changes_of node.old }
     ensures events { (k : Constants) (before : Inputs) → IsDevice k node.old before →
         events_of node.new ≡ and_input k before
         (Applied (Written (record { index = index; sub = sub_index }) bytes.now))
@@ -174,9 +172,7 @@ pub extern "C" fn bafokun_write_at(
         node.new frames.old frames.new result }
     ensures empty { IsEmpty node.old → IsQuiet node.new frames.old frames.new result }
     ensures entries { entries_of node.new ≡ entries_of node.old }
-    ensures known { (k : Constants) (before : Inputs) → IsDevice k node.old before →
-        KnowsWritten k before (key_numbered (entries_of node.old) number) bytes.now
-        (Some number) (known_of node.old) (known_of node.new) }
+    ensures changes { changes_of node.new ≡ changes_of node.old }
     ensures events { (k : Constants) (before : Inputs) → IsDevice k node.old before →
         events_of node.new ≡ and_input k before
         (Applied (Written (key_numbered (entries_of node.old) number) bytes.now))
@@ -198,7 +194,7 @@ pub extern "C" fn bafokun_event(
         Gives k before (Applied (EventOn tpdo)) node.new frames.old frames.new result }
     ensures empty { IsEmpty node.old → IsQuiet node.new frames.old frames.new result }
     ensures entries { entries_of node.new ≡ entries_of node.old }
-    ensures known { known_of node.new ≡ known_of node.old }
+    ensures changes { changes_of node.new ≡ changes_of node.old }
     ensures events { (k : Constants) (before : Inputs) → IsDevice k node.old before →
         events_of node.new ≡ and_input k before (Applied (EventOn tpdo)) (events_of node.old) }
 {
@@ -220,7 +216,7 @@ pub extern "C" fn bafokun_changed(
         node.new frames.old frames.new result }
     ensures empty { IsEmpty node.old → IsQuiet node.new frames.old frames.new result }
     ensures entries { entries_of node.new ≡ entries_of node.old }
-    ensures known { known_of node.new ≡ known_of node.old }
+    ensures changes { changes_of node.new ≡ changes_of node.old }
     ensures events { (k : Constants) (before : Inputs) → IsDevice k node.old before →
         events_of node.new ≡ and_input k before
         (Applied (ChangedAt (record { index = index; sub = sub_index }))) (events_of node.old) }
@@ -249,7 +245,7 @@ pub extern "C" fn bafokun_raise(
         node.new frames.old frames.new result }
     ensures empty { IsEmpty node.old → IsQuiet node.new frames.old frames.new result }
     ensures entries { entries_of node.new ≡ entries_of node.old }
-    ensures known { known_of node.new ≡ known_of node.old }
+    ensures changes { changes_of node.new ≡ changes_of node.old }
     ensures events { (k : Constants) (before : Inputs) → IsDevice k node.old before →
         events_of node.new ≡ and_input k before (Applied (Raised code bits manufacturer.now))
         (events_of node.old) }
@@ -270,7 +266,7 @@ pub extern "C" fn bafokun_clear(
         Gives k before (Applied (Cleared bits)) node.new frames.old frames.new result }
     ensures empty { IsEmpty node.old → IsQuiet node.new frames.old frames.new result }
     ensures entries { entries_of node.new ≡ entries_of node.old }
-    ensures known { known_of node.new ≡ known_of node.old }
+    ensures changes { changes_of node.new ≡ changes_of node.old }
     ensures events { (k : Constants) (before : Inputs) → IsDevice k node.old before →
         events_of node.new ≡ and_input k before (Applied (Cleared bits)) (events_of node.old) }
 {
@@ -294,7 +290,7 @@ pub extern "C" fn bafokun_bus(
         GivesBus k before (bus_input k before change) node.new frames.old frames.new result }
     ensures empty { IsEmpty node.old → IsQuiet node.new frames.old frames.new result }
     ensures entries { entries_of node.new ≡ entries_of node.old }
-    ensures known { known_of node.new ≡ known_of node.old }
+    ensures changes { changes_of node.new ≡ changes_of node.old }
     ensures events { (k : Constants) (before : Inputs) → IsDevice k node.old before →
         events_of node.new ≡ and_bus k before (bus_input k before change) (events_of node.old) }
 {

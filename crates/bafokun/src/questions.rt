@@ -6,7 +6,8 @@ ghost use Rattle.co_node_model.specs.Moments.{Constants};
 ghost use Rattle.co_node_model.specs.Ticks.{IsQuietFor};
 ghost use Rattle.co_node_model.specs.Device.{app_after, contents_of, held_of, room_of, state_of};
 ghost use Rattle.bafokun.specs.Answers.{IsCopied, IsRead, answer_code, refusal_code, state_code};
-ghost use Rattle.bafokun.specs.Devices.{IsDevice, IsEmpty, entries_of, known_of, sent_of};
+ghost use Rattle.bafokun.specs.Changes.{changes_of};
+ghost use Rattle.bafokun.specs.Devices.{IsDevice, IsEmpty, entries_of, sent_of};
 ghost use Rattle.bafokun.specs.Entries.{value_numbered};
 ghost use Rattle.bafokun.specs.Frames.{ArePut};
 ghost use Rattle.bafokun.specs.Happened.{IsTold, events_of, left_of, told_of};
@@ -212,7 +213,7 @@ pub extern "C" fn bafokun_happened(alloc: Global, node: &mut Handle, events: &mu
         IsDevice k node.new before }
     ensures sent { sent_of node.new ≡ sent_of node.old }
     ensures entries { entries_of node.new ≡ entries_of node.old }
-    ensures known { known_of node.new ≡ known_of node.old }
+    ensures changes { changes_of node.new ≡ changes_of node.old }
     ensures empty { IsEmpty node.old → IsEmpty node.new }
     ensures untouched { IsEmpty node.old → events.new ≡ events.old }
 {

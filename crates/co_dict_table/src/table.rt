@@ -24,10 +24,8 @@ ghost use Rattle.co_sheet_changes.specs.Views.{text_at};
 ghost use Rattle.co_dict_build.specs.Capacities.{limits_view};
 ghost use Rattle.co_dict_build.specs.SheetRows.{IsReady};
 ghost use Rattle.co_dict_table.specs.Entries.{content_of_row, contents_of_rows, entry_at, facts_of_row, number_of};
-ghost use Rattle.co_dict_table.specs.Known.{blank_of};
 ghost use Rattle.co_dict_table.specs.Tables.{AreWithin, described_view, in_table};
 
-use crate::known::KnownBytes;
 use crate::original::code_or;
 use co_dict_build::{Limits, entry_of_row};
 use co_profile::Access;
@@ -131,14 +129,6 @@ impl EntryTable {
             // copied, since the list that grew has room to spare
             names: BoxedSlice::from_slice(alloc, &names)?,
         })
-    }
-
-    /// Room for the bytes of all entries, of which none is known yet. `AllocError`: out of memory.
-    #[tactic(auto, using(crate::proofs::Rooms::blank_entries))]
-    pub fn known_bytes(&self, alloc: Global) -> Result<KnownBytes, AllocError>
-        ensures { IfOk result (λ known. known ≡ map blank_of self.now) }
-    {
-        KnownBytes::of_lines(alloc, &self.lines)
     }
 
     /// How many entries there are.

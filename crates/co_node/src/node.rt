@@ -46,7 +46,9 @@ ghost use Rattle.co_node_model.specs.Device.{
   room_of,
   state_of,
 };
+ghost use Rattle.co_dict_placed.specs.Changes.{with_keys};
 ghost use Rattle.co_node_device.specs.Lasts.{last_losses, last_seen};
+ghost use Rattle.co_node_device.specs.SetEntries.{last_set};
 ghost use Rattle.co_node.specs.Built.{IsBuilt};
 ghost use Rattle.co_node.specs.Held.{HoldsWithin};
 ghost use Rattle.co_node.specs.Memory.{memory_of};
@@ -154,7 +156,35 @@ impl Node {
         ensures seen { (k : Constants) (before : Inputs) → Stands k self.old before →
             result ≡ last_seen k (Framed frame.now ∷ before) }
     {
-        self.device.take_frame_inlined(frame, outbox)
+        self.device.take_frame_inlined(frame, outbox, &mut [])
+    }
+
+    /// The same; the entries that the frame sets by SDO or by RPDOs are noted in `changes`, which
+    /// have a bit for each entry, by increasing key: bit n % 8 of byte n / 8 is that of entry n.
+    #[inline(always)]
+    pub fn take_frame_noting(
+        &mut self,
+        frame: &Frame,
+        outbox: &mut Outbox,
+        changes: &mut [u8],
+    ) -> Seen
+        ensures frames { (k : Constants) (before : Inputs) → Stands k self.old before →
+            outbox.new.items ≡ prescribed k before (Framed frame.now) }
+        ensures stands { (k : Constants) (before : Inputs) → Stands k self.old before →
+            Stands k self.new (Framed frame.now ∷ before) }
+        ensures few { (k : Constants) (before : Inputs) → Stands k self.old before →
+            length outbox.new.items ≤ frame_bound k before (Framed frame.now) }
+        ensures held { (k : Constants) (before : Inputs) → Stands k self.old before →
+            HoldsWithin k (Framed frame.now ∷ before) }
+        ensures memory { (k : Constants) (before : Inputs) → Stands k self.old before →
+            memory_of self.new ≡ memory_of self.old }
+        ensures seen { (k : Constants) (before : Inputs) → Stands k self.old before →
+            result ≡ last_seen k (Framed frame.now ∷ before) }
+        ensures changes { (k : Constants) (before : Inputs) → Stands k self.old before →
+            changes.new ≡
+            with_keys k.description (last_set k (Framed frame.now ∷ before)) changes.old }
+    {
+        self.device.take_frame_inlined(frame, outbox, changes)
     }
 
     /// 1 ms elapsed. The outbox then holds the frames that the definitions prescribe at it, and
@@ -237,7 +267,7 @@ impl Node {
         ensures memory { (k : Constants) (before : Inputs) → Stands k self.old before →
             memory_of self.new ≡ memory_of self.old }
     {
-        self.device.take_frame(frame, outbox);
+        self.device.take_frame(frame, outbox, &mut []);
     }
 
     // The same of 1 ms.

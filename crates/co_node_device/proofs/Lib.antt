@@ -10,6 +10,7 @@ mod Numbers
 mod Sent
 mod Steps
 mod LastExamples
+mod SetExamples
 pub mod Idles
 mod Slots
 mod Found

@@ -35,6 +35,8 @@ use Rattle.co_node_model.specs.Moments.{Constants, Moment, History, channels}
 use Rattle.co_node_model.specs.Sdo.{channel_logs, with_drop}
 use Rattle.co_node_model.specs.Device.{moment}
 use Rattle.co_node_device.specs.Losses.{lost_now}
+use Rattle.co_dict_placed.specs.Changes.{with_keys}
+use Rattle.co_node_device.specs.SetEntries.{set_by_effects, set_by_rpdos}
 use Rattle.co_node_device.specs.Effects.{after_effects, effect_emergencies}
 use Rattle.co_node_device.specs.Befores.{logs_received}
 
@@ -45,6 +47,7 @@ pub record IsMoment (k : Constants) (h : History) (m : Moment) : Type 0 where
   pub loss : m.loss ≡ loss_event (lost_now m.mark m.received (consumers_log k h)) m.received
   pub lost : m.lost ≡ lost_now m.mark m.received (consumers_log k h)
   pub raised_by_pdo : m.raised_by_pdo ≡ effect_emergencies k.description m.watched m.mark (transition_of m h) (slot_log k h)
+  pub set : set_by_rpdos k m ≡ set_by_effects k.description m.watched m.mark (transition_of m h) (slot_log k h)
   pub contents : m.contents ≡ after_effects k.description m.watched m.mark (transition_of m h) (slot_log k h)
   pub emergency : m.emergency ≡ emergency_due (may_send m.mark (state_at (m ∷ h)) m.contents) (unsent_log m (emergency_log h))
   pub life : m.life ≡ life_of m.mark (state_at (m ∷ h)) (is_heartbeat_due (producer_event m.mark m.contents) (producer_log k h))
@@ -57,6 +60,7 @@ moment_is k h input = record {
   loss = refl;
   lost = refl;
   raised_by_pdo = refl;
+  set = refl;
   contents = refl;
   emergency = refl;
   life = refl;
@@ -100,6 +104,9 @@ module _ (k : Constants) (h : History) (m : Moment) (is : IsMoment k h m) where
   module _ (d : Description) (mark : Mark) (watched : Contents) (t : Transition) (dk : d ≡ k.description) (em : mark ≡ m.mark) (ew : watched ≡ m.watched) (et : t ≡ transition_of m h) where
     pub contents : (contents : Contents) → contents ≡ after_effects d watched mark t (slot_log k h) → contents ≡ m.contents
     contents c e = e ∙ rw (dk, em, ew, et) (sym is.contents)
+
+    pub set : (changes first : List ℕ) → changes ≡ with_keys d (set_by_effects d watched mark t (slot_log k h)) first → changes ≡ with_keys k.description (set_by_rpdos k m) first
+    set changes first e = e ∙ rw (dk, em, ew, et) (ap (λ keys. with_keys k.description keys first) (sym is.set))
 
     pub slots : (content : SlotContent) → AreSlotsOf d content (slot_event d watched mark t ∷ slot_log k h) → AreSlotsOf d content (slot_log k (m ∷ h))
     slots content s =

@@ -19,6 +19,9 @@ use Rattle.co_node_model.specs.declared.mark.Mark.{Mark}
 use Rattle.co_node_model.specs.Rpdos.{slot_event, immediate, after_data, data_emergencies, after_all_data, all_data_emergencies}
 use Rattle.co_node_model.specs.Emergencies.{emergencies_of}
 use Rattle.co_node_model.specs.Marks.{marked_rpdo}
+use Rattle.co_value.specs.declared.key.Key.{Key}
+use Rattle.co_dict_placed.specs.Changes.{with_key, with_keys}
+use Rattle.co_node_device.specs.SetEntries.{set_by_all_data, set_by_data, set_by_effects}
 use Rattle.co_node_device.specs.Effects.{length_errors_of, taken_now, after_lengths, after_effects, effect_emergencies}
 
 -- ---- numbers of frames that are taken
@@ -67,6 +70,20 @@ data_queued_all d contents (x ∷ xs) ys log =
     ∙ data_queued_all d next xs ys (with_queued first log)
     ∙ ap (with_queued (all_data_emergencies d (after_all_data d next xs) ys)) (sym (queued_all first (all_data_emergencies d next xs) log))
 
+pub noted_all : (d : Description) (keys others : List Key) (changes : List ℕ) → with_keys d (keys ++ others) changes ≡ with_keys d others (with_keys d keys changes)
+noted_all d [] others changes = refl
+noted_all d (key ∷ keys) others changes = noted_all d keys others (with_key d key changes)
+
+data_noted_all : (d : Description) (contents : Contents) (xs ys : List KeptFrame) (changes : List ℕ)
+    → with_keys d (set_by_all_data d contents (xs ++ ys)) changes ≡ with_keys d (set_by_all_data d (after_all_data d contents xs) ys) (with_keys d (set_by_all_data d contents xs) changes)
+data_noted_all d contents [] ys changes = refl
+data_noted_all d contents (x ∷ xs) ys changes =
+    let first : List Key = set_by_data d contents x in
+    let next : Contents = after_data d contents x in
+    noted_all d first (set_by_all_data d next (xs ++ ys)) changes
+    ∙ data_noted_all d next xs ys (with_keys d first changes)
+    ∙ ap (with_keys d (set_by_all_data d (after_all_data d next xs) ys)) (sym (noted_all d first (set_by_all_data d next xs) changes))
+
 -- ---- one more
 
 module _ (d here : Description) (xs : List KeptFrame) (i : ℕ) (x : KeptFrame) (old before : Contents) (lt : i < length xs) (at : x ≡ get_or xs i x) (same : here ≡ d) (h : before ≡ after_all_data d old (take i xs)) where
@@ -88,6 +105,15 @@ module _ (d here : Description) (xs : List KeptFrame) (i : ℕ) (x : KeptFrame) 
       ∙ ap (λ (es : List Emergency). with_queued es queue) (sym (append-nil (data_emergencies d (after_all_data d old (take i xs)) x)))
       ∙ sym (ap (λ (ys : List KeptFrame). with_queued (all_data_emergencies d old ys) log) with_last ∙ data_queued_all d old (take i xs) (x ∷ []) log) in
       subst (EmergenciesStand p) last s
+
+  pub set_more : (first now after : List ℕ) → now ≡ with_keys d (set_by_all_data d old (take i xs)) first → after ≡ with_keys here (set_by_data here before x) now
+      → after ≡ with_keys d (set_by_all_data d old (take (i + 1) xs)) first
+  set_more first now after n a =
+      a ∙ ap (λ (e : Description). with_keys e (set_by_data e before x) now) same
+      ∙ ap (λ (k : Contents). with_keys d (set_by_data d k x) now) h
+      ∙ ap (with_keys d (set_by_data d (after_all_data d old (take i xs)) x)) n
+      ∙ ap (λ (ks : List Key). with_keys d ks (with_keys d (set_by_all_data d old (take i xs)) first)) (sym (append-nil (set_by_data d (after_all_data d old (take i xs)) x)))
+      ∙ sym (ap (λ (ys : List KeptFrame). with_keys d (set_by_all_data d old ys) first) with_last ∙ data_noted_all d old (take i xs) (x ∷ []) first)
 
 -- ---- all of an input
 
@@ -130,3 +156,18 @@ module _ (d d1 d2 : Description) (c0 c1 c2 c3 : Contents) (mark : Mark) (t : Tra
       ∙ ap (with_queued (all_data_emergencies d (after_all_data d (after_lengths d c0 mark) due) (immediate d c0 (marked_rpdo mark)))) middle
       ∙ sym (data_queued_all d (after_lengths d c0 mark) due (immediate d c0 (marked_rpdo mark)) first)
       ∙ sym (queued_all (emergencies_of d.rows (length_errors_of d c0 mark) c0) (all_data_emergencies d (after_lengths d c0 mark) (taken_now d c0 mark t log)) queued)
+
+  pub effects_noted : (first middle last : List ℕ) → middle ≡ with_keys d1 (set_by_all_data d1 c1 waiting) first → last ≡ with_keys d2 (set_by_all_data d2 c2 once) middle
+      → last ≡ with_keys d (set_by_effects d c0 mark t log) first
+  effects_noted first middle last m l =
+      let due : List KeptFrame = taken_at 512 (slot_event d c0 mark t) log in
+      let begun : Contents = after_lengths d c0 mark in
+      let waited_keys : middle ≡ with_keys d (set_by_all_data d begun due) first =
+      m ∙ ap (λ (k : Description). with_keys k (set_by_all_data k c1 waiting) first) e.same
+      ∙ ap (λ (k : Contents). with_keys d (set_by_all_data d k waiting) first) e.lengths
+      ∙ ap (λ (xs : List KeptFrame). with_keys d (set_by_all_data d begun xs) first) e.taken in
+      l ∙ ap (λ (k : Description). with_keys k (set_by_all_data k c2 once) middle) e.same_then
+      ∙ ap (λ (k : Contents). with_keys d (set_by_all_data d k once) middle) waited
+      ∙ ap (λ (xs : List KeptFrame). with_keys d (set_by_all_data d (after_all_data d begun due) xs) middle) e.at_once
+      ∙ ap (with_keys d (set_by_all_data d (after_all_data d begun due) (immediate d c0 (marked_rpdo mark)))) waited_keys
+      ∙ sym (data_noted_all d begun due (immediate d c0 (marked_rpdo mark)) first)

@@ -12,3 +12,4 @@ pub mod Built
 pub mod NodeStanding
 pub mod Phases
 pub mod Standing
+pub mod SetEntries

@@ -10,7 +10,9 @@ ghost use Rattle.co_dict.specs.Places.{key_at};
 ghost use Rattle.co_node_model.specs.Inputs.{Applied, Framed, Inputs, InputView, Ticked, Written, app_view};
 ghost use Rattle.co_node_model.specs.Moments.{Constants};
 ghost use Rattle.co_node_model.specs.Device.{prescribed, frame_bound, moment, moments};
+ghost use Rattle.co_dict_placed.specs.Changes.{with_keys};
 ghost use Rattle.co_node_device.specs.Lasts.{last_seen};
+ghost use Rattle.co_node_device.specs.SetEntries.{last_set, set_by_rpdos};
 ghost use Rattle.co_node_device.specs.MappingTables.{HaveParts};
 ghost use Rattle.co_node_model.specs.Marks.{marked_rpdo, marked_time_out};
 
@@ -22,7 +24,7 @@ use crate::mapping_table::mappings_stay;
 use crate::parts::Parts;
 use crate::receiving::receive;
 use crate::rpdos::take_pdos;
-use crate::sdo::{drop_if, drops};
+use crate::sdo::{drop_if, drops, note_download};
 use crate::seen::Seen;
 use crate::tpdos::{send_tpdos, take_turn, turn_of};
 use co_dict::{ObjectStore, store_laws};
@@ -51,9 +53,10 @@ impl<S: ObjectStore> Device<S> {
     ghost use Rattle.co_node_device.specs.Standing.{HasReceived, HasTakenEffect, Stands};
 
     /// Takes a received frame. The outbox then holds the frames that the definitions prescribe at
-    /// it, and nothing else. Returns what is seen of it.
+    /// it, and nothing else. The entries that it sets by SDO or by RPDOs are noted in `changes`.
+    /// Returns what is seen of it.
     #[inline(never)]
-    pub fn take_frame(&mut self, frame: &Frame, outbox: &mut Outbox) -> Seen
+    pub fn take_frame(&mut self, frame: &Frame, outbox: &mut Outbox, changes: &mut [u8]) -> Seen
         ensures frames { (k : Constants) (inputs : Inputs) → Stands k self.old inputs →
             outbox.new.items ≡ prescribed k inputs (Framed frame.now) }
         ensures few { (k : Constants) (inputs : Inputs) → Stands k self.old inputs →
@@ -62,26 +65,52 @@ impl<S: ObjectStore> Device<S> {
             Stands k self.new (Framed frame.now ∷ inputs) }
         ensures seen { (k : Constants) (inputs : Inputs) → Stands k self.old inputs →
             result ≡ last_seen k (Framed frame.now ∷ inputs) }
+        ensures changes { (k : Constants) (inputs : Inputs) → Stands k self.old inputs →
+            changes.new ≡
+            with_keys k.description (last_set k (Framed frame.now ∷ inputs)) changes.old }
     {
         let address = find_address(&self.parts.bank, &self.parts.addresses, frame);
         match address {
-            Address::Nmt => self.take(Given::Frame, Address::Nmt, frame, outbox),
-            Address::Sync => self.take(Given::Frame, Address::Sync, frame, outbox),
+            Address::Nmt => self.take(Given::Frame, Address::Nmt, frame, outbox, changes),
+            Address::Sync => self.take(Given::Frame, Address::Sync, frame, outbox, changes),
             Address::Channel(number) => {
-                self.take(Given::Frame, Address::Channel(number), frame, outbox)
+                self.take(
+                    Given::Frame,
+                    Address::Channel(number),
+                    frame,
+                    outbox,
+                    changes,
+                )
             }
-            Address::Rpdo(number) => self.take(Given::Frame, Address::Rpdo(number), frame, outbox),
+            Address::Rpdo(number) => self.take(
+                Given::Frame,
+                Address::Rpdo(number),
+                frame,
+                outbox,
+                changes,
+            ),
             Address::ErrorControl(node) => {
-                self.take(Given::Frame, Address::ErrorControl(node), frame, outbox)
+                self.take(
+                    Given::Frame,
+                    Address::ErrorControl(node),
+                    frame,
+                    outbox,
+                    changes,
+                )
             }
-            Address::Nobody => self.take(Given::Frame, Address::Nobody, frame, outbox),
+            Address::Nobody => self.take(Given::Frame, Address::Nobody, frame, outbox, changes),
         }
     }
 
     /// The same, compiled into its caller for those that come most to a device: a SYNC, the requests
     /// to SDO channels and the frames of RPDOs.
     #[inline(always)]
-    pub fn take_frame_inlined(&mut self, frame: &Frame, outbox: &mut Outbox) -> Seen
+    pub fn take_frame_inlined(
+        &mut self,
+        frame: &Frame,
+        outbox: &mut Outbox,
+        changes: &mut [u8],
+    ) -> Seen
         ensures frames { (k : Constants) (inputs : Inputs) → Stands k self.old inputs →
             outbox.new.items ≡ prescribed k inputs (Framed frame.now) }
         ensures few { (k : Constants) (inputs : Inputs) → Stands k self.old inputs →
@@ -90,15 +119,30 @@ impl<S: ObjectStore> Device<S> {
             Stands k self.new (Framed frame.now ∷ inputs) }
         ensures seen { (k : Constants) (inputs : Inputs) → Stands k self.old inputs →
             result ≡ last_seen k (Framed frame.now ∷ inputs) }
+        ensures changes { (k : Constants) (inputs : Inputs) → Stands k self.old inputs →
+            changes.new ≡
+            with_keys k.description (last_set k (Framed frame.now ∷ inputs)) changes.old }
     {
         let address = find_address(&self.parts.bank, &self.parts.addresses, frame);
         match address {
-            Address::Sync => self.take(Given::Frame, Address::Sync, frame, outbox),
+            Address::Sync => self.take(Given::Frame, Address::Sync, frame, outbox, changes),
             Address::Channel(number) => {
-                self.take(Given::Frame, Address::Channel(number), frame, outbox)
+                self.take(
+                    Given::Frame,
+                    Address::Channel(number),
+                    frame,
+                    outbox,
+                    changes,
+                )
             }
-            Address::Rpdo(number) => self.take(Given::Frame, Address::Rpdo(number), frame, outbox),
-            _ => self.take_frame(frame, outbox),
+            Address::Rpdo(number) => self.take(
+                Given::Frame,
+                Address::Rpdo(number),
+                frame,
+                outbox,
+                changes,
+            ),
+            _ => self.take_frame(frame, outbox, changes),
         }
     }
 
@@ -113,7 +157,13 @@ impl<S: ObjectStore> Device<S> {
         ensures stands { (k : Constants) (inputs : Inputs) → Stands k self.old inputs →
             Stands k self.new (Ticked ∷ inputs) }
     {
-        self.take(Given::Tick, Address::Nobody, &Frame::default(), outbox);
+        self.take(
+            Given::Tick,
+            Address::Nobody,
+            &Frame::default(),
+            outbox,
+            &mut [],
+        );
     }
 
     /// Takes an application event. The outbox then holds the frames that the definitions prescribe
@@ -134,7 +184,7 @@ impl<S: ObjectStore> Device<S> {
             AppEvent::Raise(code, bits, manufacturer) => Given::Raise(code, bits, manufacturer),
             AppEvent::Clear(bits) => Given::Clear(bits),
         };
-        self.take(given, Address::Nobody, &Frame::default(), outbox);
+        self.take(given, Address::Nobody, &Frame::default(), outbox, &mut []);
     }
 
     /// The application writes bytes into the entry at a place, which has this key: as `take_event`
@@ -150,7 +200,7 @@ impl<S: ObjectStore> Device<S> {
             Stands k self.new (Applied (Written key bytes.now) ∷ inputs) }
     {
         let given = Given::Write(Some(place), key, bytes);
-        self.take(given, Address::Nobody, &Frame::default(), outbox);
+        self.take(given, Address::Nobody, &Frame::default(), outbox, &mut []);
     }
 
     // Takes one input; its frame and the addressee of that are arguments of their own. Returns what
@@ -162,6 +212,7 @@ impl<S: ObjectStore> Device<S> {
         address: Address,
         frame: &Frame,
         outbox: &mut Outbox,
+        changes: &mut [u8],
     ) -> Seen
         requires { IsPlaced (S.description self.old.store) given }
         ensures frames { (k : Constants) (inputs : Inputs) → Stands k self.old inputs →
@@ -176,6 +227,10 @@ impl<S: ObjectStore> Device<S> {
         ensures seen { (k : Constants) (inputs : Inputs) → Stands k self.old inputs →
             IsAddressed k (moments k inputs) given.entry address frame.now →
             result ≡ last_seen k (given_view given.entry frame.now ∷ inputs) }
+        ensures changes { (k : Constants) (inputs : Inputs) → Stands k self.old inputs →
+            IsAddressed k (moments k inputs) given.entry address frame.now → changes.new ≡
+            with_keys k.description (last_set k (given_view given.entry frame.now ∷ inputs))
+            changes.old }
     {
         outbox.clear();
         let before = self.parts.state.get();
@@ -192,7 +247,8 @@ impl<S: ObjectStore> Device<S> {
         let seen = Seen::of(&received.mark);
         self.parts.last_app = received.app;
         self.parts.last_seen = seen;
-        let transition = self.take_effect(&received.mark);
+        note_download(&self.store, given, &received.mark, changes);
+        let transition = self.take_effect(&received.mark, changes);
         self.send(&received.mark, transition, outbox);
         // laws: calls of them change nothing
         few();
@@ -203,11 +259,14 @@ impl<S: ObjectStore> Device<S> {
     // The effects of a received input: lost heartbeats, the NMT state, dropped SDO transfers, SYNC
     // and RPDOs.
     #[inline(always)]
-    fn take_effect(&mut self, mark: &Mark) -> Transition
+    fn take_effect(&mut self, mark: &Mark, changes: &mut [u8]) -> Transition
         requires { IfSome (marked_rpdo mark.now) (λ rpdo. rpdo.number < 512) }
-        ensures { (k : Constants) (inputs : Inputs) (input : InputView) →
+        ensures effect { (k : Constants) (inputs : Inputs) (input : InputView) →
             HasReceived k self.old inputs input mark.now →
             HasTakenEffect k self.new inputs input mark.now result }
+        ensures changes { (k : Constants) (inputs : Inputs) (input : InputView) →
+            HasReceived k self.old inputs input mark.now → changes.new ≡ with_keys k.description
+            (set_by_rpdos k (moment k (moments k inputs) input)) changes.old }
     {
         let before = self.parts.state.get();
         let loss = watch(
@@ -230,6 +289,7 @@ impl<S: ObjectStore> Device<S> {
             &self.parts.mappings.rpdos,
             &mut self.parts.slots,
             &mut self.parts.emergencies,
+            changes,
             mark,
             transition,
         );

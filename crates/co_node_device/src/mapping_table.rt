@@ -10,6 +10,8 @@ ghost use Rattle.co_node_device.specs.MappingTables.{IsMappingTable, AreForms, C
 ghost use Rattle.std.specs.List.{slice_index_or};
 ghost use Rattle.co_pdo.specs.Images.{answered, contents_after, fault_of, image_of};
 ghost use Rattle.co_pdo.specs.Mappings.{mapping_of, total_of};
+ghost use Rattle.co_dict_placed.specs.Changes.{with_keys};
+ghost use Rattle.co_pdo_compiled.specs.SetEntries.{keys_set};
 
 use co_dict::{ObjectStore, Side};
 use co_node_model::{Mark, may_change_mappings};
@@ -145,12 +147,14 @@ impl MappingTable {
         }
     }
 
-    /// Writes the data of PDO k, as `apply` does with its mapping; the errors are the same.
+    /// Writes the data of PDO k, as `apply` does with its mapping; the errors are the same. The
+    /// entries that are written are noted in `changes`.
     pub fn apply<S: ObjectStore>(
         &self,
         store: &mut S,
         k: PdoNumber,
         bytes: &[u8],
+        changes: &mut [u8],
     ) -> Result<(), PdoFault>
         requires { HaveParts (S.description store.old) self.now }
         ensures fault { (side : Side) →
@@ -163,9 +167,14 @@ impl MappingTable {
             (mapping_of side (S.description store.old) (S.contents store.old) k) bytes.now
             (S.contents store.old) }
         ensures description { S.description store.new ≡ S.description store.old }
+        ensures changes { (side : Side) →
+            IsMappingTable side (S.description store.old) (S.contents store.old) self.now →
+            changes.new ≡ with_keys (S.description store.old) (keys_set (S.description store.old).rows
+            (mapping_of side (S.description store.old) (S.contents store.old) k) bytes.now)
+            changes.old }
     {
         match self.pdos.get(usize::from(k.get())) {
-            Some(compiled) => apply_at(store, compiled, bytes),
+            Some(compiled) => apply_at(store, compiled, bytes, changes),
             None if bytes.is_empty() => Ok(()),
             None => Err(PdoFault::Long),
         }

@@ -5,7 +5,6 @@ ghost use Rattle.std.specs.Prelude.{◌≡◌, ◌<◌, None, IfSome, [], if◌t
 ghost use Rattle.co_dict.specs.Rows.{Contents};
 ghost use Rattle.co_dict.specs.Stores.{Description};
 ghost use Rattle.co_node_model.specs.Rpdos.{
-  rpdo_type,
   IsMappedLength,
   IsTypeOf,
   is_short,
@@ -31,6 +30,8 @@ ghost use Rattle.co_node_model.specs.Emergencies.{all_raised, emergencies_of};
 ghost use Rattle.co_node_parts.specs.RpdoSlots.{SlotLog};
 ghost use Rattle.co_node_device.specs.Effects.{length_errors_of, after_lengths, after_effects, effect_emergencies};
 ghost use Rattle.co_node_model.specs.Marks.{marked_rpdo};
+ghost use Rattle.co_dict_placed.specs.Changes.{with_keys};
+ghost use Rattle.co_node_device.specs.SetEntries.{set_by_all_data, set_by_data, set_by_effects};
 
 use crate::emergencies::{raise_and_queue, raise_some};
 use crate::mapping_table::{MappingTable, mappings_stay};
@@ -44,28 +45,23 @@ use co_pdo::{PdoFault, PdoNumber};
 use co_profile::{IndexRange, TRANSMISSION_TYPE, TransmissionType};
 use co_value::Key;
 
-/// The transmission type of RPDO k, 0 to 511; 0 if there is none (CiA 301, 7.5.2.35).
-fn rpdo_type<S: ObjectStore>(store: &S, k: u16) -> u8
-    requires { k < 512 }
-    ensures { result ≡ rpdo_type (S.contents store.now) k }
-{
-    let index = IndexRange::RPDO_COMMUNICATION.nth(k);
-    number_u8(
-        store,
-        Key {
-            index,
-            sub: TRANSMISSION_TYPE,
-        },
-    )
-}
-
-/// The transmission type of the RPDO of a received frame; 0 if there is no such frame.
+/// The transmission type of the RPDO of a received frame, 0 if the dictionary has none; 0 if there
+/// is no such frame (CiA 301, 7.5.2.35).
 fn type_of<S: ObjectStore>(store: &S, rpdo: &Option<KeptFrame>) -> u8
     requires { IfSome rpdo.now (λ rpdo. rpdo.number < 512) }
     ensures { IsTypeOf (S.contents store.now) rpdo.now result }
 {
     match rpdo {
-        Some(rpdo) => rpdo_type(store, rpdo.number),
+        Some(rpdo) => {
+            let index = IndexRange::RPDO_COMMUNICATION.nth(rpdo.number);
+            number_u8(
+                store,
+                Key {
+                    index,
+                    sub: TRANSMISSION_TYPE,
+                },
+            )
+        }
         None => 0,
     }
 }
@@ -172,11 +168,12 @@ fn raise_outcome<S: ObjectStore>(
 
 /// The data of a frame of an RPDO take effect, by the compiled mappings of the RPDOs: all values
 /// are written. If one is outside its limits none is, and error 8200h is raised and its emergency
-/// queued. The length was checked at reception.
+/// queued. The length was checked at reception. The entries that are written are noted in `changes`.
 fn take_data<S: ObjectStore>(
     store: &mut S,
     mappings: &MappingTable,
     emergencies: &mut Emergencies,
+    changes: &mut [u8],
     rpdo: &KeptFrame,
 )
     requires number { rpdo.now.number < 512 }
@@ -192,9 +189,12 @@ fn take_data<S: ObjectStore>(
         EmergenciesStand emergencies.old log →
         EmergenciesStand emergencies.new (with_queued
         (data_emergencies (S.description store.old) (S.contents store.old) rpdo.now) log) }
+    ensures changes { IsMappingTable Rpdo (S.description store.old) (S.contents store.old) mappings.now →
+        changes.new ≡ with_keys (S.description store.old)
+        (set_by_data (S.description store.old) (S.contents store.old) rpdo.now) changes.old }
 {
     let number = PdoNumber::of(rpdo.number);
-    let outcome = mappings.apply(store, number, rpdo.frame.bytes());
+    let outcome = mappings.apply(store, number, rpdo.frame.bytes(), changes);
     raise_outcome(store, emergencies, outcome);
     // laws: calls of them change nothing
     settings_kept();
@@ -232,6 +232,7 @@ fn take_all_data<S: ObjectStore>(
     store: &mut S,
     mappings: &MappingTable,
     emergencies: &mut Emergencies,
+    changes: &mut [u8],
     rpdos: &[KeptFrame],
 )
     requires { HaveParts (S.description store.old) mappings.now }
@@ -246,10 +247,13 @@ fn take_all_data<S: ObjectStore>(
         All (λ rpdo. rpdo.number < 512) rpdos.now →
         EmergenciesStand emergencies.old queued → EmergenciesStand emergencies.new (with_queued
         (all_data_emergencies (S.description store.old) (S.contents store.old) rpdos.now) queued) }
+    ensures changes { IsMappingTable Rpdo (S.description store.old) (S.contents store.old) mappings.now →
+        All (λ rpdo. rpdo.number < 512) rpdos.now → changes.new ≡ with_keys (S.description store.old)
+        (set_by_all_data (S.description store.old) (S.contents store.old) rpdos.now) changes.old }
 {
     for rpdo in rpdos {
         if rpdo.number < 512 {
-            take_data(store, mappings, emergencies, rpdo);
+            take_data(store, mappings, emergencies, changes, rpdo);
         }
     }
 }
@@ -260,6 +264,7 @@ fn take_at_once<S: ObjectStore>(
     store: &mut S,
     mappings: &MappingTable,
     emergencies: &mut Emergencies,
+    changes: &mut [u8],
     rpdo: &Option<KeptFrame>,
     is_immediate: bool,
 )
@@ -275,12 +280,15 @@ fn take_at_once<S: ObjectStore>(
         EmergenciesStand emergencies.new (with_queued (all_data_emergencies
         (S.description store.old) (S.contents store.old)
         (if is_immediate then cons_option rpdo.now [] else [])) queued) }
+    ensures changes { IsMappingTable Rpdo (S.description store.old) (S.contents store.old) mappings.now →
+        changes.new ≡ with_keys (S.description store.old) (set_by_all_data (S.description store.old)
+        (S.contents store.old) (if is_immediate then cons_option rpdo.now [] else [])) changes.old }
 {
     if !is_immediate {
         return;
     }
     if let Some(rpdo) = rpdo {
-        take_data(store, mappings, emergencies, rpdo);
+        take_data(store, mappings, emergencies, changes, rpdo);
     }
 }
 
@@ -303,13 +311,15 @@ fn mapped_length(mappings: &MappingTable, rpdo: &Option<KeptFrame>) -> usize
 /// SYNC and RPDO frames at an input, by the NMT states before and after it. Errors of their lengths
 /// are raised first; then data take effect, by number: at a SYNC those of the waiting frames, and
 /// those of a received frame of transmission type 254 or 255. The emergency of each error is
-/// queued. `mappings` are the compiled mappings of the RPDOs in the dictionary now.
+/// queued. `mappings` are the compiled mappings of the RPDOs in the dictionary now. The entries that
+/// are written are noted in `changes`.
 #[inline(always)]
 pub(crate) fn take_pdos<S: ObjectStore>(
     store: &mut S,
     mappings: &MappingTable,
     slots: &mut RpdoSlots,
     emergencies: &mut Emergencies,
+    changes: &mut [u8],
     mark: &Mark,
     transition: Transition,
 )
@@ -333,6 +343,11 @@ pub(crate) fn take_pdos<S: ObjectStore>(
         EmergenciesStand emergencies.old queued →
         EmergenciesStand emergencies.new (with_queued (effect_emergencies
         (S.description store.old) (S.contents store.old) mark.now transition log) queued) }
+    ensures changes { (log : SlotLog) →
+        IsMappingTable Rpdo (S.description store.old) (S.contents store.old) mappings.now →
+        AreSlotsOf (S.description store.old) slots.old log →
+        changes.new ≡ with_keys (S.description store.old) (set_by_effects (S.description store.old)
+        (S.contents store.old) mark.now transition log) changes.old }
 {
     // borrowed in place of the mark, so that facts about the mark stay known
     let rpdo = mark.rpdo();
@@ -341,8 +356,8 @@ pub(crate) fn take_pdos<S: ObjectStore>(
     slots.note(slot_event(mark, kind, mapped, transition));
     let at_once = is_immediate(kind, mapped, &rpdo);
     raise_lengths(store, emergencies, mark, mapped);
-    take_all_data(store, mappings, emergencies, slots.taken());
-    take_at_once(store, mappings, emergencies, &rpdo, at_once);
+    take_all_data(store, mappings, emergencies, changes, slots.taken());
+    take_at_once(store, mappings, emergencies, changes, &rpdo, at_once);
     // laws: calls of them change nothing
     settings_kept();
     mappings_stay();

@@ -20,8 +20,14 @@ ghost use Rattle.co_node_model.specs.Nmt.{is_reset};
 ghost use Rattle.co_node_model.specs.Sdo.{with_drop};
 ghost use Rattle.co_node_model.specs.Inputs.{Ticked};
 ghost use Rattle.co_node_model.specs.Marks.{marked_rpdo, marked_time_out};
+ghost use Rattle.co_frame.specs.FrameContent.{FrameContent};
+ghost use Rattle.co_dict_placed.specs.Changes.{with_keys};
+ghost use Rattle.co_node_device.specs.Given.{given_view};
+ghost use Rattle.co_node_device.specs.SetEntries.{set_by_request};
 
+use crate::given::Given;
 use co_dict::ObjectStore;
+use co_dict_placed::note_key;
 use co_frame::{Frame, Outbox};
 use co_node_model::Mark;
 use co_node_parts::{NodeState, Transition};
@@ -54,6 +60,24 @@ pub(crate) fn take_request<S: ObjectStore>(
     }
     let set = bank.take(store, frame, outbox);
     Mark::of_write(set)
+}
+
+/// Notes the entry that an input set by SDO, by its mark, if it set one.
+#[inline(always)]
+pub(crate) fn note_download<S: ObjectStore>(
+    store: &S,
+    given: Given<'_>,
+    mark: &Mark,
+    changes: &mut [u8],
+)
+    ensures { (frame : FrameContent) → changes.new ≡ with_keys (S.description store.now)
+        (set_by_request (given_view given.entry frame) mark.now) changes.old }
+{
+    if let Given::Frame = given {
+        if let Some(key) = mark.written() {
+            note_key(store, key, changes);
+        }
+    }
 }
 
 /// 1 ms elapsed: the lowest SDO channel that has timed out aborts its transfer.

@@ -2,4 +2,5 @@ mod CompiledExamples
 mod Limits
 mod Parameters
 mod Parts
+mod SetExamples
 pub mod Props

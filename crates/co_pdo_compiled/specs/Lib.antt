@@ -1,1 +1,2 @@
 pub mod CompiledMappings
+pub mod SetEntries

@@ -16,11 +16,14 @@ ghost use Rattle.co_pdo.specs.Images.{
   contents_after,
   answered,
 };
+ghost use Rattle.co_dict_placed.specs.Changes.{with_keys};
 ghost use Rattle.co_pdo_compiled.specs.CompiledMappings.{mapped_in, mapping_in, HasEntry, HasPart, HasParts};
+ghost use Rattle.co_pdo_compiled.specs.SetEntries.{keys_in, keys_set};
 
 use crate::compiled::Compiled;
 use crate::part::{Part, PlacedEntry};
 use co_dict::{ObjectStore, Row, place_laws, store_laws};
+use co_dict_placed::note_change;
 use co_pdo::PdoFault;
 use co_value::{DataType, PackedBytes};
 
@@ -174,33 +177,38 @@ fn is_any_outside<S: ObjectStore>(store: &S, compiled: &Compiled, bytes: &[u8]) 
     compiled.is_limited() && any_outside(store, compiled.parts(), bytes)
 }
 
-/// Writes a part of the data into its entry.
+/// Writes a part of the data into its entry, and notes that it changed.
 #[inline(always)]
-fn write_part<S: ObjectStore>(store: &mut S, part: &Part, bytes: &[u8])
+fn write_part<S: ObjectStore>(store: &mut S, part: &Part, bytes: &[u8], changes: &mut [u8])
     requires has { HasPart (S.description store.old) part.now }
     requires width { length bytes.now ≡ width_in (mapped_in part.now) }
     ensures contents { S.contents store.new ≡
         written_in_order (S.contents store.old) ((mapped_in part.now, bytes.now) ∷ []) }
     ensures description { S.description store.new ≡ S.description store.old }
+    ensures changes { changes.new ≡
+        with_keys (S.description store.old) (keys_in (mapped_in part.now ∷ [])) changes.old }
 {
     place_laws(store);
     if let Part::Placed(entry) = part {
         store.set_at(entry.place, bytes);
+        note_change(changes, entry.place as usize);
     }
 }
 
-/// Writes each part of the data into its entry, in order.
-fn write_parts<S: ObjectStore>(store: &mut S, parts: &[Part], bytes: &[u8])
+/// Writes each part of the data into its entry, in order, and notes that these changed.
+fn write_parts<S: ObjectStore>(store: &mut S, parts: &[Part], bytes: &[u8], changes: &mut [u8])
     requires has { HasParts (S.description store.old) parts.now }
     requires enough { total_of (mapping_in parts.now) ≤ length bytes.now }
     ensures contents { S.contents store.new ≡
         written_in_order (S.contents store.old) (with_parts (mapping_in parts.now) bytes.now) }
     ensures description { S.description store.new ≡ S.description store.old }
+    ensures changes { changes.new ≡
+        with_keys (S.description store.old) (keys_in (mapping_in parts.now)) changes.old }
 {
     let mut rest = bytes;
     for part in parts {
         let width = usize::from(part.width());
-        write_part(store, part, &rest[..width]);
+        write_part(store, part, &rest[..width], changes);
         rest = &rest[width..];
     }
 }
@@ -209,12 +217,14 @@ fn write_parts<S: ObjectStore>(store: &mut S, parts: &[Part], bytes: &[u8])
 /// in the order of the mapping; the bytes of dummy entries are skipped (CiA 301, 7.2.2). `Short` if
 /// there are fewer bytes than are mapped, and `OutOfLimits` if a value is outside the limits of its
 /// entry: nothing is written then. `Long` if there are more bytes: the first ones are written. The
-/// dictionary has to have the mapped entries with the rows and at the places that they were
-/// compiled with: no call of a dictionary changes these.
+/// entries that are written are noted in `changes`. The dictionary has to have the mapped entries
+/// with the rows and at the places that they were compiled with: no call of a dictionary changes
+/// these.
 pub fn apply_at<S: ObjectStore>(
     store: &mut S,
     compiled: &Compiled,
     bytes: &[u8],
+    changes: &mut [u8],
 ) -> Result<(), PdoFault>
     requires { HasParts (S.description store.old) compiled.now }
     ensures fault { answered result ≡
@@ -222,6 +232,8 @@ pub fn apply_at<S: ObjectStore>(
     ensures contents { S.contents store.new ≡ contents_after (S.description store.old).rows
         (mapping_in compiled.now) bytes.now (S.contents store.old) }
     ensures description { S.description store.new ≡ S.description store.old }
+    ensures changes { changes.new ≡ with_keys (S.description store.old) (keys_set
+        (S.description store.old).rows (mapping_in compiled.now) bytes.now) changes.old }
 {
     if bytes.len() < compiled.width() {
         return Err(PdoFault::Short);
@@ -229,7 +241,7 @@ pub fn apply_at<S: ObjectStore>(
     if is_any_outside(store, compiled, bytes) {
         return Err(PdoFault::OutOfLimits);
     }
-    write_parts(store, compiled.parts(), bytes);
+    write_parts(store, compiled.parts(), bytes, changes);
     if bytes.len() > compiled.width() {
         return Err(PdoFault::Long);
     }

@@ -1,9 +1,9 @@
-use Rattle.std.proofs.Common.{ℕ, List, map, subst, sym, ap, ◌∙◌}
+use Rattle.std.proofs.Common.{ℕ, List, length, subst, sym, ap, ◌∙◌}
 use Rattle.std.specs.Prelude.{option_map}
 use Rattle.std.proofs.lemmas.Result.{IfOk-weaker}
 use Rattle.co_sheet_changes.specs.Originals.{original_at}
 use Rattle.co_dict_table.specs.Entries.{EntryContent, entry_at}
-use Rattle.co_dict_table.specs.Known.{blank_of}
+use Rattle.bafokun.specs.Changes.{no_changes}
 use Rattle.bafokun.specs.Builds.{IsNodeOf, limits_for, plan_for}
 use Rattle.bafokun.proofs.Numbered.{same_keys}
 use Rattle.bafokun.proofs.build.held_of.Goals as goal
@@ -18,7 +18,7 @@ returns-clause-ok c =
           same_keys (original_at c.args.text.now) c.args.node_id (limits_for c.args.settings.now) c.args.sheet.now.rows number
           ∙ ap (λ (es : List EntryContent). option_map (λ e. e.facts.key) (entry_at es number))
           (sym (is.entries ∙ c.in_ok-entries.ensures.ok));
-      known = is.known ∙ c.in_ok-known.ensures.ok ∙ ap (λ (es : List EntryContent). map blank_of es) (sym is.entries);
+      changes = is.changes ∙ c.in_ok-changes.ensures.ok ∙ ap no_changes (c.len.ensures ∙ ap (λ (es : List EntryContent). length es) (sym is.entries));
       events = is.events;
     }) c.boxed.ensures.ok
 

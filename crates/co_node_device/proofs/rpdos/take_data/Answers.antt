@@ -9,6 +9,8 @@ use Rattle.co_node_device.specs.MappingTables.{IsMappingTable}
 use Rattle.co_node_model.specs.Emergencies.{all_raised, emergencies_of}
 use Rattle.co_node_model.specs.Rpdos.{mapping_for, value_errors, with_data}
 use Rattle.co_node_laws.specs.Settings.{HasSameSettings}
+use Rattle.co_dict_placed.specs.Changes.{with_keys}
+use Rattle.co_pdo_compiled.specs.SetEntries.{keys_set}
 use Rattle.co_node_device.proofs.Data.{by_all}
 use Rattle.co_node_device.proofs.rpdos.take_data.Given as given
 use Rattle.co_node_device.proofs.rpdos.take_data.Goals as goal
@@ -33,6 +35,14 @@ returns-clause-emergencies g c = λ log table h.
     subst (λ (es : List Emergency). EmergenciesStand c.raise_outcome.new.emergencies (with_queued es log))
     (by_all (λ d o contents. emergencies_of d.rows (value_errors o) contents) c.apply-outcome.ensures.description (fault g c table) (written g c table))
     (c.raise_outcome.ensures.emergencies log h)
+
+pub returns-clause-changes : goal.returns-clause-changes
+returns-clause-changes g c = λ table.
+    let d = g.S.ObjectStore.description c.args.store.now in
+    let contents = g.S.ObjectStore.contents c.args.store.now in
+    c.apply-outcome.ensures.changes Rpdo table
+    ∙ ap (λ (k : ℕ). with_keys d (keys_set d.rows (mapping_of Rpdo d contents k) c.bytes.result.now) c.args.changes.now) c.of-number.ensures
+    ∙ ap (λ (b : List ℕ). with_keys d (keys_set d.rows (mapping_for d contents c.args.rpdo.now) b) c.args.changes.now) c.bytes.ensures.bytes
 
 pub returns-clause-table : goal.returns-clause-table
 returns-clause-table g c = λ table.

@@ -14,7 +14,7 @@ use Rattle.co_node_model.specs.Rpdos.{IsMappedLength, IsTypeOf, immediate, slot_
 use Rattle.co_node_device.specs.MappingTables.{IsMappingTable}
 use Rattle.co_node_device.specs.Effects.{after_lengths, length_errors_of}
 use Rattle.co_node_device.proofs.Slots.{slots_after, taken_of_all}
-use Rattle.co_node_device.proofs.Taken.{AreEffects, taken_below, effects_are, effects_queued}
+use Rattle.co_node_device.proofs.Taken.{AreEffects, taken_below, effects_are, effects_noted, effects_queued}
 use Rattle.co_node_device.proofs.rpdos.take_pdos.Given as given
 use Rattle.co_node_device.proofs.rpdos.take_pdos.Goals as goal
 
@@ -84,6 +84,11 @@ returns-clause-slots g c = λ log table h there.
 
 pub returns-clause-contents : goal.returns-clause-contents
 returns-clause-contents g c = λ log table h. effects_are _ _ _ _ _ _ _ _ _ _ _ _ (gave g c table log h)
+
+pub returns-clause-changes : goal.returns-clause-changes
+returns-clause-changes g c = λ log table h.
+    effects_noted _ _ _ _ _ _ _ _ _ _ _ _ (gave g c table log h) c.args.changes.now _ _
+    (c.take_all_data.ensures.changes (waiting g c table) (numbers g c table log h)) (c.take_at_once.ensures.changes (at_once g c table))
 
 pub returns-clause-emergencies : goal.returns-clause-emergencies
 returns-clause-emergencies g c = λ log queued table h q.

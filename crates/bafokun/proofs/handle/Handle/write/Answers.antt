@@ -1,9 +1,8 @@
 use Rattle.std.proofs.Common.{◌≡◌, Option, Some, sym, ap, ◌∙◌, subst}
 use Rattle.co_node_model.specs.Inputs.{Applied, Written}
 use Rattle.bafokun.specs.declared.held.Held.{Held}
-use Rattle.bafokun.specs.Changes.{KnowsWritten}
-use Rattle.bafokun.specs.Devices.{Gives, HasStood, entries_in, known_in, known_of}
-use Rattle.bafokun.specs.Entries.{key_named, number_named}
+use Rattle.bafokun.specs.Devices.{Gives, HasStood, entries_in}
+use Rattle.bafokun.specs.Entries.{key_named}
 use Rattle.bafokun.specs.Happened.{and_input, events_of}
 use Rattle.bafokun.proofs.GivenBus.{given_bus}
 use Rattle.bafokun.proofs.Added.{events_given}
@@ -19,18 +18,6 @@ returns-in-Some-clause-gives c = λ k before stands.
     is_there
     (given_bus k before (Some (Applied (Written (key_named there.entries c.args.name) c.args.bytes.now))) c.write.new.self c.give.new.self
     c.args.frames.now c.give.new.frames c.give.result (c.write.ensures.gave k before stood) c.give.ensures.back c.give.ensures.put c.give.ensures.count)
-
-pub returns-in-Some-clause-known : goal.returns-in-Some-clause-known
-returns-in-Some-clause-known c = λ k before stands.
-    let there : Held = c.deref_mut.result.now in
-    let is_there : Some there ≡ c.args.self.now.seal.value = ap Some c.deref_mut.ensures.value ∙ c.in-Some.ensures.taken in
-    let stood = subst (λ (o : Option Held). HasStood k o before) (sym is_there) stands in
-    subst (λ (o : Option Held). KnowsWritten k before (key_named (entries_in o) c.args.name) c.args.bytes.now (number_named (entries_in o) c.args.name)
-    (known_in o) (known_of c.give.new.self))
-    is_there
-    (subst (λ (o : Option Held). KnowsWritten k before (key_named there.entries c.args.name) c.args.bytes.now (number_named there.entries c.args.name)
-    there.known (known_in o))
-    (sym c.give.ensures.back) (c.write.ensures.known k before stood))
 
 pub returns-in-Some-clause-events : goal.returns-in-Some-clause-events
 returns-in-Some-clause-events c = λ k before stands.

@@ -39,7 +39,7 @@ loop-i-preserved c =
     record {
       empty = empty;
       entries = c.tick.ensures.entries ∙ inv.entries;
-      known = c.tick.ensures.known ∙ inv.known;
+      changes = c.tick.ensures.changes ∙ inv.changes;
       stands = λ k before stands. one_more_stands k before c.loop-i.i c.tick.new.self.node
           (c.tick.ensures.gave k (after_ticks c.loop-i.i before) (inv.stands k before stands)).stands;
       quiet = λ k before stands. up_to_next (λ n. given_last k before n ≡ []) c.loop-i.i (inv.quiet k before stands)

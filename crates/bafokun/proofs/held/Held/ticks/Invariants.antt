@@ -12,7 +12,7 @@ abbrev pub invariant-loop-i : goal.invariant-loop-i
 invariant-loop-i l = record {
   empty : l.self.sent.items ≡ [];
   entries : l.self.entries ≡ l.fn.self.entries;
-  known : l.self.known ≡ l.fn.self.known;
+  changes : l.self.changes ≡ l.fn.self.changes;
   stands : (k : Constants) (before : Inputs) → Stands k l.fn.self.node before →
       Stands k l.self.node (after_ticks l.i before);
   quiet : (k : Constants) (before : Inputs) → Stands k l.fn.self.node before →

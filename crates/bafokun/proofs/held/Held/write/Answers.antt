@@ -1,34 +1,23 @@
-use Rattle.std.proofs.Common.{◌≡◌, ◌≤◌, ◌∷◌, ℕ, Option, length, subst}
+use Rattle.std.proofs.Common.{◌≡◌, ◌≤◌, ◌∷◌, length, subst}
 use Rattle.co_value.specs.declared.key.Key.{Key}
-use Rattle.co_node_model.specs.Inputs.{Applied, Inputs, Written}
+use Rattle.co_node_model.specs.Inputs.{Applied, Written}
 use Rattle.co_node_model.specs.Device.{frame_bound, prescribed}
 use Rattle.co_node.specs.Nodes.{Stands}
-use Rattle.bafokun.specs.Changes.{KnowsWritten}
-use Rattle.bafokun.specs.Entries.{number_named}
 use Rattle.bafokun.specs.Happened.{and_input}
 use Rattle.bafokun.proofs.held.Held.write.Goals as goal
 
 pub returns-clause-gave : goal.returns-clause-gave
 returns-clause-gave c = λ k before stands. record {
   stands = subst (λ (key : Key). Stands k c.write_at.new.self (Applied (Written key c.args.bytes.now) ∷ before))
-      c.find-number.ensures.key (c.write_at.ensures.stands k before stands);
+      c.key-key.ensures (c.write_at.ensures.stands k before stands);
   sent = subst (λ (key : Key). c.write_at.new.outbox.items ≡ prescribed k before (Applied (Written key c.args.bytes.now)))
-      c.find-number.ensures.key (c.write_at.ensures.frames k before stands);
+      c.key-key.ensures (c.write_at.ensures.frames k before stands);
   few = subst (λ (key : Key). length c.write_at.new.outbox.items ≤ frame_bound k before (Applied (Written key c.args.bytes.now)))
-      c.find-number.ensures.key (c.write_at.ensures.few k before stands);
+      c.key-key.ensures (c.write_at.ensures.few k before stands);
 }
-
-pub returns-clause-known : goal.returns-clause-known
-returns-clause-known c = λ k before stands.
-    let after : Inputs = Applied (Written c.find-number.result.0 c.args.bytes.now) ∷ before in
-    subst (λ (key : Key). KnowsWritten k before key c.args.bytes.now (number_named c.args.self.now.entries c.args.name) c.args.self.now.known c.note_written.new.known)
-    c.find-number.ensures.key
-    (subst (λ (number : Option ℕ). KnowsWritten k before c.find-number.result.0 c.args.bytes.now number c.args.self.now.known c.note_written.new.known)
-    c.find-number.ensures.number
-    (record { is = c.note_written.ensures k after (c.write_at.ensures.stands k before stands) }))
 
 pub returns-clause-events : goal.returns-clause-events
 returns-clause-events c = λ k before stands.
     subst (λ (key : Key). c.note.new.self ≡ and_input k before (Applied (Written key c.args.bytes.now)) c.args.self.now.events)
-    c.find-number.ensures.key
-    (c.note.ensures k before (Applied (Written c.find-number.result.0 c.args.bytes.now)) (c.write_at.ensures.stands k before stands) (c.state-state.ensures k before stands))
+    c.key-key.ensures
+    (c.note.ensures k before (Applied (Written c.key-key.result c.args.bytes.now)) (c.write_at.ensures.stands k before stands) (c.state-state.ensures k before stands))

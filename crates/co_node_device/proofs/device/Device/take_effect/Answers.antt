@@ -132,8 +132,13 @@ module _ (g : given.Over) (c : After-mappings_stay g) (k : Constants) (inputs : 
   same : g.S.ObjectStore.description c.args.self.now.store ≡ g.S.ObjectStore.description c.take_pdos.new.store
   same = r.description ∙ sym d3
 
-pub returns : goal.returns
-returns g c = λ k inputs input r. record {
+pub returns-clause-changes : goal.returns-clause-changes
+returns-clause-changes g c = λ k inputs input r.
+    steps.set k (h g c k inputs input r) (m g c k inputs input r) (is g c k inputs input r) _ _ _ _ (d2 g c k inputs input r) r.mark (watched g c k inputs input r) (transition g c k inputs input r) _ _
+    (c.take_pdos.ensures.changes (slot_log k (h g c k inputs input r)) (mappings_watched g c k inputs input r).rpdos (slots_watched g c k inputs input r))
+
+pub returns-clause-effect : goal.returns-clause-effect
+returns-clause-effect g c = λ k inputs input r. record {
   description = d3 g c k inputs input r;
   contents = contents g c k inputs input r;
   mark = r.mark;

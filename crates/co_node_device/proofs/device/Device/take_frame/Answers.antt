@@ -97,3 +97,27 @@ returns-in-Nobody-clause-stands g c = λ k inputs ns.
 pub returns-in-Nobody-clause-seen : goal.returns-in-Nobody-clause-seen
 returns-in-Nobody-clause-seen g c = λ k inputs ns.
     c.take-in-Nobody.ensures.seen k inputs ns (sym c.in-Nobody.is ∙ found _ _ c.find_address-address.ensures k inputs ns)
+
+pub returns-in-Nmt-clause-changes : goal.returns-in-Nmt-clause-changes
+returns-in-Nmt-clause-changes g c = λ k inputs ns.
+    c.take.ensures.changes k inputs ns (sym c.in-Nmt.is ∙ found _ _ c.find_address-address.ensures k inputs ns)
+
+pub returns-in-Sync-clause-changes : goal.returns-in-Sync-clause-changes
+returns-in-Sync-clause-changes g c = λ k inputs ns.
+    c.take-in-Sync.ensures.changes k inputs ns (sym c.in-Sync.is ∙ found _ _ c.find_address-address.ensures k inputs ns)
+
+pub returns-in-Channel-clause-changes : goal.returns-in-Channel-clause-changes
+returns-in-Channel-clause-changes g c = λ k inputs ns.
+    c.take-in-Channel.ensures.changes k inputs ns (sym c.in-Channel.is ∙ found _ _ c.find_address-address.ensures k inputs ns)
+
+pub returns-in-Rpdo-clause-changes : goal.returns-in-Rpdo-clause-changes
+returns-in-Rpdo-clause-changes g c = λ k inputs ns.
+    c.take-in-Rpdo.ensures.changes k inputs ns (sym c.in-Rpdo.is ∙ found _ _ c.find_address-address.ensures k inputs ns)
+
+pub returns-in-ErrorControl-clause-changes : goal.returns-in-ErrorControl-clause-changes
+returns-in-ErrorControl-clause-changes g c = λ k inputs ns.
+    c.take-in-ErrorControl.ensures.changes k inputs ns (sym c.in-ErrorControl.is ∙ found _ _ c.find_address-address.ensures k inputs ns)
+
+pub returns-in-Nobody-clause-changes : goal.returns-in-Nobody-clause-changes
+returns-in-Nobody-clause-changes g c = λ k inputs ns.
+    c.take-in-Nobody.ensures.changes k inputs ns (sym c.in-Nobody.is ∙ found _ _ c.find_address-address.ensures k inputs ns)

@@ -49,3 +49,15 @@ returns-in-Rpdo-clause-stands g c = λ k inputs ns.
 pub returns-in-Rpdo-clause-seen : goal.returns-in-Rpdo-clause-seen
 returns-in-Rpdo-clause-seen g c = λ k inputs ns.
     c.take-in-Rpdo.ensures.seen k inputs ns (sym c.in-Rpdo.is ∙ found _ _ c.find_address-address.ensures k inputs ns)
+
+pub returns-in-Sync-clause-changes : goal.returns-in-Sync-clause-changes
+returns-in-Sync-clause-changes g c = λ k inputs ns.
+    c.take.ensures.changes k inputs ns (sym c.in-Sync.is ∙ found _ _ c.find_address-address.ensures k inputs ns)
+
+pub returns-in-Channel-clause-changes : goal.returns-in-Channel-clause-changes
+returns-in-Channel-clause-changes g c = λ k inputs ns.
+    c.take-in-Channel.ensures.changes k inputs ns (sym c.in-Channel.is ∙ found _ _ c.find_address-address.ensures k inputs ns)
+
+pub returns-in-Rpdo-clause-changes : goal.returns-in-Rpdo-clause-changes
+returns-in-Rpdo-clause-changes g c = λ k inputs ns.
+    c.take-in-Rpdo.ensures.changes k inputs ns (sym c.in-Rpdo.is ∙ found _ _ c.find_address-address.ensures k inputs ns)
