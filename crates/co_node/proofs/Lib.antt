@@ -7,3 +7,4 @@ pub mod Refused
 pub mod Memory
 mod Begins
 mod BuiltExamples
+mod SetByFrames

@@ -6,6 +6,7 @@ mod built_laws;
 mod config;
 mod node;
 mod record;
+mod set_laws;
 
 pub use built_laws::{
     begins_apart, built_download_ends, permitted_download_completes, stands_on_dictionary,
@@ -16,3 +17,4 @@ pub use co_node_parts::NodeState;
 pub use config::Config;
 pub use node::Node;
 pub use record::Record;
+pub use set_laws::set_by_kind;
