@@ -73,10 +73,18 @@ pub(crate) fn note_download<S: ObjectStore>(
     ensures { (frame : FrameContent) → changes.new ≡ with_keys (S.description store.now)
         (set_by_request (given_view given.entry frame) mark.now) changes.old }
 {
-    if let Given::Frame = given {
-        if let Some(key) = mark.written() {
-            note_key(store, key, changes);
+    match given {
+        Given::Frame => {
+            if let Some(key) = mark.written() {
+                note_key(store, key, changes);
+            }
         }
+        Given::Tick
+        | Given::Write(..)
+        | Given::Event(_)
+        | Given::Changed(_)
+        | Given::Raise(..)
+        | Given::Clear(_) => {}
     }
 }
 

@@ -25,12 +25,12 @@ use Rattle.co_node_device.proofs.Taken.{noted_all}
 use Rattle.co_node_device.specs.Standing.{HasTakenEffect, Stands}
 use Rattle.co_node_device.proofs.device.Device.take.Given as given
 use Rattle.co_node_device.proofs.device.Device.take.Goals as goal
-use Rattle.co_node_device.proofs.device.Device.take.Goals.{After-self-3-1}
+use Rattle.co_node_device.proofs.device.Device.take.Goals.{After-self-4-1}
 
 each_of : {A P Q : Type 0} → (A → P) → (A → Q) → A → P × Q
 each_of f g a = (f a, g a)
 
-module _ (g : given.Over) (c : After-self-3-1 g) (k : Constants) (inputs : Inputs) (ns : Stands k c.args.self.now inputs)
+module _ (g : given.Over) (c : After-self-4-1 g) (k : Constants) (inputs : Inputs) (ns : Stands k c.args.self.now inputs)
     (addressed : IsAddressed k (moments k inputs) c.args.given c.args.address c.args.frame.now) where
   abbrev h : History
   h = moments k inputs
