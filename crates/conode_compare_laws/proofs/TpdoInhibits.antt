@@ -146,32 +146,14 @@ module _ (k : Constants) (subject : Subject) (micros : ℕ) (before : Inputs) (m
     fourth = one_own o 3 subject.facts.pdos.fourth n of.fourth less at due;
   }
 
--- a frame that is taken for an EMCY: the one before is longer ago than it
-forget : (micros : ℕ) (s : Sent) (ages : List ℕ) → Since micros s ages → Since micros s (0 ∷ ages)
-forget micros s [] h = absurd h
-forget micros s (age ∷ ages) h = omega arith
-
-forget_sent : (sent : Bool) (micros : ℕ) (s : Sent) (ages : List ℕ) → Since micros s ages → Since micros s (and_sent sent ages)
-forget_sent true micros s ages h = forget micros s ages h
-forget_sent false micros s ages h = h
-
-forgets : (all later : List ℕ) (old : ℕ → List ℕ) (n number micros : ℕ) (s : Sent) → Since micros s (ages_before all old (n ∷ later) number) → Since micros s (ages_before all old later number)
-forgets all later old n number micros s h = by (n == number) (is_among number later) h
-  where
-    by : (a b : Bool) → Since micros s (if a || b then old number else and_sent (is_among number all) (old number)) → Since micros s (if b then old number else and_sent (is_among number all) (old number))
-    by true true g = g
-    by true false g = forget_sent (is_among number all) micros s (old number) g
-    by false b g = g
-
 inhibit_walk : (k : Constants) (subject : Subject) (micros : ℕ) (frame : ℕ → FrameContent) (all : List ℕ) (old : ℕ → List ℕ) → AreTpdosOf k subject.facts.pdos
-    → Walk is_pdo_inhibit (AreOwn is_pdo_inhibit Since subject micros frame (ids k) all old subject.facts.pdos) (λ due. AreTimed Since (ids k) subject.facts.pdos micros (ages_before all old due)) (λ p. Unit {0}) subject micros frame
+    → Walk is_pdo_inhibit (AreOwn is_pdo_inhibit Since subject micros frame (ids k) all old subject.facts.pdos) (λ due. AreTimed Since subject.node (ids k) subject.facts.pdos micros (ages_before all old due)) (λ p. Unit {0}) subject micros frame
 inhibit_walk k subject micros frame all old of = record {
-  kept = λ due. timed_kept Since (ids k) subject.facts.pdos micros (ages_before all old due);
+  kept = λ due. timed_kept Since subject.node (ids k) subject.facts.pdos micros (ages_before all old due);
   begins = λ p h. tt;
   goes_on = λ p n id h. tt;
   step = λ n later p new ok once none h.
-      time_step is_pdo_inhibit Since subject micros frame (ids k) all old (λ free ages less. omega arith) p n later of.apart new ok once h
-      (λ emergency. changed Since Since (ids k) subject.facts.pdos micros micros (ages_before all old (n ∷ later)) (ages_before all old later) p.pdos (λ number s since. forgets all later old n number micros s since) h);
+      time_step is_pdo_inhibit Since subject micros frame (ids k) all old (λ free ages less. omega arith) p n later of.apart new ok once h;
 }
 
 -- ---- time passes
@@ -205,21 +187,21 @@ record IsMet (pdos : Pdos) (k : Constants) (before : Inputs) (last : ℕ) (s : S
   time : IsSpaced before last s
 
 abbrev Between : Constants → Pdos → Inputs → ℕ → Pdos → Type 0
-Between k facts before last = AreTimed Since (ids k) facts last (λ n. ages_of k n before)
+Between k facts before last = AreTimed Since k.description.node (ids k) facts last (λ n. ages_of k n before)
 
 came : (k : Constants) (subject : Subject) (rows : List Row) (before : Inputs) (last : ℕ) (s : Stamped) (p : Progress) (b : Bool) → is_start_all (turn_at (moment k (moments k before) s.input) (moments k before)) ≡ b
     → IsMet subject.facts.pdos k before last s → NoSdo k.description.node (frame_of s.input) → Holds (Between k subject.facts.pdos before last) p
     → AllRun (tpdo_differences is_pdo_inhibit) (of_device k subject) rows s.micros p (frame_of s.input)
-    (Holds (AreTimed Since (ids k) subject.facts.pdos s.micros (olds k before (turn_at (moment k (moments k before) s.input) (moments k before)))))
+    (Holds (AreTimed Since k.description.node (ids k) subject.facts.pdos s.micros (olds k before (turn_at (moment k (moments k before) s.input) (moments k before)))))
 came k subject rows before last s p true is met none h =
     let t : Turn = turn_at (moment k (moments k before) s.input) (moments k before) in
     command_comes is_pdo_inhibit Since (ids k) (olds k before t) (of_device k subject) rows s.micros s.input p (start_commanded k (moments k before) s.input is) (record { fresh = h.fresh; kept = h.kept.knows })
 came k subject rows before last s p false is met none h =
     let facts : Pdos = subject.facts.pdos in
     let t : Turn = turn_at (moment k (moments k before) s.input) (moments k before) in
-    others is_pdo_inhibit (AreTimed Since (ids k) facts s.micros (olds k before t)) (of_device k subject) rows s.micros (frame_of s.input) p (timed_kept Since (ids k) facts s.micros (olds k before t))
+    others is_pdo_inhibit (AreTimed Since k.description.node (ids k) facts s.micros (olds k before t)) (of_device k subject) rows s.micros (frame_of s.input) p (timed_kept Since k.description.node (ids k) facts s.micros (olds k before t))
     (came_other facts k.description.node s.input none met.told.control met.told.foreign)
-    (record { fresh = h.fresh; kept = changed Since Since (ids k) facts last s.micros (λ n. ages_of k n before) (olds k before t) p.pdos (passes k before last s is met.time) h.kept })
+    (record { fresh = h.fresh; kept = changed Since Since k.description.node (ids k) facts last s.micros (λ n. ages_of k n before) (olds k before t) p.pdos (passes k before last s is met.time) h.kept })
 
 input_runs : (k : Constants) (subject : Subject) (rows : List Row) (before : Inputs) (last : ℕ) (s : Stamped) (p : Progress) → AreTpdosOf k subject.facts.pdos → IsMet subject.facts.pdos k before last s
     → Holds (Between k subject.facts.pdos before last) p
@@ -236,26 +218,26 @@ input_runs k subject rows before last s p of met h =
     let more : List FrameContent = besides k m in
     let sent : NoSdo n (more ++ map frames m.due) = after_those n first (prescribed k before s.input) met.told.sdo in
     let old : ℕ → List ℕ = olds k before t in
-    let waits : Pdos → Type 0 = AreTimed Since (ids k) facts s.micros old in
-    let J : List ℕ → Pdos → Type 0 = λ due. AreTimed Since (ids k) facts s.micros (ages_before m.due old due) in
+    let waits : Pdos → Type 0 = AreTimed Since k.description.node (ids k) facts s.micros old in
+    let J : List ℕ → Pdos → Type 0 = λ due. AreTimed Since k.description.node (ids k) facts s.micros (ages_before m.due old due) in
     let after : Progress → Type 0 = Holds (Between k facts (s.input ∷ before) s.micros) in
     joined (tpdo_differences is_pdo_inhibit) subj rows s.micros first (more ++ map frames m.due) p (Holds waits) after
     (came k subject rows before last s p (is_start_all t) refl met (before_these n first (prescribed k before s.input) met.told.sdo) h)
     (λ q g.
     joined (tpdo_differences is_pdo_inhibit) subj rows s.micros more (map frames m.due) q (Holds waits) after
-    (besides_run is_pdo_inhibit waits k subject rows s.micros before s.input q (timed_kept Since (ids k) facts s.micros old) (λ reset. begins_timed Since (ids k) k facts s.micros old of) met.told.aside met.told.beside
+    (besides_run is_pdo_inhibit waits k subject rows s.micros before s.input q (timed_kept Since k.description.node (ids k) facts s.micros old) (λ reset. begins_timed Since k.description.node (ids k) k facts s.micros old of) met.told.aside met.told.beside
     (before_these n more (map frames m.due) sent) g)
     (λ r f. weaken (tpdo_differences is_pdo_inhibit) subj rows s.micros (map frames m.due) r (Walked (J []) (λ x. Unit {0})) after
     (λ x e. record {
       fresh = e.holds.fresh;
-      kept = changed_below Since Since (ids k) facts s.micros s.micros (ages_before m.due old []) (λ i. ages_of k i (s.input ∷ before)) x.pdos
+      kept = changed_below Since Since k.description.node (ids k) facts s.micros s.micros (ages_before m.due old []) (λ i. ages_of k i (s.input ∷ before)) x.pdos
           (λ i less a now. subst (λ l. Since s.micros a l) (sym (next_ages k i before s.input less met.keeps)) now) e.holds.kept;
     })
     (walks is_pdo_inhibit (AreOwn is_pdo_inhibit Since subj s.micros frames (ids k) m.due old facts) J (λ x. Unit {0}) subj rows s.micros frames m.due r (inhibit_walk k subj s.micros frames m.due old of)
     (tpdo_ids n frames m.due met.told.aside.tpdos (after_those n more (map frames m.due) sent))
     (due_all (AreOwn is_pdo_inhibit Since subj s.micros frames (ids k) m.due old facts) k.description t m.contents schedule (λ i o less at due among. all_own k subj s.micros before m t met.keeps o i of less at due among))
     (due_distinct k.description t m.contents schedule)
-    (record { fresh = f.fresh; kept = changed Since Since (ids k) facts s.micros s.micros old (ages_before m.due old m.due) r.pdos (λ i a now. subst (λ l. Since s.micros a l) (sym (at_first m.due old i)) now) f.kept })
+    (record { fresh = f.fresh; kept = changed Since Since k.description.node (ids k) facts s.micros s.micros old (ages_before m.due old m.due) r.pdos (λ i a now. subst (λ l. Since s.micros a l) (sym (at_first m.due old i)) now) f.kept })
     tt)))
 
 -- ---- all inputs
@@ -278,5 +260,5 @@ no_pdo_inhibit k subject rows inputs is of keeps time control foreign aside besi
     let facts : Pdos = subject.facts.pdos in
     of_device_too is_pdo_inhibit k subject rows inputs is
     (of_recording is_pdo_inhibit k subject rows (λ b l s. IsMet facts k b l s) (Between k facts) (λ before last s p met h. input_runs k subject rows before last s p of met h) inputs
-    (λ micros. begins_timed Since (ids k) k facts micros (λ n. ages_of k n []) of)
+    (λ micros. begins_timed Since k.description.node (ids k) k facts micros (λ n. ages_of k n []) of)
     (λ last. first_met facts k inputs last (all_told facts k inputs [] last control foreign aside beside (no_sdo_later k inputs none)) keeps time))

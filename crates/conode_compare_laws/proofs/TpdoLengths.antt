@@ -84,7 +84,7 @@ length_walk subject micros frame = record {
   goes_on = λ p n id h. tt;
   step = λ n later p new have once none h. record {
     fine = all_fine (moment_at subject p micros) subject.facts.pdos p.pdos (frame n).id (length_of (frame n)) h have;
-    kept = knows_framed subject.facts.pdos p.pdos (moment_at subject p micros) (frame n).id h;
+    kept = λ other. knows_framed subject.facts.pdos p.pdos (moment_at subject p micros) (frame n).id h;
     unseen = λ emergency. h;
   };
 }

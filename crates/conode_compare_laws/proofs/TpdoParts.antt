@@ -89,7 +89,7 @@ IsTpdoId node id = (id ≢ 0) × (id ≢ 0x580 + node) × (id ≢ 0x600 + node) 
 -- it is as it should be, and what holds then; and what, where it is taken for an EMCY
 pub record Step (is : Deviation → Bool) (J : Pdos → Type 0) (subject : Subject) (p : Progress) (micros id length : ℕ) : Type 0 where
   pub fine : AreFine is (moment_at subject p micros) p.pdos id length
-  pub kept : J (framed p.pdos (moment_at subject p micros) id)
+  pub kept : (id == 0x80 + subject.node) ≡ false → J (framed p.pdos (moment_at subject p micros) id)
   pub unseen : (id == 0x80 + subject.node) ≡ true → J p.pdos
 
 emergency_passes : (is : Deviation → Bool) (J : Pdos → Type 0) (subject : Subject) (rows : List Row) (p : Progress) (micros length : ℕ) (o : Option Emergency) → IsNewest micros p → J p.pdos
@@ -98,12 +98,12 @@ unfolding after_emergency
 emergency_passes is J subject rows p micros length None new h = record { none = refl; after = record { fresh = fresh micros p new; kept = h } }
 emergency_passes is J subject rows p micros length (Some emergency) new h = record { none = refl; after = record { fresh = fresh micros p new; kept = h } }
 
-process_passes : (is : Deviation → Bool) (J : Pdos → Type 0) (subject : Subject) (rows : List Row) (p : Progress) (micros id length : ℕ) → IsNewest micros p → Step is J subject p micros id length
+process_passes : (is : Deviation → Bool) (J : Pdos → Type 0) (subject : Subject) (rows : List Row) (p : Progress) (micros id length : ℕ) → (id == 0x80 + subject.node) ≡ false → IsNewest micros p → Step is J subject p micros id length
     → Passes is J subject rows p micros (Process id length)
 unfolding process_findings after_process
-process_passes is J subject rows p micros id length new step = record {
+process_passes is J subject rows p micros id length other new step = record {
   none = sighted_none is id length (sighting (moment_at subject p micros) p.pdos id length) (all_fine is (moment_at subject p micros) p.pdos id length step.fine);
-  after = record { fresh = fresh micros p new; kept = step.kept };
+  after = record { fresh = fresh micros p new; kept = step.kept other };
 }
 
 tpdo_passes : (is : Deviation → Bool) (J : Pdos → Type 0) (subject : Subject) (rows : List Row) (p : Progress) (micros : ℕ) (frame : FrameContent) → IsTpdoId subject.node frame.id → IsNewest micros p
@@ -123,7 +123,7 @@ tpdo_passes is J subject rows p micros frame id new step =
     by false false true d e o emergency q r s = absurd (cc)
     by false false false true e o emergency q r s = absurd (cc)
     by false false false false true o emergency q r s = absurd (cc)
-    by false false false false false o emergency q r s = process_passes is J subject rows p micros frame.id (length_of frame) new step
+    by false false false false false o emergency q r s = process_passes is J subject rows p micros frame.id (length_of frame) emergency new step
 
 -- ---- the TPDOs that are due, one after another
 

@@ -170,15 +170,15 @@ start_commanded k history input is = by (command_in k.description.node input) re
 
 module _ (is : Deviation → Bool) (R : ℕ → Sent → List ℕ → Type 0) (ids : ℕ → ℕ) (ages : ℕ → List ℕ) (subject : Subject) (rows : List Row) (micros : ℕ) where
   I : Pdos → Type 0
-  I = AreTimed R ids subject.facts.pdos micros ages
+  I = AreTimed R subject.node ids subject.facts.pdos micros ages
 
   command_holds : (p : Progress) (service : NmtService) (own : Bool) → IsNewest micros p → Knows subject.facts.pdos p.pdos → Holds I (after_command p service own micros)
   unfolding after_command with_gap
-  command_holds p Start own new h = record { fresh = fresh micros p new; kept = commanded_timed R ids subject.facts.pdos micros ages p.pdos h }
-  command_holds p Stop own new h = record { fresh = fresh micros p new; kept = commanded_timed R ids subject.facts.pdos micros ages p.pdos h }
-  command_holds p EnterPreOperational own new h = record { fresh = fresh micros p new; kept = commanded_timed R ids subject.facts.pdos micros ages p.pdos h }
-  command_holds p ResetNode own new h = record { fresh = fresh micros p new; kept = unknown_timed R ids subject.facts.pdos micros ages }
-  command_holds p ResetCommunication own new h = record { fresh = fresh micros p new; kept = unknown_timed R ids subject.facts.pdos micros ages }
+  command_holds p Start own new h = record { fresh = fresh micros p new; kept = commanded_timed R subject.node ids subject.facts.pdos micros ages p.pdos h }
+  command_holds p Stop own new h = record { fresh = fresh micros p new; kept = commanded_timed R subject.node ids subject.facts.pdos micros ages p.pdos h }
+  command_holds p EnterPreOperational own new h = record { fresh = fresh micros p new; kept = commanded_timed R subject.node ids subject.facts.pdos micros ages p.pdos h }
+  command_holds p ResetNode own new h = record { fresh = fresh micros p new; kept = unknown_timed R subject.node ids subject.facts.pdos micros ages }
+  command_holds p ResetCommunication own new h = record { fresh = fresh micros p new; kept = unknown_timed R subject.node ids subject.facts.pdos micros ages }
 
   command_passes : (p : Progress) (command : Option NmtCommand) → is_some (service_for subject.node command) ≡ true → IsNewest micros p → Knows subject.facts.pdos p.pdos → Passes is I subject rows p micros (command_to subject.node command)
   command_passes p None is_one new h = absurd (cc)

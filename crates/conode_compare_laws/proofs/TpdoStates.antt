@@ -92,7 +92,7 @@ state_walk subject rows micros frame = record {
   goes_on = λ p n id h. (aside_goes subject rows micros p (frame n) (runs node.Operational) (ne_eqb (frame n).id 0 id.0) (ne_eqb (frame n).id (0x700 + subject.node) id.3) h).fits;
   step = λ n later p new ok once fits h. record {
     fine = all_fine subject p micros (frame n).id (length_of (frame n)) fits;
-    kept = knows_framed subject.facts.pdos p.pdos (moment_at subject p micros) (frame n).id h;
+    kept = λ other. knows_framed subject.facts.pdos p.pdos (moment_at subject p micros) (frame n).id h;
     unseen = λ emergency. h;
   };
 }

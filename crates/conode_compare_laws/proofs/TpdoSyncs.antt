@@ -253,7 +253,7 @@ sync_step subject synced p micros n id length later ok once h =
     let moment : Judged = moment_at subject p micros in
     record {
       fine = all_are_fine facts moment synced n id length later p.pdos ok h;
-      kept = framed_has facts synced later p.pdos moment id (knows_framed facts p.pdos moment id h.knows)
+      kept = λ other. framed_has facts synced later p.pdos moment id (knows_framed facts p.pdos moment id h.knows)
           (sent_has synced p.pdos.sync moment facts.first p.pdos.first 0 n id later once h.knows.first ok.first h.first)
           (sent_has synced p.pdos.sync moment facts.second p.pdos.second 1 n id later once h.knows.second ok.second h.second)
           (sent_has synced p.pdos.sync moment facts.third p.pdos.third 2 n id later once h.knows.third ok.third h.third)

@@ -6,10 +6,12 @@ ghost use Rattle.co_node_model.specs.Moments.{Constants};
 ghost use Rattle.conode_compare_rules.specs.declared.limits.Subject.{Subject};
 ghost use Rattle.conode_compare_laws.specs.Differences.{differences_in};
 ghost use Rattle.conode_compare_laws.specs.Identifiers.{AreElsewhere, AreNoSdo, BeginsAside};
-ghost use Rattle.conode_compare_laws.specs.Recordings.{Stamped, recording};
+ghost use Rattle.conode_compare_laws.specs.Recordings.{AreUnhurried, Stamped, recording};
 ghost use Rattle.conode_compare_laws.specs.TpdoDifferences.{
+  is_pdo_inhibit,
   is_pdo_length,
   is_pdo_state,
+  is_pdo_sync,
   tpdo_differences,
 };
 ghost use Rattle.conode_compare_laws.specs.TpdoFrames.{AllSendBesideTpdos, AreNoTpdos};
@@ -49,6 +51,38 @@ pub fn no_pdo_length()
         AllSendBesideTpdos subject.facts.pdos k [] inputs →
         AreNoSdo k.description.node (recording k inputs) →
         differences_in (tpdo_differences is_pdo_length) subject rows (recording k inputs) ≡ [] }
+{
+    sends_aside();
+}
+
+/// Nor has it a `pdo-sync` (CiA 301, 7.2.2.2.1): a TPDO of type 0 to 240 comes after a SYNC. Conditions
+/// as those of `no_pdo_length` but that of the entries, and that no other node sends on 80h +
+/// node-ID, not even SYNC (`AreElsewhere`). This is a law: a call of it changes nothing.
+pub fn no_pdo_sync()
+    ensures { (k : Constants) (subject : Subject) (rows : List Row) (inputs : List Stamped) →
+        subject.node ≡ k.description.node → AreTpdosOf k subject.facts.pdos →
+        AllKeepTpdos k [] inputs → AreElsewhere (0x700 + k.description.node) inputs →
+        AreElsewhere (0x80 + k.description.node) inputs →
+        AreNoTpdos subject.facts.pdos inputs → BeginsAside k →
+        AllSendBesideTpdos subject.facts.pdos k [] inputs →
+        AreNoSdo k.description.node (recording k inputs) →
+        differences_in (tpdo_differences is_pdo_sync) subject rows (recording k inputs) ≡ [] }
+{
+    sends_aside();
+}
+
+/// Nor has it a `pdo-inhibit` (CiA 301, 7.5.2.37), whatever the tolerance and the drift. Conditions
+/// as those of `no_pdo_length` but that of the entries, and that no stamp is earlier than the ticks
+/// have it (`AreUnhurried`). This is a law: a call of it changes nothing.
+pub fn no_pdo_inhibit()
+    ensures { (k : Constants) (subject : Subject) (rows : List Row) (inputs : List Stamped) →
+        subject.node ≡ k.description.node → AreTpdosOf k subject.facts.pdos →
+        AllKeepTpdos k [] inputs → AreUnhurried inputs →
+        AreElsewhere (0x700 + k.description.node) inputs →
+        AreNoTpdos subject.facts.pdos inputs → BeginsAside k →
+        AllSendBesideTpdos subject.facts.pdos k [] inputs →
+        AreNoSdo k.description.node (recording k inputs) →
+        differences_in (tpdo_differences is_pdo_inhibit) subject rows (recording k inputs) ≡ [] }
 {
     sends_aside();
 }
