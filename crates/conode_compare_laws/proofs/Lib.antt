@@ -29,3 +29,5 @@ pub mod TpdoLogs
 pub mod TpdoTimes
 pub mod TpdoStarts
 pub mod TpdoInhibits
+pub mod TpdoWaits
+pub mod TpdoLates

@@ -78,11 +78,11 @@ some_since : (sent : Option Sent) (s : Sent) (micros : ℕ) (ages : List ℕ) �
 some_since None s micros ages is h = absurd (cc)
 some_since (Some x) s micros ages is h = subst (λ y. IfSome y (λ z. Since micros z ages)) is h
 
-some_is : (known : Option ℕ) (n number : ℕ) → known ≡ Some n → IfSome known (λ x. number ≡ x) → number ≡ n
+pub some_is : (known : Option ℕ) (n number : ℕ) → known ≡ Some n → IfSome known (λ x. number ≡ x) → number ≡ n
 some_is None n number is h = absurd (cc)
 some_is (Some x) n number is h = subst (λ y. IfSome y (λ z. number ≡ z)) is h
 
-driven : (known : Option ℕ) (number : ℕ) → IfSome known (λ x. number ≡ x) → is_event_driven known ≡ true → nat_le 254 number ≡ true
+pub driven : (known : Option ℕ) (number : ℕ) → IfSome known (λ x. number ≡ x) → is_event_driven known ≡ true → nat_le 254 number ≡ true
 driven None number h on = absurd (cc)
 driven (Some x) number h on = ap (nat_le 254) h ∙ on
 
@@ -117,10 +117,10 @@ all_over k before m t o n keeps less at due kind =
     subst (λ a. list_all (λ x. has_elapsed (number_at k.start (tpdo_key n 3)) x) a ≡ true) ages
     (subst (λ i. list_all (λ x. has_elapsed i x) (ages_then o (sendings (log_of n (schedule_log k (moments k before))))) ≡ true) (tpdo_number k m n 3 keeps less) now)
 
-abbrev ids : Constants → ℕ → ℕ
+abbrev pub ids : Constants → ℕ → ℕ
 ids k n = identifier_of (number_at k.start (tpdo_key n 1))
 
-abbrev olds : Constants → Inputs → Turn → ℕ → List ℕ
+abbrev pub olds : Constants → Inputs → Turn → ℕ → List ℕ
 olds k before t n = ages_at t (ages_of k n before)
 
 module _ (k : Constants) (subject : Subject) (micros : ℕ) (before : Inputs) (m : Moment) (t : Turn) (keeps : KeepsTpdos k m) where

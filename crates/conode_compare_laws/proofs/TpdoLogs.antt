@@ -152,7 +152,7 @@ never kind a b c off some = rw (some, off) (by a b)
 some_kind : (kind : ℕ) → nat_le 254 kind ≡ true → (kind == 0) ≡ false
 some_kind kind on = grind (arith, nat_tests)
 
-sync_off : (kind : ℕ) (log : Log) (sync : LogEntry) → nat_le 254 kind ≡ true → is_due_at_sync kind log sync ≡ false
+pub sync_off : (kind : ℕ) (log : Log) (sync : LogEntry) → nat_le 254 kind ≡ true → is_due_at_sync kind log sync ≡ false
 sync_off kind log sync on = never kind (has_begun (syncs (sync ∷ log))) (counted_syncs (syncs (sync ∷ log)) % kind == 0) (event_since_sync log) (slow kind on) (some_kind kind on)
 
 -- at an occasion that is a tick the sendings are a tick older

@@ -238,7 +238,8 @@ module _ (is : Deviation → Bool) (R : ℕ → Sent → List ℕ → Type 0) (s
           let same : n ≡ number = ok.own (of_own sheet pdo (frame n).id of on).1 in
           let now : ages later number ≡ 0 ∷ old number = now_sent n number later same once sent in
           let here : is_id pdo.parameters.id (ids number) ≡ true = ap (λ i. is_id pdo.parameters.id i) (ap ids (sym same) ∙ sym id) ∙ on in
-          rw on (subst (λ a. R micros (record { free = p.free; micros = micros }) a) (sym now) (just_now p.free (old number) new.free), here)
+          let apart : (ids number == 0x80 + node) ≡ false = ap (λ i. i == 0x80 + node) (ap ids (sym same) ∙ sym id) ∙ other in
+          rw on (subst (λ a. R micros (record { free = p.free; micros = micros }) a) (sym now) (just_now p.free (old number) new.free), (here, apart))
       by false off =
           rw off (unseen_timed n number later pdo (inl (ap (λ i. is_id pdo.parameters.id i) (sym id) ∙ off)) h)
 

@@ -6,9 +6,10 @@ ghost use Rattle.co_node_model.specs.Moments.{Constants};
 ghost use Rattle.conode_compare_rules.specs.declared.limits.Subject.{Subject};
 ghost use Rattle.conode_compare_laws.specs.Differences.{differences_in};
 ghost use Rattle.conode_compare_laws.specs.Identifiers.{AreElsewhere, AreNoSdo, BeginsAside};
-ghost use Rattle.conode_compare_laws.specs.Recordings.{AreUnhurried, Stamped, recording};
+ghost use Rattle.conode_compare_laws.specs.Recordings.{AreTimed, AreUnhurried, Stamped, recording};
 ghost use Rattle.conode_compare_laws.specs.TpdoDifferences.{
   is_pdo_inhibit,
+  is_pdo_late,
   is_pdo_length,
   is_pdo_state,
   is_pdo_sync,
@@ -83,6 +84,22 @@ pub fn no_pdo_inhibit()
         AllSendBesideTpdos subject.facts.pdos k [] inputs →
         AreNoSdo k.description.node (recording k inputs) →
         differences_in (tpdo_differences is_pdo_inhibit) subject rows (recording k inputs) ≡ [] }
+{
+    sends_aside();
+}
+
+/// Nor has it a `pdo-late` (CiA 301, 7.5.2.37), whatever the tolerance and the drift: conditions as
+/// those of `no_pdo_inhibit`, but that no stamp is later than the ticks have it (`AreTimed`). This is
+/// a law: a call of it changes nothing.
+pub fn no_pdo_late()
+    ensures { (k : Constants) (subject : Subject) (rows : List Row) (inputs : List Stamped) →
+        subject.node ≡ k.description.node → AreTpdosOf k subject.facts.pdos →
+        AllKeepTpdos k [] inputs → AreTimed inputs →
+        AreElsewhere (0x700 + k.description.node) inputs →
+        AreNoTpdos subject.facts.pdos inputs → BeginsAside k →
+        AllSendBesideTpdos subject.facts.pdos k [] inputs →
+        AreNoSdo k.description.node (recording k inputs) →
+        differences_in (tpdo_differences is_pdo_late) subject rows (recording k inputs) ≡ [] }
 {
     sends_aside();
 }
