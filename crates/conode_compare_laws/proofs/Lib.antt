@@ -31,3 +31,5 @@ pub mod TpdoStarts
 pub mod TpdoInhibits
 pub mod TpdoWaits
 pub mod TpdoLates
+mod TpdoExamples
+pub mod TpdoKept

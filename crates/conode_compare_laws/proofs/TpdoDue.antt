@@ -1,14 +1,14 @@
 -- The TPDOs that are due at an input, and parameters that are as the device was built with.
 use Rattle.std.proofs.Common.{◌≡◌, ℕ, zero, suc, ◌+◌, ◌<◌, ◌≤◌, Bool, true, false, List, [], ◌∷◌, refl, ap, ◌∙◌, arith}
-use Rattle.std.specs.Prelude.{if◌then◌else◌, ◌&&◌, ◌==◌, filter, not, unwrap_or}
-use Rattle.std.specs.List.{AllByRecursion, range_with_len}
+use Rattle.std.specs.Prelude.{if◌then◌else◌, ◌&&◌, ◌||◌, ◌==◌, filter, not, unwrap_or}
+use Rattle.std.specs.List.{AllByRecursion, list_all, range_with_len}
 use Rattle.std.proofs.lemmas.Bool.{and_parts, eqb-true}
 use Rattle.std.proofs.lemmas.Bool.Decides.{nat_tests}
 use Rattle.std.proofs.lemmas.Map.Views.{any-filter_same}
 use Rattle.co_value.specs.declared.key.Key.{Key}
 use Rattle.co_value.specs.Numbers.{unsigned_of}
 use Rattle.co_dict.specs.declared.side.Side.TheVariants as side
-use Rattle.co_dict.specs.CobIds.{is_valid}
+use Rattle.co_dict.specs.CobIds.{identifier_of, is_valid}
 use Rattle.co_dict.specs.Rows.{Contents, number_at}
 use Rattle.co_dict.specs.Stores.{Description}
 use Rattle.co_profile.specs.Indices.{nth, tpdo_mapping}
@@ -26,7 +26,9 @@ use Rattle.co_node_model.specs.declared.turn.Turn.TheVariants as turn
 use Rattle.co_node_model.specs.Moments.{Constants, Moment}
 use Rattle.co_node_model.specs.Tpdos.{due_at, numbers_asked}
 use Rattle.co_node_laws.proofs.LossDistances.{among_range, same}
-use Rattle.conode_compare_laws.specs.TpdoParameters.{KeepsTpdos, is_tpdo_parameter}
+use Rattle.conode_compare_pdos.specs.declared.tpdo.Tpdo.{Tpdo}
+use Rattle.conode_compare_pdos.specs.Tpdos.{is_id}
+use Rattle.conode_compare_laws.specs.TpdoParameters.{KeepsTpdos, is_alone, is_tpdo_parameter}
 
 -- ---- the numbers of TPDOs
 
@@ -97,11 +99,11 @@ AreDistinct (n ∷ numbers) = (is_among n numbers ≡ false) × AreDistinct numb
 
 above_none : (k : ℕ) (numbers : List ℕ) → AllByRecursion (λ n. k < n) numbers → is_among k numbers ≡ false
 above_none k [] h = refl
-above_none k (n ∷ numbers) h = by (n == k) refl
+above_none k (n ∷ numbers) h = by (n == k) refl (above_none k numbers h.1)
   where
-    by : (b : Bool) → (n == k) ≡ b → (if b then true else is_among k numbers) ≡ false
-    by true is = absurd (let same : n ≡ k = eqb-true n k is in let less : k < n = h.0 in omega arith)
-    by false is = above_none k numbers h.1
+    by : (b : Bool) → (n == k) ≡ b → is_among k numbers ≡ false → (if b then true else is_among k numbers) ≡ false
+    by true is later = absurd (let same : n ≡ k = eqb-true n k is in let less : k < n = h.0 in omega arith)
+    by false is later = later
 
 still_all : (P : ℕ → Type 0) (test : ℕ → Bool) (numbers : List ℕ) → AllByRecursion P numbers → AllByRecursion P (filter test numbers)
 still_all P test [] h = tt
@@ -137,6 +139,30 @@ due_distinct d (turn.Start n part) c schedule = tt
 due_distinct d (turn.Sync counter) c schedule = filter_distinct (λ n. is_tpdo_due c schedule (sync_with counter c) n)
 due_distinct d (turn.Asked asked) c schedule = filter_distinct (λ n. is_among n (numbers_asked d c asked) && is_tpdo_due c schedule occasion.Event n)
 due_distinct d turn.Tick c schedule = filter_distinct (λ n. is_tpdo_due c schedule occasion.Tick n)
+
+-- ---- no other TPDO has its identifier
+
+passes_all : (test : ℕ → Bool) (n first count : ℕ) → first ≤ n → n < first + count → list_all test (range_with_len first count) ≡ true → test n ≡ true
+passes_all test n first zero low high all = absurd (omega arith)
+passes_all test n first (suc count) low high all =
+    by (n == first) refl (and_parts (test first) (list_all test (range_with_len (first + 1) count)) all)
+    (λ more. passes_all test n (first + 1) count more (omega arith) (and_parts (test first) (list_all test (range_with_len (first + 1) count)) all).1)
+  where
+    by : (b : Bool) → (n == first) ≡ b → (test first ≡ true) × (list_all test (range_with_len (first + 1) count) ≡ true) → (first + 1 ≤ n → test n ≡ true) → test n ≡ true
+    by true is parts later = ap test (eqb-true n first is) ∙ parts.0
+    by false is parts later = later (grind (arith, nat_tests))
+
+pub alone : (c : Contents) (number : ℕ) (sheet : Tpdo) (n : ℕ) → is_alone c number sheet ≡ true → n < 512 → is_active c n ≡ true → is_id sheet.parameters.id (identifier_of (number_at c (tpdo_key n 1))) ≡ true → n ≡ number
+unfolding is_alone tpdo_numbers
+alone c number sheet n all less on here =
+    by (n == number) (is_active c n) (is_id sheet.parameters.id (identifier_of (number_at c (tpdo_key n 1)))) refl on here
+    (passes_all (λ i. (i == number) || not (is_active c i && is_id sheet.parameters.id (identifier_of (number_at c (tpdo_key i 1))))) n 0 512 (omega arith) (omega (arith, less)) all)
+  where
+    by : (same a b : Bool) → (n == number) ≡ same → a ≡ true → b ≡ true → (same || not (a && b)) ≡ true → n ≡ number
+    by true a b is p q h = eqb-true n number is
+    by false true true is p q h = absurd (cc)
+    by false true false is p q h = absurd (cc)
+    by false false b is p q h = absurd (cc)
 
 -- ---- the parameters are as the device was built with
 

@@ -39,7 +39,7 @@ use Rattle.conode_compare_laws.specs.TpdoParameters.{AllKeepTpdos, AreTpdosOf, I
 use Rattle.conode_compare_laws.proofs.Heard.{of_device}
 use Rattle.conode_compare_laws.proofs.Heartbeats.{NoSdo, after_those, before_these}
 use Rattle.conode_compare_laws.proofs.Runs.{AllRun, joined}
-use Rattle.conode_compare_laws.proofs.TpdoDue.{IsAt, active, active_kept, due_all, due_distinct, tpdo_number}
+use Rattle.conode_compare_laws.proofs.TpdoDue.{IsAt, active, alone, active_kept, due_all, due_distinct, tpdo_number}
 use Rattle.conode_compare_laws.proofs.TpdoInputs.{AllInputs, AreTold, all_told, no_sdo_later, of_device_too, of_recording}
 use Rattle.conode_compare_laws.proofs.TpdoKinds.{AreTimes, deviation_none, length_none, state_none, sync_none, time_none, timer_none}
 use Rattle.conode_compare_laws.proofs.TpdoLogs.{ages_at, ages_of, ages_then, and_sent, log_is, next_ages, over, then_at}
@@ -130,7 +130,7 @@ module _ (k : Constants) (subject : Subject) (micros : ℕ) (before : Inputs) (m
   one_own : (o : Occasion) (number : ℕ) (sheet : Tpdo) (n : ℕ) → IsTpdoOf k number sheet → n < 512 → IsAt m.contents t o → is_tpdo_due m.contents (schedule_log k (moments k before)) o n ≡ true
       → IsOwn is_pdo_inhibit Since subject micros frame (ids k) m.due (olds k before t) sheet number n
   one_own o number sheet n of less at due = record {
-    own = λ here. of.alone n less (sym (active_kept k m n keeps less) ∙ active m.contents (schedule_log k (moments k before)) o n due)
+    own = λ here. alone k.start number sheet n of.alone less (sym (active_kept k m n keeps less) ∙ active m.contents (schedule_log k (moments k before)) o n due)
         (sym (ap (λ w. is_id sheet.parameters.id (identifier_of w)) (tpdo_number k m n 1 keeps less)) ∙ here);
     judged = judged subject micros frame (olds k before t) k sheet number n of (all_over k before m t o n keeps less at due);
   }

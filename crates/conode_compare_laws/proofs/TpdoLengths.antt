@@ -34,7 +34,7 @@ use Rattle.conode_compare_laws.specs.TpdoParameters.{AllAreFilled, AllKeepTpdos,
 use Rattle.conode_compare_laws.proofs.Heard.{of_device}
 use Rattle.conode_compare_laws.proofs.Heartbeats.{NoSdo, after_those, before_these}
 use Rattle.conode_compare_laws.proofs.Runs.{AllRun, joined}
-use Rattle.conode_compare_laws.proofs.TpdoDue.{active, active_kept, due_all, due_distinct, tpdo_number}
+use Rattle.conode_compare_laws.proofs.TpdoDue.{active, active_kept, alone, due_all, due_distinct, tpdo_number}
 use Rattle.conode_compare_laws.proofs.TpdoImages.{mapping_kept, tpdo_wide}
 use Rattle.conode_compare_laws.proofs.TpdoInputs.{AllInputs, AreTold, all_told, no_sdo_later, of_device_too, of_recording}
 use Rattle.conode_compare_laws.proofs.TpdoKinds.{deviation_none, state_none, sync_none, untimed}
@@ -95,7 +95,7 @@ one_has : (k : Constants) (m : Moment) (number : ℕ) (sheet : Tpdo) (n : ℕ) �
     → HasBytes sheet (tpdo_frame k.description m.contents n).id (length_of (tpdo_frame k.description m.contents n))
 one_has k m number sheet n of keeps filled less on here =
     let id : identifier_of (number_at m.contents (tpdo_key n 1)) ≡ identifier_of (number_at k.start (tpdo_key n 1)) = ap identifier_of (tpdo_number k m n 1 keeps less) in
-    let same : n ≡ number = of.alone n less (sym (active_kept k m n keeps less) ∙ on) (sym (ap (λ i. is_id sheet.parameters.id i) id) ∙ here) in
+    let same : n ≡ number = alone k.start number sheet n of.alone less (sym (active_kept k m n keeps less) ∙ on) (sym (ap (λ i. is_id sheet.parameters.id i) id) ∙ here) in
     let bytes : length_of (tpdo_frame k.description m.contents n) ≡ total_of (mapping_of side.Tpdo k.description k.start number) =
     tpdo_wide k.description m.contents n filled ∙ ap total_of (mapping_kept k m n keeps less) ∙ ap (λ i. total_of (mapping_of side.Tpdo k.description k.start i)) same in
     by sheet.parameters.length of.length bytes

@@ -46,7 +46,7 @@ use Rattle.conode_compare_laws.specs.TpdoParameters.{AllKeepTpdos, AreTpdosOf, I
 use Rattle.conode_compare_laws.proofs.Heard.{of_device}
 use Rattle.conode_compare_laws.proofs.Heartbeats.{NoSdo, after_those, before_these}
 use Rattle.conode_compare_laws.proofs.Runs.{AllRun, joined}
-use Rattle.conode_compare_laws.proofs.TpdoDue.{AreDistinct, IsAt, active, active_kept, due_all, due_distinct, number_kept, tpdo_number}
+use Rattle.conode_compare_laws.proofs.TpdoDue.{IsAt, active, active_kept, alone, due_all, due_distinct, number_kept, tpdo_number}
 use Rattle.conode_compare_laws.proofs.TpdoInputs.{AllInputs, AreTold, all_told, no_sdo_later, of_device_too, of_recording}
 use Rattle.conode_compare_laws.proofs.TpdoKinds.{deviation_none, length_none, state_none, untimed}
 use Rattle.conode_compare_laws.proofs.TpdoOthers.{
@@ -310,7 +310,7 @@ one_synced : (k : Constants) (m : Moment) (t : Turn) (schedule : Schedule) (o : 
     → IsSynced (is_sync_turn t) number sheet n (tpdo_frame k.description m.contents n).id
 one_synced k m t schedule o number sheet n of keeps less at due here =
     let id : identifier_of (number_at m.contents (tpdo_key n 1)) ≡ identifier_of (number_at k.start (tpdo_key n 1)) = ap identifier_of (tpdo_number k m n 1 keeps less) in
-    let same : n ≡ number = of.alone n less (sym (active_kept k m n keeps less) ∙ active m.contents schedule o n due) (sym (ap (λ i. is_id sheet.parameters.id i) id) ∙ here) in
+    let same : n ≡ number = alone k.start number sheet n of.alone less (sym (active_kept k m n keeps less) ∙ active m.contents schedule o n due) (sym (ap (λ i. is_id sheet.parameters.id i) id) ∙ here) in
     let kind : number_at m.contents (tpdo_key n 2) ≡ number_at k.start (tpdo_key number 2) = tpdo_number k m n 2 keeps less ∙ ap (λ i. number_at k.start (tpdo_key i 2)) same in (
       same,
       elim (at_sync m.contents t o at) [

@@ -103,7 +103,7 @@ live_sync s log overflow counter live =
 -- ---- after one more entry of the log
 
 tick_off : (s : Settings) (log : Log) (age : ℕ) (older : List ℕ) → IsLive s → sendings log ≡ age ∷ older → IsWaiting s log age older → is_due s log occasion.Tick ≡ false
-    → IsPrompt s (Happened occasion.Tick s false ∷ log) (age + 1 ∷ map (λ n. n + 1) older)
+    → IsPrompt s (Happened occasion.Tick s false ∷ log) ((age + 1) ∷ map (λ n. n + 1) older)
 tick_off s log age older live is h off = record {
   ticks = ap (λ n. n + 1) h.ticks;
   sorted = sorted_later age older h.sorted;
@@ -119,7 +119,7 @@ tick_off s log age older live is h off = record {
     later : Log
     later = Happened occasion.Tick s false ∷ log
 
-    over : event_waits later ≡ true → list_all (λ n. has_elapsed s.inhibit_time n) (age + 1 ∷ map (λ n. n + 1) older) ≡ false
+    over : event_waits later ≡ true → list_all (λ n. has_elapsed s.inhibit_time n) ((age + 1) ∷ map (λ n. n + 1) older) ≡ false
     over waits =
         let due : (event_waits later && is_inhibit_over s.inhibit_time later) ≡ false = sym (live_due s later live) ∙ off in
         let left : is_inhibit_over s.inhibit_time later ≡ false = sym (ap (λ b. b && is_inhibit_over s.inhibit_time later) waits) ∙ due in
@@ -148,7 +148,7 @@ abbrev pub IsInTime : Settings → List ℕ → Type 0
 IsInTime s [] = Unit {0}
 IsInTime s (age ∷ older) = (s.event_timer ≡ 0) ⊎ ((age ≤ s.event_timer) ⊎ (age ≤ in_ms s.inhibit_time))
 
-tick_in_time : (s : Settings) (log : Log) (age : ℕ) (older : List ℕ) → IsLive s → IsWaiting s log age older → is_due s log occasion.Tick ≡ true → IsInTime s (age + 1 ∷ map (λ n. n + 1) older)
+tick_in_time : (s : Settings) (log : Log) (age : ℕ) (older : List ℕ) → IsLive s → IsWaiting s log age older → is_due s log occasion.Tick ≡ true → IsInTime s ((age + 1) ∷ map (λ n. n + 1) older)
 tick_in_time s log age older live h on = by (event_waits log) refl
   where
     later : Log
@@ -157,7 +157,7 @@ tick_in_time s log age older live h on = by (event_waits log) refl
     waits : event_waits later ≡ true
     waits = (and_parts (event_waits later) (is_inhibit_over s.inhibit_time later) (sym (live_due s later live) ∙ on)).0
 
-    by : (b : Bool) → event_waits log ≡ b → IsInTime s (age + 1 ∷ map (λ n. n + 1) older)
+    by : (b : Bool) → event_waits log ≡ b → IsInTime s ((age + 1) ∷ map (λ n. n + 1) older)
     by true is = inr (inr (let less : age < in_ms s.inhibit_time = h.held is in omega arith))
     by false is =
         let now : (timer_ticks log + 1 == s.event_timer) ≡ true = sym (ap (λ b. b || (timer_ticks log + 1 == s.event_timer)) is) ∙ waits in
@@ -212,9 +212,11 @@ pub settings_kept : (k : Constants) (m : Moment) (n : ℕ) → KeepsTpdos k m �
 settings_kept k m n keeps less =
     by (is_active m.contents n) (is_active k.start n) _ _ _ _ _ _ _ _ (active_kept k m n keeps less) (tpdo_number k m n 2 keeps less) (tpdo_number k m n 3 keeps less) (tpdo_number k m n 5 keeps less) (tpdo_number k m n 6 keeps less)
   where
-    by : (a b : Bool) (t u i j e f v w : ℕ) → a ≡ b → t ≡ u → i ≡ j → e ≡ f → v ≡ w
-        → record { is_active = a; transmission_type = record { 0 = t }; inhibit_time = i; event_timer = e; start_value = v } ≡ record { is_active = b; transmission_type = record { 0 = u }; inhibit_time = j; event_timer = f; start_value = w }
-    by a b t u i j e f v w p q r s x = cc
+    made : Bool → ℕ → ℕ → ℕ → ℕ → Settings
+    made a t i e v = record { is_active = a; transmission_type = record { 0 = t }; inhibit_time = i; event_timer = e; start_value = v }
+
+    by : (a b : Bool) (t u i j e f v w : ℕ) → a ≡ b → t ≡ u → i ≡ j → e ≡ f → v ≡ w → made a t i e v ≡ made b u j f w
+    by a b t u i j e f v w p q r s x = ap (λ y. made y t i e v) p ∙ ap (λ y. made b y i e v) q ∙ ap (λ y. made b u y e v) r ∙ ap (λ y. made b u j y v) s ∙ ap (λ y. made b u j f y) x
 
 turn_next : (k : Constants) (n : ℕ) (before : Inputs) (input : InputView) (t : Turn) → n < 512 → turn_at (moment k (moments k before) input) (moments k before) ≡ t → is_start t ≡ false
     → settings_of (moment k (moments k before) input).contents n ≡ settings_of k.start n → IsLive (settings_of k.start n) → IsPrompt (settings_of k.start n) (tpdo_log k n before) (sendings (tpdo_log k n before))

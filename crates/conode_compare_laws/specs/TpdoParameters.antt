@@ -1,13 +1,14 @@
 -- What the laws about lengths, SYNC and times of TPDOs ask of a device, and of its data sheet.
-use Rattle.std.specs.Prelude.{◌≡◌, ℕ, ◌<◌, ◌==◌, ◌&&◌, ◌||◌, nat_le, Bool, true, false, List, [], ◌∷◌, Option, Some, None, IfSome}
+use Rattle.std.specs.Prelude.{◌≡◌, ℕ, ◌==◌, ◌&&◌, ◌||◌, not, nat_le, Bool, true, false, List, [], ◌∷◌, Option, Some, None, IfSome}
+use Rattle.std.specs.List.{list_all}
 use Rattle.co_profile.specs.Keys.{sync_key}
 use Rattle.co_value.specs.declared.key.Key.{Key}
 use Rattle.co_dict.specs.CobIds.{identifier_of}
-use Rattle.co_dict.specs.Rows.{number_at}
+use Rattle.co_dict.specs.Rows.{Contents, number_at}
 use Rattle.co_dict.specs.Stores.{IsDictionary}
 use Rattle.co_dict.specs.declared.side.Side.TheVariants as side
 use Rattle.co_pdo.specs.Mappings.{mapping_of, total_of}
-use Rattle.co_pdo.specs.Tpdos.{is_active, tpdo_key}
+use Rattle.co_pdo.specs.Tpdos.{is_active, tpdo_key, tpdo_numbers}
 use Rattle.co_node_model.specs.Device.{moment, moments}
 use Rattle.co_node_model.specs.Inputs.{Inputs}
 use Rattle.co_node_model.specs.Marks.{marked_key}
@@ -34,6 +35,12 @@ pub record KeepsTpdos (k : Constants) (m : Moment) : Type 0 where
   pub unwritten : is_tpdo_set (marked_key m.mark) ≡ false
   pub same : (key : Key) → is_tpdo_parameter key ≡ true → m.contents key ≡ k.start key
 
+-- no SDO channel and no event of the application writes one, at each of these inputs, which come
+-- after those before
+abbrev pub AllWriteNone : Constants → Inputs → List Stamped → Type 0
+AllWriteNone k before [] = Unit {0}
+AllWriteNone k before (s ∷ later) = (is_tpdo_set (marked_key (moment k (moments k before) s.input).mark) ≡ false) × AllWriteNone k (s.input ∷ before) later
+
 -- at each of these inputs, which come after those before
 abbrev pub AllKeepTpdos : Constants → Inputs → List Stamped → Type 0
 AllKeepTpdos k before [] = Unit {0}
@@ -47,11 +54,16 @@ AllAreFilled k before (s ∷ later) = IsDictionary k.description (moment k (mome
 
 -- ---- a data sheet
 
+-- no other TPDO than this one is active with its identifier
+unfoldable pub is_alone : Contents → ℕ → Tpdo → Bool
+is_alone contents number sheet =
+    list_all (λ n. (n == number) || not (is_active contents n && is_id sheet.parameters.id (identifier_of (number_at contents (tpdo_key n 1))))) tpdo_numbers
+
 -- What is known of a TPDO by the data sheet, where it is known, is what the device was built with:
 -- its transmission type, inhibit time, event timer, and how many bytes are mapped. No other TPDO of
 -- the device has its identifier. Nothing of it was sent before the boot-up.
 pub record IsTpdoOf (k : Constants) (number : ℕ) (sheet : Tpdo) : Type 0 where
-  pub alone : (n : ℕ) → n < 512 → is_active k.start n ≡ true → is_id sheet.parameters.id (identifier_of (number_at k.start (tpdo_key n 1))) ≡ true → n ≡ number
+  pub alone : is_alone k.start number sheet ≡ true
   pub kind : IfSome sheet.parameters.kind (λ kind. number_at k.start (tpdo_key number 2) ≡ kind)
   pub inhibit : IfSome sheet.parameters.inhibit (λ time. number_at k.start (tpdo_key number 3) ≡ time)
   pub timer : IfSome sheet.parameters.timer (λ time. number_at k.start (tpdo_key number 5) ≡ time)
