@@ -15,3 +15,21 @@ pub mod Heartbeats
 pub mod Pauses
 pub mod Pausing
 mod Examples
+pub mod TpdoOthers
+pub mod TpdoParts
+pub mod TpdoKinds
+pub mod TpdoStates
+pub mod TpdoDue
+pub mod TpdoImages
+pub mod TpdoInputs
+pub mod TpdoLengths
+pub mod TpdoTurns
+pub mod TpdoSyncs
+pub mod TpdoLogs
+pub mod TpdoTimes
+pub mod TpdoStarts
+pub mod TpdoInhibits
+pub mod TpdoWaits
+pub mod TpdoLates
+mod TpdoExamples
+pub mod TpdoKept

@@ -108,7 +108,7 @@ event_off d (ChangedAt key) None input c = refl
 event_off d (Raised code bits manufacturer) None input c = refl
 event_off d (Cleared bits) None input c = refl
 
-took : (k : Constants) (history : History) (input : InputView) → (if marked_tick (moment k history input).mark then 1000 else 0) ≡ elapsed input
+pub took : (k : Constants) (history : History) (input : InputView) → (if marked_tick (moment k history input).mark then 1000 else 0) ≡ elapsed input
 took k history (Framed frame) = ap (λ b. if b then 1000 else 0) (frame_off k history (address_at k history frame.id) frame (Framed frame) (contents_at k history))
 took k history Ticked = refl
 took k history (Applied event) = ap (λ b. if b then 1000 else 0) (event_off k.description event (event_refusal k.description (contents_at k history) event) (Applied event) (contents_at k history))
