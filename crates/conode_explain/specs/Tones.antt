@@ -1,6 +1,5 @@
 -- The colour of a line on a terminal.
-use Rattle.std.specs.Prelude.{ℕ, ◌==◌, Bool, ◌&&◌, not, if◌then◌else◌, List, [], ◌∷◌, ◌++◌, codes, length, slice_index, take, Option, Some, None, is_some}
-use Rattle.co_value.specs.Numbers.{unsigned_of}
+use Rattle.std.specs.Prelude.{ℕ, ◌==◌, Bool, ◌&&◌, if◌then◌else◌, List, [], ◌∷◌, ◌++◌, codes, length, slice_index, is_some}
 use Rattle.conode_record.specs.declared.fields.Identifier.{Identifier}
 use Rattle.conode_record.specs.declared.fields.Identifier.TheVariants.{Base, Extended, Error}
 use Rattle.conode_record.specs.declared.line.Record.{Record}
@@ -19,9 +18,9 @@ use Rattle.conode_explain.specs.Filtered.{data_of}
 
 -- an emergency: one whose code is 0 says that an error is gone (CiA 301, 7.2.7.1)
 abbrev pub emergency_tone : List ℕ → Tone
-emergency_tone bytes = if unsigned_of (take 2 bytes) == 0 then Good else Bad
+emergency_tone bytes =
+    if (length bytes == 8) && ((slice_index bytes 0 == 0) && (slice_index bytes 1 == 0)) then Good else Bad
 
--- a byte alone, or the first of eight
 abbrev pub is_abort : List ℕ → Bool
 is_abort bytes = (length bytes == 8) && (slice_index bytes 0 == 0x80)
 

@@ -8,7 +8,7 @@ use crate::progress::{Layout, LineFormat};
 use crate::sheets::{ReadSheet, known_sheets};
 use crate::writes::{Settings, write_header};
 use co_sheet::{FaultKind, GREATEST_SIZE, SheetFault, read};
-use co_sheet_changes::Originals;
+use co_sheet_changes::{AdaptFault, Originals};
 use co_sheet_mend::readable_text;
 use conode_convert::{SheetText, SheetWord, bad_sheet, bad_sheet_word, sheet_words, texts_of};
 use conode_explain_filter::{Filter, FilterFault, FilterWords};

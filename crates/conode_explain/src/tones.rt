@@ -39,9 +39,10 @@ pub(crate) enum Tone {
 fn emergency_tone(bytes: &[u8]) -> Tone
     ensures { result ≡ emergency_tone bytes.now }
 {
-    match bytes {
-        [] | [0] | [0, 0, ..] => Tone::Good,
-        _ => Tone::Bad,
+    if bytes.len() == 8 && bytes[0] == 0 && bytes[1] == 0 {
+        Tone::Good
+    } else {
+        Tone::Bad
     }
 }
 
