@@ -166,14 +166,12 @@ impl Nodes {
     }
 
     // Takes a command for all nodes of an interface that are kept.
-    #[tactic(auto, unfolding(crate::specs::Nodes::all_commanded))]
+    #[tactic(auto, unfolding(crate::specs::Nodes::all_commanded), using(std::proofs::lemmas::List::Edits::map_over_more))]
     fn command_all(&mut self, interface: &[u8], command: u8)
         ensures { self.new ≡ all_commanded self.old interface.now command }
     {
         for node in self.nodes.iter_mut() {
-            if node.interface.as_slice() == interface {
-                node.last.state = state_commanded(node.last.state, command);
-            }
+            node.take_command(interface, command);
         }
     }
 
