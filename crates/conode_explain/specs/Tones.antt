@@ -1,5 +1,5 @@
 -- The colour of a line on a terminal.
-use Rattle.std.specs.Prelude.{ℕ, ◌==◌, Bool, ◌&&◌, if◌then◌else◌, List, [], ◌∷◌, ◌++◌, codes, length, slice_index, is_some}
+use Rattle.std.specs.Prelude.{ℕ, ◌-◌, ◌==◌, Bool, true, false, not, ◌&&◌, if◌then◌else◌, List, [], ◌∷◌, ◌++◌, codes, length, slice_index, take, is_some}
 use Rattle.conode_record.specs.declared.fields.Identifier.{Identifier}
 use Rattle.conode_record.specs.declared.fields.Identifier.TheVariants.{Base, Extended, Error}
 use Rattle.conode_record.specs.declared.line.Record.{Record}
@@ -65,15 +65,14 @@ numbers_of Odd = codes "33"
 numbers_of Good = codes "32"
 numbers_of Notable = codes "36"
 
--- a line without its line feed
-abbrev pub without_end : List ℕ → List ℕ
-without_end [] = []
-without_end (byte ∷ []) = []
-without_end (byte ∷ next ∷ more) = byte ∷ without_end (next ∷ more)
+abbrev pub is_plain : Tone → Bool
+is_plain Plain = true
+is_plain tone = false
 
+-- a line, whose last byte is its line feed, between the begin of a colour and its end
 abbrev pub in_colour : List ℕ → List ℕ → List ℕ
-in_colour [] line = line
-in_colour (digit ∷ digits) line = 27 ∷ codes "[" ++ (digit ∷ digits) ++ codes "m" ++ without_end line ++ 27 ∷ codes "[0m\n"
+in_colour numbers line =
+    27 ∷ codes "[" ++ numbers ++ codes "m" ++ take (length line - 1) line ++ 27 ∷ codes "[0m\n"
 
 unfoldable pub toned : Bool → Tone → List ℕ → List ℕ
-toned colours tone line = if colours then in_colour (numbers_of tone) line else line
+toned colours tone line = if colours && not (is_plain tone) then in_colour (numbers_of tone) line else line

@@ -1,13 +1,15 @@
 //! The colour of a line on a terminal.
 
-ghost use Rattle.std.specs.Prelude.{◌≡◌, OnOk};
+ghost use Rattle.std.specs.Prelude.{◌≡◌, ◌++◌, OnOk};
 ghost use Rattle.conode_explain.specs.Tones.{
   data_tone,
   emergency_tone,
   ending_tone,
   frame_tone,
+  in_colour,
   is_abort,
   is_boot_up,
+  is_plain,
   numbers_of,
   or_odd,
   service_tone,
@@ -127,8 +129,26 @@ fn numbers_of(tone: Tone) -> &'static str
     }
 }
 
-/// Writes a line, which ends in a line feed, in the colour of a tone, where that is asked for. On an
-/// `Err` memory ran out.
+fn is_plain(tone: Tone) -> bool
+    ensures { result ≡ is_plain tone }
+{
+    matches!(tone, Tone::Plain)
+}
+
+// appends a line in a colour
+fn push_coloured(made: &mut Vec<u8>, numbers: &str, line: &[u8]) -> Result<(), AllocError>
+    ensures { OnOk result (made.new.items ≡ made.old.items ++ in_colour numbers.now line.now) }
+{
+    let (text, _) = line.split_at(line.len().saturating_sub(1));
+    made.extend_from_slice(b"\x1b[")?;
+    made.extend_from_slice(numbers.as_bytes())?;
+    made.extend_from_slice(b"m")?;
+    made.extend_from_slice(text)?;
+    made.extend_from_slice(b"\x1b[0m\n")
+}
+
+/// Writes a line, whose last byte is a line feed, in the colour of a tone, where that is asked for.
+/// On an `Err` memory ran out.
 #[tactic(auto, unfolding(crate::specs::Tones::toned))]
 pub(crate) fn put_tone(
     alloc: Global,
@@ -138,18 +158,11 @@ pub(crate) fn put_tone(
 ) -> Result<(), AllocError>
     ensures { OnOk result (line.new.items ≡ toned colours tone line.old.items) }
 {
-    let numbers = numbers_of(tone);
-    if !colours || numbers.is_empty() {
+    if !colours || is_plain(tone) {
         return Ok(());
     }
     let mut made = Vec::new(alloc);
-    made.extend_from_slice(b"\x1b[")?;
-    made.extend_from_slice(numbers.as_bytes())?;
-    made.extend_from_slice(b"m")?;
-    if let [text @ .., _] = line.as_slice() {
-        made.extend_from_slice(text)?;
-    }
-    made.extend_from_slice(b"\x1b[0m\n")?;
+    push_coloured(&mut made, numbers_of(tone), line.as_slice())?;
     *line = made;
     Ok(())
 }
