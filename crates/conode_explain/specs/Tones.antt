@@ -21,18 +21,19 @@ abbrev pub emergency_tone : List ℕ → Tone
 emergency_tone bytes =
     if (length bytes == 8) && ((slice_index bytes 0 == 0) && (slice_index bytes 1 == 0)) then Good else Bad
 
-abbrev pub is_abort : List ℕ → Bool
-is_abort bytes = (length bytes == 8) && (slice_index bytes 0 == 0x80)
+-- an abort (CiA 301, 7.2.4.3.17)
+abbrev pub abort_tone : List ℕ → Tone
+abort_tone bytes = if (length bytes == 8) && (slice_index bytes 0 == 0x80) then Bad else Plain
 
-abbrev pub is_boot_up : List ℕ → Bool
-is_boot_up bytes = (length bytes == 1) && (slice_index bytes 0 == 0)
+abbrev pub boot_up_tone : List ℕ → Tone
+boot_up_tone bytes = if (length bytes == 1) && (slice_index bytes 0 == 0) then Notable else Plain
 
 -- of data by its service
 unfoldable pub data_tone : Kind → List ℕ → Tone
 data_tone Emergency bytes = emergency_tone bytes
-data_tone Sdo bytes = if is_abort bytes then Bad else Plain
+data_tone Sdo bytes = abort_tone bytes
 data_tone Nmt bytes = Notable
-data_tone Heartbeat bytes = if is_boot_up bytes then Notable else Plain
+data_tone Heartbeat bytes = boot_up_tone bytes
 data_tone other bytes = Plain
 
 abbrev pub service_tone : Identifier → Kind → List ℕ → Tone
@@ -41,8 +42,11 @@ service_tone (Extended id) kind bytes = Plain
 service_tone (Error class) kind bytes = Bad
 
 -- an odd stamp shows where nothing else does
+abbrev pub odd_tone : Bool → Tone
+odd_tone is = if is then Odd else Plain
+
 abbrev pub or_odd : Bool → Tone → Tone
-or_odd is Plain = if is then Odd else Plain
+or_odd is Plain = odd_tone is
 or_odd is tone = tone
 
 unfoldable pub frame_tone : SoFar → Subject → Record → Tone

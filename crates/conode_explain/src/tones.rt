@@ -2,15 +2,16 @@
 
 ghost use Rattle.std.specs.Prelude.{◌≡◌, ◌++◌, OnOk};
 ghost use Rattle.conode_explain.specs.Tones.{
+  abort_tone,
+  boot_up_tone,
   data_tone,
   emergency_tone,
   ending_tone,
   frame_tone,
   in_colour,
-  is_abort,
-  is_boot_up,
   is_plain,
   numbers_of,
+  odd_tone,
   or_odd,
   service_tone,
   toned,
@@ -48,16 +49,24 @@ fn emergency_tone(bytes: &[u8]) -> Tone
     }
 }
 
-fn is_abort(bytes: &[u8]) -> bool
-    ensures { result ≡ is_abort bytes.now }
+fn abort_tone(bytes: &[u8]) -> Tone
+    ensures { result ≡ abort_tone bytes.now }
 {
-    bytes.len() == 8 && bytes[0] == 0x80
+    if bytes.len() == 8 && bytes[0] == 0x80 {
+        Tone::Bad
+    } else {
+        Tone::Plain
+    }
 }
 
-fn is_boot_up(bytes: &[u8]) -> bool
-    ensures { result ≡ is_boot_up bytes.now }
+fn boot_up_tone(bytes: &[u8]) -> Tone
+    ensures { result ≡ boot_up_tone bytes.now }
 {
-    bytes.len() == 1 && bytes[0] == 0
+    if bytes.len() == 1 && bytes[0] == 0 {
+        Tone::Notable
+    } else {
+        Tone::Plain
+    }
 }
 
 // the tone of data by its service
@@ -67,10 +76,10 @@ fn data_tone(kind: Kind, bytes: &[u8]) -> Tone
 {
     match kind {
         Kind::Emergency => emergency_tone(bytes),
-        Kind::Sdo if is_abort(bytes) => Tone::Bad,
+        Kind::Sdo => abort_tone(bytes),
         Kind::Nmt => Tone::Notable,
-        Kind::Heartbeat if is_boot_up(bytes) => Tone::Notable,
-        _ => Tone::Plain,
+        Kind::Heartbeat => boot_up_tone(bytes),
+        Kind::Pdo | Kind::Sync | Kind::Other => Tone::Plain,
     }
 }
 
@@ -84,12 +93,18 @@ fn service_tone(id: Identifier, kind: Kind, bytes: &[u8]) -> Tone
     }
 }
 
+fn odd_tone(is_odd: bool) -> Tone
+    ensures { result ≡ odd_tone is_odd }
+{
+    if is_odd { Tone::Odd } else { Tone::Plain }
+}
+
 fn or_odd(is_odd: bool, tone: Tone) -> Tone
     ensures { result ≡ or_odd is_odd tone }
 {
     match tone {
-        Tone::Plain if is_odd => Tone::Odd,
-        _ => tone,
+        Tone::Plain => odd_tone(is_odd),
+        Tone::Bad | Tone::Odd | Tone::Good | Tone::Notable => tone,
     }
 }
 
@@ -113,7 +128,16 @@ pub(crate) fn ending_tone(ending: Ending) -> Tone
     match ending {
         Ending::Done { crc: _ } => Tone::Good,
         Ending::Unfinished => Tone::Odd,
-        _ => Tone::Bad,
+        Ending::Aborted { by: _, code: _ }
+        | Ending::Unanswered
+        | Ending::Repeated
+        | Ending::Interrupted
+        | Ending::Irregular
+        | Ending::SizeDiffers { indicated: _ }
+        | Ending::CrcDiffers {
+            came: _,
+            computed: _,
+        } => Tone::Bad,
     }
 }
 
