@@ -65,7 +65,7 @@ read_all true count bad is none = ap (min 1) (is ∙ none refl) ∙ sym (none re
 -- one, where the first one ends it
 read_one : (stop : Bool) (count bad more : ℕ) → count ≡ bad + more → stop ≡ true → bad ≡ 1 → (if stop then min 1 count else count) ≡ bad
 read_one false count bad more is on one = absurd cc
-read_one true count bad more is on one = grind (arith, is, one)
+read_one true count bad more is on one = let least : min 1 count ≡ bad = omega (arith, is, one) in least
 
 nothing_more : (form : Layout) (sheets : List KnownSheet) (log : Log) (so_far : Progress) → explained_from form sheets log so_far [] ≡ unfinished_lines form sheets so_far
 unfolding explained_from
