@@ -1,5 +1,5 @@
 -- What comes in place of lines at fault, evaluated on both sides of each edge.
-use Rattle.std.proofs.Common.{◌≡◌, ℕ, List, [], ◌∷◌, ◌++◌, Option, Some, None, refl, map}
+use Rattle.std.proofs.Common.{◌≡◌, ℕ, List, [], ◌∷◌, Some, None, refl, map}
 use Rattle.std.specs.Fmt.{digits}
 use Rattle.std.specs.Prelude.{codes, false}
 use Rattle.co_sheet_rows.specs.declared.fault.FaultKind.{FaultKind}
@@ -7,8 +7,7 @@ use Rattle.co_sheet_rows.specs.declared.fault.FaultKind.TheVariants.{BadNumber, 
 use Rattle.co_sheet_rows.specs.declared.fault.SheetFault.{SheetFault}
 use Rattle.co_sheet_text.specs.Text.{Line}
 use Rattle.co_sheet_changes.specs.Pieces.{assigned}
-use Rattle.co_sheet_mend.specs.declared.repair.Repair.{Repair}
-use Rattle.co_sheet_mend.specs.declared.repair.Repair.TheVariants.{Emptied, Bytes, ReadWrite, Completed, Counted}
+use Rattle.co_sheet_mend.specs.declared.repair.Repair.TheVariants.{Emptied, Bytes, ReadWrite, Completed}
 use Rattle.co_sheet_mend.specs.Repairs.{line_as, list_text, mended_lines, repair_at, repair_for}
 
 abbrev line : ℕ → List ℕ → Line
@@ -76,14 +75,14 @@ completed_access = refl
 
 -- ---- lines one after another
 
-three_lines : mended_lines (fault 1 MissingKey ∷ fault 3 BadAccess ∷ []) false (line 1 (codes "[2000]") ∷ line 2 (codes "ParameterName=A") ∷ line 3 (codes "AccessType=all") ∷ [])
+three_lines : mended_lines (repair_at (fault 1 MissingKey ∷ fault 3 BadAccess ∷ [])) false (line 1 (codes "[2000]") ∷ line 2 (codes "ParameterName=A") ∷ line 3 (codes "AccessType=all") ∷ [])
     ≡ codes "[2000]\nDataType=0x000F\nParameterName=A\nAccessType=rw\n"
-unfolding mended_lines repair_at repair_for line_as assigned
+unfolding repair_at repair_for line_as assigned
 three_lines = refl
 
 -- a list that counts one object too many, and whose places aren't those from 1 on
-counted_anew : mended_lines (fault 1 BadList ∷ []) false
+counted_anew : mended_lines (repair_at (fault 1 BadList ∷ [])) false
     (line 1 (codes "[OptionalObjects]") ∷ line 2 (codes "SupportedObjects=3") ∷ line 3 (codes "01 = 0x1008") ∷ line 4 (codes "4=0x1017") ∷ line 5 (codes "[1008]") ∷ line 6 (codes "1=2") ∷ [])
     ≡ codes "[OptionalObjects]\nSupportedObjects=2\n1=0x1008\n2=0x1017\n\n\n\n[1008]\n1=2\n"
-unfolding mended_lines repair_at repair_for line_as list_text assigned digits
+unfolding repair_at repair_for line_as list_text assigned digits
 counted_anew = refl

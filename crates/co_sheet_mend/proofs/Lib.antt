@@ -1,1 +1,3 @@
 pub mod Examples
+pub mod RepairLemmas
+pub mod RoundLemmas

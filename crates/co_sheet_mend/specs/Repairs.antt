@@ -1,14 +1,14 @@
 -- What comes in place of the lines at fault of a data sheet's text (CiA 306).
-use Rattle.std.specs.Prelude.{ℕ, suc, ◌==◌, Bool, true, false, not, ◌&&◌, ◌||◌, if◌then◌else◌, List, [], ◌∷◌, ◌++◌, codes, decimal, length, Option, Some, None, is_some, option_and_then}
-use Rattle.std.specs.List.{cons_option, list_any}
+use Rattle.std.specs.Prelude.{ℕ, suc, ◌==◌, nat_le, Bool, true, false, not, ◌&&◌, if◌then◌else◌, List, [], ◌∷◌, ◌++◌, codes, decimal, length, Option, Some, None, is_some, option_and_then}
+use Rattle.std.specs.List.{filter_map, list_any}
 use Rattle.std.specs.Option.{option_map_or}
 use Rattle.co_sheet_rows.specs.declared.fault.FaultKind.{FaultKind}
 use Rattle.co_sheet_rows.specs.declared.fault.FaultKind.TheVariants as kind
 use Rattle.co_sheet_rows.specs.declared.fault.SheetFault.{SheetFault}
 use Rattle.co_sheet_text.specs.LinesAtFault.{emptied}
 use Rattle.co_sheet_text.specs.LinesRead.{all_digits}
-use Rattle.co_sheet_text.specs.Text.{Line, lines_of, same_name}
-use Rattle.co_sheet_changes.specs.Groups.{property_in, section_in}
+use Rattle.co_sheet_text.specs.Text.{Line, same_name}
+use Rattle.co_sheet_changes.specs.Groups.{before_sections, property_in, section_in}
 use Rattle.co_sheet_changes.specs.Pieces.{assigned}
 use Rattle.co_sheet_mend.specs.declared.repair.Repair.{Repair}
 use Rattle.co_sheet_mend.specs.declared.repair.Repair.TheVariants.{Emptied, Bytes, ReadWrite, Completed, Counted}
@@ -34,29 +34,44 @@ repair_for other = None
 
 -- ---- of a line
 
+-- which of two repairs of a line comes: that with the smaller number
+abbrev pub rank : Repair → ℕ
+rank Emptied = 0
+rank Bytes = 1
+rank ReadWrite = 2
+rank Completed = 3
+rank Counted = 4
+
+abbrev pub stronger : Option Repair → Option Repair → Option Repair
+stronger None other = other
+stronger (Some one) None = Some one
+stronger (Some one) (Some other) = if nat_le (rank one) (rank other) then Some one else Some other
+
+-- what a fault asks for at a line
+abbrev pub repair_here : ℕ → SheetFault → Option Repair
+repair_here line fault = if fault.line == line then repair_for fault.kind else None
+
 abbrev pub same_repair : Repair → Repair → Bool
-same_repair Emptied Emptied = true
-same_repair Bytes Bytes = true
-same_repair ReadWrite ReadWrite = true
-same_repair Completed Completed = true
-same_repair Counted Counted = true
-same_repair a b = false
+same_repair one other = rank one == rank other
 
 -- a fault at a line asks for a repair
 abbrev pub asks_for : Repair → ℕ → SheetFault → Bool
-asks_for repair line fault = (fault.line == line) && option_map_or (same_repair repair) (repair_for fault.kind) false
+asks_for repair line fault = option_map_or (same_repair repair) (repair_here line fault) false
 
 abbrev pub has_repair : List SheetFault → ℕ → Repair → Bool
 has_repair faults line repair = list_any (asks_for repair line) faults
 
+abbrev pub first_asked : Bool → Bool → Bool → Bool → Bool → Option Repair
+first_asked empties bytes writes completes counts =
+    if empties then Some Emptied
+    else (if bytes then Some Bytes
+    else (if writes then Some ReadWrite else (if completes then Some Completed else (if counts then Some Counted else None))))
+
 -- of several the first of these, whatever the order of the faults
 unfoldable pub repair_at : List SheetFault → ℕ → Option Repair
 repair_at faults line =
-    if has_repair faults line Emptied then Some Emptied
-    else (if has_repair faults line Bytes then Some Bytes
-    else (if has_repair faults line ReadWrite then Some ReadWrite
-    else (if has_repair faults line Completed then Some Completed
-    else (if has_repair faults line Counted then Some Counted else None))))
+    first_asked (has_repair faults line Emptied) (has_repair faults line Bytes) (has_repair faults line ReadWrite)
+    (has_repair faults line Completed) (has_repair faults line Counted)
 
 -- a line gives a property of a name
 abbrev pub gives : List ℕ → Line → Bool
@@ -64,8 +79,7 @@ gives name line = option_map_or (λ given. same_name given.name name) (property_
 
 -- so does one of the lines up to the next section line
 abbrev pub gives_any : List ℕ → List Line → Bool
-gives_any name [] = false
-gives_any name (line ∷ lines) = not (is_some (section_in line)) && (gives name line || gives_any name lines)
+gives_any name lines = list_any (gives name) (before_sections lines)
 
 abbrev pub ended : List ℕ → List ℕ
 ended bytes = bytes ++ 10 ∷ []
@@ -86,9 +100,7 @@ place_value line = option_and_then (λ given. if all_digits given.name then Some
 
 -- the objects that the lines up to the next section line name
 abbrev pub objects_named : List Line → List (List ℕ)
-objects_named [] = []
-objects_named (line ∷ lines) =
-    if is_some (section_in line) then [] else cons_option (place_value line) (objects_named lines)
+objects_named lines = filter_map place_value (before_sections lines)
 
 abbrev pub numbered_from : ℕ → List (List ℕ) → List ℕ
 numbered_from number [] = []
@@ -101,24 +113,30 @@ list_text lines =
 
 -- ---- what a line becomes, which these lines follow
 
+abbrev pub typed_as_bytes : Line → List ℕ
+typed_as_bytes line = if gives (codes "DataType") line then bytes_type else ended (emptied line).bytes
+
+abbrev pub completed : Line → List Line → List ℕ
+completed line more =
+    ended line.bytes ++ lacking (codes "DataType") (codes "0x000F") more ++ lacking (codes "AccessType") (codes "rw") more
+
 unfoldable pub line_as : Option Repair → Line → List Line → List ℕ
 line_as None line more = ended line.bytes
 line_as (Some Emptied) line more = ended (emptied line).bytes
-line_as (Some Bytes) line more = if gives (codes "DataType") line then bytes_type else ended (emptied line).bytes
+line_as (Some Bytes) line more = typed_as_bytes line
 line_as (Some ReadWrite) line more = assigned (codes "AccessType") (codes "rw")
-line_as (Some Completed) line more =
-    ended line.bytes ++ lacking (codes "DataType") (codes "0x000F") more ++ lacking (codes "AccessType") (codes "rw") more
+line_as (Some Completed) line more = completed line more
 line_as (Some Counted) line more = ended line.bytes ++ list_text more
 
 -- ---- of a text
 
 -- whether the lines up to the next section line are those of a list that was counted anew
 abbrev pub is_counted : Option Repair → Bool
-is_counted None = false
-is_counted (Some repair) = same_repair Counted repair
+is_counted repair = option_map_or (same_repair Counted) repair false
 
-unfoldable pub mended_lines : List SheetFault → Bool → List Line → List ℕ
-mended_lines faults counted [] = []
-mended_lines faults counted (line ∷ more) =
-    if counted && not (is_some (section_in line)) then ended [] ++ mended_lines faults true more
-    else line_as (repair_at faults line.number) line more ++ mended_lines faults (is_counted (repair_at faults line.number)) more
+-- lines by the repair that each line number has
+abbrev pub mended_lines : (ℕ → Option Repair) → Bool → List Line → List ℕ
+mended_lines repairs counted [] = []
+mended_lines repairs counted (line ∷ more) =
+    if counted && not (is_some (section_in line)) then ended [] ++ mended_lines repairs true more
+    else line_as (repairs line.number) line more ++ mended_lines repairs (is_counted (repairs line.number)) more

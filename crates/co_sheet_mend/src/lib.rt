@@ -2,9 +2,11 @@
 //! without what is at fault.
 #![tactic(auto)]
 
+mod lines;
 mod mended;
-mod readable;
 mod repair;
+mod repairs;
+mod rewriting;
 
-pub use readable::{Readable, readable_text};
 pub use repair::Repair;
+pub use rewriting::{Rewritten, readable};

@@ -1,12 +1,12 @@
 //! What comes in place of a line at fault.
 
 ghost use Rattle.std.specs.Prelude.{◌≡◌};
-ghost use Rattle.co_sheet_mend.specs.Repairs.{repair_for};
+ghost use Rattle.co_sheet_mend.specs.Repairs.{rank, repair_for, stronger};
 
 use co_sheet_faults::FaultKind;
 
 /// What comes in place of a line at fault.
-#[derive(Clone, Copy, PartialEq, Eq)]
+#[derive(Clone, Copy)]
 pub enum Repair {
     /// Nothing, and of a section line one that begins a section which nothing reads.
     Emptied,
@@ -19,6 +19,33 @@ pub enum Repair {
     /// Of the section line of an object list: that line, and the objects that the list names, counted
     /// and numbered from 1.
     Counted,
+}
+
+impl Repair {
+    // which of two comes: that with the smaller number
+    fn rank(self) -> u8
+        ensures { result ≡ rank self }
+    {
+        match self {
+            Repair::Emptied => 0,
+            Repair::Bytes => 1,
+            Repair::ReadWrite => 2,
+            Repair::Completed => 3,
+            Repair::Counted => 4,
+        }
+    }
+}
+
+/// Of two repairs of a line the one that comes.
+pub(crate) fn stronger(one: Option<Repair>, other: Option<Repair>) -> Option<Repair>
+    ensures { result ≡ stronger one other }
+{
+    match (one, other) {
+        (None, other) => other,
+        (one, None) => one,
+        (Some(one), Some(other)) if one.rank() <= other.rank() => Some(one),
+        (Some(_), Some(other)) => Some(other),
+    }
 }
 
 /// What comes in place of a line with a fault of this kind; `None`: nothing helps, as where an

@@ -1,5 +1,6 @@
 -- How far a log is explained.
 use Rattle.std.proofs.Common.{◌≡◌, ℕ, ◌+◌, ◌<◌, ◌≤◌, Bool, false, true, ◌⊎◌, inl, inr, List, [], ◌∷◌, ◌++◌, length, Option, None, Some, IfSome, ltb, refl, sym, ap, ap₂, subst, ◌∙◌, arith, append_assoc}
+use Rattle.std.proofs.lemmas.Bool.{eqb-true}
 use Rattle.std.specs.Prelude.{◌||◌, ◌&&◌, ◌==◌, if◌then◌else◌, min}
 use Rattle.std.specs.List.{flat_map, before_first, after_first}
 use Rattle.std.specs.Io.KnownBytes.{Keeps, IsAtEnd}
@@ -64,7 +65,7 @@ read_all true count bad is none = ap (min 1) (is ∙ none refl) ∙ sym (none re
 -- one, where the first one ends it
 read_one : (stop : Bool) (count bad more : ℕ) → count ≡ bad + more → stop ≡ true → bad ≡ 1 → (if stop then min 1 count else count) ≡ bad
 read_one false count bad more is on one = absurd cc
-read_one true count bad more is on one = grind (arith, is, one)
+read_one true count bad more is on one = let least : min 1 count ≡ bad = omega (arith, is, one) in least
 
 nothing_more : (form : Layout) (sheets : List KnownSheet) (log : Log) (so_far : Progress) → explained_from form sheets log so_far [] ≡ unfinished_lines form sheets so_far
 unfolding explained_from
@@ -332,6 +333,18 @@ module _ (form : Layout) (sheets : List KnownSheet) where
       gives = gave_then held.ended mid.ended holds.ended before between after _ _ _ h.gives k.gives
           (λ had middle has p q. gives_then (to_come held had) (to_come mid middle) (to_come holds has) log then left first next last h.written k.written bad also stopped p q);
     }
+
+-- ---- whether a line ends it
+
+pub stops_then : (stop : Bool) (more : ℕ) → (stop && (more == 1)) ≡ true → (stop ≡ true) × (more ≡ 1)
+stops_then true more is = (refl, eqb-true more 1 is)
+stops_then false more is = absurd cc
+
+pub goes_on : (stop : Bool) (bad more : ℕ) → (stop && (more == 1)) ≡ false → more ≤ 1 → (stop ≡ true → bad ≡ 0) → stop ≡ true → bad + more ≡ 0
+goes_on true bad more goes few none is =
+    let zero : bad ≡ 0 = none refl in
+    let other : more ≡ 0 = grind (arith, nat_tests, goes) in omega arith
+goes_on false bad more goes few none is = absurd cc
 
 -- ---- the whole
 

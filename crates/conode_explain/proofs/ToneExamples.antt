@@ -7,8 +7,8 @@ use Rattle.conode_explain_transfers.specs.declared.ended.Ending.TheVariants.{Don
 use Rattle.conode_explain.specs.declared.tones.Tone.TheVariants.{Plain, Bad, Odd, Good, Notable}
 use Rattle.conode_explain.specs.Tones.{data_tone, ending_tone, or_odd, service_tone, toned}
 
--- the code alone says whether an error is gone
-emergencies : map (data_tone Emergency) ((0 ∷ 0 ∷ 1 ∷ []) ∷ (1 ∷ 0 ∷ 0 ∷ []) ∷ (0 ∷ 1 ∷ 0 ∷ []) ∷ (0 ∷ []) ∷ (1 ∷ []) ∷ [] ∷ []) ≡ Good ∷ Bad ∷ Bad ∷ Good ∷ Bad ∷ Good ∷ []
+-- the code alone says whether an error is gone, of an emergency that is whole
+emergencies : map (data_tone Emergency) ((0 ∷ 0 ∷ 1 ∷ 0 ∷ 0 ∷ 0 ∷ 0 ∷ 0 ∷ []) ∷ (1 ∷ 0 ∷ 0 ∷ 0 ∷ 0 ∷ 0 ∷ 0 ∷ 0 ∷ []) ∷ (0 ∷ 1 ∷ 0 ∷ 0 ∷ 0 ∷ 0 ∷ 0 ∷ 0 ∷ []) ∷ (0 ∷ 0 ∷ 0 ∷ 0 ∷ 0 ∷ 0 ∷ 0 ∷ []) ∷ [] ∷ []) ≡ Good ∷ Bad ∷ Bad ∷ Bad ∷ Bad ∷ []
 unfolding data_tone
 emergencies = refl
 

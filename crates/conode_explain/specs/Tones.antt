@@ -1,6 +1,5 @@
 -- The colour of a line on a terminal.
-use Rattle.std.specs.Prelude.{ℕ, ◌==◌, Bool, ◌&&◌, not, if◌then◌else◌, List, [], ◌∷◌, ◌++◌, codes, length, slice_index, take, Option, Some, None, is_some}
-use Rattle.co_value.specs.Numbers.{unsigned_of}
+use Rattle.std.specs.Prelude.{ℕ, ◌-◌, ◌==◌, Bool, true, false, not, ◌&&◌, if◌then◌else◌, List, [], ◌∷◌, ◌++◌, codes, length, slice_index, take, is_some}
 use Rattle.conode_record.specs.declared.fields.Identifier.{Identifier}
 use Rattle.conode_record.specs.declared.fields.Identifier.TheVariants.{Base, Extended, Error}
 use Rattle.conode_record.specs.declared.line.Record.{Record}
@@ -19,21 +18,22 @@ use Rattle.conode_explain.specs.Filtered.{data_of}
 
 -- an emergency: one whose code is 0 says that an error is gone (CiA 301, 7.2.7.1)
 abbrev pub emergency_tone : List ℕ → Tone
-emergency_tone bytes = if unsigned_of (take 2 bytes) == 0 then Good else Bad
+emergency_tone bytes =
+    if (length bytes == 8) && ((slice_index bytes 0 == 0) && (slice_index bytes 1 == 0)) then Good else Bad
 
--- a byte alone, or the first of eight
-abbrev pub is_abort : List ℕ → Bool
-is_abort bytes = (length bytes == 8) && (slice_index bytes 0 == 0x80)
+-- an abort (CiA 301, 7.2.4.3.17)
+abbrev pub abort_tone : List ℕ → Tone
+abort_tone bytes = if (length bytes == 8) && (slice_index bytes 0 == 0x80) then Bad else Plain
 
-abbrev pub is_boot_up : List ℕ → Bool
-is_boot_up bytes = (length bytes == 1) && (slice_index bytes 0 == 0)
+abbrev pub boot_up_tone : List ℕ → Tone
+boot_up_tone bytes = if (length bytes == 1) && (slice_index bytes 0 == 0) then Notable else Plain
 
 -- of data by its service
 unfoldable pub data_tone : Kind → List ℕ → Tone
 data_tone Emergency bytes = emergency_tone bytes
-data_tone Sdo bytes = if is_abort bytes then Bad else Plain
+data_tone Sdo bytes = abort_tone bytes
 data_tone Nmt bytes = Notable
-data_tone Heartbeat bytes = if is_boot_up bytes then Notable else Plain
+data_tone Heartbeat bytes = boot_up_tone bytes
 data_tone other bytes = Plain
 
 abbrev pub service_tone : Identifier → Kind → List ℕ → Tone
@@ -42,8 +42,11 @@ service_tone (Extended id) kind bytes = Plain
 service_tone (Error class) kind bytes = Bad
 
 -- an odd stamp shows where nothing else does
+abbrev pub odd_tone : Bool → Tone
+odd_tone is = if is then Odd else Plain
+
 abbrev pub or_odd : Bool → Tone → Tone
-or_odd is Plain = if is then Odd else Plain
+or_odd is Plain = odd_tone is
 or_odd is tone = tone
 
 unfoldable pub frame_tone : SoFar → Subject → Record → Tone
@@ -66,15 +69,14 @@ numbers_of Odd = codes "33"
 numbers_of Good = codes "32"
 numbers_of Notable = codes "36"
 
--- a line without its line feed
-abbrev pub without_end : List ℕ → List ℕ
-without_end [] = []
-without_end (byte ∷ []) = []
-without_end (byte ∷ next ∷ more) = byte ∷ without_end (next ∷ more)
+abbrev pub is_plain : Tone → Bool
+is_plain Plain = true
+is_plain tone = false
 
+-- a line, whose last byte is its line feed, between the begin of a colour and its end
 abbrev pub in_colour : List ℕ → List ℕ → List ℕ
-in_colour [] line = line
-in_colour (digit ∷ digits) line = 27 ∷ codes "[" ++ (digit ∷ digits) ++ codes "m" ++ without_end line ++ 27 ∷ codes "[0m\n"
+in_colour numbers line =
+    27 ∷ codes "[" ++ numbers ++ codes "m" ++ take (length line - 1) line ++ 27 ∷ codes "[0m\n"
 
 unfoldable pub toned : Bool → Tone → List ℕ → List ℕ
-toned colours tone line = if colours then in_colour (numbers_of tone) line else line
+toned colours tone line = if colours && not (is_plain tone) then in_colour (numbers_of tone) line else line

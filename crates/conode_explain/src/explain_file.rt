@@ -8,8 +8,8 @@ use crate::progress::{Layout, LineFormat};
 use crate::sheets::{ReadSheet, known_sheets};
 use crate::writes::{Settings, write_header};
 use co_sheet::{FaultKind, GREATEST_SIZE, SheetFault, read};
-use co_sheet_changes::Originals;
-use co_sheet_mend::readable_text;
+use co_sheet_changes::{AdaptFault, Originals};
+use co_sheet_mend::readable;
 use conode_convert::{SheetText, SheetWord, bad_sheet, bad_sheet_word, sheet_words, texts_of};
 use conode_explain_filter::{Filter, FilterFault, FilterWords};
 use conode_explain_forms::{Signal, SignalFault, first_missing};
@@ -135,8 +135,10 @@ fn make_readable<E: Write>(
     err: &mut E,
 ) -> Result<(), AllocError> {
     for text in texts.iter_mut() {
-        let Some(made) = readable_text(alloc, text.text.as_slice())? else {
-            continue;
+        let made = match readable(alloc, text.text.as_slice()) {
+            Ok(Some(made)) => made,
+            Ok(None) | Err(AdaptFault::TooLarge) => continue,
+            Err(AdaptFault::Memory) => return Err(AllocError),
         };
         if made.is_mended {
             let path = text.word.path;

@@ -1,6 +1,6 @@
 //! A recording explained: each of its frames on a line.
 
-ghost use Rattle.std.specs.Prelude.{◌≡◌, IfOk, IfSome};
+ghost use Rattle.std.specs.Prelude.{◌≡◌, ◌==◌, ◌&&◌, IfOk, IfSome};
 ghost use Rattle.co_stream.specs.Held.{nothing_held};
 ghost use Rattle.conode_convert.specs.Converted.{at_start};
 ghost use Rattle.conode_io.specs.TraceTexts.{GaveText};
@@ -8,11 +8,19 @@ ghost use Rattle.conode_explain.specs.Explained.{nothing_known};
 ghost use Rattle.conode_explain.specs.Taking.{Explains};
 ghost use Rattle.conode_explain.specs.Sheets.{sheets_of};
 
+use crate::progress::Layout;
 use crate::step::Explaining;
 use crate::writes::Settings;
 use conode_io::CmdFault;
 use std::alloc::Global;
 use std::io::{Read, Write};
+
+// whether a line with so many bad ones ends it
+fn ends(form: &Layout<'_>, more: u64) -> bool
+    ensures { result ≡ (form.now.stop && (more == 1)) }
+{
+    form.stop && more == 1
+}
 
 // explains all lines, where none was taken yet
 fn explain_all<R: Read, W: Write, E: Write>(
@@ -39,7 +47,7 @@ fn explain_all<R: Read, W: Write, E: Write>(
         match explaining.take_line(reader, settings, number, out, err)? {
             Some(more) => {
                 bad += more;
-                if settings.form.stop && bad > 0 {
+                if ends(&settings.form, more) {
                     explaining.finish(settings, out)?;
                     return Ok(bad);
                 }

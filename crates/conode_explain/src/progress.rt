@@ -135,13 +135,14 @@ impl Progress {
         requires { IsIdentifier frame.now.id }
         ensures { result ≡ last_at self.now.nodes frame.now }
     {
-        match (frame.id, &frame.content) {
-            (Identifier::Base(id), Content::Data(bytes)) => {
-                let name = frame.interface.bytes();
-                self.nodes.last_for(name, &Frame::packed(id, bytes))
-            }
-            _ => Last::new(),
-        }
+        let Identifier::Base(id) = frame.id else {
+            return Last::new();
+        };
+        let Content::Data(bytes) = &frame.content else {
+            return Last::new();
+        };
+        let name = frame.interface.bytes();
+        self.nodes.last_for(name, &Frame::packed(id, bytes))
     }
 
     /// Adds a frame: its stamp, its interface, what it has of its node, and what it shows of

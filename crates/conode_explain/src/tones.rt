@@ -1,14 +1,17 @@
 //! The colour of a line on a terminal.
 
-ghost use Rattle.std.specs.Prelude.{◌≡◌, OnOk};
+ghost use Rattle.std.specs.Prelude.{◌≡◌, ◌++◌, OnOk};
 ghost use Rattle.conode_explain.specs.Tones.{
+  abort_tone,
+  boot_up_tone,
   data_tone,
   emergency_tone,
   ending_tone,
   frame_tone,
-  is_abort,
-  is_boot_up,
+  in_colour,
+  is_plain,
   numbers_of,
+  odd_tone,
   or_odd,
   service_tone,
   toned,
@@ -39,22 +42,31 @@ pub(crate) enum Tone {
 fn emergency_tone(bytes: &[u8]) -> Tone
     ensures { result ≡ emergency_tone bytes.now }
 {
-    match bytes {
-        [] | [0] | [0, 0, ..] => Tone::Good,
-        _ => Tone::Bad,
+    if bytes.len() == 8 && bytes[0] == 0 && bytes[1] == 0 {
+        Tone::Good
+    } else {
+        Tone::Bad
     }
 }
 
-fn is_abort(bytes: &[u8]) -> bool
-    ensures { result ≡ is_abort bytes.now }
+fn abort_tone(bytes: &[u8]) -> Tone
+    ensures { result ≡ abort_tone bytes.now }
 {
-    bytes.len() == 8 && bytes[0] == 0x80
+    if bytes.len() == 8 && bytes[0] == 0x80 {
+        Tone::Bad
+    } else {
+        Tone::Plain
+    }
 }
 
-fn is_boot_up(bytes: &[u8]) -> bool
-    ensures { result ≡ is_boot_up bytes.now }
+fn boot_up_tone(bytes: &[u8]) -> Tone
+    ensures { result ≡ boot_up_tone bytes.now }
 {
-    bytes.len() == 1 && bytes[0] == 0
+    if bytes.len() == 1 && bytes[0] == 0 {
+        Tone::Notable
+    } else {
+        Tone::Plain
+    }
 }
 
 // the tone of data by its service
@@ -64,10 +76,10 @@ fn data_tone(kind: Kind, bytes: &[u8]) -> Tone
 {
     match kind {
         Kind::Emergency => emergency_tone(bytes),
-        Kind::Sdo if is_abort(bytes) => Tone::Bad,
+        Kind::Sdo => abort_tone(bytes),
         Kind::Nmt => Tone::Notable,
-        Kind::Heartbeat if is_boot_up(bytes) => Tone::Notable,
-        _ => Tone::Plain,
+        Kind::Heartbeat => boot_up_tone(bytes),
+        Kind::Pdo | Kind::Sync | Kind::Other => Tone::Plain,
     }
 }
 
@@ -81,12 +93,18 @@ fn service_tone(id: Identifier, kind: Kind, bytes: &[u8]) -> Tone
     }
 }
 
+fn odd_tone(is_odd: bool) -> Tone
+    ensures { result ≡ odd_tone is_odd }
+{
+    if is_odd { Tone::Odd } else { Tone::Plain }
+}
+
 fn or_odd(is_odd: bool, tone: Tone) -> Tone
     ensures { result ≡ or_odd is_odd tone }
 {
     match tone {
-        Tone::Plain if is_odd => Tone::Odd,
-        _ => tone,
+        Tone::Plain => odd_tone(is_odd),
+        Tone::Bad | Tone::Odd | Tone::Good | Tone::Notable => tone,
     }
 }
 
@@ -110,7 +128,16 @@ pub(crate) fn ending_tone(ending: Ending) -> Tone
     match ending {
         Ending::Done { crc: _ } => Tone::Good,
         Ending::Unfinished => Tone::Odd,
-        _ => Tone::Bad,
+        Ending::Aborted { by: _, code: _ }
+        | Ending::Unanswered
+        | Ending::Repeated
+        | Ending::Interrupted
+        | Ending::Irregular
+        | Ending::SizeDiffers { indicated: _ }
+        | Ending::CrcDiffers {
+            came: _,
+            computed: _,
+        } => Tone::Bad,
     }
 }
 
@@ -126,8 +153,26 @@ fn numbers_of(tone: Tone) -> &'static str
     }
 }
 
-/// Writes a line, which ends in a line feed, in the colour of a tone, where that is asked for. On an
-/// `Err` memory ran out.
+fn is_plain(tone: Tone) -> bool
+    ensures { result ≡ is_plain tone }
+{
+    matches!(tone, Tone::Plain)
+}
+
+// appends a line in a colour
+fn push_coloured(made: &mut Vec<u8>, numbers: &str, line: &[u8]) -> Result<(), AllocError>
+    ensures { OnOk result (made.new.items ≡ made.old.items ++ in_colour numbers.now line.now) }
+{
+    let (text, _) = line.split_at(line.len().saturating_sub(1));
+    made.extend_from_slice(b"\x1b[")?;
+    made.extend_from_slice(numbers.as_bytes())?;
+    made.extend_from_slice(b"m")?;
+    made.extend_from_slice(text)?;
+    made.extend_from_slice(b"\x1b[0m\n")
+}
+
+/// Writes a line, whose last byte is a line feed, in the colour of a tone, where that is asked for.
+/// On an `Err` memory ran out.
 #[tactic(auto, unfolding(crate::specs::Tones::toned))]
 pub(crate) fn put_tone(
     alloc: Global,
@@ -137,18 +182,11 @@ pub(crate) fn put_tone(
 ) -> Result<(), AllocError>
     ensures { OnOk result (line.new.items ≡ toned colours tone line.old.items) }
 {
-    let numbers = numbers_of(tone);
-    if !colours || numbers.is_empty() {
+    if !colours || is_plain(tone) {
         return Ok(());
     }
     let mut made = Vec::new(alloc);
-    made.extend_from_slice(b"\x1b[")?;
-    made.extend_from_slice(numbers.as_bytes())?;
-    made.extend_from_slice(b"m")?;
-    if let [text @ .., _] = line.as_slice() {
-        made.extend_from_slice(text)?;
-    }
-    made.extend_from_slice(b"\x1b[0m\n")?;
+    push_coloured(&mut made, numbers_of(tone), line.as_slice())?;
     *line = made;
     Ok(())
 }

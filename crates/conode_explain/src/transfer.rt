@@ -124,8 +124,8 @@ fn push_front(text: &mut String, transfer: &Transfer) -> Result<(), AllocError>
 }
 
 /// Appends the entry of a transfer, as its row in the sheet has it, with its value, and of a drive
-/// what that means: `SDO request node 5 download: Temperature 2001:01 = 1000`. On an `Err` memory ran out, and a part of it may
-/// be there.
+/// what that means: `SDO request node 5 download: Temperature 2001:01 = 1000`. On an `Err` memory
+/// ran out, and a part of it may be there.
 #[tactic(auto, unfolding(crate::specs::Transfers::transfer_text))]
 pub(crate) fn push_transfer(
     text: &mut String,

@@ -1,3 +1,4 @@
+pub mod Changes
 mod DriveExamples
 mod Examples
 mod NodeExamples

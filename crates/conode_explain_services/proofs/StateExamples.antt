@@ -4,7 +4,7 @@ use Rattle.std.specs.Prelude.{codes}
 use Rattle.conode_explain_services.specs.declared.nmt_state.NmtState.TheVariants.{Stopped, Operational, PreOperational}
 use Rattle.conode_explain_services.specs.declared.nmt_state.KnownState.TheVariants.{Unknown, Seen, Commanded}
 use Rattle.conode_explain_services.specs.declared.guarding.Guarding.TheVariants.{NotSeen}
-use Rattle.conode_explain_services.specs.Nodes.{all_commanded, last_for, last_in, last_of, new_node, nodes_after, nodes_commanded, noted, nothing_seen}
+use Rattle.conode_explain_services.specs.Nodes.{last_for, last_in, last_of, new_node, nodes_after, nodes_commanded, noted, nothing_seen}
 use Rattle.conode_explain_services.specs.NmtStates.{found_words, is_command, shown_words, state_after, state_at, state_commanded}
 use Rattle.conode_explain_services.specs.Services.{state_words}
 
@@ -35,13 +35,13 @@ found = refl
 -- what was seen is no command; the same state; no state
 shown : shown_words (Commanded Operational) 127 ∷ shown_words (Commanded Operational) 5 ∷ shown_words (Commanded Operational) 1 ∷ shown_words (Seen Operational) 127 ∷ []
     ≡ codes " (operational commanded)" ∷ [] ∷ [] ∷ [] ∷ []
-unfolding shown_words state_at
+unfolding shown_words found_words state_at
 shown = refl
 
 -- a command to all is for the nodes of its interface that are kept
 to_all : nodes_commanded (new_node (codes "a") 5 nothing_seen ∷ new_node (codes "b") 5 nothing_seen ∷ []) (codes "a") 1 0
     ≡ new_node (codes "a") 5 (record { register = None; guarding = NotSeen; state = Commanded Operational }) ∷ new_node (codes "b") 5 nothing_seen ∷ []
-unfolding nodes_commanded all_commanded state_commanded
+unfolding nodes_commanded state_commanded
 to_all = refl
 
 to_one : nodes_after [] (codes "a") (record { id = 0; bytes = 2 ∷ 5 ∷ [] })

@@ -66,7 +66,7 @@ same_state a b = false
 
 -- a frame of error control that shows another state than the commanded one
 abbrev pub differs_words : NmtState → NmtState → List ℕ
-differs_words commanded shown = if same_state commanded shown then [] else codes " (" ++ nmt_words commanded ++ codes " commanded)"
+differs_words commanded shown = if same_state commanded shown then [] else found_words (Commanded commanded)
 
 unfoldable pub shown_words : KnownState → ℕ → List ℕ
 shown_words (Commanded state) byte = option_map_or (differs_words state) (state_at byte) []

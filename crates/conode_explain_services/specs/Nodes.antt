@@ -81,7 +81,7 @@ commanded interface command node =
     then record node { last = record node.last { state = state_commanded node.last.state command } } else node
 
 -- all nodes that are kept; of others nothing is known anyway
-unfoldable pub all_commanded : List Node → List ℕ → ℕ → List Node
+abbrev pub all_commanded : List Node → List ℕ → ℕ → List Node
 all_commanded nodes interface command = map (commanded interface command) nodes
 
 -- a node, or all

@@ -1,7 +1,7 @@
 //! The NMT state of a node (CiA 301, 7.3.2.2).
 
 /// An NMT state that heartbeats and commands name.
-#[derive(Clone, Copy, PartialEq, Eq)]
+#[derive(Clone, Copy)]
 pub enum NmtState {
     Stopped,
     Operational,

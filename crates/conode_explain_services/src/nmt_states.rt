@@ -2,11 +2,10 @@
 
 ghost use Rattle.std.specs.Prelude.{◌≡◌, ◌++◌, OnOk, string_bytes};
 ghost use Rattle.conode_explain_services.specs.NmtStates.{
-  differs_words,
   found_words,
   is_command,
   is_service,
-  nmt_words,
+  same_state,
   seen_or,
   shown_words,
   state_after,
@@ -72,30 +71,31 @@ pub(crate) fn state_commanded(known: KnownState, command: u8) -> KnownState
     }
 }
 
-fn nmt_words(state: NmtState) -> &'static str
-    ensures { result.now ≡ nmt_words state }
+/// The state in which a command finds its node: ` (pre-operational seen)`.
+#[tactic(auto, unfolding(crate::specs::NmtStates::found_words))]
+pub(crate) fn found_words(known: KnownState) -> &'static str
+    ensures { result.now ≡ found_words known }
 {
-    match state {
-        NmtState::Stopped => "stopped",
-        NmtState::Operational => "operational",
-        NmtState::PreOperational => "pre-operational",
+    match known {
+        KnownState::Unknown => " (state ?)",
+        KnownState::Seen(NmtState::Stopped) => " (stopped seen)",
+        KnownState::Seen(NmtState::Operational) => " (operational seen)",
+        KnownState::Seen(NmtState::PreOperational) => " (pre-operational seen)",
+        KnownState::Commanded(NmtState::Stopped) => " (stopped commanded)",
+        KnownState::Commanded(NmtState::Operational) => " (operational commanded)",
+        KnownState::Commanded(NmtState::PreOperational) => " (pre-operational commanded)",
     }
 }
 
-/// Appends the state in which a command finds its node: ` (pre-operational seen)`. On an `Err`
-/// memory ran out, and a part of it may be there.
-#[tactic(auto, unfolding(crate::specs::NmtStates::found_words))]
-pub(crate) fn push_found(text: &mut String, known: KnownState) -> Result<(), AllocError>
-    ensures { OnOk result (string_bytes text.new ≡ string_bytes text.old ++ found_words known) }
+fn same_state(one: NmtState, other: NmtState) -> bool
+    ensures { result ≡ same_state one other }
 {
-    let (state, how) = match known {
-        KnownState::Unknown => return push_words(text, " (state ?)"),
-        KnownState::Seen(state) => (state, " seen)"),
-        KnownState::Commanded(state) => (state, " commanded)"),
-    };
-    push_words(text, " (")?;
-    push_words(text, nmt_words(state))?;
-    push_words(text, how)
+    match (one, other) {
+        (NmtState::Stopped, NmtState::Stopped)
+        | (NmtState::Operational, NmtState::Operational)
+        | (NmtState::PreOperational, NmtState::PreOperational) => true,
+        _ => false,
+    }
 }
 
 /// Appends the state that was commanded, where a byte of error control shows another one: `
@@ -107,8 +107,11 @@ pub(crate) fn push_shown(text: &mut String, known: KnownState, byte: u8) -> Resu
     let KnownState::Commanded(commanded) = known else {
         return Ok(());
     };
-    match state_at(byte) {
-        Some(shown) if shown != commanded => push_found(text, known),
-        _ => Ok(()),
+    let Some(shown) = state_at(byte) else {
+        return Ok(());
+    };
+    if same_state(commanded, shown) {
+        return Ok(());
     }
+    push_words(text, found_words(known))
 }

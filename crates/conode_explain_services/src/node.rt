@@ -1,9 +1,10 @@
 //! A node on an interface.
 
 ghost use Rattle.std.specs.Prelude.{◌≡◌, ◌≤◌, length};
-ghost use Rattle.conode_explain_services.specs.Nodes.{is_of, new_node};
+ghost use Rattle.conode_explain_services.specs.Nodes.{commanded, is_of, new_node};
 
 use crate::last::Last;
+use crate::nmt_states::state_commanded;
 use arrayvec::ArrayVec;
 
 /// A node on an interface.
@@ -36,5 +37,14 @@ impl Node {
         ensures { result ≡ is_of interface.now id self.now }
     {
         self.id == id && self.interface.as_slice() == interface
+    }
+
+    // Takes a command for all nodes of an interface.
+    pub(crate) fn take_command(&mut self, interface: &[u8], command: u8)
+        ensures { self.new ≡ commanded interface.now command self.old }
+    {
+        if self.interface.as_slice() == interface {
+            self.last.state = state_commanded(self.last.state, command);
+        }
     }
 }

@@ -1,8 +1,8 @@
 //! The nodes of a recording, with what their last frames had.
 
-ghost use Rattle.std.specs.Prelude.{◌≡◌, ◌<◌, ◌≤◌, [], length, OnOk, IfSome};
+ghost use Rattle.std.specs.Prelude.{◌≡◌, ◌<◌, ◌≤◌, [], length, map, OnOk, IfSome};
 ghost use Rattle.conode_explain_services.specs.Nodes.{
-  all_commanded,
+  commanded,
   is_emergency,
   is_error_control,
   is_error_control_id,
@@ -166,14 +166,12 @@ impl Nodes {
     }
 
     // Takes a command for all nodes of an interface that are kept.
-    #[tactic(auto, unfolding(crate::specs::Nodes::all_commanded))]
+    #[tactic(auto, using(crate::proofs::Changes::done_more, crate::proofs::Changes::all_done))]
     fn command_all(&mut self, interface: &[u8], command: u8)
-        ensures { self.new ≡ all_commanded self.old interface.now command }
+        ensures { self.new ≡ map (commanded interface.now command) self.old }
     {
         for node in self.nodes.iter_mut() {
-            if node.interface.as_slice() == interface {
-                node.last.state = state_commanded(node.last.state, command);
-            }
+            node.take_command(interface, command);
         }
     }
 

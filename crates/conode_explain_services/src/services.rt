@@ -14,7 +14,7 @@ use crate::emergencies::push_emergency;
 use crate::guardings::{is_answer, push_answer};
 use crate::last::Last;
 use crate::lss::{push_lss_answer, push_lss_request};
-use crate::nmt_states::{is_command, push_found, push_shown};
+use crate::nmt_states::{found_words, is_command, push_shown};
 use crate::nodes::{is_emergency, is_error_control, is_error_control_id};
 use crate::reserved::{LSS_ANSWER, LSS_REQUEST, is_reserved, reserved_words};
 use crate::texts::{push_of_node, push_words};
@@ -94,7 +94,7 @@ pub fn push_state(text: &mut String, last: Last, frame: &Frame) -> Result<(), Al
         if bytes[1] == 0 {
             return Ok(());
         }
-        return push_found(text, last.state);
+        return push_words(text, found_words(last.state));
     }
     if is_error_control(frame) {
         return push_shown(text, last.state, bytes[0]);

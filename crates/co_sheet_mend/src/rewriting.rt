@@ -1,7 +1,7 @@
 //! The text by which a data sheet that isn't accepted is read all the same.
 
 ghost use Rattle.std.specs.Prelude.{◌≡◌, ◌≤◌, length, option_map, IfOk};
-ghost use Rattle.co_sheet_mend.specs.ReadableTexts.{is_accepted, mended_in, readable, readable_view};
+ghost use Rattle.co_sheet_mend.specs.ReadableTexts.{is_accepted, mended_in, readable, rewritten, rewritten_view};
 
 use crate::mended::mended;
 use co_sheet::{FaultKind, GREATEST_SIZE, read};
@@ -10,11 +10,11 @@ use co_sheet_changes::AdaptFault;
 use std::alloc::{AllocError, Global};
 
 /// How often a text is mended at most.
-const ROUNDS: usize = 8;
+const ROUNDS: u8 = 8;
 
 /// A text that is accepted, in place of one that isn't.
 #[derive(Drop)]
-pub struct Readable {
+pub struct Rewritten {
     pub text: Vec<u8>,
     /// Whether something that was at fault is left out of it; else it is as `adapt` rewrites it.
     pub is_mended: bool,
@@ -34,10 +34,11 @@ fn is_accepted(alloc: Global, text: &[u8]) -> Result<bool, AllocError>
 // mends a text until it is accepted; `None` where it never is
 fn mended_in(alloc: Global, text: Vec<u8>) -> Result<Option<Vec<u8>>, AllocError>
     ensures { IfOk result (λ made. option_map (λ m. m.items) made
-        ≡ mended_in 8 text.entry.items) }
+        ≡ mended_in 8 text.items) }
 {
     let mut before = text;
-    for _ in 0..ROUNDS {
+    let mut rounds = ROUNDS;
+    while rounds > 0 {
         if before.len() > GREATEST_SIZE {
             return Ok(None);
         }
@@ -46,25 +47,26 @@ fn mended_in(alloc: Global, text: Vec<u8>) -> Result<Option<Vec<u8>>, AllocError
             return Ok(Some(after));
         }
         before = after;
+        rounds -= 1;
     }
     Ok(None)
 }
 
 // a text as `adapt` rewrites it, or mended
-fn rewritten(alloc: Global, text: &[u8]) -> Result<Option<Readable>, AllocError> {
-    let adapted = match adapt(alloc, text, b"") {
-        Ok(adapted) => adapted,
-        Err(AdaptFault::TooLarge) => return Ok(None),
-        Err(AdaptFault::Memory) => return Err(AllocError),
-    };
+#[tactic(auto, unfolding(crate::specs::ReadableTexts::rewritten))]
+fn rewrite(alloc: Global, text: &[u8]) -> Result<Option<Rewritten>, AdaptFault>
+    requires { length text.now ≤ 1048576 }
+    ensures { IfOk result (λ made. option_map rewritten_view made ≡ rewritten text.now) }
+{
+    let adapted = adapt(alloc, text, b"")?;
     if adapted.is_accepted {
-        return Ok(Some(Readable {
+        return Ok(Some(Rewritten {
             text: adapted.text,
             is_mended: false,
         }));
     }
     match mended_in(alloc, adapted.text)? {
-        Some(text) => Ok(Some(Readable {
+        Some(text) => Ok(Some(Rewritten {
             text,
             is_mended: true,
         })),
@@ -75,13 +77,13 @@ fn rewritten(alloc: Global, text: &[u8]) -> Result<Option<Readable>, AllocError>
 /// The text by which a data sheet (CiA 306) that isn't accepted is read all the same: as
 /// `co_sheet_adapt` rewrites it; where that isn't accepted, without the lines at fault, so that an
 /// entry at fault keeps its name, and one whose type can't be read has values that are bytes.
-/// `None`: the text is accepted as it is, or it can't be read so either. `Err`: out of memory.
-#[tactic(auto, unfolding(crate::specs::ReadableTexts::readable))]
-pub fn readable_text(alloc: Global, text: &[u8]) -> Result<Option<Readable>, AllocError>
-    ensures { IfOk result (λ made. option_map readable_view made ≡ readable text.now) }
+/// `None`: the text is accepted as it is, or it can't be read so either. `TooLarge`: what `adapt`
+/// would add has more than 1,048,576 bytes. `Memory`: out of memory.
+pub fn readable(alloc: Global, text: &[u8]) -> Result<Option<Rewritten>, AdaptFault>
+    ensures { IfOk result (λ made. option_map rewritten_view made ≡ readable text.now) }
 {
     if text.len() > GREATEST_SIZE || is_accepted(alloc, text)? {
         return Ok(None);
     }
-    rewritten(alloc, text)
+    rewrite(alloc, text)
 }
