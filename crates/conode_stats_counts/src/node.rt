@@ -35,8 +35,8 @@ pub struct Node {
     pub last: Option<Shown>,
     /// How many of its frames of error control are boot-ups.
     pub boot_ups: u64,
-    /// How many boot-ups are restarts without a command: the node sent another frame before, and
-    /// since its boot-up before no command came to reset it.
+    /// How many boot-ups are restarts without a command: the node sent a frame of error control
+    /// before, or answered an SDO request, and since its boot-up before no command came to reset it.
     pub restarts: u64,
     /// The stamp of the last restart without a command, in microseconds; 0 if there is none.
     pub last_restart: u64,
@@ -54,7 +54,7 @@ pub struct Node {
 
 impl Node {
     /// A node that sent nothing.
-    #[tactic(auto, unfolding(crate::specs::NodeCounts::node_of, crate::specs::Heartbeats::pending, crate::specs::Heartbeats::longest_answer, crate::specs::States::newest, crate::specs::States::boot_ups, crate::specs::States::restarts, crate::specs::States::last_restart, crate::specs::States::is_commanded))]
+    #[tactic(auto, unfolding(crate::specs::NodeCounts::node_of, crate::specs::Heartbeats::pending, crate::specs::Heartbeats::longest_answer, crate::specs::States::newest, crate::specs::States::boot_ups, crate::specs::Restarts::restarts, crate::specs::Restarts::last_restart, crate::specs::States::is_commanded))]
     pub(crate) fn new() -> Node
         ensures { result ≡ node_of [] }
     {
@@ -83,7 +83,8 @@ impl Node {
     fn boot(&mut self, micros: u64)
         ensures { self.new ≡ booted micros self.old }
     {
-        if self.last.is_some() && !self.is_commanded {
+        let is_known = self.last.is_some() || self.longest_answer.is_some();
+        if is_known && !self.is_commanded {
             self.restarts = counted(self.restarts, 1);
             self.last_restart = micros;
         }
