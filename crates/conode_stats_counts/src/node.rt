@@ -1,6 +1,6 @@
 //! What a node shows, counted.
 
-ghost use Rattle.std.specs.Prelude.{◌≡◌, [], ◌+◌, ◌-◌};
+ghost use Rattle.std.specs.Prelude.{◌≡◌, []};
 ghost use Rattle.conode_stats_counts.specs.NodeCounts.{
   booted,
   node_commanded,
@@ -9,7 +9,6 @@ ghost use Rattle.conode_stats_counts.specs.NodeCounts.{
   node_timed,
   node_with,
 };
-ghost use Rattle.conode_stats_counts.specs.States.{times_since};
 
 use crate::heartbeats::Heartbeats;
 use crate::sdo_frame::{SdoFrame, longer};
@@ -93,24 +92,15 @@ impl Node {
         self.pending = None;
     }
 
-    // adds the time since the frame before
-    fn pass(&mut self, micros: u64)
-        ensures { self.new ≡ record self.old {
-          times = times_since self.old.last micros self.old.times;
-        } }
-    {
-        if let Some(last) = self.last {
-            self.times
-                .add(last.state, micros.saturating_sub(last.micros));
-        }
-    }
-
     /// Counts a frame of error control.
     #[tactic(auto, unfolding(crate::specs::NodeCounts::node_with))]
     pub(crate) fn show(&mut self, state: NmtState, micros: u64)
         ensures { self.new ≡ node_with state micros self.old }
     {
-        self.pass(micros);
+        if let Some(last) = self.last {
+            self.times
+                .add(last.state, micros.saturating_sub(last.micros));
+        }
         let boots = state.is_boot_up();
         if boots {
             self.boot(micros);
