@@ -60,6 +60,27 @@ bad_frame : form_of (codes "  can0  605   [9]") ≡ Unknown
 unfolding logs_on_lines
 bad_frame = refl
 
+-- after the byte order mark of an editor
+abbrev marked : List ℕ → List ℕ
+marked line = 0xEF ∷ 0xBB ∷ 0xBF ∷ line
+
+marked_trc : form_of (marked (codes ";$FILEVERSION=1.3")) ≡ Trc version_1_3
+unfolding logs_on_lines
+marked_trc = refl
+
+marked_asc : form_of (marked (codes "date Tue Nov 14 22:13:20 2023")) ≡ Asc asc_of_old
+unfolding logs_on_lines
+marked_asc = refl
+
+marked_screen : form_of (marked (codes "  can0  605   [1]  05")) ≡ Screen
+unfolding logs_on_lines
+marked_screen = refl
+
+-- a trace has no mark
+marked_candump : form_of (marked (codes "(1700000000.000000) can0 605#05")) ≡ Unknown
+unfolding logs_on_lines
+marked_candump = refl
+
 nothing : form_of (codes "") ≡ Unknown
 unfolding logs_on_lines
 nothing = refl
@@ -73,6 +94,14 @@ as_it_is = refl
 empty_as_it_is : says (log (Unknown)) (codes "") ≡ (log Unknown, Ok AsItIs)
 unfolding logs_on_lines
 empty_as_it_is = refl
+
+marked_comment : says (log Unknown) (marked (codes "; a comment")) ≡ (log Unknown, Ok Skipped)
+unfolding logs_on_lines
+marked_comment = refl
+
+marked_version : says (log (Trc version_1_1)) (marked (codes ";$FILEVERSION=1.3")) ≡ (log (Trc version_1_3), Ok Skipped)
+unfolding logs_on_lines
+marked_version = refl
 
 blanks : says (log (Unknown)) (codes "  ") ≡ (log Unknown, Ok Skipped)
 unfolding logs_on_lines

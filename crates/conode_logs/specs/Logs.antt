@@ -1,5 +1,6 @@
 -- What a line of a log says, and what is known of the log after it.
-use Rattle.std.specs.Prelude.{ℕ, ◌==◌, Bool, true, false, ◌||◌, if◌then◌else◌, List, slice_index, Option, Some, None, Result, Ok, Err, codes, bytes_eq}
+use Rattle.std.specs.Prelude.{ℕ, ◌==◌, nat_eq, Bool, true, false, ◌||◌, if◌then◌else◌, List, [], ◌∷◌, drop, slice_index, Option, Some, None, Result, Ok, Err, codes, bytes_eq}
+use Rattle.std.specs.List.{starts_with}
 use Rattle.std.specs.Option.{option_map_or}
 use Rattle.conode_record.specs.declared.bad_line.BadLine.{BadLine}
 use Rattle.conode_record.specs.declared.line.RecordLine.{RecordLine}
@@ -24,6 +25,10 @@ use Rattle.conode_record.specs.Words.{is_over, word_at}
 abbrev pub asc_of_old : AscForm
 asc_of_old = record { base = Hexadecimal; relative = false }
 
+-- a line without the byte order mark that some editors put in front of the first one
+abbrev pub without_mark : List ℕ → List ℕ
+without_mark line = if starts_with nat_eq line (0xEF ∷ 0xBB ∷ 0xBF ∷ []) then drop 3 line else line
+
 -- ---- which form a log has, by a line of it
 
 -- a frame as `candump -L` writes it
@@ -47,10 +52,11 @@ begins_asc line =
 -- the form that this line shows
 unfoldable pub form_of : List ℕ → Form
 form_of line =
-    if is_version line then option_map_or (λ columns. Trc columns) (version_of line) Unknown
-    else (if begins_asc line then Asc asc_of_old
+    let text = without_mark line in
+    if is_version text then option_map_or (λ columns. Trc columns) (version_of text) Unknown
+    else (if begins_asc text then Asc asc_of_old
     else (if says_frame (line_in line) then Candump
-    else (if shows_frame (screen_line false 0 line).1 then Screen else Unknown)))
+    else (if shows_frame (screen_line false 0 text).1 then Screen else Unknown)))
 
 -- ---- what a line says
 
@@ -60,11 +66,12 @@ abbrev pub record_line_of : Result RecordLine BadLine → Result LogLine BadLogL
 record_line_of (Ok says) = Ok AsItIs
 record_line_of (Err wrong) = Err (of_record wrong)
 
--- a line that leaves the form unknown
+-- a line that leaves the form unknown; one with a byte order mark is no line of `candump -L`
 unfoldable pub unknown_line : List ℕ → Result LogLine BadLogLine
 unknown_line line =
-    if is_version line then Err bad.Version
-    else (if is_skipped line then Ok AsItIs else (if is_over line then Ok Skipped else Err bad.Unknown))
+    let text = without_mark line in
+    if is_version text then Err bad.Version
+    else (if is_skipped line then Ok AsItIs else (if is_over text || is_skipped text then Ok Skipped else Err bad.Unknown))
 
 -- a log of this form at this time
 abbrev pub at_time : Form → ℕ × Result LogLine BadLogLine → Log × Result LogLine BadLogLine
@@ -74,11 +81,11 @@ at_time form says = (record { form = form; clock = says.0 }, says.1)
 unfoldable pub says_by : Form → ℕ → List ℕ → Log × Result LogLine BadLogLine
 says_by Unknown clock line = (record { form = Unknown; clock = clock }, unknown_line line)
 says_by Candump clock line = (record { form = Candump; clock = clock }, record_line_of (line_in line))
-says_by Screen clock line = at_time Screen (screen_line false clock line)
-says_by Deltas clock line = at_time Deltas (screen_line true clock line)
+says_by Screen clock line = at_time Screen (screen_line false clock (without_mark line))
+says_by Deltas clock line = at_time Deltas (screen_line true clock (without_mark line))
 says_by (Trc columns) clock line =
-    let says = trc_line columns line in (record { form = Trc says.0; clock = clock }, says.1)
-says_by (Asc form) clock line = let says = asc_line form clock line in at_time (Asc says.0) says.1
+    let says = trc_line columns (without_mark line) in (record { form = Trc says.0; clock = clock }, says.1)
+says_by (Asc form) clock line = let says = asc_line form clock (without_mark line) in at_time (Asc says.0) says.1
 
 -- the form of a log, or the one that this line shows if it isn't known yet
 abbrev pub form_at : Form → List ℕ → Form

@@ -10,6 +10,7 @@ ghost use Rattle.conode_logs.specs.Logs.{
   form_of,
   record_line_of,
   unknown_line,
+  without_mark,
   says_by,
   form_at,
   says,
@@ -63,6 +64,16 @@ impl AscForm {
     }
 }
 
+// the line without a byte order mark at the front
+fn without_mark(line: &[u8]) -> &[u8]
+    ensures { result.now ≡ without_mark line.now }
+{
+    match line {
+        [0xEF, 0xBB, 0xBF, text @ ..] => text,
+        _ => line,
+    }
+}
+
 // a frame as `candump -L` writes it
 fn says_frame(line: &[u8]) -> bool
     ensures { result ≡ says_frame (line_in line.now) }
@@ -107,17 +118,18 @@ impl Form {
     fn of_line(line: &[u8]) -> Form
         ensures { result ≡ form_of line.now }
     {
-        if is_version(line) {
-            return match Columns::of_version(line) {
+        let text = without_mark(line);
+        if is_version(text) {
+            return match Columns::of_version(text) {
                 Some(columns) => Form::Trc(columns),
                 None => Form::Unknown,
             };
         }
-        if begins_asc(line) {
+        if begins_asc(text) {
             Form::Asc(AscForm::of_old())
         } else if says_frame(line) {
             Form::Candump
-        } else if shows_frame(line) {
+        } else if shows_frame(text) {
             Form::Screen
         } else {
             Form::Unknown
@@ -156,11 +168,12 @@ fn is_skipped(line: &[u8]) -> bool
 fn unknown_line(line: &[u8]) -> Result<LogLine<'_>, BadLogLine>
     ensures { result ≡ unknown_line line.now }
 {
-    if is_version(line) {
+    let text = without_mark(line);
+    if is_version(text) {
         Err(BadLogLine::Version)
     } else if is_skipped(line) {
         Ok(LogLine::AsItIs)
-    } else if is_over(line) {
+    } else if is_over(text) || is_skipped(text) {
         Ok(LogLine::Skipped)
     } else {
         Err(BadLogLine::Unknown)
@@ -176,20 +189,20 @@ fn says_by(form: Form, clock: u64, line: &[u8]) -> (Log, Result<LogLine<'_>, Bad
         Form::Unknown => (Log { form, clock }, unknown_line(line)),
         Form::Candump => (Log { form, clock }, record_line(line)),
         Form::Screen => {
-            let (clock, says) = screen_line(false, clock, line);
+            let (clock, says) = screen_line(false, clock, without_mark(line));
             (Log { form, clock }, says)
         }
         Form::Deltas => {
-            let (clock, says) = screen_line(true, clock, line);
+            let (clock, says) = screen_line(true, clock, without_mark(line));
             (Log { form, clock }, says)
         }
         Form::Trc(columns) => {
-            let (columns, says) = trc_line(columns, line);
+            let (columns, says) = trc_line(columns, without_mark(line));
             let form = Form::Trc(columns);
             (Log { form, clock }, says)
         }
         Form::Asc(asc) => {
-            let (asc, (clock, says)) = asc_line(asc, clock, line);
+            let (asc, (clock, says)) = asc_line(asc, clock, without_mark(line));
             let form = Form::Asc(asc);
             (Log { form, clock }, says)
         }

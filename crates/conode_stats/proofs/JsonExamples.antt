@@ -9,7 +9,7 @@ use Rattle.conode_explain_transfers.specs.declared.ended.Ended.{Ended}
 use Rattle.conode_stats_counts.specs.declared.failure.FailureRow.{FailureRow}
 use Rattle.conode_stats_text.specs.declared.finding.Kind.TheVariants.{Failures, Emergencies}
 use Rattle.conode_stats_text.specs.Paces.{median}
-use Rattle.conode_stats_text.proofs.NodeExamples.{heartbeats, no_heartbeats, node, server}
+use Rattle.conode_stats_text.proofs.NodeExamples.{ended_at, heartbeats, no_heartbeats, node, server}
 use Rattle.conode_stats.specs.FailureTokens.{counted_tokens, failure_tokens, key_members, open_tokens, open_tokens_in}
 use Rattle.conode_stats.specs.NodeTokens.{node_end, node_front, node_tokens, tokens_in, wait_members}
 
@@ -48,23 +48,23 @@ of_no_heartbeats : wait_members no_heartbeats ≡ key (codes "lateHeartbeats") �
 unfolding wait_members number_member median digits
 of_no_heartbeats = refl
 
-all_wrong : node_end 41000000 None heartbeats (Some 1200)
+all_wrong : node_end (ended_at 41000000) None heartbeats (Some 1200)
     ≡ key (codes "lostGap") ∷ number (codes "800000") ∷ key (codes "silentSince") ∷ number (codes "40000000")
     ∷ key (codes "longestAnswer") ∷ number (codes "1200") ∷ end_object ∷ []
 unfolding node_end number_member median digits
 all_wrong = refl
 
 -- by a sheet's 600 ms no wait is too long; 150 ms after the last heartbeat, by the recording, it isn't silent
-none_wrong : node_end 40150000 (Some 600) heartbeats None ≡ end_object ∷ []
+none_wrong : node_end (ended_at 40150000) (Some 600) heartbeats None ≡ end_object ∷ []
 unfolding node_end median
 none_wrong = refl
 
-object : tokens_in 41000000 None 6 (node 2)
-    ≡ node_front 6 (node 2) ++ wait_members heartbeats ++ node_end 41000000 None heartbeats (Some 1200)
+object : tokens_in (ended_at 41000000) None 6 (node 2)
+    ≡ node_front 6 (node 2) ++ wait_members heartbeats ++ node_end (ended_at 41000000) None heartbeats (Some 1200)
 unfolding node_tokens
 object = refl
 
-no_object : tokens_in 41000000 None 6 (server None) ≡ []
+no_object : tokens_in (ended_at 41000000) None 6 (server None) ≡ []
 no_object = refl
 
 -- ---- SDO transfers and EMCY messages
@@ -96,10 +96,10 @@ module _ (transfer : Ended) where
   abbrev waiting : Ended
   waiting = record transfer { key = record { index = 0x1018; sub = 1 }; newest = 2000000 }
 
-  no_waiting_object : open_tokens_in 7 3000000 (Some waiting) ≡ []
+  no_waiting_object : open_tokens_in 7 (ended_at 3000000) (Some waiting) ≡ []
   no_waiting_object = refl
 
-  waiting_object : open_tokens_in 7 3000001 (Some waiting)
+  waiting_object : open_tokens_in 7 (ended_at 3000001) (Some waiting)
       ≡ begin_object ∷ key (codes "node") ∷ number (codes "7") ∷ key (codes "index") ∷ number (codes "4120")
       ∷ key (codes "subIndex") ∷ number (codes "1") ∷ key (codes "since") ∷ number (codes "2000000") ∷ end_object ∷ []
   unfolding open_tokens key_members number_member digits

@@ -6,6 +6,7 @@ use Rattle.co_text.specs.Printed.{digits_text}
 use Rattle.co_value.specs.declared.key.Key.{Key}
 use Rattle.conode_explain_transfers.specs.declared.ended.Ended.{Ended}
 use Rattle.conode_stats_counts.specs.declared.failure.FailureRow.{FailureRow}
+use Rattle.conode_stats_counts.specs.declared.tally.Tally.{Tally}
 use Rattle.conode_stats_text.specs.declared.finding.Kind.{Kind}
 use Rattle.conode_stats_text.specs.declared.finding.Kind.TheVariants.{Emergencies}
 use Rattle.conode_stats_text.specs.FailureLines.{is_waiting}
@@ -46,6 +47,6 @@ open_tokens node transfer =
     ++ number_of (codes "since") transfer.newest ++ end_object ∷ []
 
 -- nothing of one with a frame in the last second
-abbrev pub open_tokens_in : ℕ → ℕ → Option Ended → List Token
-open_tokens_in node end None = []
-open_tokens_in node end (Some transfer) = if is_waiting end transfer then open_tokens node transfer else []
+abbrev pub open_tokens_in : ℕ → Tally → Option Ended → List Token
+open_tokens_in node all None = []
+open_tokens_in node all (Some transfer) = if is_waiting all transfer then open_tokens node transfer else []

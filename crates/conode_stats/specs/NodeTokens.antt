@@ -5,6 +5,7 @@ use Rattle.conode_json.specs.Members.{object_begin, text_member}
 use Rattle.conode_stats_counts.specs.declared.heartbeats.Heartbeats.{Heartbeats}
 use Rattle.conode_stats_counts.specs.declared.node.Node.{Node}
 use Rattle.conode_stats_counts.specs.declared.node.Shown.{Shown}
+use Rattle.conode_stats_counts.specs.declared.tally.Tally.{Tally}
 use Rattle.conode_stats_text.specs.NodeLines.{is_shown, state_word}
 use Rattle.conode_stats_text.specs.Paces.{lost_gap, median, pace_of, silent_since, usual_pace}
 use Rattle.conode_stats.specs.StatsTokens.{joined, number_in, number_of}
@@ -47,19 +48,19 @@ wait_members heartbeats =
     ∷ number_in (codes "longestLateGap") (late_gap_in heartbeats) ∷ number_in (codes "longestGap") (gap_in heartbeats)
     ∷ number_in (codes "medianGap") (median heartbeats.first) ∷ [])
 
--- what the page says of them, if the bus's last frame has this stamp, and a sheet this time; then its
--- longest answer, and the end
-unfoldable pub node_end : ℕ → Option ℕ → Heartbeats → Option ℕ → List Token
-node_end end sheet heartbeats answer =
+-- what the page says of them, by the tally of the bus, and the time of a sheet; then its longest answer,
+-- and the end
+unfoldable pub node_end : Tally → Option ℕ → Heartbeats → Option ℕ → List Token
+node_end all sheet heartbeats answer =
     joined (number_in (codes "lostGap") (lost_gap (usual_pace sheet heartbeats) heartbeats.longest)
-    ∷ number_in (codes "silentSince") (silent_since end (pace_of sheet heartbeats) heartbeats.since)
+    ∷ number_in (codes "silentSince") (silent_since all (pace_of sheet heartbeats) heartbeats.since)
     ∷ number_in (codes "longestAnswer") answer ∷ (end_object ∷ []) ∷ [])
 
 -- a node
-unfoldable pub node_tokens : ℕ → Option ℕ → ℕ → Node → List Token
-node_tokens end sheet number node =
-    node_front number node ++ wait_members node.heartbeats ++ node_end end sheet node.heartbeats node.longest_answer
+unfoldable pub node_tokens : Tally → Option ℕ → ℕ → Node → List Token
+node_tokens all sheet number node =
+    node_front number node ++ wait_members node.heartbeats ++ node_end all sheet node.heartbeats node.longest_answer
 
 -- nothing of a node without a line
-abbrev pub tokens_in : ℕ → Option ℕ → ℕ → Node → List Token
-tokens_in end sheet number node = if is_shown node then node_tokens end sheet number node else []
+abbrev pub tokens_in : Tally → Option ℕ → ℕ → Node → List Token
+tokens_in all sheet number node = if is_shown node then node_tokens all sheet number node else []

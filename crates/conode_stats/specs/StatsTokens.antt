@@ -1,11 +1,12 @@
 -- The statistics as one JSON document (RFC 8259). Times are in microseconds.
-use Rattle.std.specs.Prelude.{ℕ, ◌==◌, if◌then◌else◌, List, [], ◌∷◌, ◌++◌, codes, pos, Option, Some, None}
+use Rattle.std.specs.Prelude.{ℕ, List, [], ◌∷◌, ◌++◌, codes, pos, Option, Some, None}
 use Rattle.std.specs.List.{flat_map}
 use Rattle.json.specs.Token.{Token, begin_object, end_object}
 use Rattle.conode_json.specs.Members.{number_member, text_member}
 use Rattle.conode_stats_counts.specs.declared.load.Load.{Load}
 use Rattle.conode_stats_counts.specs.declared.row.Row.{Row}
 use Rattle.conode_stats_counts.specs.declared.tally.Tally.{Tally}
+use Rattle.conode_stats_text.specs.Figures.{gap_of}
 use Rattle.conode_stats_text.specs.StatsLines.{id_text}
 
 abbrev pub number_of : List ℕ → ℕ → List Token
@@ -16,10 +17,6 @@ abbrev pub number_in : List ℕ → Option ℕ → List Token
 number_in name None = []
 number_in name (Some number) = number_of name number
 
--- a gap, if there are any
-abbrev pub own_gap : Tally → ℕ → Option ℕ
-own_gap tally gap = if tally.gaps == 0 then None else Some gap
-
 -- members one after another
 abbrev pub joined : List (List Token) → List Token
 joined members = flat_map (λ tokens. tokens) members
@@ -29,8 +26,8 @@ tally_members tally =
     joined (number_of (codes "frames") tally.frames ∷ number_of (codes "first") tally.first
     ∷ number_of (codes "last") tally.last ∷ number_of (codes "stepsBack") tally.steps_back
     ∷ number_of (codes "gaps") tally.gaps ∷ number_of (codes "sumOfGaps") tally.total
-    ∷ number_in (codes "smallestGap") (own_gap tally tally.smallest)
-    ∷ number_in (codes "greatestGap") (own_gap tally tally.greatest) ∷ [])
+    ∷ number_in (codes "smallestGap") (gap_of tally tally.smallest)
+    ∷ number_in (codes "greatestGap") (gap_of tally tally.greatest) ∷ [])
 
 -- an identifier
 unfoldable pub row_tokens : Row → List Token

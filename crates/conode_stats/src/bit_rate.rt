@@ -2,7 +2,7 @@
 
 ghost use Rattle.std.specs.Prelude.{◌≤◌, IfSome};
 
-use co_sheet_text::{same_name, trim};
+use co_sheet_text::{same_name, trim, unsigned_number};
 use co_text::{decimal_in, split_line};
 
 /// The greatest number that a word may have.
@@ -59,11 +59,14 @@ fn bit_rate_at(line: &[u8]) -> Option<u32>
     if !same_name(trim(&line[..place]), b"Baudrate") {
         return None;
     }
-    rate_in(trim(&line[place + 1..]), 1000)
+    match unsigned_number(trim(&line[place + 1..])) {
+        Ok(number) if 1 <= number && number <= 1000 => Some(1000 * number as u32),
+        _ => None,
+    }
 }
 
 /// The bit rate of a device configuration file, in bit/s: Baudrate of DeviceComissioning, 1 to
-/// 1,000 kbit/s.
+/// 1,000 kbit/s, in decimal or hexadecimal digits as each number of a sheet.
 pub(crate) fn bit_rate_in(text: &[u8]) -> Option<u32>
     ensures { IfSome result (λ rate. rate ≤ 1000000) }
 {

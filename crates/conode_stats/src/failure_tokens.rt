@@ -15,7 +15,7 @@ use crate::parts::{Part, put_parts};
 use co_text::{push_u16, push_u32};
 use conode_explain_transfers::Ended;
 use conode_json::JsonWriter;
-use conode_stats_counts::{Bus, FailureRow};
+use conode_stats_counts::{Bus, FailureRow, Tally};
 use conode_stats_text::{Kind, is_waiting};
 use std::alloc::{AllocError, Global};
 
@@ -169,14 +169,14 @@ fn put_open_in(
     alloc: Global,
     writer: &mut JsonWriter,
     node: u8,
-    end: u64,
+    all: &Tally,
     transfer: &Option<Ended>,
 ) -> Result<(), AllocError>
     ensures { OnOk result (writer.new
-        ≡ writer.old ++ open_tokens_in node end transfer.now) }
+        ≡ writer.old ++ open_tokens_in node all.now transfer.now) }
 {
     match transfer {
-        Some(transfer) if is_waiting(end, transfer) => put_parts(
+        Some(transfer) if is_waiting(all, transfer) => put_parts(
             alloc,
             writer,
             &[
@@ -194,10 +194,10 @@ fn put_open_in(
 
 // the SDO transfers that are open on a bus
 fn put_all_open(alloc: Global, writer: &mut JsonWriter, bus: &Bus) -> Result<(), AllocError> {
-    let end = bus.all().last;
+    let all = bus.all();
     for track in bus.transfers().channels() {
-        let transfer = track.channel.unfinished(end);
-        put_open_in(alloc, writer, track.node, end, &transfer)?;
+        let transfer = track.channel.unfinished(all.last);
+        put_open_in(alloc, writer, track.node, &all, &transfer)?;
     }
     Ok(())
 }

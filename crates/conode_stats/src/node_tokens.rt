@@ -17,7 +17,7 @@ ghost use Rattle.conode_stats.specs.Parts.{part_tokens};
 
 use crate::parts::{Part, put_parts};
 use conode_json::JsonWriter;
-use conode_stats_counts::{Bus, Heartbeats, Node, Shown};
+use conode_stats_counts::{Bus, Heartbeats, Node, Shown, Tally};
 use conode_stats_text::{
     Pace, SheetTime, is_shown, lost_gap, median, sheet_time, silent_since, state_word,
 };
@@ -141,16 +141,16 @@ fn put_waits(
 fn put_end(
     alloc: Global,
     writer: &mut JsonWriter,
-    end: u64,
+    all: &Tally,
     sheet: Option<u16>,
     heartbeats: &Heartbeats,
     answer: Option<u64>,
 ) -> Result<(), AllocError>
     ensures { OnOk result (writer.new
-        ≡ writer.old ++ node_end end sheet heartbeats.now answer) }
+        ≡ writer.old ++ node_end all.now sheet heartbeats.now answer) }
 {
     let lost = lost_gap(Pace::usual(sheet, heartbeats), heartbeats.longest);
-    let silent = silent_since(end, Pace::of(sheet, heartbeats), heartbeats.since);
+    let silent = silent_since(all, Pace::of(sheet, heartbeats), heartbeats.since);
     put_parts(
         alloc,
         writer,
@@ -167,13 +167,13 @@ fn put_end(
 fn put_node_in(
     alloc: Global,
     writer: &mut JsonWriter,
-    end: u64,
+    all: &Tally,
     sheet: Option<u16>,
     number: u32,
     node: &Node,
 ) -> Result<(), AllocError>
     ensures { OnOk result (writer.new
-        ≡ writer.old ++ tokens_in end sheet number node.now) }
+        ≡ writer.old ++ tokens_in all.now sheet number node.now) }
 {
     if !is_shown(node) {
         return Ok(());
@@ -183,7 +183,7 @@ fn put_node_in(
     put_end(
         alloc,
         writer,
-        end,
+        all,
         sheet,
         &node.heartbeats,
         node.longest_answer,
@@ -198,11 +198,11 @@ pub(crate) fn put_nodes(
     bus: &Bus,
 ) -> Result<(), AllocError> {
     writer.begin_array_of("nodes")?;
-    let end = bus.all().last;
+    let all = bus.all();
     for number in 1..128u8 {
         if let Some(node) = bus.nodes().get(usize::from(number)) {
             let sheet = sheet_time(sheets, bus.interface(), number);
-            put_node_in(alloc, writer, end, sheet, u32::from(number), node)?;
+            put_node_in(alloc, writer, &all, sheet, u32::from(number), node)?;
         }
     }
     writer.end_array()

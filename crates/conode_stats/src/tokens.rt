@@ -4,7 +4,7 @@
 ghost use Rattle.std.specs.Prelude.{◌≡◌, ◌++◌, ◌∷◌, [], OnOk};
 ghost use Rattle.json.specs.Token.{begin_object};
 ghost use Rattle.conode_json.specs.Members.{text_member};
-ghost use Rattle.conode_stats.specs.StatsTokens.{load_members, own_gap, row_tokens, tally_members};
+ghost use Rattle.conode_stats.specs.StatsTokens.{load_members, row_tokens, tally_members};
 
 use crate::failure_tokens::put_failures;
 use crate::node_tokens::put_nodes;
@@ -12,15 +12,8 @@ use crate::parts::{Part, put_parts};
 use conode_explain_text::push_name;
 use conode_json::JsonWriter;
 use conode_stats_counts::{Bus, Load, Row, Tally};
-use conode_stats_text::{Page, SheetTime, push_id, sorted_rows};
+use conode_stats_text::{Page, SheetTime, gap_of, push_id, sorted_rows};
 use std::alloc::{AllocError, Global};
-
-// a gap, if there are any
-fn own_gap(tally: &Tally, gap: u64) -> Option<u64>
-    ensures { result ≡ own_gap tally.now gap }
-{
-    if tally.gaps == 0 { None } else { Some(gap) }
-}
 
 // the beginning of an object: what is counted, and the tally
 #[tactic(auto, unfolding(crate::specs::StatsTokens::tally_members))]
@@ -46,8 +39,8 @@ fn put_tally<'p>(
             Part::Number("stepsBack", tally.steps_back),
             Part::Number("gaps", tally.gaps),
             Part::Number("sumOfGaps", tally.total),
-            Part::NumberIf("smallestGap", own_gap(tally, tally.smallest)),
-            Part::NumberIf("greatestGap", own_gap(tally, tally.greatest)),
+            Part::NumberIf("smallestGap", gap_of(tally, tally.smallest)),
+            Part::NumberIf("greatestGap", gap_of(tally, tally.greatest)),
         ],
     )
 }

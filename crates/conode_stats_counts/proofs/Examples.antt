@@ -4,9 +4,10 @@ use Rattle.std.specs.Prelude.{◌+◌, ◌-◌, ◌*◌, ◌^◌, codes}
 use Rattle.conode_record.specs.declared.content.Content.TheVariants.{Data, Remote, Fd}
 use Rattle.conode_record.specs.declared.fields.Identifier.TheVariants.{Base, Extended, Error}
 use Rattle.conode_stats_counts.specs.Bits.{bits_of, crc_of, crc_with, data_bits, frame_bits, most_bits, stuff_bits, stuffed_from}
-use Rattle.conode_stats_counts.specs.Gaps.{gaps, greatest, oldest, smallest, steps_back}
+use Rattle.conode_stats_counts.specs.Gaps.{gaps, greatest, oldest, smallest, step_from, step_to, steps_back}
 use Rattle.conode_stats_counts.specs.Sizes.{size_of}
-use Rattle.conode_stats_counts.specs.Tallies.{tally_of}
+use Rattle.conode_stats_counts.specs.declared.tally.Tally.{Tally}
+use Rattle.conode_stats_counts.specs.Tallies.{elapsed, tally_of}
 
 -- ---- the CRC: the check value of CRC-15/CAN in the catalogue of parametrised CRC algorithms
 
@@ -87,14 +88,45 @@ most_of_extended = refl
 
 -- ---- stamps, the newest first
 
-stepping : tally_of (40 ∷ 10 ∷ 30 ∷ 20 ∷ []) ≡ record { first = 20; last = 40; frames = 4; steps_back = 1; gaps = 2; total = 40; smallest = 10; greatest = 30 }
-unfolding tally_of gaps oldest steps_back smallest greatest
+stepping : tally_of (40 ∷ 10 ∷ 30 ∷ 20 ∷ []) ≡ record { first = 20; last = 40; frames = 4; steps_back = 1; step_from = 30; step_to = 10; gaps = 2; total = 40; smallest = 10; greatest = 30 }
+unfolding tally_of gaps oldest step_from step_to steps_back smallest greatest
 stepping = refl
 
-alike : tally_of (20 ∷ 20 ∷ []) ≡ record { first = 20; last = 20; frames = 2; steps_back = 0; gaps = 1; total = 0; smallest = 0; greatest = 0 }
-unfolding tally_of gaps oldest steps_back smallest greatest
+alike : tally_of (20 ∷ 20 ∷ []) ≡ record { first = 20; last = 20; frames = 2; steps_back = 0; step_from = 0; step_to = 0; gaps = 1; total = 0; smallest = 0; greatest = 0 }
+unfolding tally_of gaps oldest step_from step_to steps_back smallest greatest
 alike = refl
 
-single : tally_of (20 ∷ []) ≡ record { first = 20; last = 20; frames = 1; steps_back = 0; gaps = 0; total = 0; smallest = 2 ^ 64 - 1; greatest = 0 }
-unfolding tally_of gaps oldest steps_back smallest greatest
+single : tally_of (20 ∷ []) ≡ record { first = 20; last = 20; frames = 1; steps_back = 0; step_from = 0; step_to = 0; gaps = 0; total = 0; smallest = 2 ^ 64 - 1; greatest = 0 }
+unfolding tally_of gaps oldest step_from step_to steps_back smallest greatest
 single = refl
+
+-- ---- the time since a stamp
+
+-- stamps from 1000 to 5000, set back to 200, and up to 700
+abbrev set_back : Tally
+set_back = record {
+  first = 1000;
+  last = 700;
+  frames = 90;
+  steps_back = 1;
+  step_from = 5000;
+  step_to = 200;
+  gaps = 88;
+  total = 4500;
+  smallest = 1;
+  greatest = 99;
+}
+
+-- up to 5000, and from 200 on
+since_before : elapsed set_back 4000 ≡ 1500
+since_before = refl
+
+since_after : elapsed set_back 300 ≡ 400
+since_after = refl
+
+since_the_last : elapsed set_back 700 ≡ 0
+since_the_last = refl
+
+-- the first stamp above the last one
+since_above : elapsed set_back 701 ≡ 4799
+since_above = refl

@@ -1,6 +1,6 @@
 -- One event more of a node, as it is counted, is one event more by definition.
 use Rattle.std.proofs.Common.{ℕ, Bool, false, List, ◌∷◌, ◌≡◌, ◌∙◌, ◌+◌, ◌-◌, Option, Some, None, refl, ap, arith}
-use Rattle.std.specs.Prelude.{is_some, not, ◌&&◌, if◌then◌else◌}
+use Rattle.std.specs.Prelude.{is_some, not, ◌&&◌, ◌||◌, if◌then◌else◌}
 use Rattle.co_text.proofs.Tests.{by_test}
 use Rattle.conode_explain_transfers.specs.declared.kinds.Direction.{Direction}
 use Rattle.conode_stats_counts.specs.declared.node.Node.{Node}
@@ -13,7 +13,8 @@ use Rattle.conode_stats_counts.specs.declared.sdo_frame.SdoFrame.{SdoFrame}
 use Rattle.conode_stats_counts.specs.Gaps.{counted}
 use Rattle.conode_stats_counts.specs.Heartbeats.{heartbeats_of, longest_answer, pending}
 use Rattle.conode_stats_counts.specs.NodeCounts.{booted_if, node_commanded, node_exchanged, node_of, node_timed, node_with}
-use Rattle.conode_stats_counts.specs.States.{NodeEvent, Commanded, Sent, Exchanged, Timed, boot_ups, gap_if, is_commanded, last_restart, newest, restarts, same_state, time_in, time_since, times_of, times_since, times_with}
+use Rattle.conode_stats_counts.specs.Restarts.{last_restart, restarts}
+use Rattle.conode_stats_counts.specs.States.{NodeEvent, Commanded, Sent, Exchanged, Timed, boot_ups, gap_if, is_commanded, newest, same_state, time_in, time_since, times_of, times_since, times_with}
 use Rattle.conode_stats_counts.proofs.Beaten as beaten
 use Rattle.conode_stats_counts.proofs.Tallied.{counted_more}
 
@@ -101,8 +102,8 @@ module _ (state : NmtState) (micros : ℕ) (last : Option Shown) (b r l : ℕ) (
   after boots = record {
     last = Some (record { state = state; micros = micros });
     boot_ups = counted ((if boots then 1 else 0) + b);
-    restarts = counted ((if boots && (is_some last && not asked) then 1 else 0) + r);
-    last_restart = if boots && (is_some last && not asked) then micros else l;
+    restarts = counted ((if boots && ((is_some last || is_some a) && not asked) then 1 else 0) + r);
+    last_restart = if boots && ((is_some last || is_some a) && not asked) then micros else l;
     is_commanded = if boots then false else asked;
     times = more;
     heartbeats = next;
@@ -112,7 +113,7 @@ module _ (state : NmtState) (micros : ℕ) (last : Option Shown) (b r l : ℕ) (
 
   parts : with_parts state micros last b r l asked t h p a next ≡ after (same_state state BootUp)
   parts = by_test (same_state state BootUp)
-      (λ boots. by_test (is_some last && not asked)
+      (λ boots. by_test ((is_some last || is_some a) && not asked)
       (λ holds. rw (boots, holds) (same_node _ _ _ _ _ _ _ _ _ _ _ _ _ _ _ _ (counted_more b 1) (counted_more r 1) refl refl is refl refl))
       (λ fails. rw (boots, fails) (same_node _ _ _ _ _ _ _ _ _ _ _ _ _ _ _ _ (counted_more b 1) (none_more r) refl refl is refl refl)))
       (λ other. rw other (same_node _ _ _ _ _ _ _ _ _ _ _ _ _ _ _ _ (none_more b) (none_more r) refl refl is refl refl))

@@ -11,7 +11,9 @@ use Rattle.conode_stats_counts.specs.declared.sign.Sign.TheVariants.{Reset, Show
 use Rattle.conode_stats_counts.specs.declared.state.NmtState.TheVariants.{BootUp, PreOperational, Operational, Stopped, Unknown}
 use Rattle.conode_stats_counts.specs.Nodes.{log_timed, log_with, sign_as, table}
 use Rattle.conode_stats_counts.specs.ShownTimes.{time_by}
-use Rattle.conode_stats_counts.specs.States.{NodeEvent, Commanded, Sent, Timed, boot_ups, is_commanded, last_restart, newest, restarts, state_of, time_in}
+use Rattle.conode_stats_counts.specs.Heartbeats.{longest_answer, pending}
+use Rattle.conode_stats_counts.specs.Restarts.{last_restart, restarts}
+use Rattle.conode_stats_counts.specs.States.{NodeEvent, Commanded, Sent, Exchanged, Timed, boot_ups, is_commanded, newest, state_of, time_in}
 
 -- ---- what a byte of error control shows (CiA 301, 7.2.8.3.2)
 
@@ -194,37 +196,47 @@ newest_of_session = refl
 
 -- the first frame of a recording is no restart
 first_boot : restarts (Sent BootUp 40 ∷ []) ≡ 0
-unfolding restarts newest is_commanded
+unfolding restarts newest longest_answer is_commanded
 first_boot = refl
 
 -- nor is a boot-up after a command, with a heartbeat between them that was on its way
 commanded_boot : restarts (Sent BootUp 40 ∷ Sent Operational 30 ∷ Commanded ∷ Sent Operational 20 ∷ []) ≡ 0
-unfolding restarts newest is_commanded
+unfolding restarts newest longest_answer is_commanded
 commanded_boot = refl
 
 -- nor are those after a command before the first frame
 early_command : restarts (Sent BootUp 40 ∷ Sent Operational 30 ∷ Commanded ∷ []) ≡ 0
-unfolding restarts newest is_commanded
+unfolding restarts newest longest_answer is_commanded
 early_command = refl
 
 -- one command is for one boot-up
 second_boot : restarts (Sent BootUp 50 ∷ Sent BootUp 40 ∷ Commanded ∷ Sent Operational 20 ∷ []) ≡ 1
-unfolding restarts newest is_commanded
+unfolding restarts newest longest_answer is_commanded
 second_boot = refl
 
 -- a boot-up in the middle of a recording
 restarted : restarts (Sent Operational 60 ∷ Sent BootUp 40 ∷ Sent Operational 20 ∷ []) ≡ 1
-unfolding restarts newest is_commanded
+unfolding restarts newest longest_answer is_commanded
 restarted = refl
 
 restarted_at : last_restart (Sent Operational 60 ∷ Sent BootUp 40 ∷ Sent Operational 20 ∷ []) ≡ 40
-unfolding last_restart newest is_commanded
+unfolding last_restart newest longest_answer is_commanded
 restarted_at = refl
 
 -- the newer of two
 restarted_again_at : last_restart (Sent BootUp 70 ∷ Sent Operational 60 ∷ Sent BootUp 40 ∷ Sent Operational 20 ∷ []) ≡ 70
-unfolding last_restart newest is_commanded
+unfolding last_restart newest longest_answer is_commanded
 restarted_again_at = refl
+
+-- of a node without heartbeats that answered a request before
+restarted_server : restarts (Sent BootUp 40 ∷ Exchanged Response 20 ∷ Exchanged Request 10 ∷ []) ≡ 1
+unfolding restarts newest longest_answer pending is_commanded
+restarted_server = refl
+
+-- one that didn't answer may have been switched on since
+switched_on : restarts (Sent BootUp 40 ∷ Exchanged Request 10 ∷ []) ≡ 0
+unfolding restarts newest longest_answer pending is_commanded
+switched_on = refl
 
 booted_twice : boot_ups (Sent Operational 60 ∷ Sent BootUp 40 ∷ Commanded ∷ Sent BootUp 20 ∷ []) ≡ 2
 unfolding boot_ups

@@ -1,8 +1,9 @@
 -- One frame more, as it is counted of nodes, is one frame more by definition.
-use Rattle.std.proofs.Common.{ℕ, zero, suc, ◌+◌, ◌<◌, ◌≤◌, true, false, List, [], ◌∷◌, ◌≡◌, ◌∙◌, Option, Some, None, length, map, replicate, refl, sym, ap, ap₂, arith}
+use Rattle.std.proofs.Common.{ℕ, zero, suc, ◌+◌, ◌<◌, ◌≤◌, true, false, List, [], ◌∷◌, ◌++◌, ◌≡◌, ◌∙◌, Option, Some, None, length, map, replicate, refl, sym, ap, ap₂, arith}
 use Rattle.std.specs.Prelude.{◌==◌, nat_lt, slice_set}
 use Rattle.std.specs.List.{slice_index_or}
 use Rattle.std.proofs.lemmas.Bool.Decides.{nat_tests}
+use Rattle.std.proofs.lemmas.List.{replicate-append-replicate}
 use Rattle.co_text.proofs.Tests.{by_test}
 use Rattle.conode_record.specs.declared.line.Record.{Record}
 use Rattle.conode_stats_counts.specs.declared.node.Node.{Node}
@@ -113,6 +114,11 @@ unfolding nodes_of node_log
 one_more frames frame =
     ap (nodes_timed (shown_by (channels_of frames) frame) frame.micros) (sign_more (λ n. node_log n frames) most_nodes (sign_of frame) frame.micros)
     ∙ time_more (λ n. log_with n (sign_of frame) frame.micros (node_log n frames)) most_nodes (shown_by (channels_of frames) frame) frame.micros
+
+-- one node more that sent nothing
+pub one_new : (nodes : List Node) (count : ℕ) (node : Node) → nodes ≡ replicate count (node_of []) → node ≡ node_of []
+    → nodes ++ node ∷ [] ≡ replicate (count + 1) (node_of [])
+one_new nodes count node before is = rw (before, is) (replicate-append-replicate count 1 (node_of []))
 
 -- no frame
 pub none : nodes_of [] ≡ replicate most_nodes (node_of [])

@@ -22,6 +22,18 @@ steps_back [] = 0
 steps_back (stamp ∷ []) = 0
 steps_back (stamp ∷ before ∷ older) = (if nat_lt stamp before then 1 else 0) + steps_back (before ∷ older)
 
+-- the stamp before the last one that steps back, 0 where none does
+unfoldable pub step_from : List ℕ → ℕ
+step_from [] = 0
+step_from (stamp ∷ []) = 0
+step_from (stamp ∷ before ∷ older) = if nat_lt stamp before then before else step_from (before ∷ older)
+
+-- the last stamp that steps back, 0 where none does
+unfoldable pub step_to : List ℕ → ℕ
+step_to [] = 0
+step_to (stamp ∷ []) = 0
+step_to (stamp ∷ before ∷ older) = if nat_lt stamp before then stamp else step_to (before ∷ older)
+
 -- the smallest of numbers below 2^64, and 2^64 - 1 of no number
 unfoldable pub smallest : List ℕ → ℕ
 smallest [] = most

@@ -9,6 +9,7 @@ pub mod Heartbeats
 pub mod Loads
 pub mod NodeCounts
 pub mod Nodes
+pub mod Restarts
 pub mod SdoFrames
 pub mod ShownTimes
 pub mod Sizes

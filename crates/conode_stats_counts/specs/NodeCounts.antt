@@ -1,5 +1,5 @@
 -- All that is counted of a node.
-use Rattle.std.specs.Prelude.{ℕ, ◌+◌, Bool, true, false, not, ◌&&◌, if◌then◌else◌, List, Some, None, is_some}
+use Rattle.std.specs.Prelude.{ℕ, ◌+◌, Bool, true, false, not, ◌&&◌, ◌||◌, if◌then◌else◌, List, Some, None, is_some}
 use Rattle.conode_explain_transfers.specs.declared.kinds.Direction.{Direction}
 use Rattle.conode_stats_counts.specs.declared.sdo_frame.SdoFrame.{SdoFrame}
 use Rattle.conode_stats_counts.specs.declared.node.Node.{Node}
@@ -7,7 +7,8 @@ use Rattle.conode_stats_counts.specs.declared.state.NmtState.{NmtState}
 use Rattle.conode_stats_counts.specs.declared.state.NmtState.TheVariants.{BootUp}
 use Rattle.conode_stats_counts.specs.Gaps.{counted}
 use Rattle.conode_stats_counts.specs.Heartbeats.{answer_time, beat_with, heartbeats_of, longer, longest_answer, pending, pending_by, timed_with}
-use Rattle.conode_stats_counts.specs.States.{NodeEvent, boot_ups, is_commanded, last_restart, newest, restarts, same_state, times_of, times_since}
+use Rattle.conode_stats_counts.specs.Restarts.{last_restart, restarts}
+use Rattle.conode_stats_counts.specs.States.{NodeEvent, boot_ups, is_commanded, newest, same_state, times_of, times_since}
 
 unfoldable pub node_of : List NodeEvent → Node
 node_of log = record {
@@ -27,7 +28,7 @@ node_of log = record {
 -- a boot-up
 abbrev pub booted : ℕ → Node → Node
 booted micros node =
-    if is_some node.last && not node.is_commanded
+    if (is_some node.last || is_some node.longest_answer) && not node.is_commanded
     then record node {
       boot_ups = counted (node.boot_ups + 1);
       restarts = counted (node.restarts + 1);

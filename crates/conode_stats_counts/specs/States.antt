@@ -1,6 +1,6 @@
 -- What happens to a node, the newest first, and what it shows of its NMT state by its frames of error
 -- control (CiA 301, 7.2.8.3.2).
-use Rattle.std.specs.Prelude.{ℕ, ◌+◌, ◌-◌, ◌%◌, ◌==◌, Bool, true, false, not, ◌&&◌, if◌then◌else◌, List, [], ◌∷◌, Option, Some, None, is_some}
+use Rattle.std.specs.Prelude.{ℕ, ◌+◌, ◌-◌, ◌%◌, ◌==◌, Bool, true, false, if◌then◌else◌, List, [], ◌∷◌, Option, Some, None}
 use Rattle.conode_explain_transfers.specs.declared.kinds.Direction.{Direction}
 use Rattle.conode_stats_counts.specs.declared.sdo_frame.SdoFrame.{SdoFrame}
 use Rattle.conode_stats_counts.specs.declared.node.Shown.{Shown}
@@ -92,26 +92,6 @@ is_commanded (Commanded ∷ older) = true
 is_commanded (Exchanged frame micros ∷ older) = is_commanded older
 is_commanded (Timed direction time micros ∷ older) = is_commanded older
 is_commanded (Sent state micros ∷ older) = if same_state state BootUp then false else is_commanded older
-
--- whether a frame that shows this state is a restart without a command: a boot-up of a node that
--- sent another frame before, and for which no command came since the boot-up before
-abbrev pub is_restart : NmtState → List NodeEvent → Bool
-is_restart state older = same_state state BootUp && (is_some (newest older) && not (is_commanded older))
-
-unfoldable pub restarts : List NodeEvent → ℕ
-restarts [] = 0
-restarts (Commanded ∷ older) = restarts older
-restarts (Exchanged frame micros ∷ older) = restarts older
-restarts (Timed direction time micros ∷ older) = restarts older
-restarts (Sent state micros ∷ older) = (if is_restart state older then 1 else 0) + restarts older
-
--- the stamp of the last of them, 0 where there is none
-unfoldable pub last_restart : List NodeEvent → ℕ
-last_restart [] = 0
-last_restart (Commanded ∷ older) = last_restart older
-last_restart (Exchanged frame micros ∷ older) = last_restart older
-last_restart (Timed direction time micros ∷ older) = last_restart older
-last_restart (Sent state micros ∷ older) = if is_restart state older then micros else last_restart older
 
 -- ---- one event more, as it is counted
 

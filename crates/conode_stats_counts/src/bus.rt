@@ -25,7 +25,6 @@ const SECOND: u64 = 1_000_000;
 /// The counts of one bus: all frames, their bits, its nodes, its SDO transfers, its EMCY messages,
 /// and the frames by identifier. At most 4,096 identifiers have a row; the frames of further ones
 /// are only counted together.
-#[derive(Drop)]
 pub struct Bus {
     interface: ArrayVec<u8, 15>,
     all: Tally,
@@ -54,6 +53,26 @@ impl Model for Bus {
     } };
 }
 
+// One call wherever a bus is dropped, in place of a drop of each of its parts.
+impl Drop for Bus {
+    fn drop(self) {
+        let Bus {
+            interface: _,
+            all: _,
+            load: _,
+            nodes,
+            transfers,
+            emergencies,
+            rows,
+            left_out: _,
+        } = self;
+        drop(nodes);
+        drop(transfers);
+        drop(emergencies);
+        drop(rows);
+    }
+}
+
 impl Bus {
     /// An interface without frames. `Err`: out of memory.
     #[tactic(auto, unfolding(crate::specs::Buses::bus_of, crate::specs::Groups::grouped, crate::specs::Groups::keys_of, crate::specs::Groups::left_out))]
@@ -61,8 +80,8 @@ impl Bus {
         requires { length interface.now ≤ 15 }
         ensures { IfOk result (λ bus. bus ≡ new_bus interface.now) }
     {
-        let nodes = new_nodes(alloc)?;
-        let rows = Rows::new(alloc)?;
+        let nodes = attempt!(new_nodes(alloc));
+        let rows = attempt!(Rows::new(alloc));
         let mut name = ArrayVec::new();
         name.try_extend_from_slice(interface).unwrap();
         Ok(Bus {
@@ -83,10 +102,10 @@ impl Bus {
         requires { IsIdentifier frame.now.id }
         ensures { OnOk result (self.new ≡ bus_with self.old frame.now) }
     {
-        let more = self.rows.add(can_id(frame.id), frame.micros)?;
+        let more = attempt!(self.rows.add(can_id(frame.id), frame.micros));
         self.left_out = counted(self.left_out, more);
-        let shown = self.transfers.take(frame)?;
-        self.emergencies.take(frame)?;
+        let shown = attempt!(self.transfers.take(frame));
+        attempt!(self.emergencies.take(frame));
         self.all.add(frame.micros);
         let size = Size::of(frame.id, &frame.content);
         self.load.add(frame.micros / SECOND, size);

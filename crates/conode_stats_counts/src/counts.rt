@@ -54,8 +54,8 @@ fn push_bus(alloc: Global, buses: &mut Vec<Bus>, frame: &Record<'_>) -> Result<(
     ensures { OnOk result (buses.new.items ≡ buses.old.items
         ++ bus_with (new_bus frame.now.interface) frame.now ∷ []) }
 {
-    let mut bus = Bus::new(alloc, frame.interface.bytes())?;
-    bus.add(frame)?;
+    let mut bus = attempt!(Bus::new(alloc, frame.interface.bytes()));
+    attempt!(bus.add(frame));
     buses.push(bus)?;
     Ok(())
 }
@@ -73,14 +73,14 @@ fn add_to_bus(alloc: Global, buses: &mut Vec<Bus>, frame: &Record<'_>) -> Result
     let interface = frame.interface.bytes();
     match place_of(buses.as_slice(), interface) {
         Some(place) => {
-            buses[place].add(frame)?;
+            attempt!(buses[place].add(frame));
             Ok(0)
         }
         None => {
             if buses.len() >= MOST_BUSES {
                 return Ok(1);
             }
-            push_bus(alloc, buses, frame)?;
+            attempt!(push_bus(alloc, buses, frame));
             Ok(0)
         }
     }
@@ -103,7 +103,7 @@ impl Counts {
         requires { IsIdentifier frame.now.id }
         ensures { OnOk result (self.new ≡ counts_with self.old frame.now) }
     {
-        let more = add_to_bus(alloc, &mut self.buses, frame)?;
+        let more = attempt!(add_to_bus(alloc, &mut self.buses, frame));
         self.left_out = counted(self.left_out, more);
         Ok(())
     }

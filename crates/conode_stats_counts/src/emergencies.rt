@@ -91,7 +91,7 @@ impl Emergencies {
         ensures { OnOk result (self.new ≡ emergent_with self.old frame.now) }
     {
         let emergency = emergency_as(frame.id, &frame.content, frame.micros);
-        let more = add_failure(&mut self.rows, emergency)?;
+        let more = attempt!(add_failure(&mut self.rows, emergency));
         self.left_out = counted(self.left_out, more);
         Ok(())
     }

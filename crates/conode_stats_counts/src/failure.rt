@@ -4,7 +4,6 @@ ghost use Rattle.std.specs.Prelude.{◌≡◌, ◌<◌, ◌+◌, length, positio
 ghost use Rattle.conode_stats_counts.specs.Failures.{
   failure_added,
   failure_by,
-  failure_in,
   failure_of,
   is_failure,
   more_left_out,
@@ -15,7 +14,7 @@ ghost use Rattle.conode_stats_counts.specs.Failures.{
 };
 
 use crate::tally::counted;
-use conode_explain_transfers::{Ended, Ending, Told};
+use conode_explain_transfers::{Ending, Told};
 use std::alloc::AllocError;
 
 /// The most nodes and codes counted on a bus.
@@ -80,21 +79,15 @@ impl Failure {
         })
     }
 
-    fn in_transfer(node: u8, ended: &Option<Ended>) -> Option<Failure>
-        ensures { result ≡ failure_in node ended.now }
-    {
-        match ended {
-            Some(ended) => Failure::by(node, ended.end, ended.ending),
-            None => None,
-        }
-    }
-
     /// The failure that channels tell of, if it is one.
     pub(crate) fn of(told: &Option<Told>) -> Option<Failure>
         ensures { result ≡ failure_of told.now }
     {
-        match told {
-            Some(told) => Failure::in_transfer(told.node, &told.ended),
+        let Some(told) = told else {
+            return None;
+        };
+        match &told.ended {
+            Some(ended) => Failure::by(told.node, ended.end, ended.ending),
             None => None,
         }
     }

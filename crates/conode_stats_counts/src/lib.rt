@@ -3,6 +3,16 @@
 //! its state, its EMCY messages, and its SDO transfers that failed.
 #![tactic(auto)]
 
+// As `?`, without a conversion of the error: a `match` is one step of a proof where `?` is three.
+macro_rules! attempt {
+    ($result:expr) => {
+        match $result {
+            Ok(value) => value,
+            Err(fault) => return Err(fault),
+        }
+    };
+}
+
 mod bus;
 mod counts;
 mod emergencies;

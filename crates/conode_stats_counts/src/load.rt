@@ -2,7 +2,7 @@
 
 ghost use Rattle.std.specs.Prelude.{◌≡◌, [], ◌+◌};
 ghost use Rattle.conode_stats_counts.specs.Gaps.{counted};
-ghost use Rattle.conode_stats_counts.specs.Loads.{busier, load_of, load_with, second_with};
+ghost use Rattle.conode_stats_counts.specs.Loads.{load_of, load_with, second_with};
 
 use crate::size::Size;
 use crate::tally::counted;
@@ -52,13 +52,6 @@ impl Second {
             }
         }
     }
-
-    // the one with more bits
-    fn or_busier(self, now: Second) -> Second
-        ensures { result ≡ busier self now }
-    {
-        if self.bits < now.bits { now } else { self }
-    }
 }
 
 impl Load {
@@ -93,7 +86,11 @@ impl Load {
             most: counted(self.most, u64::from(size.most)),
             unknown: counted(self.unknown, unknown),
             now,
-            busiest: self.busiest.or_busier(now),
+            busiest: if self.busiest.bits < now.bits {
+                now
+            } else {
+                self.busiest
+            },
         };
     }
 }

@@ -1,6 +1,6 @@
 //! What a node shows, counted.
 
-ghost use Rattle.std.specs.Prelude.{◌≡◌, [], ◌+◌, ◌-◌};
+ghost use Rattle.std.specs.Prelude.{◌≡◌, []};
 ghost use Rattle.conode_stats_counts.specs.NodeCounts.{
   booted,
   node_commanded,
@@ -9,7 +9,6 @@ ghost use Rattle.conode_stats_counts.specs.NodeCounts.{
   node_timed,
   node_with,
 };
-ghost use Rattle.conode_stats_counts.specs.States.{times_since};
 
 use crate::heartbeats::Heartbeats;
 use crate::sdo_frame::{SdoFrame, longer};
@@ -35,8 +34,8 @@ pub struct Node {
     pub last: Option<Shown>,
     /// How many of its frames of error control are boot-ups.
     pub boot_ups: u64,
-    /// How many boot-ups are restarts without a command: the node sent another frame before, and
-    /// since its boot-up before no command came to reset it.
+    /// How many boot-ups are restarts without a command: the node sent a frame of error control
+    /// before, or answered an SDO request, and since its boot-up before no command came to reset it.
     pub restarts: u64,
     /// The stamp of the last restart without a command, in microseconds; 0 if there is none.
     pub last_restart: u64,
@@ -54,7 +53,7 @@ pub struct Node {
 
 impl Node {
     /// A node that sent nothing.
-    #[tactic(auto, unfolding(crate::specs::NodeCounts::node_of, crate::specs::Heartbeats::pending, crate::specs::Heartbeats::longest_answer, crate::specs::States::newest, crate::specs::States::boot_ups, crate::specs::States::restarts, crate::specs::States::last_restart, crate::specs::States::is_commanded))]
+    #[tactic(auto, unfolding(crate::specs::NodeCounts::node_of, crate::specs::Heartbeats::pending, crate::specs::Heartbeats::longest_answer, crate::specs::States::newest, crate::specs::States::boot_ups, crate::specs::Restarts::restarts, crate::specs::Restarts::last_restart, crate::specs::States::is_commanded))]
     pub(crate) fn new() -> Node
         ensures { result ≡ node_of [] }
     {
@@ -83,7 +82,8 @@ impl Node {
     fn boot(&mut self, micros: u64)
         ensures { self.new ≡ booted micros self.old }
     {
-        if self.last.is_some() && !self.is_commanded {
+        let is_known = self.last.is_some() || self.longest_answer.is_some();
+        if is_known && !self.is_commanded {
             self.restarts = counted(self.restarts, 1);
             self.last_restart = micros;
         }
@@ -92,24 +92,15 @@ impl Node {
         self.pending = None;
     }
 
-    // adds the time since the frame before
-    fn pass(&mut self, micros: u64)
-        ensures { self.new ≡ record self.old {
-          times = times_since self.old.last micros self.old.times;
-        } }
-    {
-        if let Some(last) = self.last {
-            self.times
-                .add(last.state, micros.saturating_sub(last.micros));
-        }
-    }
-
     /// Counts a frame of error control.
     #[tactic(auto, unfolding(crate::specs::NodeCounts::node_with))]
     pub(crate) fn show(&mut self, state: NmtState, micros: u64)
         ensures { self.new ≡ node_with state micros self.old }
     {
-        self.pass(micros);
+        if let Some(last) = self.last {
+            self.times
+                .add(last.state, micros.saturating_sub(last.micros));
+        }
         let boots = state.is_boot_up();
         if boots {
             self.boot(micros);

@@ -15,11 +15,11 @@ use std::alloc::{AllocError, Global};
 const MOST_NODES: usize = 128;
 
 /// Nodes that sent nothing. `Err`: out of memory.
-#[tactic(auto, using(crate::proofs::Noded::none))]
+#[tactic(auto, using(crate::proofs::Noded::none, crate::proofs::Noded::one_new))]
 pub(crate) fn new_nodes(alloc: Global) -> Result<Vec<Node>, AllocError>
     ensures { IfOk result (λ nodes. nodes.items ≡ nodes_of []) }
 {
-    let mut nodes = Vec::with_capacity(alloc, MOST_NODES)?;
+    let mut nodes = attempt!(Vec::with_capacity(alloc, MOST_NODES));
     for _number in 0..MOST_NODES {
         nodes.push(Node::new())?;
     }

@@ -109,7 +109,7 @@ impl Rows {
     pub(crate) fn new(alloc: Global) -> Result<Rows, AllocError>
         ensures { IfOk result (λ rows. rows ≡ []) }
     {
-        let places = vec![in alloc; 0u16; MOST_PLACES]?;
+        let places = attempt!(vec![in alloc; 0u16; MOST_PLACES]);
         Ok(Rows {
             rows: Vec::new(alloc),
             places,

@@ -1,9 +1,8 @@
 //! The producer heartbeat time of a node, as SDO transfers show it.
 
 ghost use Rattle.std.specs.Prelude.{◌≡◌};
-ghost use Rattle.conode_stats_counts.specs.ShownTimes.{first_word, is_done, is_heartbeat_time, time_by, time_in, time_of};
+ghost use Rattle.conode_stats_counts.specs.ShownTimes.{first_word, time_by, time_of};
 
-use co_value::Key;
 use conode_explain_transfers::{Direction, Ended, Ending, Told};
 
 /// The index of the producer heartbeat time (CiA 301, 7.5.2.20).
@@ -30,24 +29,13 @@ pub(crate) fn first_word(bytes: &[u8]) -> Option<u16>
     }
 }
 
-fn is_heartbeat_time(key: Key) -> bool
-    ensures { result ≡ is_heartbeat_time key }
-{
-    key.index == PRODUCER_HEARTBEAT && key.sub == 0
-}
-
-fn is_done(ending: Ending) -> bool
-    ensures { result ≡ is_done ending }
-{
-    matches!(ending, Ending::Done { crc: _ })
-}
-
 impl ShownTime {
     // by a transfer with a node
     fn by(node: u8, ended: &Ended) -> Option<ShownTime>
         ensures { result ≡ time_by node ended.now }
     {
-        if !is_heartbeat_time(ended.key) || !is_done(ended.ending) {
+        let is_wanted = ended.key.index == PRODUCER_HEARTBEAT && ended.key.sub == 0;
+        if !is_wanted || !matches!(ended.ending, Ending::Done { crc: _ }) {
             return None;
         }
         match first_word(ended.first.as_slice()) {
@@ -60,21 +48,15 @@ impl ShownTime {
         }
     }
 
-    fn in_transfer(node: u8, ended: &Option<Ended>) -> Option<ShownTime>
-        ensures { result ≡ time_in node ended.now }
-    {
-        match ended {
-            Some(ended) => ShownTime::by(node, ended),
-            None => None,
-        }
-    }
-
     /// The time that channels tell of, if they do.
     pub(crate) fn of(told: &Option<Told>) -> Option<ShownTime>
         ensures { result ≡ time_of told.now }
     {
-        match told {
-            Some(told) => ShownTime::in_transfer(told.node, &told.ended),
+        let Some(told) = told else {
+            return None;
+        };
+        match &told.ended {
+            Some(ended) => ShownTime::by(told.node, ended),
             None => None,
         }
     }

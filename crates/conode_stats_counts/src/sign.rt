@@ -1,6 +1,6 @@
 //! What a frame shows of nodes.
 
-ghost use Rattle.std.specs.Prelude.{◌≡◌, ◌==◌, ◌||◌};
+ghost use Rattle.std.specs.Prelude.{◌≡◌};
 ghost use Rattle.conode_stats_counts.specs.Nodes.{command_in, control_in, sign_as, sign_in};
 ghost use Rattle.conode_stats_counts.specs.SdoFrames.{request_in, response_in};
 
@@ -27,18 +27,12 @@ const RESET_NODE: u8 = 129;
 
 const RESET_COMMUNICATION: u8 = 130;
 
-fn is_reset(command: u8) -> bool
-    ensures { result ≡ ((command == 129) || (command == 130)) }
-{
-    command == RESET_NODE || command == RESET_COMMUNICATION
-}
-
 // a frame with the identifier of NMT commands
 fn command_in(bytes: &[u8]) -> Sign
     ensures { result ≡ command_in bytes.now }
 {
     match bytes {
-        [command, node] if is_reset(*command) && *node < 128 => Sign::Reset(*node),
+        [RESET_NODE | RESET_COMMUNICATION, node] if *node < 128 => Sign::Reset(*node),
         _ => Sign::Other,
     }
 }

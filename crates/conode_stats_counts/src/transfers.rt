@@ -81,9 +81,9 @@ impl Transfers {
         ensures transfers { OnOk result (self.new ≡ transfers_with self.old frame.now) }
         ensures shown { IfOk result (λ shown. shown ≡ shown_by self.old.channels frame.now) }
     {
-        let told = follow(&mut self.channels, frame)?;
+        let told = attempt!(follow(&mut self.channels, frame));
         let failure = Failure::of(&told);
-        let more = add_failure(&mut self.rows, failure)?;
+        let more = attempt!(add_failure(&mut self.rows, failure));
         self.left_out = counted(self.left_out, more);
         Ok(ShownTime::of(&told))
     }

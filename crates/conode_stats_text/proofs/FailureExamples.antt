@@ -10,6 +10,7 @@ use Rattle.conode_stats_text.specs.Cells.{seconds}
 use Rattle.conode_stats_text.specs.FailureLines.{counted_line, emergency_line, failure_line, open_line}
 use Rattle.conode_stats_text.specs.Findings.{open_finding}
 use Rattle.conode_stats_text.specs.StatsLines.{node_front}
+use Rattle.conode_stats_text.proofs.NodeExamples.{ended_at}
 
 abbrev row : Option ℕ → FailureRow
 row code = record { cause = record { node = 5; code = code }; count = 12; first = 1000250; last = 3001000 }
@@ -47,10 +48,10 @@ module _ (transfer : Ended) where
   abbrev waiting : Ended
   waiting = record transfer { key = record { index = 0x1018; sub = 1 }; newest = 2000000 }
 
-  for_a_second : open_finding 3000000 (Some waiting) ≡ None
+  for_a_second : open_finding (ended_at 3000000) (Some waiting) ≡ None
   for_a_second = refl
 
-  for_longer : open_finding 3000001 (Some waiting) ≡ Some (Open (record { index = 0x1018; sub = 1 }) 2000000)
+  for_longer : open_finding (ended_at 3000001) (Some waiting) ≡ Some (Open (record { index = 0x1018; sub = 1 }) 2000000)
   for_longer = refl
 
 waiting_line : open_line (codes "can0") 7 (record { index = 0x1018; sub = 1 }) 2000000

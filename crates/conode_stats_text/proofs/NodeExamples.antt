@@ -8,6 +8,7 @@ use Rattle.conode_stats_counts.specs.declared.node.Node.{Node}
 use Rattle.conode_stats_counts.specs.declared.node.Shown.{Shown}
 use Rattle.conode_stats_counts.specs.declared.state.NmtState.TheVariants.{Stopped}
 use Rattle.conode_stats_counts.specs.declared.state.StateTimes.{StateTimes}
+use Rattle.conode_stats_counts.specs.declared.tally.Tally.{Tally}
 use Rattle.conode_stats_text.specs.declared.finding.Finding.TheVariants.{Restarted}
 use Rattle.conode_stats_text.specs.declared.finding.Kind.TheVariants.{Restarts}
 use Rattle.conode_stats_text.specs.Cells.{seconds, thousandths}
@@ -46,12 +47,27 @@ node restarts = record {
 abbrev pub server : Option ℕ → Node
 server answer = record (node 0) { last = None; heartbeats = no_heartbeats; longest_answer = answer }
 
+-- of a bus whose last frame has this stamp, and no stamp steps back
+abbrev pub ended_at : ℕ → Tally
+ended_at last = record {
+  first = 1;
+  last = last;
+  frames = 90;
+  steps_back = 0;
+  step_from = 0;
+  step_to = 0;
+  gaps = 89;
+  total = 44000000;
+  smallest = 1;
+  greatest = 9999999;
+}
+
 -- ---- what looks wrong
 
-two_restarts : node_finding Restarts 41000000 None (node 2) ≡ Some (Restarted 2 1130000)
+two_restarts : node_finding Restarts (ended_at 41000000) None (node 2) ≡ Some (Restarted 2 1130000)
 two_restarts = refl
 
-no_restart : node_finding Restarts 41000000 None (node 0) ≡ None
+no_restart : node_finding Restarts (ended_at 41000000) None (node 0) ≡ None
 no_restart = refl
 
 restarts : restart_line (codes "can0") 6 2 1130000 ≡ codes "  can0: node 6 restarts without a reset command: 2, the last at 1.130000\n"

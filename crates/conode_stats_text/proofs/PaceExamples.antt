@@ -4,12 +4,14 @@ use Rattle.std.specs.Prelude.{List, codes}
 use Rattle.std.specs.Fmt.{digits}
 use Rattle.co_text.specs.Printed.{digits_text}
 use Rattle.conode_stats_counts.specs.declared.heartbeats.Heartbeats.{Heartbeats}
+use Rattle.conode_stats_counts.specs.declared.tally.Tally.{Tally}
 use Rattle.conode_stats_text.specs.declared.pace.Pace.TheVariants.{Written, Sheet, Median}
 use Rattle.conode_stats_text.specs.declared.excerpt.Excerpt.{Excerpt}
 use Rattle.conode_stats_text.specs.declared.finding.Finding.TheVariants.{Silent, Late, Lost, Restarted}
 use Rattle.conode_stats_text.specs.Cells.{seconds, thousandths}
 use Rattle.conode_stats_text.specs.Findings.{is_listed, late_in, listed, lost_in, passed, silent_in}
 use Rattle.conode_stats_text.specs.StatsLines.{node_front}
+use Rattle.conode_stats_text.proofs.NodeExamples.{ended_at}
 use Rattle.conode_stats_text.specs.Paces.{is_long, late_line, lost_line, median, pace_of, silent_line, usual_pace}
 
 -- ---- the median
@@ -87,11 +89,21 @@ lost_by_sheet = refl
 not_lost_by_sheet : lost_in (Some 100) (heartbeats None 0 150000 []) ≡ None
 not_lost_by_sheet = refl
 
-not_silent : silent_in 1150000 None (heartbeats (Some 100) 2 0 []) ≡ None
+not_silent : silent_in (ended_at 1150000) None (heartbeats (Some 100) 2 0 []) ≡ None
 not_silent = refl
 
-silent : silent_in 1150001 None (heartbeats (Some 100) 2 0 []) ≡ Some (Silent 1000000 (Written 100))
+silent : silent_in (ended_at 1150001) None (heartbeats (Some 100) 2 0 []) ≡ Some (Silent 1000000 (Written 100))
 silent = refl
+
+-- the clock was set back by a second since: 100 ms up to then, and 50 ms from then on
+abbrev set_back : ℕ → Tally
+set_back last = record (ended_at last) { steps_back = 1; step_from = 1100000; step_to = 5000 }
+
+not_silent_set_back : silent_in (set_back 55000) None (heartbeats (Some 100) 2 0 []) ≡ None
+not_silent_set_back = refl
+
+silent_set_back : silent_in (set_back 55001) None (heartbeats (Some 100) 2 0 []) ≡ Some (Silent 1000000 (Written 100))
+silent_set_back = refl
 
 late : late_in (heartbeats (Some 100) 2 0 []) ≡ Some (Late 2 151000)
 late = refl

@@ -1,11 +1,13 @@
 -- The lines of the page about SDO transfers that failed, or are open, and about EMCY messages.
-use Rattle.std.specs.Prelude.{ℕ, ◌-◌, ◌%◌, ◌==◌, Bool, nat_lt, if◌then◌else◌, List, [], ◌∷◌, codes, decimal, Option, Some, None}
+use Rattle.std.specs.Prelude.{ℕ, ◌%◌, ◌==◌, Bool, nat_lt, if◌then◌else◌, List, [], ◌∷◌, codes, decimal, Option, Some, None}
 use Rattle.std.specs.List.{concat}
 use Rattle.co_text.specs.Printed.{digits_text}
 use Rattle.co_value.specs.declared.key.Key.{Key}
 use Rattle.co_value.specs.KeyTexts.{key_text}
 use Rattle.conode_explain_transfers.specs.declared.ended.Ended.{Ended}
 use Rattle.conode_stats_counts.specs.declared.failure.FailureRow.{FailureRow}
+use Rattle.conode_stats_counts.specs.declared.tally.Tally.{Tally}
+use Rattle.conode_stats_counts.specs.Tallies.{elapsed}
 use Rattle.conode_stats_text.specs.Cells.{seconds}
 use Rattle.conode_stats_text.specs.StatsLines.{node_front}
 
@@ -41,10 +43,10 @@ emergency_line interface row = emergency_by interface row row.cause.code
 
 -- a transfer of an entry that is open at the end, with the stamp of its newest frame
 unfoldable pub open_line : List ℕ → ℕ → Key → ℕ → List ℕ
-open_line interface node key since =
-    concat (node_front interface node ∷ codes " SDO transfer of " ∷ key_text key ∷ codes " without a frame since " ∷ seconds since
+open_line interface node key stamp =
+    concat (node_front interface node ∷ codes " SDO transfer of " ∷ key_text key ∷ codes " without a frame since " ∷ seconds stamp
     ∷ codes "\n" ∷ [])
 
--- whether it had no frame for more than a second
-abbrev pub is_waiting : ℕ → Ended → Bool
-is_waiting end transfer = nat_lt 1000000 (end - transfer.newest)
+-- whether it had no frame for more than a second, by the tally of the bus
+abbrev pub is_waiting : Tally → Ended → Bool
+is_waiting all transfer = nat_lt 1000000 (elapsed all transfer.newest)

@@ -4,6 +4,7 @@ use Rattle.conode_explain_transfers.specs.declared.ended.Ended.{Ended}
 use Rattle.conode_stats_counts.specs.declared.failure.FailureRow.{FailureRow}
 use Rattle.conode_stats_counts.specs.declared.heartbeats.Heartbeats.{Heartbeats}
 use Rattle.conode_stats_counts.specs.declared.node.Node.{Node}
+use Rattle.conode_stats_counts.specs.declared.tally.Tally.{Tally}
 use Rattle.conode_stats_counts.specs.Gaps.{counted}
 use Rattle.conode_stats_text.specs.declared.excerpt.Excerpt.{Excerpt}
 use Rattle.conode_stats_text.specs.declared.finding.Finding.{Finding}
@@ -26,10 +27,10 @@ abbrev pub lost_at : Option Pace → Option ℕ → Option Finding
 lost_at (Some pace) (Some gap) = Some (Lost gap pace)
 lost_at _ _ = None
 
--- a node that is silent at the end, by the stamp of the bus's last frame and the time of a sheet
-abbrev pub silent_in : ℕ → Option ℕ → Heartbeats → Option Finding
-silent_in end sheet heartbeats =
-    silent_at (pace_of sheet heartbeats) (silent_since end (pace_of sheet heartbeats) heartbeats.since)
+-- a node that is silent at the end, by the tally of the bus and the time of a sheet
+abbrev pub silent_in : Tally → Option ℕ → Heartbeats → Option Finding
+silent_in all sheet heartbeats =
+    silent_at (pace_of sheet heartbeats) (silent_since all (pace_of sheet heartbeats) heartbeats.since)
 
 -- one with heartbeats later than the recording has it
 abbrev pub late_in : Heartbeats → Option Finding
@@ -43,12 +44,12 @@ abbrev pub restarted_in : Node → Option Finding
 restarted_in node = if node.restarts == 0 then None else Some (Restarted node.restarts node.last_restart)
 
 -- what a node shows of a kind
-abbrev pub node_finding : Kind → ℕ → Option ℕ → Node → Option Finding
-node_finding Silence end sheet node = silent_in end sheet node.heartbeats
-node_finding Lateness end sheet node = late_in node.heartbeats
-node_finding Loss end sheet node = lost_in sheet node.heartbeats
-node_finding Restarts end sheet node = restarted_in node
-node_finding _ end sheet node = None
+abbrev pub node_finding : Kind → Tally → Option ℕ → Node → Option Finding
+node_finding Silence all sheet node = silent_in all sheet node.heartbeats
+node_finding Lateness all sheet node = late_in node.heartbeats
+node_finding Loss all sheet node = lost_in sheet node.heartbeats
+node_finding Restarts all sheet node = restarted_in node
+node_finding _ all sheet node = None
 
 -- what a row is of a kind
 abbrev pub row_finding : Kind → FailureRow → Option Finding
@@ -57,9 +58,9 @@ row_finding Emergencies row = Some (Emergency row)
 row_finding _ row = None
 
 -- a transfer that had no frame for more than a second up to the end
-abbrev pub open_finding : ℕ → Option Ended → Option Finding
-open_finding end None = None
-open_finding end (Some transfer) = if is_waiting end transfer then Some (Open transfer.key transfer.newest) else None
+abbrev pub open_finding : Tally → Option Ended → Option Finding
+open_finding all None = None
+open_finding all (Some transfer) = if is_waiting all transfer then Some (Open transfer.key transfer.newest) else None
 
 -- how many there are of a kind on a bus, if there are any
 abbrev pub counted_in : Kind → ℕ → Option Finding

@@ -1,9 +1,11 @@
 -- How often a node should send a heartbeat, and which waits were too long. Times are in
 -- microseconds, producer heartbeat times in milliseconds.
-use Rattle.std.specs.Prelude.{ℕ, ◌+◌, ◌-◌, ◌*◌, ◌/◌, ◌^◌, Bool, nat_le, nat_lt, min, fold, if◌then◌else◌, List, [], ◌∷◌, codes, decimal, length, Option, Some, None}
+use Rattle.std.specs.Prelude.{ℕ, ◌+◌, ◌*◌, ◌/◌, ◌^◌, Bool, nat_le, nat_lt, min, fold, if◌then◌else◌, List, [], ◌∷◌, codes, decimal, length, Option, Some, None}
 use Rattle.std.specs.List.{concat, count_by}
 use Rattle.conode_stats_counts.specs.declared.heartbeats.Heartbeats.{Heartbeats}
+use Rattle.conode_stats_counts.specs.declared.tally.Tally.{Tally}
 use Rattle.conode_stats_counts.specs.Heartbeats.{is_late}
+use Rattle.conode_stats_counts.specs.Tallies.{elapsed}
 use Rattle.conode_stats_text.specs.declared.pace.Pace.{Pace}
 use Rattle.conode_stats_text.specs.declared.pace.Pace.TheVariants.{Written, Sheet, Median}
 use Rattle.conode_stats_text.specs.Cells.{seconds, thousandths}
@@ -66,8 +68,8 @@ pace_figure (Sheet time) = decimal time
 pace_figure (Median median) = thousandths median
 
 unfoldable pub silent_line : List ℕ → ℕ → ℕ → Pace → List ℕ
-silent_line interface node since pace =
-    concat (node_front interface node ∷ codes " silent since " ∷ seconds since ∷ pace_front pace ∷ pace_figure pace ∷ codes " ms\n" ∷ [])
+silent_line interface node stamp pace =
+    concat (node_front interface node ∷ codes " silent since " ∷ seconds stamp ∷ pace_front pace ∷ pace_figure pace ∷ codes " ms\n" ∷ [])
 
 unfoldable pub lost_line : List ℕ → ℕ → ℕ → Pace → List ℕ
 lost_line interface node gap pace =
@@ -81,11 +83,11 @@ late_line interface node count gap =
 
 -- ---- what looks wrong
 
--- the stamp since which a node is silent at the end, if it is; one of which no heartbeat is known to
--- be awaited isn't
-abbrev pub silent_since : ℕ → Option Pace → Option ℕ → Option ℕ
-silent_since end (Some pace) (Some since) = if is_long pace (end - since) then Some since else None
-silent_since end _ _ = None
+-- the stamp since which a node is silent at the end, if it is, by the tally of the bus; one of which no
+-- heartbeat is known to be awaited isn't
+abbrev pub silent_since : Tally → Option Pace → Option ℕ → Option ℕ
+silent_since all (Some pace) (Some stamp) = if is_long pace (elapsed all stamp) then Some stamp else None
+silent_since all _ _ = None
 
 -- the longest wait, if it is too long
 abbrev pub lost_gap : Option Pace → ℕ → Option ℕ

@@ -21,7 +21,7 @@ pub(crate) fn ratio(number: u64, scale: u64, whole: u64) -> Option<u64>
 }
 
 /// This gap; `None` if there are no gaps, or the log has no stamps.
-pub(crate) fn gap_of(tally: &Tally, gap: u64) -> Option<u64>
+pub fn gap_of(tally: &Tally, gap: u64) -> Option<u64>
     ensures { result ≡ gap_of tally.now gap }
 {
     if tally.gaps == 0 || tally.last == 0 {

@@ -1,6 +1,6 @@
 //! What looks wrong with a node, or a bus.
 
-ghost use Rattle.std.specs.Prelude.{◌≡◌, ◌-◌, ◌<◌};
+ghost use Rattle.std.specs.Prelude.{◌≡◌, ◌<◌};
 ghost use Rattle.conode_stats_text.specs.FailureLines.{is_waiting};
 ghost use Rattle.conode_stats_text.specs.Findings.{
   counted_in,
@@ -17,7 +17,7 @@ ghost use Rattle.conode_stats_text.specs.Findings.{
 use crate::pace::{Pace, lost_gap, silent_since};
 use co_value::Key;
 use conode_explain_transfers::Ended;
-use conode_stats_counts::{Bus, FailureRow, Heartbeats, Node, Row};
+use conode_stats_counts::{Bus, FailureRow, Heartbeats, Node, Row, Tally};
 
 /// A transfer that is open at the end is named if it had no frame for so long, in microseconds.
 const ANSWER_TIME: u64 = 1_000_000;
@@ -77,11 +77,11 @@ pub(crate) enum Finding {
     Counted(Kind, u64),
 }
 
-fn silent_in(end: u64, sheet: Option<u16>, heartbeats: &Heartbeats) -> Option<Finding>
-    ensures { result ≡ silent_in end sheet heartbeats.now }
+fn silent_in(all: &Tally, sheet: Option<u16>, heartbeats: &Heartbeats) -> Option<Finding>
+    ensures { result ≡ silent_in all.now sheet heartbeats.now }
 {
     let pace = Pace::of(sheet, heartbeats);
-    match (pace, silent_since(end, pace, heartbeats.since)) {
+    match (pace, silent_since(all, pace, heartbeats.since)) {
         (Some(pace), Some(since)) => Some(Finding::Silent(since, pace)),
         _ => None,
     }
@@ -145,13 +145,13 @@ fn error_frames(rows: &[Row]) -> u64 {
 }
 
 impl Kind {
-    /// What a node shows of this kind. `end` is the stamp of the bus's last frame, in microseconds;
-    /// `sheet` is the node's producer heartbeat time in ms, if a sheet has one.
-    pub(crate) fn of_node(self, end: u64, sheet: Option<u16>, node: &Node) -> Option<Finding>
-        ensures { result ≡ node_finding self end sheet node.now }
+    /// What a node shows of this kind, by the tally of its bus; `sheet` is the node's producer
+    /// heartbeat time in ms, if a sheet has one.
+    pub(crate) fn of_node(self, all: &Tally, sheet: Option<u16>, node: &Node) -> Option<Finding>
+        ensures { result ≡ node_finding self all.now sheet node.now }
     {
         match self {
-            Kind::Silence => silent_in(end, sheet, &node.heartbeats),
+            Kind::Silence => silent_in(all, sheet, &node.heartbeats),
             Kind::Lateness => late_in(&node.heartbeats),
             Kind::Loss => lost_in(sheet, &node.heartbeats),
             Kind::Restarts => restarted_in(node),
@@ -212,20 +212,20 @@ impl Kind {
     }
 }
 
-/// Whether a transfer that is open at the end, a stamp in microseconds, is named.
-pub fn is_waiting(end: u64, transfer: &Ended) -> bool
-    ensures { result ≡ is_waiting end transfer.now }
+/// Whether a transfer that is open at the end is named, by the tally of its bus.
+pub fn is_waiting(all: &Tally, transfer: &Ended) -> bool
+    ensures { result ≡ is_waiting all.now transfer.now }
 {
-    ANSWER_TIME < end.saturating_sub(transfer.newest)
+    ANSWER_TIME < all.elapsed(transfer.newest)
 }
 
-/// A transfer that is open at the end, a stamp in microseconds, if it had no frame for more than a
-/// second.
-pub(crate) fn open_finding(end: u64, transfer: &Option<Ended>) -> Option<Finding>
-    ensures { result ≡ open_finding end transfer.now }
+/// A transfer that is open at the end, if it had no frame for more than a second, by the tally of its
+/// bus.
+pub(crate) fn open_finding(all: &Tally, transfer: &Option<Ended>) -> Option<Finding>
+    ensures { result ≡ open_finding all.now transfer.now }
 {
     match transfer {
-        Some(transfer) if is_waiting(end, transfer) => {
+        Some(transfer) if is_waiting(all, transfer) => {
             Some(Finding::Open(transfer.key, transfer.newest))
         }
         _ => None,

@@ -14,6 +14,7 @@ mod sheet_times;
 mod wrong;
 
 pub use cells::push_id;
+pub use figures::gap_of;
 pub use finding::{Kind, is_waiting};
 pub use nodes::{is_shown, state_word};
 pub use pace::{Pace, lost_gap, median, silent_since};

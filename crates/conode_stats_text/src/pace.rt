@@ -1,6 +1,6 @@
 //! How often a node should send a heartbeat.
 
-ghost use Rattle.std.specs.Prelude.{◌≡◌, ◌/◌, ◌+◌, ◌-◌};
+ghost use Rattle.std.specs.Prelude.{◌≡◌, ◌/◌, ◌+◌};
 ghost use Rattle.conode_stats_text.specs.Paces.{
   is_half,
   is_long,
@@ -16,7 +16,7 @@ ghost use Rattle.conode_stats_text.specs.Paces.{
 ghost use Rattle.conode_stats_text.specs.Pieces.{piece_text};
 
 use crate::pieces::Piece;
-use conode_stats_counts::{Heartbeats, is_late};
+use conode_stats_counts::{Heartbeats, Tally, is_late};
 
 /// How often a node should send a heartbeat.
 #[derive(Clone, Copy)]
@@ -121,12 +121,13 @@ impl Pace {
     }
 }
 
-/// Since which stamp a node is silent at the end, a stamp too, if it is.
-pub fn silent_since(end: u64, pace: Option<Pace>, since: Option<u64>) -> Option<u64>
-    ensures { result ≡ silent_since end pace since }
+/// Since which stamp a node is silent at the end, if it is: by the tally of the bus, and the stamp
+/// since which a heartbeat is awaited.
+pub fn silent_since(all: &Tally, pace: Option<Pace>, since: Option<u64>) -> Option<u64>
+    ensures { result ≡ silent_since all.now pace since }
 {
     match (pace, since) {
-        (Some(pace), Some(since)) if pace.is_long(end.saturating_sub(since)) => Some(since),
+        (Some(pace), Some(since)) if pace.is_long(all.elapsed(since)) => Some(since),
         _ => None,
     }
 }

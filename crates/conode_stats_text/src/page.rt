@@ -74,11 +74,11 @@ fn push_nodes_wrong(
     bus: &Bus,
     kind: Kind,
 ) -> Result<(), AllocError> {
-    let end = bus.all().last;
+    let all = bus.all();
     for number in 1..128u8 {
         if let Some(node) = bus.nodes().get(usize::from(number)) {
             let time = sheet_time(sheets, bus.interface(), number);
-            let finding = kind.of_node(end, time, node);
+            let finding = kind.of_node(&all, time, node);
             push_listed(text, excerpt, bus.interface(), u32::from(number), &finding)?;
         }
     }
@@ -119,9 +119,9 @@ fn push_rows_wrong(
 
 // the SDO transfers that are open on a bus
 fn push_open_on(text: &mut String, excerpt: &mut Excerpt, bus: &Bus) -> Result<(), AllocError> {
-    let end = bus.all().last;
+    let all = bus.all();
     for track in bus.transfers().channels() {
-        let finding = open_finding(end, &track.channel.unfinished(end));
+        let finding = open_finding(&all, &track.channel.unfinished(all.last));
         let node = u32::from(track.node);
         push_listed(text, excerpt, bus.interface(), node, &finding)?;
     }
