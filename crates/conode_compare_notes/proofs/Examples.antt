@@ -109,7 +109,7 @@ too_short : learned [] true Upload (3 ∷ []) ≡ []
 unfolding learned_with shown_in
 too_short = refl
 
-in_more_frames : learned_with rows [] (exchange true Part None (transfer Upload Segmented (Done false) 2 (3 ∷ 1 ∷ []))) ≡ []
+in_more_frames : learned_with rows [] (exchange true Part None (transfer Upload Segmented (Done false) 2 (3 ∷ 1 ∷ []))) ≡ shown 0x103 ∷ []
 unfolding learned_with shown_in
 in_more_frames = refl
 
@@ -213,6 +213,15 @@ still_looked_for = refl
 -- another value than was written
 changed : map (warned (number_at 0x2000 1 (Some 8) ∷ []) 0x2000 1) ((9 ∷ 0 ∷ []) ∷ (8 ∷ 0 ∷ []) ∷ (8 ∷ []) ∷ []) ≡ Some (Changed (record { key = entry_key 0 1; shown = 9; written = 8 })) ∷ None ∷ None ∷ []
 changed = refl
+
+-- in segments and in blocks
+changed_in_parts : map (λ protocol. ended_warning subject kept (booted_up (number_at 0x2000 1 (Some 8) ∷ [])) true (record (done 0x2000 1 Upload (9 ∷ 0 ∷ [])) { protocol = protocol })) (Segmented ∷ Block ∷ [])
+    ≡ Some (Changed (record { key = entry_key 0 1; shown = 9; written = 8 })) ∷ Some (Changed (record { key = entry_key 0 1; shown = 9; written = 8 })) ∷ []
+changed_in_parts = refl
+
+written_in_parts : map (λ protocol. (after_end subject kept (booted_up (number_at 0x2000 1 None ∷ [])) true (record (done 0x2000 1 Download (8 ∷ 0 ∷ [])) { protocol = protocol })).writes) (Segmented ∷ Block ∷ [])
+    ≡ (number_at 0x2000 1 (Some 8) ∷ []) ∷ (number_at 0x2000 1 (Some 8) ∷ []) ∷ []
+written_in_parts = refl
 
 -- not of an entry that is held, of one that a PDO may have, of one that can't be written
 not_changed : warned (number_at 0x2001 0 (Some 8) ∷ []) 0x2001 0 (9 ∷ 0 ∷ []) ∷ warned (number_at 0x2002 0 (Some 8) ∷ []) 0x2002 0 (9 ∷ 0 ∷ []) ∷ warned (number_at 0x2000 0 (Some 8) ∷ []) 0x2000 0 (9 ∷ []) ∷ [] ≡ None ∷ None ∷ None ∷ []

@@ -18,7 +18,7 @@ use Rattle.conode_compare_transfers.specs.declared.dialogue.Exchange.{Exchange}
 use Rattle.conode_compare_transfers.specs.Breaches.{key_in}
 use Rattle.conode_compare_transfers.specs.Dialogues.{asks_to_write, is_timed}
 use Rattle.conode_compare_values.specs.SheetValues.{is_read_only, shown_number}
-use Rattle.conode_compare_held.specs.HeldNumbers.{differs, is_whole, number_written}
+use Rattle.conode_compare_held.specs.HeldNumbers.{differs, is_done, number_written}
 use Rattle.conode_compare_held.specs.HeldWords.{entry_of, held_width}
 use Rattle.conode_compare_rules.specs.declared.finding.Remark.{Remark}
 use Rattle.conode_compare_rules.specs.declared.finding.Remark.TheVariants.{Restarted as RestartedRemark, EarlyHeartbeat}
@@ -86,9 +86,9 @@ upload_warning subject rows watched ended = option_and_then (row_warning subject
 
 -- ---- the end of a transfer
 
--- a transfer that is done with all its bytes in one frame, where no earlier request can be answered
+-- a transfer that is done, where no earlier request can be answered
 abbrev pub is_plain : Bool → Ended → Bool
-is_plain certain ended = certain && is_whole ended.protocol ended.ending
+is_plain certain ended = certain && is_done ended.ending
 
 abbrev pub warning_of : Subject → List Row → Watched → Bool → Direction → Ended → Option Warning
 warning_of subject rows watched certain Upload ended = if is_plain certain ended then upload_warning subject rows watched ended else None

@@ -40,7 +40,7 @@ use co_profile::{RESTORE_PARAMETERS, STORE_PARAMETERS};
 use co_sheet::EntryRow;
 use co_sheet_changes::row_at;
 use co_value::Key;
-use conode_compare_held::{differs, held_width, is_whole, number_written};
+use conode_compare_held::{differs, held_width, is_done, number_written};
 use conode_compare_pdos::number_of;
 use conode_compare_rules::{FrameKind, Progress, Remark, Subject, is_reset};
 use conode_compare_transfers::{Exchange, asks_to_write, is_timed, key_in};
@@ -105,11 +105,11 @@ fn stored_warning(node: u8, row: &EntryRow<'_>, shown: u64) -> Option<Warning>
     }
 }
 
-// whether a transfer is done with all its bytes in one frame, and no earlier request can be answered
+// whether a transfer is done, and no earlier request can be answered
 fn is_plain(certain: bool, ended: &Ended) -> bool
     ensures { result ≡ is_plain certain ended.now }
 {
-    certain && is_whole(ended)
+    certain && is_done(ended)
 }
 
 // the number that a download wrote, where that is known
