@@ -15,7 +15,7 @@ use Rattle.conode_compare_rules.specs.declared.finding.Finding.TheVariants.{Boot
 use Rattle.conode_compare_rules.specs.declared.finding.NmtState.TheVariants.{PreOperational, Operational}
 use Rattle.conode_compare_choices.specs.declared.choice.Choice.TheVariants.{Segments, NoSize, ShortSegment, NoCrc, BlockSize, Switched, Code, Timeout, Heartbeat, Phase, NoEmergency, OtherEmergency}
 use Rattle.conode_compare_choices.specs.declared.length_error.LengthError.TheVariants.{ShortRpdo, LongRpdo, OddSync}
-use Rattle.conode_compare_notes.specs.declared.warning.Warning.TheVariants.{Changed, OddCode, OtherRevision, OtherText, Restarted, SteppedBack, Stored}
+use Rattle.conode_compare_notes.specs.declared.warning.Warning.TheVariants.{Changed, ChangedBytes, OddCode, OtherRevision, OtherText, Restarted, SteppedBack, Stored}
 use Rattle.conode_compare_text.specs.ChoiceTexts.{choice_line, choice_text, choices_summary}
 use Rattle.conode_compare_text.specs.FindingTexts.{coded, eight_digits, finding_line, finding_text, hexadecimal, keyed, keyed_code, keyed_codes, keyed_number, keyed_numbers, keyed_time, keyed_values, millis_text, mismatch_text, named, numbered, numbered_time, numbered_times, pdo_text, shown_value, three_numbers, timed, timed_number, transfer_text, two_codes, two_times}
 use Rattle.conode_compare_text.specs.LearnedTexts.{learned_line, other_text, typed_text}
@@ -257,6 +257,10 @@ changed = refl
 other_revision : warning_text plain (OtherRevision key 0x10003 0x10002) ≡ codes "warning: other-version: 1018:01 has 00010003h, the sheet 00010002h"
 unfolding warning_text keyed_values shown_value hexadecimal eight_digits digits_text
 other_revision = refl
+
+changed_bytes : warning_text plain (ChangedBytes key) ≡ codes "warning: changed-after-write: 1018:01 has other bytes than were written"
+unfolding warning_text keyed digits_text
+changed_bytes = refl
 
 another_text : warning_text plain (OtherText key) ≡ codes "warning: other-version: 1018:01 has another text than the sheet"
 unfolding warning_text keyed digits_text

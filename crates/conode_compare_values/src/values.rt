@@ -254,8 +254,7 @@ fn text_mismatch(row: &EntryRow<'_>, exact: bool, shown: &[u8]) -> Option<Mismat
 {
     match row.default {
         Preset::Text(bytes)
-            if is_held_text(row) && is_comparable(bytes) && is_other_text(exact, bytes, shown) =>
-        {
+            if is_held_text(row) && is_comparable(bytes) && is_other_text(exact, bytes, shown) => {
             Some(Mismatch::ConstText(row.key))
         }
         _ => None,
