@@ -102,11 +102,14 @@ is_printed byte = nat_le 0x20 byte && nat_lt byte 0x7F
 abbrev pub byte_of : List ℕ → ℕ → ℕ
 byte_of bytes place = slice_index bytes place
 
--- A text of the data sheet that is compared: of up to 64 characters, since so many bytes of a transfer
--- are kept. One in quotes may be meant without them.
+-- neither of the quotes, which may be meant to be left out
+abbrev pub is_first : ℕ → Bool
+is_first byte = is_visible byte && (not (byte == 0x22) && not (byte == 0x27))
+
+-- a text of the data sheet that is compared: of up to 64 characters, since so many bytes of a transfer
+-- are kept
 abbrev pub is_comparable : List ℕ → Bool
-is_comparable bytes =
-    nat_le (length bytes) 64 && (list_all is_printed bytes && (is_visible (byte_of bytes 0) && not ((byte_of bytes 0 == 0x22) || (byte_of bytes 0 == 0x27))))
+is_comparable bytes = nat_le (length bytes) 64 && (list_all is_printed bytes && is_first (byte_of bytes 0))
 
 abbrev pub begins_with : List ℕ → List ℕ → Bool
 begins_with bytes shown = nat_le (length bytes) (length shown) && bytes_eq (take (length bytes) shown) bytes

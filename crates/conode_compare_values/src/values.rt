@@ -19,6 +19,7 @@ ghost use Rattle.conode_compare_values.specs.SheetValues.{
   is_below,
   is_boolean,
   is_comparable,
+  is_first,
   is_held,
   is_held_text,
   is_other_text,
@@ -217,14 +218,19 @@ fn byte_of(bytes: &[u8], place: usize) -> u8
     }
 }
 
-// whether a text of the data sheet can be compared: in quotes it may be meant without them
+// whether a text of a data sheet may begin so: one in quotes may be meant without them
+fn is_first(byte: u8) -> bool
+    ensures { result ≡ is_first byte }
+{
+    is_visible(byte) && (byte != b'"' && byte != b'\'')
+}
+
+// whether a text of the data sheet can be compared
 fn is_comparable(bytes: &[u8]) -> bool
     ensures { result ≡ is_comparable bytes.now }
 {
-    let first = byte_of(bytes, 0);
     bytes.len() <= KEPT
-        && bytes.iter().all(|byte| is_printed(*byte))
-        && (is_visible(first) && !(first == b'"' || first == b'\''))
+        && (bytes.iter().all(|byte| is_printed(*byte)) && is_first(byte_of(bytes, 0)))
 }
 
 fn begins_with(bytes: &[u8], shown: &[u8]) -> bool
