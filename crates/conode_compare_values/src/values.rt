@@ -1,7 +1,7 @@
 //! The end of a transfer, compared with the row of its entry in the data sheet.
 
 ghost use Rattle.std.specs.Prelude.{◌≡◌, ◌≤◌, true, map};
-ghost use Rattle.std.specs.List.{AllPairs};
+ghost use Rattle.std.specs.List.{AllPairs, list_all};
 ghost use Rattle.co_sheet.specs.SheetViews.{row_view};
 ghost use Rattle.co_value.specs.Keys.{is_key_before};
 ghost use Rattle.conode_compare_values.specs.SheetValues.{
@@ -225,12 +225,17 @@ fn is_first(byte: u8) -> bool
     is_visible(byte) && (byte != b'"' && byte != b'\'')
 }
 
+fn all_printed(bytes: &[u8]) -> bool
+    ensures { result ≡ list_all is_printed bytes.now }
+{
+    bytes.iter().all(|byte| is_printed(*byte))
+}
+
 // whether a text of the data sheet can be compared
 fn is_comparable(bytes: &[u8]) -> bool
     ensures { result ≡ is_comparable bytes.now }
 {
-    bytes.len() <= KEPT
-        && (bytes.iter().all(|byte| is_printed(*byte)) && is_first(byte_of(bytes, 0)))
+    bytes.len() <= KEPT && (all_printed(bytes) && is_first(byte_of(bytes, 0)))
 }
 
 fn begins_with(bytes: &[u8], shown: &[u8]) -> bool
