@@ -27,7 +27,7 @@ use Rattle.conode_compare_rules.specs.declared.kind.FrameKind.TheVariants.{Comma
 use Rattle.conode_compare_rules.specs.declared.limits.Limits.{Limits}
 use Rattle.conode_compare_rules.specs.declared.limits.Subject.{Subject}
 use Rattle.conode_compare_rules.specs.declared.progress.Progress.{Progress}
-use Rattle.conode_compare_rules.specs.Answers.{confirmed_finding, held_finding}
+use Rattle.conode_compare_rules.specs.Answers.{confirmed_finding}
 use Rattle.conode_compare_rules.specs.FrameKinds.{command_kind, command_to, control_kind, data_kind, emergency_kind, emergency_with, length_of}
 use Rattle.conode_compare_rules.specs.Progresses as progresses
 use Rattle.conode_compare_rules.specs.Progresses.{
@@ -145,7 +145,7 @@ odd_emergency_passes subject rows p micros length stage h = record { none = refl
 request_passes : (subject : Subject) (rows : List Row) (p : Progress) (micros : ℕ) (frame : FrameContent) (stage : Stage) → FitsAt micros stage p → Passes subject rows p micros (Sdo Client frame) stage
 unfolding request_findings channel_heard exchange_noted
 request_passes subject rows p micros frame stage h = record {
-  none = confirmed_none (Sdo Client frame) (option_or (confirmed_finding subject rows (exchange_at subject p micros Client frame) frame) (held_finding subject p.written (exchange_at subject p micros Client frame))) refl;
+  none = confirmed_none (Sdo Client frame) (confirmed_finding subject rows p.written (exchange_at subject p micros Client frame) frame) refl;
   fits = h;
 }
 

@@ -32,7 +32,7 @@ use Rattle.conode_compare_notes.specs.declared.warning.Warning.{Warning}
 use Rattle.conode_compare_notes.specs.declared.warning.Warning.TheVariants.{Changed, ChangedBytes, OddCode, OtherRevision, OtherText, Restarted, SteppedBack, Stored}
 use Rattle.conode_compare_notes.specs.declared.watched.Watched.{Watched}
 use Rattle.conode_compare_notes.specs.declared.writes.Wrote.{Wrote}
-use Rattle.conode_compare_notes.specs.Contents.{checksum_from, content_warning, is_exact, shown_content, written_content}
+use Rattle.conode_compare_notes.specs.Contents.{checksum_from, content_warning, is_exact, mixed, shown_content, written_content}
 use Rattle.conode_compare_notes.specs.LearnedValues.{learned_with, number_of, shown_in}
 use Rattle.conode_compare_notes.specs.Versions.{code_warning, has_class, has_text, version_warning}
 use Rattle.conode_compare_notes.specs.Warnings.{after_end, after_other, after_request, ended_warning, is_setting, remark_warning, stepped_back}
@@ -228,11 +228,11 @@ written_in_parts = refl
 
 -- texts: the checksum of "AB" is 65 * 257 + 66, and stays below 2 ^ 32 - 5
 checksums : map (checksum_from 0) ([] ∷ (65 ∷ []) ∷ (65 ∷ 66 ∷ []) ∷ []) ≡ 0 ∷ 65 ∷ 16771 ∷ []
-unfolding checksum_from
+unfolding mixed
 checksums = refl
 
 modulus : map (λ sum. checksum_from sum (202 ∷ [])) (16711934 ∷ 16711935 ∷ []) ≡ 4294967240 ∷ 206 ∷ []
-unfolding checksum_from
+unfolding mixed
 modulus = refl
 
 -- in blocks; a last segment of six bytes, and one of seven; one frame
@@ -247,7 +247,7 @@ text_row = entry 0x2000 1 VisibleString Rw
 
 shown_text : shown_content text_row (text_of Upload Segmented (65 ∷ 66 ∷ [])) ∷ written_content text_row (text_of Download Block (65 ∷ 66 ∷ [])) ∷ shown_content text_row (text_of Upload Expedited (65 ∷ 66 ∷ [])) ∷ []
     ≡ Some (Bytes 2 16771) ∷ Some (Bytes 2 16771) ∷ None ∷ []
-unfolding checksum_from
+unfolding mixed
 shown_text = refl
 
 -- as many other bytes; more of them; a number and bytes

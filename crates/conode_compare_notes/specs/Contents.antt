@@ -15,10 +15,10 @@ use Rattle.conode_compare_notes.specs.declared.warning.Warning.{Warning}
 use Rattle.conode_compare_notes.specs.declared.warning.Warning.TheVariants.{Changed, ChangedBytes}
 
 -- a checksum, modulo the largest prime below 2 ^ 32
-abbrev pub mixed : ℕ → ℕ → ℕ
+unfoldable pub mixed : ℕ → ℕ → ℕ
 mixed sum byte = (sum * 257 + byte) % 4294967291
 
-unfoldable pub checksum_from : ℕ → List ℕ → ℕ
+abbrev pub checksum_from : ℕ → List ℕ → ℕ
 checksum_from sum [] = sum
 checksum_from sum (byte ∷ bytes) = checksum_from (mixed sum byte) bytes
 

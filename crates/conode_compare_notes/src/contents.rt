@@ -34,6 +34,7 @@ pub enum Content {
 const MODULUS: u64 = 4_294_967_291;
 
 // the checksum of bytes with this one so far, and one more
+#[tactic(auto, unfolding(crate::specs::Contents::mixed))]
 fn mixed(sum: u32, byte: u8) -> u32
     ensures { result ≡ mixed sum byte }
 {

@@ -26,6 +26,7 @@ use Rattle.conode_compare_transfers.specs.declared.dialogue.Exchange.{Exchange}
 use Rattle.conode_compare_rules.specs.declared.entries.Entries.{Entries}
 use Rattle.conode_compare_values.specs.declared.mismatch.Mismatch.TheVariants.{ValueConst, ValueLength}
 use Rattle.conode_compare_values.specs.SheetValues.{mismatch_at, row_mismatch, value_mismatch}
+use Rattle.conode_compare_held.specs.HeldNumbers.{held_mismatch, nothing_written}
 use Rattle.conode_compare_rules.specs.declared.finding.Finding.{Finding}
 use Rattle.conode_compare_rules.specs.declared.finding.Finding.TheVariants.{BootMissing, SecondBootUp, NoState, WrongState, HeartbeatLate, EmergencyStopped, EmergencyRegister, EmergencyInhibit, AnswerStopped, Transfer, Value}
 use Rattle.conode_compare_rules.specs.declared.finding.Remark.TheVariants.{Restarted, EarlyHeartbeat}
@@ -36,7 +37,7 @@ use Rattle.conode_compare_rules.specs.declared.kind.FrameKind.TheVariants.{Comma
 use Rattle.conode_compare_rules.specs.declared.limits.Limits.{Limits}
 use Rattle.conode_compare_rules.specs.declared.limits.Subject.{Subject}
 use Rattle.conode_compare_rules.specs.declared.nmt.Nmt.{Nmt}
-use Rattle.conode_compare_rules.specs.Answers.{confirmed_finding, is_exact, stopped_finding}
+use Rattle.conode_compare_rules.specs.Answers.{confirmed_finding, held_finding, is_exact, stopped_finding}
 use Rattle.conode_compare_transfers.specs.Dialogues.{dialogue_heard, is_certain, nothing_asked}
 use Rattle.conode_compare_transfers.specs.NewestFrames.{newest_after, newest_with}
 use Rattle.conode_compare_rules.specs.EmergencyRules.{emergency_finding, inhibit_finding}
@@ -602,11 +603,11 @@ uploaded_in_blocks count bytes = record {
 }
 
 abbrev confirmed_value : ℕ → List ℕ → Option Finding
-confirmed_value count bytes = confirmed_finding device (row 0x1000 0 Unsigned32 Constant (number (pos 0x191)) ∷ []) (uploaded_in_blocks count bytes) confirmation
+confirmed_value count bytes = confirmed_finding device (row 0x1000 0 Unsigned32 Constant (number (pos 0x191)) ∷ []) nothing_written (uploaded_in_blocks count bytes) confirmation
 
 confirmed_values : confirmed_value 4 (0x91 ∷ 1 ∷ 0 ∷ 0 ∷ []) ∷ confirmed_value 4 (0x92 ∷ 1 ∷ 0 ∷ 0 ∷ []) ∷ confirmed_value 5 (0x91 ∷ 1 ∷ 0 ∷ 0 ∷ 0 ∷ []) ∷ []
     ≡ None ∷ Some (Value (ValueConst (key 0x1000 0) 0x192 0x191)) ∷ Some (Value (ValueLength (key 0x1000 0) 5 4)) ∷ []
-unfolding confirmed_finding value_mismatch row_mismatch mismatch_at
+unfolding confirmed_finding held_finding held_mismatch value_mismatch row_mismatch mismatch_at facts_of
 confirmed_values = refl
 
 -- a last segment with n = 0 and 1; expedited with s = 0 and 1; in blocks
@@ -617,11 +618,11 @@ exact_ends : exact_by Segmented 0x11 ∷ exact_by Segmented 0x13 ∷ exact_by Se
     ≡ false ∷ true ∷ true ∷ false ∷ true ∷ true ∷ []
 exact_ends = refl
 
-confirmed : confirmed_finding device [] (answered_in true) confirmation ≡ Some (Transfer (Toggle (key 0x1000 0)))
+confirmed : confirmed_finding device [] nothing_written (answered_in true) confirmation ≡ Some (Transfer (Toggle (key 0x1000 0)))
 unfolding confirmed_finding
 confirmed = refl
 
-confirmed_in_doubt : confirmed_finding device [] (answered_in false) confirmation ≡ None
+confirmed_in_doubt : confirmed_finding device [] nothing_written (answered_in false) confirmation ≡ None
 unfolding confirmed_finding
 confirmed_in_doubt = refl
 

@@ -121,9 +121,12 @@ held_finding subject written exchange =
     option_map (λ m. Held m) (held_mismatch subject.held.entries.items written exchange.certain exchange.heard.ended)
 
 -- the client's confirmation shows what the device did in the block upload that ends with it
-unfoldable pub confirmed_finding : Subject → List Row → Exchange → FrameContent → Option Finding
-confirmed_finding subject rows exchange frame =
-    if exchange.certain then option_or (breach_finding exchange.breach) (ended_finding subject rows frame exchange.heard.ended) else None
+unfoldable pub confirmed_finding : Subject → List Row → Written → Exchange → FrameContent → Option Finding
+confirmed_finding subject rows written exchange frame =
+    if exchange.certain
+    then option_or (breach_finding exchange.breach)
+    (option_or (ended_finding subject rows frame exchange.heard.ended) (held_finding subject written exchange))
+    else None
 
 -- ---- no answer at all
 

@@ -306,8 +306,7 @@ confirmed_findings (Some finding) = found None None None (Some finding) false
 
 unfoldable pub request_findings : Subject → List Row → Progress → ℕ → FrameContent → Findings
 request_findings subject rows progress micros frame =
-    let exchange = exchange_at subject progress micros Client frame in
-    confirmed_findings (option_or (confirmed_finding subject rows exchange frame) (held_finding subject progress.written exchange))
+    confirmed_findings (confirmed_finding subject rows progress.written (exchange_at subject progress micros Client frame) frame)
 
 -- ---- PDOs
 

@@ -183,28 +183,26 @@ pub(crate) fn held_finding(
     }
 }
 
-/// The difference of the block upload that the client's confirmation ends.
+/// The difference of the block upload that the client's confirmation ends; `written`: what was
+/// written to the entries that are held.
 #[tactic(auto, unfolding(crate::specs::Answers::confirmed_finding))]
 pub(crate) fn confirmed_finding(
     subject: &Subject,
     rows: &[EntryRow<'_>],
+    written: &Written,
     exchange: &Exchange,
     frame: &Frame,
 ) -> Option<Finding>
     requires { AllPairs (λ e f. is_key_before e.key f.key ≡ true) rows.now }
-    ensures { result
-        ≡ confirmed_finding subject.now (map row_view rows.now) exchange.now frame.now }
+    ensures { result ≡ confirmed_finding
+        subject.now (map row_view rows.now) written.now exchange.now frame.now }
 {
-    if exchange.certain {
-        breach_finding(exchange.breach).or(ended_finding(
-            subject,
-            rows,
-            frame,
-            &exchange.heard.ended,
-        ))
-    } else {
-        None
+    if !exchange.certain {
+        return None;
     }
+    let held = held_finding(subject, written, exchange);
+    let value = ended_finding(subject, rows, frame, &exchange.heard.ended).or(held);
+    breach_finding(exchange.breach).or(value)
 }
 
 /// The difference of an answer, where no earlier request can be answered.

@@ -474,9 +474,9 @@ impl Progress {
             ≡ request_findings subject.now (map row_view rows.now) self.old micros frame.now }
         ensures progress { self.new ≡ after_sdo subject.now self.old micros Client frame.now }
     {
+        let written = self.written;
         let exchange = self.hear(subject, micros, Side::Client, frame);
-        let held = held_finding(subject, &self.written, &exchange);
-        let finding = confirmed_finding(subject, rows, &exchange, frame).or(held);
+        let finding = confirmed_finding(subject, rows, &written, &exchange, frame);
         self.note_exchange(subject, exchange);
         match finding {
             Some(finding) => Findings::of(None, None, None, Some(finding), false),
