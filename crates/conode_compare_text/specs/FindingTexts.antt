@@ -33,11 +33,13 @@ timed front micros end = front ++ millis_text micros ++ end
 unfoldable pub eight_digits : ℕ → List ℕ
 eight_digits number = digits_text 16 4 (number / 0x10000 % 0x10000) ++ digits_text 16 4 (number % 0x10000)
 
+-- the digits of the bits above these, where one is set
+abbrev pub high_digits : ℕ → List ℕ
+high_digits number = if nat_lt number 0x100000000 then [] else eight_digits (number / 0x100000000)
+
 -- a number in eight hexadecimal digits, or in sixteen
 unfoldable pub hexadecimal : ℕ → List ℕ
-hexadecimal number =
-    if nat_lt number 0x100000000 then eight_digits number ++ codes "h"
-    else eight_digits (number / 0x100000000) ++ eight_digits number ++ codes "h"
+hexadecimal number = high_digits number ++ eight_digits number ++ codes "h"
 
 -- a value of up to eight bytes: in hexadecimal digits; a REAL32, in a sheet that was adapted, as
 -- `explain` shows it

@@ -7,6 +7,7 @@ ghost use Rattle.conode_compare_text.specs.FindingTexts.{
   coded,
   eight_digits,
   hexadecimal,
+  high_digits,
   keyed,
   keyed_code,
   keyed_codes,
@@ -117,14 +118,23 @@ fn push_eight_digits(text: &mut String, number: u64) -> Result<(), AllocError>
     push_u16(text, (number % 0x1_0000) as u16)
 }
 
+// the digits of the bits above these, where one is set
+fn push_high_digits(text: &mut String, number: u64) -> Result<(), AllocError>
+    ensures { OnOk result (string_bytes text.new ≡ string_bytes text.old ++ high_digits number) }
+{
+    if number < 0x1_0000_0000 {
+        Ok(())
+    } else {
+        push_eight_digits(text, number / 0x1_0000_0000)
+    }
+}
+
 // a number in eight hexadecimal digits, or in sixteen
 #[tactic(auto, unfolding(crate::specs::FindingTexts::hexadecimal))]
 fn push_hexadecimal(text: &mut String, number: u64) -> Result<(), AllocError>
     ensures { OnOk result (string_bytes text.new ≡ string_bytes text.old ++ hexadecimal number) }
 {
-    if number >= 0x1_0000_0000 {
-        push_eight_digits(text, number / 0x1_0000_0000)?;
-    }
+    push_high_digits(text, number)?;
     push_eight_digits(text, number)?;
     text.push('h')
 }
