@@ -8,4 +8,4 @@ pub mod Refused
 pub mod StateKept
 pub mod Terminated
 pub mod Ticks
-pub mod Unchanged
+pub mod ChangesSoFar

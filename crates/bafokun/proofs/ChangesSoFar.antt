@@ -20,16 +20,18 @@ one_more changes from to same next = λ n at below. by n at below (ltb n to) ref
 pub area_turn : (area : Area) (entries : List EntryContent) (number : ℕ) (changes : List ℕ) → number < length entries
     → with_area area (drop (number + 1) entries) (number + 1) (option_map_or (λ e. with_entry area e number changes) (entry_at entries number) changes)
     ≡ with_area area (drop number entries) number changes
-area_turn area entries number changes below = turn entries number number below
+area_turn area entries number changes below =
+    ap (λ (m : ℕ). with_area area (drop m entries) m (option_map_or (λ e. with_entry area e number changes) (entry_at entries number) changes)) (plus_one number)
+    ∙ turn entries number number below
   where
+    plus_one : (n : ℕ) → n + 1 ≡ suc n
+    plus_one n = omega arith
+
     turn : (es : List EntryContent) (i n : ℕ) → i < length es
-        → with_area area (drop (i + 1) es) (n + 1) (option_map_or (λ e. with_entry area e n changes) (entry_at es i) changes)
+        → with_area area (drop (suc i) es) (suc n) (option_map_or (λ e. with_entry area e n changes) (entry_at es i) changes)
         ≡ with_area area (drop i es) n changes
     turn [] i n below = absurd (omega (arith, below))
-    turn (e ∷ es) zero n below = ap (λ (m : ℕ). with_area area es m (with_entry area e n changes)) (plus_one n)
-      where
-        plus_one : (n : ℕ) → n + 1 ≡ suc n
-        plus_one n = omega arith
+    turn (e ∷ es) zero n below = refl
     turn (e ∷ es) (suc i) n below = turn es i n (omega (arith, below))
 
 -- none is left past the last
