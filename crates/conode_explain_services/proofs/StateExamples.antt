@@ -1,5 +1,5 @@
 -- The NMT states of nodes, computed from the definitions on both sides of each edge.
-use Rattle.std.proofs.Common.{◌≡◌, ℕ, Bool, true, false, List, [], ◌∷◌, Some, None, refl, map}
+use Rattle.std.proofs.Common.{◌≡◌, ℕ, true, false, List, [], ◌∷◌, Some, None, refl, map}
 use Rattle.std.specs.Prelude.{codes}
 use Rattle.conode_explain_services.specs.declared.nmt_state.NmtState.TheVariants.{Stopped, Operational, PreOperational}
 use Rattle.conode_explain_services.specs.declared.nmt_state.KnownState.{KnownState}
