@@ -8,7 +8,7 @@ drives : map is_drive (0x00020192 ∷ 0x00000192 ∷ 0x00000191 ∷ 0x01920000 �
 drives = refl
 
 -- the second axis has them 800h later; a sub-index has none
-meaning_of_keys : map (λ key. has_meaning (record { index = key.0; sub = key.1 })) ((0x6041, 0) ∷ (0x6841, 0) ∷ (0x6041, 1) ∷ (0x6042, 0) ∷ []) ≡ true ∷ true ∷ false ∷ false ∷ []
+meaning_of_keys : map {A = ℕ × ℕ} (λ key. has_meaning (record { index = key.0; sub = key.1 })) ((0x6041, 0) ∷ (0x6841, 0) ∷ (0x6041, 1) ∷ (0x6042, 0) ∷ []) ≡ true ∷ true ∷ false ∷ false ∷ []
 unfolding meaning_at
 meaning_of_keys = refl
 

@@ -5,6 +5,7 @@ use Rattle.std.specs.Fmt.{digits}
 use Rattle.co_text.specs.Printed.{digits_text}
 use Rattle.conode_explain_services.specs.declared.guarding.Guarding.{Guarding}
 use Rattle.conode_explain_services.specs.declared.guarding.Guarding.TheVariants.{NotSeen, BootedUp, Requested, Answered}
+use Rattle.conode_explain_services.specs.declared.nmt_state.KnownState.TheVariants.{Unknown}
 use Rattle.conode_explain_services.specs.declared.last.Last.{Last}
 use Rattle.conode_explain_services.specs.Codes.{class_words, code_text, code_words, known_class, single_words}
 use Rattle.conode_explain_services.specs.Emergencies.{bytes_after, emergency_words}

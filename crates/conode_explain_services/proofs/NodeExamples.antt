@@ -4,8 +4,12 @@ use Rattle.std.specs.Prelude.{codes}
 use Rattle.conode_explain_services.specs.declared.guarding.Guarding.{Guarding}
 use Rattle.conode_explain_services.specs.declared.guarding.Guarding.TheVariants.{NotSeen, BootedUp, Requested, Answered}
 use Rattle.conode_explain_services.specs.declared.last.Last.{Last}
+use Rattle.conode_explain_services.specs.declared.nmt_state.KnownState.{KnownState}
+use Rattle.conode_explain_services.specs.declared.nmt_state.KnownState.TheVariants.{Unknown, Seen}
+use Rattle.conode_explain_services.specs.declared.nmt_state.NmtState.TheVariants.{Operational, PreOperational}
 use Rattle.conode_explain_services.specs.declared.node.Node.{Node}
-use Rattle.conode_explain_services.specs.Nodes.{last_in, last_of, new_node, nodes_after, nodes_asked, noted, nothing_seen}
+use Rattle.conode_explain_services.specs.Nodes.{last_for, last_in, last_of, new_node, nodes_after, nodes_asked, noted, nothing_seen}
+use Rattle.conode_explain_services.specs.NmtStates.{state_at}
 
 abbrev after : List Node → List ℕ → ℕ → List ℕ → List Node
 after nodes interface id bytes = nodes_after nodes interface (record { id = id; bytes = bytes })
@@ -15,6 +19,10 @@ emergency_of register = 0 ∷ 0 ∷ register ∷ 0 ∷ 0 ∷ 0 ∷ 0 ∷ 0 ∷ [
 
 abbrev had : ℕ → Guarding → Last
 had register guarding = record { register = Some register; guarding = guarding; state = Unknown }
+
+-- error register 1, and a state
+abbrev showed : Guarding → KnownState → Last
+showed guarding state = record { register = Some 1; guarding = guarding; state = state }
 
 -- two emergencies of one node: its register is the second's; another node and another interface have theirs
 abbrev three : List Node
@@ -42,6 +50,22 @@ another_service : last_of three (codes "a") 0x185 ≡ nothing_seen
 unfolding nodes_after last_of last_in noted
 another_service = refl
 
+-- a command is of the node that it is for, one to all of none
+abbrev at_frame : ℕ → List ℕ → Last
+at_frame id bytes = last_for three (codes "a") (record { id = id; bytes = bytes })
+
+of_command : at_frame 0 (1 ∷ 6 ∷ []) ≡ had 0x22 NotSeen
+unfolding last_for nodes_after last_of last_in noted
+of_command = refl
+
+of_command_to_all : at_frame 0 (1 ∷ 0 ∷ []) ≡ nothing_seen
+unfolding last_for nodes_after last_of last_in noted
+of_command_to_all = refl
+
+of_emergency : at_frame 0x085 [] ≡ had 0x44 NotSeen
+unfolding last_for nodes_after last_of last_in noted
+of_emergency = refl
+
 -- seven bytes, SYNC and TPDOs change nothing
 short_emergency : after [] (codes "a") 0x085 (0 ∷ 0 ∷ 1 ∷ 0 ∷ 0 ∷ 0 ∷ 0 ∷ []) ≡ []
 unfolding nodes_after last_of last_in noted
@@ -66,43 +90,43 @@ of_asked = refl
 abbrev answered : List Node
 answered = after asked (codes "a") 0x705 (0x05 ∷ [])
 
-of_answered : answered ≡ new_node (codes "a") 5 (had 1 (Answered true)) ∷ []
-unfolding nodes_after nodes_asked last_of last_in noted
+of_answered : answered ≡ new_node (codes "a") 5 (showed (Answered true) (Seen Operational)) ∷ []
+unfolding nodes_after nodes_asked last_of last_in noted state_at
 of_answered = refl
 
-asked_again : nodes_asked answered (codes "a") 0x705 ≡ new_node (codes "a") 5 (had 1 (Requested (Some true))) ∷ []
-unfolding nodes_after nodes_asked last_of last_in noted
+asked_again : nodes_asked answered (codes "a") 0x705 ≡ new_node (codes "a") 5 (showed (Requested (Some true)) (Seen Operational)) ∷ []
+unfolding nodes_after nodes_asked last_of last_in noted state_at
 asked_again = refl
 
-answered_again : after answered (codes "a") 0x705 (0x85 ∷ []) ≡ new_node (codes "a") 5 (had 1 (Answered false)) ∷ []
-unfolding nodes_after nodes_asked last_of last_in noted
+answered_again : after answered (codes "a") 0x705 (0x85 ∷ []) ≡ new_node (codes "a") 5 (showed (Answered false) (Seen Operational)) ∷ []
+unfolding nodes_after nodes_asked last_of last_in noted state_at
 answered_again = refl
 
 no_state : after answered (codes "a") 0x705 (0x06 ∷ []) ≡ answered
-unfolding nodes_after nodes_asked last_of last_in noted
+unfolding nodes_after nodes_asked last_of last_in noted state_at
 no_state = refl
 
-heartbeat_instead : after answered (codes "a") 0x705 (0x05 ∷ []) ≡ new_node (codes "a") 5 (had 1 NotSeen) ∷ []
-unfolding nodes_after nodes_asked last_of last_in noted
+heartbeat_instead : after answered (codes "a") 0x705 (0x05 ∷ []) ≡ new_node (codes "a") 5 (showed NotSeen (Seen Operational)) ∷ []
+unfolding nodes_after nodes_asked last_of last_in noted state_at
 heartbeat_instead = refl
 
 abbrev booted_up : List Node
 booted_up = after answered (codes "a") 0x705 (0x00 ∷ [])
 
-of_booted_up : booted_up ≡ new_node (codes "a") 5 (had 1 BootedUp) ∷ []
-unfolding nodes_after nodes_asked last_of last_in noted
+of_booted_up : booted_up ≡ new_node (codes "a") 5 (showed BootedUp (Seen PreOperational)) ∷ []
+unfolding nodes_after nodes_asked last_of last_in noted state_at
 of_booted_up = refl
 
-asked_after_it : nodes_asked booted_up (codes "a") 0x705 ≡ new_node (codes "a") 5 (had 1 (Requested (Some false))) ∷ []
-unfolding nodes_after nodes_asked last_of last_in noted
+asked_after_it : nodes_asked booted_up (codes "a") 0x705 ≡ new_node (codes "a") 5 (showed (Requested (Some false)) (Seen PreOperational)) ∷ []
+unfolding nodes_after nodes_asked last_of last_in noted state_at
 asked_after_it = refl
 
-heartbeat_after_it : after booted_up (codes "a") 0x705 (0x7F ∷ []) ≡ new_node (codes "a") 5 (had 1 NotSeen) ∷ []
-unfolding nodes_after nodes_asked last_of last_in noted
+heartbeat_after_it : after booted_up (codes "a") 0x705 (0x7F ∷ []) ≡ new_node (codes "a") 5 (showed NotSeen (Seen PreOperational)) ∷ []
+unfolding nodes_after nodes_asked last_of last_in noted state_at
 heartbeat_after_it = refl
 
-heartbeat : after [] (codes "a") 0x705 (0x05 ∷ []) ≡ new_node (codes "a") 5 nothing_seen ∷ []
-unfolding nodes_after last_of last_in noted
+heartbeat : after [] (codes "a") 0x705 (0x05 ∷ []) ≡ new_node (codes "a") 5 (record { register = None; guarding = NotSeen; state = Seen Operational }) ∷ []
+unfolding nodes_after last_of last_in noted state_at
 heartbeat = refl
 
 -- identifiers beside those of error control

@@ -1,10 +1,11 @@
 -- The NMT states of nodes, computed from the definitions on both sides of each edge.
-use Rattle.std.proofs.Common.{◌≡◌, ℕ, Bool, true, false, List, [], ◌∷◌, Some, None, refl, map}
+use Rattle.std.proofs.Common.{◌≡◌, ℕ, true, false, List, [], ◌∷◌, Some, None, refl, map}
 use Rattle.std.specs.Prelude.{codes}
 use Rattle.conode_explain_services.specs.declared.nmt_state.NmtState.TheVariants.{Stopped, Operational, PreOperational}
+use Rattle.conode_explain_services.specs.declared.nmt_state.KnownState.{KnownState}
 use Rattle.conode_explain_services.specs.declared.nmt_state.KnownState.TheVariants.{Unknown, Seen, Commanded}
 use Rattle.conode_explain_services.specs.declared.guarding.Guarding.TheVariants.{NotSeen}
-use Rattle.conode_explain_services.specs.Nodes.{last_for, last_in, last_of, new_node, nodes_after, nodes_commanded, noted, nothing_seen}
+use Rattle.conode_explain_services.specs.Nodes.{last_in, new_node, nodes_after, nodes_commanded, noted, nothing_seen}
 use Rattle.conode_explain_services.specs.NmtStates.{found_words, is_command, shown_words, state_after, state_at, state_commanded}
 use Rattle.conode_explain_services.specs.Services.{state_words}
 
@@ -48,3 +49,19 @@ to_one : nodes_after [] (codes "a") (record { id = 0; bytes = 2 ∷ 5 ∷ [] })
     ≡ new_node (codes "a") 5 (record { register = None; guarding = NotSeen; state = Commanded Stopped }) ∷ []
 unfolding nodes_after nodes_commanded noted last_in state_commanded
 to_one = refl
+
+-- where its node's last frames had this
+abbrev says : KnownState → ℕ → List ℕ → List ℕ
+says state id bytes = state_words (record { register = None; guarding = NotSeen; state = state }) (record { id = id; bytes = bytes })
+
+command_to_one : says (Seen Operational) 0 (1 ∷ 5 ∷ []) ≡ codes " (operational seen)"
+unfolding state_words found_words
+command_to_one = refl
+
+command_to_all : says (Seen Operational) 0 (1 ∷ 0 ∷ []) ≡ []
+unfolding state_words
+command_to_all = refl
+
+control : map (λ id. says (Commanded Stopped) id (5 ∷ [])) (0x700 ∷ 0x701 ∷ 0x77F ∷ 0x780 ∷ []) ≡ [] ∷ codes " (stopped commanded)" ∷ codes " (stopped commanded)" ∷ [] ∷ []
+unfolding state_words shown_words found_words state_at
+control = refl
