@@ -1,6 +1,6 @@
 -- How often a node should send a heartbeat, and which waits were too long. Times are in
 -- microseconds, producer heartbeat times in milliseconds.
-use Rattle.std.specs.Prelude.{ℕ, ◌+◌, ◌*◌, ◌/◌, ◌^◌, Bool, nat_le, nat_lt, min, fold, if◌then◌else◌, List, [], ◌∷◌, codes, decimal, length, Option, Some, None}
+use Rattle.std.specs.Prelude.{ℕ, ◌+◌, ◌-◌, ◌*◌, ◌/◌, ◌^◌, Bool, nat_le, nat_lt, min, fold, if◌then◌else◌, List, [], ◌∷◌, codes, decimal, length, Option, Some, None}
 use Rattle.std.specs.List.{concat, count_by}
 use Rattle.conode_stats_counts.specs.declared.heartbeats.Heartbeats.{Heartbeats}
 use Rattle.conode_stats_counts.specs.declared.tally.Tally.{Tally}
