@@ -50,6 +50,12 @@ use Rattle.conode_compare_laws.proofs.TpdoTimes.{AreOwn, AreTimed, IsJudged, IsO
 
 -- ---- one TPDO
 
+abbrev pub ids : Constants → ℕ → ℕ
+ids k n = identifier_of (number_at k.start (tpdo_key n 1))
+
+abbrev pub olds : Constants → Inputs → Turn → ℕ → List ℕ
+olds k before t n = ages_at t (ages_of k n before)
+
 -- the bus was free before its newest frame as long ago at least as its newest sending is
 abbrev Since : ℕ → Sent → List ℕ → Type 0
 Since micros s [] = ⊥
@@ -86,9 +92,9 @@ pub driven : (known : Option ℕ) (number : ℕ) → IfSome known (λ x. number 
 driven None number h on = absurd (cc)
 driven (Some x) number h on = ap (nat_le 254) h ∙ on
 
-judged : (subject : Subject) (micros : ℕ) (frame : ℕ → FrameContent) (old : ℕ → List ℕ) (k : Constants) (sheet : Tpdo) (number n : ℕ) → IsTpdoOf k number sheet
-    → (nat_le 254 (number_at k.start (tpdo_key n 2)) ≡ true → list_all (λ a. has_elapsed (number_at k.start (tpdo_key n 3)) a) (old n) ≡ true) → IsJudged is_pdo_inhibit Since subject micros frame old sheet number n
-judged subject micros frame old k sheet number n of elapsed p has_sync pdo new same own since =
+judged : (subject : Subject) (micros : ℕ) (frame : ℕ → FrameContent) (all : List ℕ) (old : ℕ → List ℕ) (k : Constants) (sheet : Tpdo) (number n : ℕ) → IsTpdoOf k number sheet
+    → (nat_le 254 (number_at k.start (tpdo_key n 2)) ≡ true → list_all (λ a. has_elapsed (number_at k.start (tpdo_key n 3)) a) (old n) ≡ true) → IsJudged is_pdo_inhibit Since subject micros frame (ids k) all old sheet number n
+judged subject micros frame all old k sheet number n of over_then p has_sync pdo new same own since =
     let moment : Judged = moment_at subject p micros in
     deviation_none is_pdo_inhibit moment has_sync pdo (length_of (frame n)) (state_none is_pdo_inhibit moment refl) (length_none is_pdo_inhibit pdo.parameters.length (length_of (frame n)) (λ l m. refl))
     (sync_none is_pdo_inhibit has_sync pdo refl)
@@ -100,7 +106,7 @@ judged subject micros frame old k sheet number n of elapsed p has_sync pdo new s
       inhibit = λ i s known sent.
           gap_none subject p micros i (number_at k.start (tpdo_key number 3)) s (old number) (some_since pdo.sent s micros (old number) sent since)
           (some_is sheet.parameters.inhibit i (number_at k.start (tpdo_key number 3)) (ap (λ parameters. parameters.inhibit) (sym same) ∙ known) of.inhibit)
-          (subst (λ j. list_all (λ a. has_elapsed (number_at k.start (tpdo_key j 3)) a) (old j) ≡ true) own (elapsed kind));
+          (subst (λ j. list_all (λ a. has_elapsed (number_at k.start (tpdo_key j 3)) a) (old j) ≡ true) own (over_then kind));
       timer = λ i t s known timer sent. timer_none is_pdo_inhibit moment i t s (λ passed m. refl);
     }))
 
@@ -117,14 +123,8 @@ all_over k before m t o n keeps less at due kind =
     subst (λ a. list_all (λ x. has_elapsed (number_at k.start (tpdo_key n 3)) x) a ≡ true) ages
     (subst (λ i. list_all (λ x. has_elapsed i x) (ages_then o (sendings (log_of n (schedule_log k (moments k before))))) ≡ true) (tpdo_number k m n 3 keeps less) now)
 
-abbrev pub ids : Constants → ℕ → ℕ
-ids k n = identifier_of (number_at k.start (tpdo_key n 1))
-
-abbrev pub olds : Constants → Inputs → Turn → ℕ → List ℕ
-olds k before t n = ages_at t (ages_of k n before)
-
 module _ (k : Constants) (subject : Subject) (micros : ℕ) (before : Inputs) (m : Moment) (t : Turn) (keeps : KeepsTpdos k m) where
-  frame : ℕ → FrameContent
+  abbrev frame : ℕ → FrameContent
   frame n = tpdo_frame k.description m.contents n
 
   one_own : (o : Occasion) (number : ℕ) (sheet : Tpdo) (n : ℕ) → IsTpdoOf k number sheet → n < 512 → IsAt m.contents t o → is_tpdo_due m.contents (schedule_log k (moments k before)) o n ≡ true
@@ -132,7 +132,7 @@ module _ (k : Constants) (subject : Subject) (micros : ℕ) (before : Inputs) (m
   one_own o number sheet n of less at due = record {
     own = λ here. alone k.start number sheet n of.alone less (sym (active_kept k m n keeps less) ∙ active m.contents (schedule_log k (moments k before)) o n due)
         (sym (ap (λ w. is_id sheet.parameters.id (identifier_of w)) (tpdo_number k m n 1 keeps less)) ∙ here);
-    judged = judged subject micros frame (olds k before t) k sheet number n of (all_over k before m t o n keeps less at due);
+    judged = judged subject micros frame m.due (olds k before t) k sheet number n of (all_over k before m t o n keeps less at due);
   }
 
   all_own : (o : Occasion) (n : ℕ) → AreTpdosOf k subject.facts.pdos → n < 512 → IsAt m.contents t o → is_tpdo_due m.contents (schedule_log k (moments k before)) o n ≡ true → is_among n m.due ≡ true

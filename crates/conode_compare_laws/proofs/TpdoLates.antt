@@ -107,9 +107,9 @@ bus_free : (subject : Subject) (p : Progress) (micros : ℕ) → IsNewest micros
 unfolding moment_at
 bus_free subject p micros new = new.free
 
-judged : (operational : Bool) → operational ≡ true → (subject : Subject) (micros : ℕ) (frame : ℕ → FrameContent) (old : ℕ → List ℕ) (k : Constants) (sheet : Tpdo) (number n : ℕ) → IsTpdoOf k number sheet
-    → (nat_le 254 (number_at k.start (tpdo_key n 2)) ≡ true → IsInTime (settings_of k.start n) (old n)) → IsJudged is_pdo_late (While operational) subject micros frame old sheet number n
-judged operational running subject micros frame old k sheet number n of timely p has_sync pdo new same own since =
+judged : (operational : Bool) → operational ≡ true → (subject : Subject) (micros : ℕ) (frame : ℕ → FrameContent) (all : List ℕ) (old : ℕ → List ℕ) (k : Constants) (sheet : Tpdo) (number n : ℕ) → IsTpdoOf k number sheet
+    → (nat_le 254 (number_at k.start (tpdo_key n 2)) ≡ true → IsInTime (settings_of k.start n) (old n)) → IsJudged is_pdo_late (While operational) subject micros frame (ids k) all old sheet number n
+judged operational running subject micros frame all old k sheet number n of timely p has_sync pdo new same own since =
     let moment : Judged = moment_at subject p micros in
     deviation_none is_pdo_late moment has_sync pdo (length_of (frame n)) (state_none is_pdo_late moment refl) (length_none is_pdo_late pdo.parameters.length (length_of (frame n)) (λ l m. refl))
     (sync_none is_pdo_late has_sync pdo refl)
@@ -151,7 +151,7 @@ all_timely k before m t o n keeps less at due prompt kind =
 
 module _ (operational : Bool) (k : Constants) (subject : Subject) (micros : ℕ) (before : Inputs) (m : Moment) (t : Turn) (running : (o : Occasion) → IsAt m.contents t o → operational ≡ true) (keeps : KeepsTpdos k m)
     (prompt : (n : ℕ) → n < 512 → IsLive (settings_of k.start n) → IsPrompt (settings_of k.start n) (tpdo_log k n before) (sendings (tpdo_log k n before))) where
-  frame : ℕ → FrameContent
+  abbrev frame : ℕ → FrameContent
   frame n = tpdo_frame k.description m.contents n
 
   one_own : (o : Occasion) (number : ℕ) (sheet : Tpdo) (n : ℕ) → IsTpdoOf k number sheet → n < 512 → IsAt m.contents t o → is_tpdo_due m.contents (schedule_log k (moments k before)) o n ≡ true
@@ -159,7 +159,7 @@ module _ (operational : Bool) (k : Constants) (subject : Subject) (micros : ℕ)
   one_own o number sheet n of less at due = record {
     own = λ here. alone k.start number sheet n of.alone less (sym (active_kept k m n keeps less) ∙ active m.contents (schedule_log k (moments k before)) o n due)
         (sym (ap (λ w. is_id sheet.parameters.id (identifier_of w)) (tpdo_number k m n 1 keeps less)) ∙ here);
-    judged = judged operational (running o at) subject micros frame (olds k before t) k sheet number n of (all_timely k before m t o n keeps less at due (prompt n less));
+    judged = judged operational (running o at) subject micros frame m.due (olds k before t) k sheet number n of (all_timely k before m t o n keeps less at due (prompt n less));
   }
 
   all_own : (o : Occasion) (n : ℕ) → AreTpdosOf k subject.facts.pdos → n < 512 → IsAt m.contents t o → is_tpdo_due m.contents (schedule_log k (moments k before)) o n ≡ true → is_among n m.due ≡ true

@@ -169,7 +169,7 @@ start_commanded k history input is = by (command_in k.description.node input) re
 -- ---- a command comes
 
 module _ (is : Deviation → Bool) (R : ℕ → Sent → List ℕ → Type 0) (ids : ℕ → ℕ) (ages : ℕ → List ℕ) (subject : Subject) (rows : List Row) (micros : ℕ) where
-  I : Pdos → Type 0
+  abbrev pub I : Pdos → Type 0
   I = AreTimed R subject.node ids subject.facts.pdos micros ages
 
   command_holds : (p : Progress) (service : NmtService) (own : Bool) → IsNewest micros p → Knows subject.facts.pdos p.pdos → Holds I (after_command p service own micros)

@@ -13,7 +13,7 @@ use Rattle.co_sheet.specs.Content.{Row}
 use Rattle.co_pdo.specs.declared.tpdo.Occasion.{Occasion}
 use Rattle.co_pdo.specs.declared.tpdo.Occasion.TheVariants as occasion
 use Rattle.co_pdo.specs.declared.settings.Settings.{Settings}
-use Rattle.co_pdo.specs.Due.{event_waits, is_due, is_inhibit_over}
+use Rattle.co_pdo.specs.Due.{event_waits, is_due, is_due_by_event, is_inhibit_over}
 use Rattle.co_pdo.specs.Log as tpdo_log
 use Rattle.co_pdo.specs.Schedules.{History as Schedule, is_among, is_tpdo_due, log_of}
 use Rattle.co_pdo.specs.Tpdos.{is_active, settings_of, tpdo_key}
@@ -279,8 +279,8 @@ sync_walk subject micros synced frame = record {
 -- ---- what a device sends
 
 -- at a SYNC every TPDO may be sent, else those alone that are event-driven
-by_event : (s : Settings) (waits over : Bool) → (types.is_event_driven s.transmission_type.0 && (waits && over)) ≡ true → types.is_event_driven s.transmission_type.0 ≡ true
-by_event s waits over h = (and_parts (types.is_event_driven s.transmission_type.0) (waits && over) h).0
+by_event : (s : Settings) (log : tpdo_log.Log) → is_due_by_event s log ≡ true → types.is_event_driven s.transmission_type.0 ≡ true
+by_event s log h = (and_parts (types.is_event_driven s.transmission_type.0) (event_waits log && is_inhibit_over s.inhibit_time log) h).0
 
 abbrev is_sync_occasion : Occasion → Bool
 is_sync_occasion (occasion.Sync overflow counter) = true
@@ -288,8 +288,12 @@ is_sync_occasion other = false
 
 due_event : (s : Settings) (log : tpdo_log.Log) (o : Occasion) → is_due s log o ≡ true → is_sync_occasion o ≡ false → types.is_event_driven s.transmission_type.0 ≡ true
 due_event s log (occasion.Sync overflow counter) due off = absurd (cc)
-due_event s log occasion.Event due off = by_event s _ _ (and_parts s.is_active _ due).1
-due_event s log occasion.Tick due off = by_event s _ _ (and_parts s.is_active _ due).1
+due_event s log occasion.Event due off =
+    let later : tpdo_log.Log = tpdo_log.Happened occasion.Event s false ∷ log in
+    by_event s later (and_parts s.is_active (is_due_by_event s later) due).1
+due_event s log occasion.Tick due off =
+    let later : tpdo_log.Log = tpdo_log.Happened occasion.Tick s false ∷ log in
+    by_event s later (and_parts s.is_active (is_due_by_event s later) due).1
 
 at_sync : (c : Contents) (t : Turn) (o : Occasion) → IsAt c t o → (is_sync_turn t ≡ true) ⊎ (is_sync_occasion o ≡ false)
 at_sync c turn.Quiet o at = absurd at

@@ -154,7 +154,7 @@ at_first all old number = by (is_among number all)
     by false = refl
 
 module _ (is : Deviation → Bool) (R : ℕ → Sent → List ℕ → Type 0) (subject : Subject) (micros : ℕ) (frame : ℕ → FrameContent) (ids : ℕ → ℕ) (all : List ℕ) (old : ℕ → List ℕ) where
-  node : ℕ
+  abbrev pub node : ℕ
   node = subject.node
 
   -- with the time of the one before it is as it should be
@@ -175,7 +175,7 @@ module _ (is : Deviation → Bool) (R : ℕ → Sent → List ℕ → Type 0) (s
     pub third : IsOwn facts.third 2 n
     pub fourth : IsOwn facts.fourth 3 n
 
-  ages : List ℕ → ℕ → List ℕ
+  abbrev pub ages : List ℕ → ℕ → List ℕ
   ages due number = ages_before all old due number
 
   still_first : (n number : ℕ) (later : List ℕ) → n ≡ number → ages (n ∷ later) number ≡ old number
@@ -190,7 +190,7 @@ module _ (is : Deviation → Bool) (R : ℕ → Sent → List ℕ → Type 0) (s
   as_before n number later off = ap (λ b. if b || is_among number later then old number else and_sent (is_among number all) (old number)) off
 
   -- a frame that isn't seen
-  IsHidden : Tpdo → ℕ → Type 0
+  abbrev IsHidden : Tpdo → ℕ → Type 0
   IsHidden pdo n = (is_id pdo.parameters.id (ids n) ≡ false) ⊎ ((ids n == 0x80 + node) ≡ true)
 
   never_seen : (pdo : Tpdo) (n number : ℕ) → n ≡ number → IsHidden pdo n → IsSeen node (ids number) pdo → ⊥
