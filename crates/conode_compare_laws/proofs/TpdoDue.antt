@@ -101,7 +101,7 @@ above_none : (k : ℕ) (numbers : List ℕ) → AllByRecursion (λ n. k < n) num
 above_none k [] h = refl
 above_none k (n ∷ numbers) h = by (n == k) refl (above_none k numbers h.1)
   where
-    by : (b : Bool) → (n == k) ≡ b → is_among k numbers ≡ false → (if b then true else is_among k numbers) ≡ false
+    by : (b : Bool) → (n == k) ≡ b → is_among k numbers ≡ false → (b || is_among k numbers) ≡ false
     by true is later = absurd (let same : n ≡ k = eqb-true n k is in let less : k < n = h.0 in omega arith)
     by false is later = later
 

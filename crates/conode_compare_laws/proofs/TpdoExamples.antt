@@ -22,6 +22,7 @@ use Rattle.conode_compare_rules.specs.Verdicts.{found}
 use Rattle.conode_compare_laws.specs.Differences.{differences_in}
 use Rattle.conode_compare_laws.specs.Recordings.{Recorded, Stamped, recording, with_stamp}
 use Rattle.conode_compare_laws.specs.TpdoDifferences.{is_pdo_length, is_pdo_state, is_pdo_sync, tpdo_differences}
+use Rattle.conode_compare_laws.specs.TpdoParameters.{AreTpdosOf, is_alone}
 use Rattle.co_node_model.specs.Inputs.{InputView, Ticked}
 
 abbrev at : ℕ → InputView → Stamped
@@ -94,3 +95,28 @@ unsynced_heard = refl
 sync_taken_for_emergency : found_in is_pdo_sync (with_pdos (record unknown_pdos { sync = Some 0x85; first = booted_tpdo (record first { kind = Some 1 }) })) unsynced ≡ Pdo 1 WithoutSync ∷ []
 unfolding findings_at progress_with begun booted found control_finding second_boot_up states.after_control after_boot_up after_command states.after_command after_emergency process_findings moment_at sighting deviation_at time_deviation is_settled after_process framed
 sync_taken_for_emergency = refl
+
+-- ---- a device and a data sheet as the laws ask for: two TPDOs, each alone on its identifier
+
+abbrev sheet_pdos : Pdos
+sheet_pdos = record unknown_pdos {
+  sync = Some 0x80;
+  first = booted_tpdo first;
+  second = booted_tpdo (record first { id = Some 0x285; length = Some 2 });
+}
+
+meets : AreTpdosOf device sheet_pdos
+unfolding searches is_alone
+meets = record {
+  sync = refl;
+  apart = refl;
+  first = record { alone = refl; kind = refl; inhibit = refl; timer = refl; length = refl; unsent = refl };
+  second = record { alone = refl; kind = refl; inhibit = refl; timer = refl; length = refl; unsent = refl };
+  third = record { alone = refl; kind = tt; inhibit = tt; timer = tt; length = tt; unsent = refl };
+  fourth = record { alone = refl; kind = tt; inhibit = tt; timer = tt; length = tt; unsent = refl };
+}
+
+-- with two of them on one it isn't such a device
+not_alone : is_alone (device_with (u32 Rw 0x1801 1 0x185 ∷ [])).start 0 (booted_tpdo first) ≡ false
+unfolding searches is_alone
+not_alone = refl

@@ -6,7 +6,6 @@ use Rattle.std.specs.Option.{option_map_or}
 use Rattle.std.proofs.lemmas.Bool.{and_parts, eq-eqb, eqb-true}
 use Rattle.std.proofs.lemmas.List.{length-append, length-replicate}
 use Rattle.std.proofs.lemmas.List.Sums.{sum_by-cons}
-use Rattle.co_value.specs.declared.key.Key.{Key}
 use Rattle.co_value.specs.Types.{width_of}
 use Rattle.co_frame.specs.AbortCodes.{invalid_value, mapping_too_long, not_mappable}
 use Rattle.co_dict.specs.declared.row.Row.{Row}

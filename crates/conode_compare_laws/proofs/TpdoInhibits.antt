@@ -1,8 +1,8 @@
 -- An event-driven TPDO of a device doesn't come within the inhibit time of the one before, by what compare knows of it.
 use Rattle.std.proofs.Common.{◌≡◌, ℕ, ◌+◌, ◌*◌, ◌-◌, ◌/◌, ◌<◌, ◌≤◌, Bool, true, false, List, [], ◌∷◌, ◌++◌, map, Option, Some, None, refl, ap, sym, ◌∙◌, subst, arith, ◌⊎◌, inl, inr}
-use Rattle.std.specs.Prelude.{if◌then◌else◌, ◌==◌, ◌&&◌, ◌||◌, nat_le, nat_lt, IfSome}
-use Rattle.std.specs.List.{AllByRecursion, list_all}
-use Rattle.std.proofs.lemmas.Bool.{and_parts, eqb-true, le-ltb, leb-true}
+use Rattle.std.specs.Prelude.{if◌then◌else◌, nat_le, nat_lt, IfSome}
+use Rattle.std.specs.List.{list_all}
+use Rattle.std.proofs.lemmas.Bool.{and_parts, le-ltb, leb-true}
 use Rattle.co_frame.specs.FrameContent.{FrameContent}
 use Rattle.co_frame.specs.InhibitTimes.{has_elapsed, in_ms}
 use Rattle.co_dict.specs.CobIds.{identifier_of}
@@ -18,7 +18,6 @@ use Rattle.co_node_model.specs.Device.{moment, moments, prescribed}
 use Rattle.co_node_model.specs.Inputs.{Inputs}
 use Rattle.co_node_model.specs.Moments.{Constants, Moment}
 use Rattle.co_node_model.specs.Tpdos.{schedule_log, tpdo_frame, turn_at}
-use Rattle.co_node_laws.specs.TpdoDistances.{tpdo_log}
 use Rattle.conode_compare_pdos.specs.declared.deviation.Deviation.TheVariants.{Inhibit}
 use Rattle.conode_compare_pdos.specs.declared.deviation.Moment.{Moment as Judged}
 use Rattle.conode_compare_pdos.specs.declared.pdos.Pdos.{Pdos}
@@ -40,15 +39,21 @@ use Rattle.conode_compare_laws.proofs.Heard.{of_device}
 use Rattle.conode_compare_laws.proofs.Heartbeats.{NoSdo, after_those, before_these}
 use Rattle.conode_compare_laws.proofs.Runs.{AllRun, joined}
 use Rattle.conode_compare_laws.proofs.TpdoDue.{IsAt, active, alone, active_kept, due_all, due_distinct, tpdo_number}
-use Rattle.conode_compare_laws.proofs.TpdoInputs.{AllInputs, AreTold, all_told, no_sdo_later, of_device_too, of_recording}
-use Rattle.conode_compare_laws.proofs.TpdoKinds.{AreTimes, deviation_none, length_none, state_none, sync_none, time_none, timer_none}
-use Rattle.conode_compare_laws.proofs.TpdoLogs.{ages_at, ages_of, ages_then, and_sent, log_is, next_ages, over, then_at}
-use Rattle.conode_compare_laws.proofs.TpdoOthers.{Holds, IsNewest, is_of, others}
+use Rattle.conode_compare_laws.proofs.TpdoInputs.{AllInputs, AreClear, all_clear, no_sdo_later, of_device_too, of_recording}
+use Rattle.conode_compare_laws.proofs.TpdoKinds.{deviation_none, length_none, state_none, sync_none, time_none, timer_none}
+use Rattle.conode_compare_laws.proofs.TpdoLogs.{ages_at, ages_of, ages_then, log_is, next_ages, over, then_at}
+use Rattle.conode_compare_laws.proofs.TpdoOthers.{Holds, is_of, others}
 use Rattle.conode_compare_laws.proofs.TpdoParts.{Walk, Walked, besides, besides_run, came_other, tpdo_ids, walks, weaken}
 use Rattle.conode_compare_laws.proofs.TpdoStarts.{command_comes, is_start_all, is_tick_turn, start_commanded, takes_a_tick}
 use Rattle.conode_compare_laws.proofs.TpdoTimes.{AreOwn, AreTimed, IsJudged, IsOwn, ages_before, at_first, begins_timed, changed, changed_below, time_step, timed_kept}
 
 -- ---- one TPDO
+
+abbrev pub ids : Constants → ℕ → ℕ
+ids k n = identifier_of (number_at k.start (tpdo_key n 1))
+
+abbrev pub olds : Constants → Inputs → Turn → ℕ → List ℕ
+olds k before t n = ages_at t (ages_of k n before)
 
 -- the bus was free before its newest frame as long ago at least as its newest sending is
 abbrev Since : ℕ → Sent → List ℕ → Type 0
@@ -86,9 +91,9 @@ pub driven : (known : Option ℕ) (number : ℕ) → IfSome known (λ x. number 
 driven None number h on = absurd (cc)
 driven (Some x) number h on = ap (nat_le 254) h ∙ on
 
-judged : (subject : Subject) (micros : ℕ) (frame : ℕ → FrameContent) (old : ℕ → List ℕ) (k : Constants) (sheet : Tpdo) (number n : ℕ) → IsTpdoOf k number sheet
-    → (nat_le 254 (number_at k.start (tpdo_key n 2)) ≡ true → list_all (λ a. has_elapsed (number_at k.start (tpdo_key n 3)) a) (old n) ≡ true) → IsJudged is_pdo_inhibit Since subject micros frame old sheet number n
-judged subject micros frame old k sheet number n of elapsed p has_sync pdo new same own since =
+judged : (subject : Subject) (micros : ℕ) (frame : ℕ → FrameContent) (all : List ℕ) (old : ℕ → List ℕ) (k : Constants) (sheet : Tpdo) (number n : ℕ) → IsTpdoOf k number sheet
+    → (nat_le 254 (number_at k.start (tpdo_key n 2)) ≡ true → list_all (λ a. has_elapsed (number_at k.start (tpdo_key n 3)) a) (old n) ≡ true) → IsJudged is_pdo_inhibit Since subject micros frame (ids k) all old sheet number n
+judged subject micros frame all old k sheet number n of over_then p has_sync pdo new same own since =
     let moment : Judged = moment_at subject p micros in
     deviation_none is_pdo_inhibit moment has_sync pdo (length_of (frame n)) (state_none is_pdo_inhibit moment refl) (length_none is_pdo_inhibit pdo.parameters.length (length_of (frame n)) (λ l m. refl))
     (sync_none is_pdo_inhibit has_sync pdo refl)
@@ -100,7 +105,7 @@ judged subject micros frame old k sheet number n of elapsed p has_sync pdo new s
       inhibit = λ i s known sent.
           gap_none subject p micros i (number_at k.start (tpdo_key number 3)) s (old number) (some_since pdo.sent s micros (old number) sent since)
           (some_is sheet.parameters.inhibit i (number_at k.start (tpdo_key number 3)) (ap (λ parameters. parameters.inhibit) (sym same) ∙ known) of.inhibit)
-          (subst (λ j. list_all (λ a. has_elapsed (number_at k.start (tpdo_key j 3)) a) (old j) ≡ true) own (elapsed kind));
+          (subst (λ j. list_all (λ a. has_elapsed (number_at k.start (tpdo_key j 3)) a) (old j) ≡ true) own (over_then kind));
       timer = λ i t s known timer sent. timer_none is_pdo_inhibit moment i t s (λ passed m. refl);
     }))
 
@@ -117,14 +122,8 @@ all_over k before m t o n keeps less at due kind =
     subst (λ a. list_all (λ x. has_elapsed (number_at k.start (tpdo_key n 3)) x) a ≡ true) ages
     (subst (λ i. list_all (λ x. has_elapsed i x) (ages_then o (sendings (log_of n (schedule_log k (moments k before))))) ≡ true) (tpdo_number k m n 3 keeps less) now)
 
-abbrev pub ids : Constants → ℕ → ℕ
-ids k n = identifier_of (number_at k.start (tpdo_key n 1))
-
-abbrev pub olds : Constants → Inputs → Turn → ℕ → List ℕ
-olds k before t n = ages_at t (ages_of k n before)
-
 module _ (k : Constants) (subject : Subject) (micros : ℕ) (before : Inputs) (m : Moment) (t : Turn) (keeps : KeepsTpdos k m) where
-  frame : ℕ → FrameContent
+  abbrev frame : ℕ → FrameContent
   frame n = tpdo_frame k.description m.contents n
 
   one_own : (o : Occasion) (number : ℕ) (sheet : Tpdo) (n : ℕ) → IsTpdoOf k number sheet → n < 512 → IsAt m.contents t o → is_tpdo_due m.contents (schedule_log k (moments k before)) o n ≡ true
@@ -132,7 +131,7 @@ module _ (k : Constants) (subject : Subject) (micros : ℕ) (before : Inputs) (m
   one_own o number sheet n of less at due = record {
     own = λ here. alone k.start number sheet n of.alone less (sym (active_kept k m n keeps less) ∙ active m.contents (schedule_log k (moments k before)) o n due)
         (sym (ap (λ w. is_id sheet.parameters.id (identifier_of w)) (tpdo_number k m n 1 keeps less)) ∙ here);
-    judged = judged subject micros frame (olds k before t) k sheet number n of (all_over k before m t o n keeps less at due);
+    judged = judged subject micros frame m.due (olds k before t) k sheet number n of (all_over k before m t o n keeps less at due);
   }
 
   all_own : (o : Occasion) (n : ℕ) → AreTpdosOf k subject.facts.pdos → n < 512 → IsAt m.contents t o → is_tpdo_due m.contents (schedule_log k (moments k before)) o n ≡ true → is_among n m.due ≡ true
@@ -182,7 +181,7 @@ passes k before last s apart (inr less) number sent h =
 -- ---- an input
 
 record IsMet (pdos : Pdos) (k : Constants) (before : Inputs) (last : ℕ) (s : Stamped) : Type 0 where
-  told : AreTold pdos k before s
+  clear : AreClear pdos k before s
   keeps : KeepsTpdos k (moment k (moments k before) s.input)
   time : IsSpaced before last s
 
@@ -200,7 +199,7 @@ came k subject rows before last s p false is met none h =
     let facts : Pdos = subject.facts.pdos in
     let t : Turn = turn_at (moment k (moments k before) s.input) (moments k before) in
     others is_pdo_inhibit (AreTimed Since k.description.node (ids k) facts s.micros (olds k before t)) (of_device k subject) rows s.micros (frame_of s.input) p (timed_kept Since k.description.node (ids k) facts s.micros (olds k before t))
-    (came_other facts k.description.node s.input none met.told.control met.told.foreign)
+    (came_other facts k.description.node s.input none met.clear.control met.clear.foreign)
     (record { fresh = h.fresh; kept = changed Since Since k.description.node (ids k) facts last s.micros (λ n. ages_of k n before) (olds k before t) p.pdos (passes k before last s is met.time) h.kept })
 
 input_runs : (k : Constants) (subject : Subject) (rows : List Row) (before : Inputs) (last : ℕ) (s : Stamped) (p : Progress) → AreTpdosOf k subject.facts.pdos → IsMet subject.facts.pdos k before last s
@@ -216,16 +215,16 @@ input_runs k subject rows before last s p of met h =
     let frames : ℕ → FrameContent = tpdo_frame k.description m.contents in
     let first : List FrameContent = frame_of s.input in
     let more : List FrameContent = besides k m in
-    let sent : NoSdo n (more ++ map frames m.due) = after_those n first (prescribed k before s.input) met.told.sdo in
+    let sent : NoSdo n (more ++ map frames m.due) = after_those n first (prescribed k before s.input) met.clear.sdo in
     let old : ℕ → List ℕ = olds k before t in
     let waits : Pdos → Type 0 = AreTimed Since k.description.node (ids k) facts s.micros old in
     let J : List ℕ → Pdos → Type 0 = λ due. AreTimed Since k.description.node (ids k) facts s.micros (ages_before m.due old due) in
     let after : Progress → Type 0 = Holds (Between k facts (s.input ∷ before) s.micros) in
     joined (tpdo_differences is_pdo_inhibit) subj rows s.micros first (more ++ map frames m.due) p (Holds waits) after
-    (came k subject rows before last s p (is_start_all t) refl met (before_these n first (prescribed k before s.input) met.told.sdo) h)
+    (came k subject rows before last s p (is_start_all t) refl met (before_these n first (prescribed k before s.input) met.clear.sdo) h)
     (λ q g.
     joined (tpdo_differences is_pdo_inhibit) subj rows s.micros more (map frames m.due) q (Holds waits) after
-    (besides_run is_pdo_inhibit waits k subject rows s.micros before s.input q (timed_kept Since k.description.node (ids k) facts s.micros old) (λ reset. begins_timed Since k.description.node (ids k) k facts s.micros old of) met.told.aside met.told.beside
+    (besides_run is_pdo_inhibit waits k subject rows s.micros before s.input q (timed_kept Since k.description.node (ids k) facts s.micros old) (λ reset. begins_timed Since k.description.node (ids k) k facts s.micros old of) met.clear.aside met.clear.beside
     (before_these n more (map frames m.due) sent) g)
     (λ r f. weaken (tpdo_differences is_pdo_inhibit) subj rows s.micros (map frames m.due) r (Walked (J []) (λ x. Unit {0})) after
     (λ x e. record {
@@ -234,7 +233,7 @@ input_runs k subject rows before last s p of met h =
           (λ i less a now. subst (λ l. Since s.micros a l) (sym (next_ages k i before s.input less met.keeps)) now) e.holds.kept;
     })
     (walks is_pdo_inhibit (AreOwn is_pdo_inhibit Since subj s.micros frames (ids k) m.due old facts) J (λ x. Unit {0}) subj rows s.micros frames m.due r (inhibit_walk k subj s.micros frames m.due old of)
-    (tpdo_ids n frames m.due met.told.aside.tpdos (after_those n more (map frames m.due) sent))
+    (tpdo_ids n frames m.due met.clear.aside.tpdos (after_those n more (map frames m.due) sent))
     (due_all (AreOwn is_pdo_inhibit Since subj s.micros frames (ids k) m.due old facts) k.description t m.contents schedule (λ i o less at due among. all_own k subj s.micros before m t met.keeps o i of less at due among))
     (due_distinct k.description t m.contents schedule)
     (record { fresh = f.fresh; kept = changed Since Since k.description.node (ids k) facts s.micros s.micros old (ages_before m.due old m.due) r.pdos (λ i a now. subst (λ l. Since s.micros a l) (sym (at_first m.due old i)) now) f.kept })
@@ -242,16 +241,16 @@ input_runs k subject rows before last s p of met h =
 
 -- ---- all inputs
 
-all_met : (pdos : Pdos) (k : Constants) (inputs : List Stamped) (before : Inputs) (last : ℕ) → AllInputs (λ b l s. AreTold pdos k b s) before last inputs → AllKeepTpdos k before inputs → AreSpaced last inputs
+all_met : (pdos : Pdos) (k : Constants) (inputs : List Stamped) (before : Inputs) (last : ℕ) → AllInputs (λ b l s. AreClear pdos k b s) before last inputs → AllKeepTpdos k before inputs → AreSpaced last inputs
     → AllInputs (λ b l s. IsMet pdos k b l s) before last inputs
-all_met pdos k [] before last told keeps time = tt
-all_met pdos k (s ∷ later) before last told keeps time =
-    (record { told = told.0; keeps = keeps.0; time = inr time.0 }, all_met pdos k later (s.input ∷ before) s.micros told.1 keeps.1 time.1)
+all_met pdos k [] before last clear keeps time = tt
+all_met pdos k (s ∷ later) before last clear keeps time =
+    (record { clear = clear.0; keeps = keeps.0; time = inr time.0 }, all_met pdos k later (s.input ∷ before) s.micros clear.1 keeps.1 time.1)
 
-first_met : (pdos : Pdos) (k : Constants) (inputs : List Stamped) (last : ℕ) → AllInputs (λ b l s. AreTold pdos k b s) [] last inputs → AllKeepTpdos k [] inputs → AreUnhurried inputs
+first_met : (pdos : Pdos) (k : Constants) (inputs : List Stamped) (last : ℕ) → AllInputs (λ b l s. AreClear pdos k b s) [] last inputs → AllKeepTpdos k [] inputs → AreUnhurried inputs
     → AllInputs (λ b l s. IsMet pdos k b l s) [] last inputs
-first_met pdos k [] last told keeps time = tt
-first_met pdos k (s ∷ later) last told keeps time = (record { told = told.0; keeps = keeps.0; time = inl refl }, all_met pdos k later (s.input ∷ []) s.micros told.1 keeps.1 time)
+first_met pdos k [] last clear keeps time = tt
+first_met pdos k (s ∷ later) last clear keeps time = (record { clear = clear.0; keeps = keeps.0; time = inl refl }, all_met pdos k later (s.input ∷ []) s.micros clear.1 keeps.1 time)
 
 pub no_pdo_inhibit : (k : Constants) (subject : Subject) (rows : List Row) (inputs : List Stamped) → subject.node ≡ k.description.node → AreTpdosOf k subject.facts.pdos → AllKeepTpdos k [] inputs → AreUnhurried inputs
     → AreElsewhere (0x700 + k.description.node) inputs → AreNoTpdos subject.facts.pdos inputs → AllSendAside k [] inputs → AllSendBesideTpdos subject.facts.pdos k [] inputs
@@ -261,4 +260,4 @@ no_pdo_inhibit k subject rows inputs is of keeps time control foreign aside besi
     of_device_too is_pdo_inhibit k subject rows inputs is
     (of_recording is_pdo_inhibit k subject rows (λ b l s. IsMet facts k b l s) (Between k facts) (λ before last s p met h. input_runs k subject rows before last s p of met h) inputs
     (λ micros. begins_timed Since k.description.node (ids k) k facts micros (λ n. ages_of k n []) of)
-    (λ last. first_met facts k inputs last (all_told facts k inputs [] last control foreign aside beside (no_sdo_later k inputs none)) keeps time))
+    (λ last. first_met facts k inputs last (all_clear facts k inputs [] last control foreign aside beside (no_sdo_later k inputs none)) keeps time))

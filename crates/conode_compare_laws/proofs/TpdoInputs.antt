@@ -32,17 +32,17 @@ both P Q [] before last p q = tt
 both P Q (s ∷ later) before last p q = ((p.0, q.0), both P Q later (s.input ∷ before) s.micros p.1 q.1)
 
 -- what the laws of TPDOs ask of the frames of an input
-pub record AreTold (pdos : Pdos) (k : Constants) (before : Inputs) (s : Stamped) : Type 0 where
+pub record AreClear (pdos : Pdos) (k : Constants) (before : Inputs) (s : Stamped) : Type 0 where
   pub control : IsElsewhere (0x700 + k.description.node) s.input
   pub foreign : IsNoTpdo pdos s.input
   pub aside : SendsAside k (moment k (moments k before) s.input)
   pub beside : SendsBesideTpdos pdos k (moment k (moments k before) s.input)
   pub sdo : NoSdo k.description.node (frame_of s.input ++ prescribed k before s.input)
 
-pub all_told : (pdos : Pdos) (k : Constants) (inputs : List Stamped) (before : Inputs) (last : ℕ) → AreElsewhere (0x700 + k.description.node) inputs → AreNoTpdos pdos inputs → AllSendAside k before inputs
-    → AllSendBesideTpdos pdos k before inputs → AreNoSdo k.description.node (heard_from k before inputs) → AllInputs (λ b l s. AreTold pdos k b s) before last inputs
-all_told pdos k [] before last control foreign aside beside none = tt
-all_told pdos k (s ∷ later) before last control foreign aside beside none =
+pub all_clear : (pdos : Pdos) (k : Constants) (inputs : List Stamped) (before : Inputs) (last : ℕ) → AreElsewhere (0x700 + k.description.node) inputs → AreNoTpdos pdos inputs → AllSendAside k before inputs
+    → AllSendBesideTpdos pdos k before inputs → AreNoSdo k.description.node (heard_from k before inputs) → AllInputs (λ b l s. AreClear pdos k b s) before last inputs
+all_clear pdos k [] before last control foreign aside beside none = tt
+all_clear pdos k (s ∷ later) before last control foreign aside beside none =
     let frames : List FrameContent = frame_of s.input ++ prescribed k before s.input in
     let rest : List Recorded = heard_from k (s.input ∷ before) later in (
       record {
@@ -52,7 +52,7 @@ all_told pdos k (s ∷ later) before last control foreign aside beside none =
         beside = beside.0;
         sdo = unstamped k.description.node s.micros frames (first_part k.description.node (stamped s.micros frames) rest none);
       },
-      all_told pdos k later (s.input ∷ before) s.micros control.1 foreign.1 aside.1 beside.1 (last_part k.description.node (stamped s.micros frames) rest none),
+      all_clear pdos k later (s.input ∷ before) s.micros control.1 foreign.1 aside.1 beside.1 (last_part k.description.node (stamped s.micros frames) rest none),
     )
 
 -- ---- by one input

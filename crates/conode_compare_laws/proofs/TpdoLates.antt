@@ -6,7 +6,7 @@ use Rattle.std.proofs.lemmas.Bool.Decides.{nat_tests}
 use Rattle.co_frame.specs.FrameContent.{FrameContent}
 use Rattle.co_frame.specs.InhibitTimes.{in_ms}
 use Rattle.co_dict.specs.CobIds.{identifier_of}
-use Rattle.co_dict.specs.Rows.{Contents, number_at}
+use Rattle.co_dict.specs.Rows.{number_at}
 use Rattle.co_profile.specs.TransmissionTypes as types
 use Rattle.co_profile.specs.TransmissionTypes.{is_supported_type}
 use Rattle.co_sheet.specs.Content.{Row}
@@ -14,7 +14,7 @@ use Rattle.co_pdo.specs.declared.settings.Settings.{Settings}
 use Rattle.co_pdo.specs.declared.tpdo.Occasion.{Occasion}
 use Rattle.co_pdo.specs.Due.{is_due, sendings}
 use Rattle.co_pdo.specs.Log.{Log}
-use Rattle.co_pdo.specs.Schedules.{History as Schedule, is_among, is_tpdo_due, log_of}
+use Rattle.co_pdo.specs.Schedules.{History as Schedule, is_among, is_tpdo_due}
 use Rattle.co_pdo.specs.Tpdos.{is_active, settings_of, tpdo_key}
 use Rattle.co_node_parts.specs.NmtStates.{is_state}
 use Rattle.co_node_parts.specs.declared.nmt_state.NodeState.TheVariants as node
@@ -47,12 +47,12 @@ use Rattle.conode_compare_laws.proofs.Heard.{of_device}
 use Rattle.conode_compare_laws.proofs.Heartbeats.{NoSdo, after_those, before_these}
 use Rattle.conode_compare_laws.proofs.Runs.{AllRun, joined}
 use Rattle.conode_compare_laws.proofs.TpdoDue.{IsAt, active, alone, active_kept, due_all, due_distinct, tpdo_number}
-use Rattle.conode_compare_laws.proofs.TpdoInputs.{AllInputs, AreTold, all_told, no_sdo_later, of_device_too, of_recording}
-use Rattle.conode_compare_laws.proofs.TpdoKinds.{AreTimes, deviation_none, length_none, inhibit_none, state_none, sync_none, time_none}
+use Rattle.conode_compare_laws.proofs.TpdoInputs.{AllInputs, AreClear, all_clear, no_sdo_later, of_device_too, of_recording}
+use Rattle.conode_compare_laws.proofs.TpdoKinds.{deviation_none, length_none, inhibit_none, state_none, sync_none, time_none}
 use Rattle.conode_compare_laws.proofs.TpdoLogs.{ages_at, ages_of, log_is, next_ages, then_at}
 use Rattle.conode_compare_laws.proofs.TpdoOthers.{Holds, IsNewest, is_of, others}
 use Rattle.conode_compare_laws.proofs.TpdoParts.{Walk, Walked, besides, besides_run, came_other, tpdo_ids, walks, weaken}
-use Rattle.conode_compare_laws.proofs.TpdoStarts.{command_comes, is_start_all, is_tick_turn, start_commanded, takes_a_tick}
+use Rattle.conode_compare_laws.proofs.TpdoStarts.{command_comes, is_start_all, is_tick_turn, start_commanded}
 use Rattle.conode_compare_laws.proofs.TpdoInhibits.{driven, ids, olds, some_is}
 use Rattle.conode_compare_laws.proofs.TpdoWaits.{IsInTime, IsLive, IsPrompt, in_time, prompt_next, settings_kept}
 use Rattle.conode_compare_laws.proofs.TpdoTimes.{AreOwn, AreTimed, IsJudged, IsOwn, ages_before, at_first, begins_timed, changed, changed_below, time_step, timed_kept}
@@ -107,9 +107,9 @@ bus_free : (subject : Subject) (p : Progress) (micros : ℕ) → IsNewest micros
 unfolding moment_at
 bus_free subject p micros new = new.free
 
-judged : (operational : Bool) → operational ≡ true → (subject : Subject) (micros : ℕ) (frame : ℕ → FrameContent) (old : ℕ → List ℕ) (k : Constants) (sheet : Tpdo) (number n : ℕ) → IsTpdoOf k number sheet
-    → (nat_le 254 (number_at k.start (tpdo_key n 2)) ≡ true → IsInTime (settings_of k.start n) (old n)) → IsJudged is_pdo_late (While operational) subject micros frame old sheet number n
-judged operational running subject micros frame old k sheet number n of timely p has_sync pdo new same own since =
+judged : (operational : Bool) → operational ≡ true → (subject : Subject) (micros : ℕ) (frame : ℕ → FrameContent) (all : List ℕ) (old : ℕ → List ℕ) (k : Constants) (sheet : Tpdo) (number n : ℕ) → IsTpdoOf k number sheet
+    → (nat_le 254 (number_at k.start (tpdo_key n 2)) ≡ true → IsInTime (settings_of k.start n) (old n)) → IsJudged is_pdo_late (While operational) subject micros frame (ids k) all old sheet number n
+judged operational running subject micros frame all old k sheet number n of timely p has_sync pdo new same own since =
     let moment : Judged = moment_at subject p micros in
     deviation_none is_pdo_late moment has_sync pdo (length_of (frame n)) (state_none is_pdo_late moment refl) (length_none is_pdo_late pdo.parameters.length (length_of (frame n)) (λ l m. refl))
     (sync_none is_pdo_late has_sync pdo refl)
@@ -151,7 +151,7 @@ all_timely k before m t o n keeps less at due prompt kind =
 
 module _ (operational : Bool) (k : Constants) (subject : Subject) (micros : ℕ) (before : Inputs) (m : Moment) (t : Turn) (running : (o : Occasion) → IsAt m.contents t o → operational ≡ true) (keeps : KeepsTpdos k m)
     (prompt : (n : ℕ) → n < 512 → IsLive (settings_of k.start n) → IsPrompt (settings_of k.start n) (tpdo_log k n before) (sendings (tpdo_log k n before))) where
-  frame : ℕ → FrameContent
+  abbrev frame : ℕ → FrameContent
   frame n = tpdo_frame k.description m.contents n
 
   one_own : (o : Occasion) (number : ℕ) (sheet : Tpdo) (n : ℕ) → IsTpdoOf k number sheet → n < 512 → IsAt m.contents t o → is_tpdo_due m.contents (schedule_log k (moments k before)) o n ≡ true
@@ -159,7 +159,7 @@ module _ (operational : Bool) (k : Constants) (subject : Subject) (micros : ℕ)
   one_own o number sheet n of less at due = record {
     own = λ here. alone k.start number sheet n of.alone less (sym (active_kept k m n keeps less) ∙ active m.contents (schedule_log k (moments k before)) o n due)
         (sym (ap (λ w. is_id sheet.parameters.id (identifier_of w)) (tpdo_number k m n 1 keeps less)) ∙ here);
-    judged = judged operational (running o at) subject micros frame (olds k before t) k sheet number n of (all_timely k before m t o n keeps less at due (prompt n less));
+    judged = judged operational (running o at) subject micros frame m.due (olds k before t) k sheet number n of (all_timely k before m t o n keeps less at due (prompt n less));
   }
 
   all_own : (o : Occasion) (n : ℕ) → AreTpdosOf k subject.facts.pdos → n < 512 → IsAt m.contents t o → is_tpdo_due m.contents (schedule_log k (moments k before)) o n ≡ true → is_among n m.due ≡ true
@@ -243,7 +243,7 @@ abbrev ArePrompt : Constants → Inputs → Type 0
 ArePrompt k before = (n : ℕ) → n < 512 → IsLive (settings_of k.start n) → IsPrompt (settings_of k.start n) (tpdo_log k n before) (sendings (tpdo_log k n before))
 
 record IsMet (pdos : Pdos) (k : Constants) (before : Inputs) (last : ℕ) (s : Stamped) : Type 0 where
-  told : AreTold pdos k before s
+  clear : AreClear pdos k before s
   keeps : KeepsTpdos k (moment k (moments k before) s.input)
   time : IsPunctual before last s
   log : ArePrompt k before
@@ -262,7 +262,7 @@ came k subject rows before last s p false is met none h =
     let facts : Pdos = subject.facts.pdos in
     let t : Turn = turn_at (moment k (moments k before) s.input) (moments k before) in
     others is_pdo_late (AreTimed (While (is_operational k (s.input ∷ before))) k.description.node (ids k) facts s.micros (olds k before t)) (of_device k subject) rows s.micros (frame_of s.input) p (timed_kept (While (is_operational k (s.input ∷ before))) k.description.node (ids k) facts s.micros (olds k before t))
-    (came_other facts k.description.node s.input none met.told.control met.told.foreign)
+    (came_other facts k.description.node s.input none met.clear.control met.clear.foreign)
     (record { fresh = h.fresh; kept = changed (While (is_operational k before)) (While (is_operational k (s.input ∷ before))) k.description.node (ids k) facts last s.micros (λ n. ages_of k n before) (olds k before t) p.pdos (passes k before last s is met.time) h.kept })
 
 input_runs : (k : Constants) (subject : Subject) (rows : List Row) (before : Inputs) (last : ℕ) (s : Stamped) (p : Progress) → AreTpdosOf k subject.facts.pdos → IsMet subject.facts.pdos k before last s
@@ -279,16 +279,16 @@ input_runs k subject rows before last s p of met h =
     let frames : ℕ → FrameContent = tpdo_frame k.description m.contents in
     let first : List FrameContent = frame_of s.input in
     let more : List FrameContent = besides k m in
-    let sent : NoSdo n (more ++ map frames m.due) = after_those n first (prescribed k before s.input) met.told.sdo in
+    let sent : NoSdo n (more ++ map frames m.due) = after_those n first (prescribed k before s.input) met.clear.sdo in
     let old : ℕ → List ℕ = olds k before t in
     let waits : Pdos → Type 0 = AreTimed now k.description.node (ids k) facts s.micros old in
     let J : List ℕ → Pdos → Type 0 = λ due. AreTimed now k.description.node (ids k) facts s.micros (ages_before m.due old due) in
     let after : Progress → Type 0 = Holds (Between k facts (s.input ∷ before) s.micros) in
     joined (tpdo_differences is_pdo_late) subj rows s.micros first (more ++ map frames m.due) p (Holds waits) after
-    (came k subject rows before last s p (is_start_all t) refl met (before_these n first (prescribed k before s.input) met.told.sdo) h)
+    (came k subject rows before last s p (is_start_all t) refl met (before_these n first (prescribed k before s.input) met.clear.sdo) h)
     (λ q g.
     joined (tpdo_differences is_pdo_late) subj rows s.micros more (map frames m.due) q (Holds waits) after
-    (besides_run is_pdo_late waits k subject rows s.micros before s.input q (timed_kept now k.description.node (ids k) facts s.micros old) (λ reset. begins_timed now k.description.node (ids k) k facts s.micros old of) met.told.aside met.told.beside
+    (besides_run is_pdo_late waits k subject rows s.micros before s.input q (timed_kept now k.description.node (ids k) facts s.micros old) (λ reset. begins_timed now k.description.node (ids k) k facts s.micros old of) met.clear.aside met.clear.beside
     (before_these n more (map frames m.due) sent) g)
     (λ r f. weaken (tpdo_differences is_pdo_late) subj rows s.micros (map frames m.due) r (Walked (J []) (λ x. Unit {0})) after
     (λ x e. record {
@@ -297,7 +297,7 @@ input_runs k subject rows before last s p of met h =
           (λ i less a h2. subst (λ l. now s.micros a l) (sym (next_ages k i before s.input less met.keeps)) h2) e.holds.kept;
     })
     (walks is_pdo_late (AreOwn is_pdo_late now subj s.micros frames (ids k) m.due old facts) J (λ x. Unit {0}) subj rows s.micros frames m.due r (late_walk (is_operational k (s.input ∷ before)) k subj s.micros frames m.due old of)
-    (tpdo_ids n frames m.due met.told.aside.tpdos (after_those n more (map frames m.due) sent))
+    (tpdo_ids n frames m.due met.clear.aside.tpdos (after_those n more (map frames m.due) sent))
     (due_all (AreOwn is_pdo_late now subj s.micros frames (ids k) m.due old facts) k.description t m.contents schedule (λ i o less at due among. all_own (is_operational k (s.input ∷ before)) k subj s.micros before m t (λ x y. sends_running k before s.input x y) met.keeps met.log o i of less at due among))
     (due_distinct k.description t m.contents schedule)
     (record { fresh = f.fresh; kept = changed now now k.description.node (ids k) facts s.micros s.micros old (ages_before m.due old m.due) r.pdos (λ i a h2. subst (λ l. now s.micros a l) (sym (at_first m.due old i)) h2) f.kept })
@@ -305,20 +305,20 @@ input_runs k subject rows before last s p of met h =
 
 -- ---- all inputs
 
-all_met : (pdos : Pdos) (k : Constants) (inputs : List Stamped) (before : Inputs) (last : ℕ) → AllInputs (λ b l s. AreTold pdos k b s) before last inputs → AllKeepTpdos k before inputs → AreInTime last inputs
+all_met : (pdos : Pdos) (k : Constants) (inputs : List Stamped) (before : Inputs) (last : ℕ) → AllInputs (λ b l s. AreClear pdos k b s) before last inputs → AllKeepTpdos k before inputs → AreInTime last inputs
     → ArePrompt k before → AllInputs (λ b l s. IsMet pdos k b l s) before last inputs
-all_met pdos k [] before last told keeps time log = tt
-all_met pdos k (s ∷ later) before last told keeps time log = (
-  record { told = told.0; keeps = keeps.0; time = inr time.0; log = log },
-  all_met pdos k later (s.input ∷ before) s.micros told.1 keeps.1 time.1 (λ n less live. prompt_next k n before s.input less keeps.0 live (log n less live)),
+all_met pdos k [] before last clear keeps time log = tt
+all_met pdos k (s ∷ later) before last clear keeps time log = (
+  record { clear = clear.0; keeps = keeps.0; time = inr time.0; log = log },
+  all_met pdos k later (s.input ∷ before) s.micros clear.1 keeps.1 time.1 (λ n less live. prompt_next k n before s.input less keeps.0 live (log n less live)),
 )
 
-first_met : (pdos : Pdos) (k : Constants) (inputs : List Stamped) (last : ℕ) → AllInputs (λ b l s. AreTold pdos k b s) [] last inputs → AllKeepTpdos k [] inputs → Timed inputs
+first_met : (pdos : Pdos) (k : Constants) (inputs : List Stamped) (last : ℕ) → AllInputs (λ b l s. AreClear pdos k b s) [] last inputs → AllKeepTpdos k [] inputs → Timed inputs
     → AllInputs (λ b l s. IsMet pdos k b l s) [] last inputs
-first_met pdos k [] last told keeps time = tt
-first_met pdos k (s ∷ later) last told keeps time = (
-  record { told = told.0; keeps = keeps.0; time = inl refl; log = λ n less live. tt },
-  all_met pdos k later (s.input ∷ []) s.micros told.1 keeps.1 time (λ n less live. prompt_next k n [] s.input less keeps.0 live tt),
+first_met pdos k [] last clear keeps time = tt
+first_met pdos k (s ∷ later) last clear keeps time = (
+  record { clear = clear.0; keeps = keeps.0; time = inl refl; log = λ n less live. tt },
+  all_met pdos k later (s.input ∷ []) s.micros clear.1 keeps.1 time (λ n less live. prompt_next k n [] s.input less keeps.0 live tt),
 )
 
 pub no_pdo_late : (k : Constants) (subject : Subject) (rows : List Row) (inputs : List Stamped) → subject.node ≡ k.description.node → AreTpdosOf k subject.facts.pdos → AllKeepTpdos k [] inputs → Timed inputs
@@ -329,4 +329,4 @@ no_pdo_late k subject rows inputs is of keeps time control foreign aside beside 
     of_device_too is_pdo_late k subject rows inputs is
     (of_recording is_pdo_late k subject rows (λ b l s. IsMet facts k b l s) (Between k facts) (λ before last s p met h. input_runs k subject rows before last s p of met h) inputs
     (λ micros. begins_timed (While (is_operational k [])) k.description.node (ids k) k facts micros (λ n. ages_of k n []) of)
-    (λ last. first_met facts k inputs last (all_told facts k inputs [] last control foreign aside beside (no_sdo_later k inputs none)) keeps time))
+    (λ last. first_met facts k inputs last (all_clear facts k inputs [] last control foreign aside beside (no_sdo_later k inputs none)) keeps time))

@@ -1,7 +1,6 @@
 -- A TPDO of a device has as many bytes as its data sheet maps.
-use Rattle.std.proofs.Common.{◌≡◌, ℕ, ◌+◌, ◌<◌, Bool, true, false, List, [], ◌∷◌, ◌++◌, length, map, Option, Some, None, refl, ap, sym, ◌∙◌, subst, ◌⊎◌, inl, inr}
-use Rattle.std.specs.Prelude.{if◌then◌else◌, ◌==◌, is_some, IfSome}
-use Rattle.std.specs.List.{AllByRecursion}
+use Rattle.std.proofs.Common.{◌≡◌, ℕ, ◌+◌, ◌<◌, Bool, true, false, List, [], ◌∷◌, ◌++◌, length, map, Option, Some, None, refl, ap, sym, ◌∙◌, inl, inr}
+use Rattle.std.specs.Prelude.{is_some, IfSome}
 use Rattle.std.proofs.lemmas.Bool.{eq-eqb}
 use Rattle.co_frame.specs.FrameContent.{FrameContent}
 use Rattle.co_dict.specs.CobIds.{identifier_of}
@@ -19,7 +18,6 @@ use Rattle.conode_compare_pdos.specs.declared.deviation.Moment.{Moment as Judged
 use Rattle.conode_compare_pdos.specs.declared.pdos.Pdos.{Pdos}
 use Rattle.conode_compare_pdos.specs.declared.tpdo.Tpdo.{Tpdo}
 use Rattle.conode_compare_pdos.specs.Deviations.{deviation_at, length_deviation}
-use Rattle.conode_compare_pdos.specs.PdoParameters.{nothing_known}
 use Rattle.conode_compare_pdos.specs.Tpdos.{is_id}
 use Rattle.conode_compare_rules.specs.declared.limits.Subject.{Subject}
 use Rattle.conode_compare_rules.specs.declared.progress.Progress.{Progress}
@@ -27,7 +25,7 @@ use Rattle.conode_compare_rules.specs.FrameKinds.{length_of}
 use Rattle.conode_compare_rules.specs.Progresses.{moment_at}
 use Rattle.conode_compare_laws.specs.Differences.{differences_in}
 use Rattle.conode_compare_laws.specs.Identifiers.{AllSendAside, AreElsewhere, AreNoSdo}
-use Rattle.conode_compare_laws.specs.Recordings.{Stamped, frame_of, heard_from, recording}
+use Rattle.conode_compare_laws.specs.Recordings.{Stamped, frame_of, recording}
 use Rattle.conode_compare_laws.specs.TpdoDifferences.{is_pdo_length, tpdo_differences}
 use Rattle.conode_compare_laws.specs.TpdoFrames.{AllSendBesideTpdos, AreNoTpdos}
 use Rattle.conode_compare_laws.specs.TpdoParameters.{AllAreFilled, AllKeepTpdos, AreTpdosOf, IsTpdoOf, KeepsTpdos}
@@ -36,7 +34,7 @@ use Rattle.conode_compare_laws.proofs.Heartbeats.{NoSdo, after_those, before_the
 use Rattle.conode_compare_laws.proofs.Runs.{AllRun, joined}
 use Rattle.conode_compare_laws.proofs.TpdoDue.{active, active_kept, alone, due_all, due_distinct, tpdo_number}
 use Rattle.conode_compare_laws.proofs.TpdoImages.{mapping_kept, tpdo_wide}
-use Rattle.conode_compare_laws.proofs.TpdoInputs.{AllInputs, AreTold, all_told, no_sdo_later, of_device_too, of_recording}
+use Rattle.conode_compare_laws.proofs.TpdoInputs.{AllInputs, AreClear, all_clear, no_sdo_later, of_device_too, of_recording}
 use Rattle.conode_compare_laws.proofs.TpdoKinds.{deviation_none, state_none, sync_none, untimed}
 use Rattle.conode_compare_laws.proofs.TpdoOthers.{AreFine, Holds, IsOf, Knows, is_of, knows_framed, knows_kept, knows_sheet, others}
 use Rattle.conode_compare_laws.proofs.TpdoParts.{Walk, Walked, besides, besides_run, came_other, tpdo_ids, walks, weaken}
@@ -117,7 +115,7 @@ all_have k m facts n of keeps filled less on = record {
 -- ---- an input
 
 record IsMet (pdos : Pdos) (k : Constants) (before : Inputs) (s : Stamped) : Type 0 where
-  told : AreTold pdos k before s
+  clear : AreClear pdos k before s
   keeps : KeepsTpdos k (moment k (moments k before) s.input)
   filled : IsDictionary k.description (moment k (moments k before) s.input).contents
 
@@ -131,26 +129,26 @@ input_runs k subject rows before last s p of met h =
     let frame : ℕ → FrameContent = tpdo_frame k.description m.contents in
     let came : List FrameContent = frame_of s.input in
     let more : List FrameContent = besides k m in
-    let sent : NoSdo n (more ++ map frame m.due) = after_those n came (prescribed k before s.input) met.told.sdo in
+    let sent : NoSdo n (more ++ map frame m.due) = after_those n came (prescribed k before s.input) met.clear.sdo in
     let I : Progress → Type 0 = Holds (Knows facts) in
     joined (tpdo_differences is_pdo_length) subj rows s.micros came (more ++ map frame m.due) p I I
-    (others is_pdo_length (Knows facts) subj rows s.micros came p (knows_kept facts) (came_other facts n s.input (before_these n came (prescribed k before s.input) met.told.sdo) met.told.control met.told.foreign) h)
+    (others is_pdo_length (Knows facts) subj rows s.micros came p (knows_kept facts) (came_other facts n s.input (before_these n came (prescribed k before s.input) met.clear.sdo) met.clear.control met.clear.foreign) h)
     (λ q g.
     joined (tpdo_differences is_pdo_length) subj rows s.micros more (map frame m.due) q I I
-    (besides_run is_pdo_length (Knows facts) k subject rows s.micros before s.input q (knows_kept facts) (λ reset. knows_sheet facts) met.told.aside met.told.beside (before_these n more (map frame m.due) sent) g)
+    (besides_run is_pdo_length (Knows facts) k subject rows s.micros before s.input q (knows_kept facts) (λ reset. knows_sheet facts) met.clear.aside met.clear.beside (before_these n more (map frame m.due) sent) g)
     (λ r f. weaken (tpdo_differences is_pdo_length) subj rows s.micros (map frame m.due) r (Walked (Knows facts) (λ x. Unit {0})) I (λ x e. e.holds)
     (walks is_pdo_length (λ i. HaveBytes facts (frame i).id (length_of (frame i))) (λ due. Knows facts) (λ x. Unit {0}) subj rows s.micros frame m.due r (length_walk subj s.micros frame)
-    (tpdo_ids n frame m.due met.told.aside.tpdos (after_those n more (map frame m.due) sent))
+    (tpdo_ids n frame m.due met.clear.aside.tpdos (after_those n more (map frame m.due) sent))
     (due_all (λ i. HaveBytes facts (frame i).id (length_of (frame i))) k.description (turn_at m (moments k before)) m.contents (schedule_log k (moments k before))
     (λ i o less at due sent. all_have k m facts i of met.keeps met.filled less (active m.contents (schedule_log k (moments k before)) o i due)))
     (due_distinct k.description (turn_at m (moments k before)) m.contents (schedule_log k (moments k before))) f tt)))
 
 -- ---- all inputs
 
-all_met : (pdos : Pdos) (k : Constants) (inputs : List Stamped) (before : Inputs) (last : ℕ) → AllInputs (λ b l s. AreTold pdos k b s) before last inputs → AllKeepTpdos k before inputs → AllAreFilled k before inputs
+all_met : (pdos : Pdos) (k : Constants) (inputs : List Stamped) (before : Inputs) (last : ℕ) → AllInputs (λ b l s. AreClear pdos k b s) before last inputs → AllKeepTpdos k before inputs → AllAreFilled k before inputs
     → AllInputs (λ b l s. IsMet pdos k b s) before last inputs
-all_met pdos k [] before last told keeps filled = tt
-all_met pdos k (s ∷ later) before last told keeps filled = (record { told = told.0; keeps = keeps.0; filled = filled.0 }, all_met pdos k later (s.input ∷ before) s.micros told.1 keeps.1 filled.1)
+all_met pdos k [] before last clear keeps filled = tt
+all_met pdos k (s ∷ later) before last clear keeps filled = (record { clear = clear.0; keeps = keeps.0; filled = filled.0 }, all_met pdos k later (s.input ∷ before) s.micros clear.1 keeps.1 filled.1)
 
 pub no_pdo_length : (k : Constants) (subject : Subject) (rows : List Row) (inputs : List Stamped) → subject.node ≡ k.description.node → AreTpdosOf k subject.facts.pdos → AllKeepTpdos k [] inputs → AllAreFilled k [] inputs
     → AreElsewhere (0x700 + k.description.node) inputs → AreNoTpdos subject.facts.pdos inputs → AllSendAside k [] inputs → AllSendBesideTpdos subject.facts.pdos k [] inputs
@@ -159,4 +157,4 @@ no_pdo_length k subject rows inputs is of keeps filled control foreign aside bes
     let facts : Pdos = subject.facts.pdos in
     of_device_too is_pdo_length k subject rows inputs is
     (of_recording is_pdo_length k subject rows (λ b l s. IsMet facts k b s) (λ b l. Knows facts) (λ before last s p met h. input_runs k subject rows before last s p of met h) inputs (λ micros. knows_sheet facts)
-    (λ last. all_met facts k inputs [] last (all_told facts k inputs [] last control foreign aside beside (no_sdo_later k inputs none)) keeps filled))
+    (λ last. all_met facts k inputs [] last (all_clear facts k inputs [] last control foreign aside beside (no_sdo_later k inputs none)) keeps filled))

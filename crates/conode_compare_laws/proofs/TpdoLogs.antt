@@ -1,8 +1,8 @@
 -- The log of a TPDO at an input: how long ago its sendings were, and whether it is sent.
-use Rattle.std.proofs.Common.{◌≡◌, ℕ, ◌+◌, ◌-◌, ◌%◌, ◌<◌, ◌≤◌, Bool, true, false, List, [], ◌∷◌, ◌++◌, map, Option, Some, None, refl, ap, sym, ◌∙◌, arith}
+use Rattle.std.proofs.Common.{◌≡◌, ℕ, ◌+◌, ◌-◌, ◌%◌, ◌<◌, Bool, true, false, List, [], ◌∷◌, ◌++◌, map, refl, ap, sym, ◌∙◌, arith}
 use Rattle.std.specs.Prelude.{if◌then◌else◌, ◌==◌, ◌&&◌, not, nat_le}
 use Rattle.std.specs.List.{list_all}
-use Rattle.std.proofs.lemmas.Bool.{and_parts, le-leb}
+use Rattle.std.proofs.lemmas.Bool.{and_parts}
 use Rattle.std.proofs.lemmas.Bool.Decides.{nat_tests}
 use Rattle.co_value.specs.declared.key.Key.{Key}
 use Rattle.co_frame.specs.InhibitTimes.{has_elapsed}
@@ -13,10 +13,9 @@ use Rattle.co_profile.specs.TransmissionTypes.{is_event_driven, is_synchronous}
 use Rattle.co_pdo.specs.declared.settings.Settings.{Settings}
 use Rattle.co_pdo.specs.declared.tpdo.Occasion.{Occasion}
 use Rattle.co_pdo.specs.declared.tpdo.Occasion.TheVariants as occasion
-use Rattle.co_pdo.specs.declared.tpdo.Part.{Part}
 use Rattle.co_pdo.specs.Due.{counted_syncs, event_since_sync, event_waits, has_begun, is_due, is_due_at_sync, is_due_by_event, is_inhibit_over, sendings, syncs}
-use Rattle.co_pdo.specs.Log.{Happened, Log, LogEntry, Started}
-use Rattle.co_pdo.specs.Schedules.{History as Schedule, is_among, is_tpdo_due, log_of, sync_with}
+use Rattle.co_pdo.specs.Log.{Happened, Log, LogEntry}
+use Rattle.co_pdo.specs.Schedules.{History as Schedule, is_among, is_tpdo_due, log_of}
 use Rattle.co_pdo.specs.Tpdos.{settings_of}
 use Rattle.co_node_parts.specs.NmtStates.{is_state}
 use Rattle.co_node_parts.specs.declared.nmt_state.NodeState.TheVariants.{Operational}
@@ -27,10 +26,10 @@ use Rattle.co_node_model.specs.declared.turn.Turn.{Turn}
 use Rattle.co_node_model.specs.declared.turn.Turn.TheVariants as turn
 use Rattle.co_node_model.specs.Device.{moment, moments}
 use Rattle.co_node_model.specs.Inputs.{InputView, Inputs}
-use Rattle.co_node_model.specs.Marks.{marked_key, marked_sync, marked_tick}
+use Rattle.co_node_model.specs.Marks.{marked_key}
 use Rattle.co_node_model.specs.Moments.{Constants, History, Moment}
 use Rattle.co_node_model.specs.Nmt.{state_at}
-use Rattle.co_node_model.specs.Tpdos.{due_at, numbers_asked, part_started, schedule_log, start_turn, turn_at, turn_by_asked, turn_by_sync, turn_by_write, turn_with, with_turn}
+use Rattle.co_node_model.specs.Tpdos.{due_at, numbers_asked, part_started, schedule_log, start_turn, turn_at, turn_by_write, turn_with, with_turn}
 use Rattle.co_node_laws.specs.TpdoDistances.{tpdo_log, turn_log}
 use Rattle.conode_compare_laws.specs.TpdoParameters.{KeepsTpdos, is_tpdo_parameter, is_tpdo_set}
 use Rattle.conode_compare_laws.proofs.TpdoDue.{IsAt, among_filter}

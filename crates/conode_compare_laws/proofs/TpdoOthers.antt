@@ -1,6 +1,6 @@
 -- Frames that aren't TPDOs, and what compare has of TPDOs after them: each law has its own say of that (`IsKept`).
-use Rattle.std.proofs.Common.{◌≡◌, ◌≢◌, ℕ, ◌+◌, ◌≤◌, Bool, true, false, List, [], ◌∷◌, ◌++◌, length, Option, Some, None, refl, sym, ap, ◌∙◌, subst, arith, ◌⊎◌, inl, inr}
-use Rattle.std.specs.Prelude.{if◌then◌else◌, ◌==◌, ◌||◌, nat_lt, is_some, option_map, IfSome}
+use Rattle.std.proofs.Common.{◌≡◌, ◌≢◌, ℕ, ◌+◌, ◌-◌, ◌≤◌, Bool, true, false, List, [], ◌∷◌, length, Option, Some, None, refl, sym, ap, ◌∙◌, subst, arith, ◌⊎◌, inl, inr}
+use Rattle.std.specs.Prelude.{if◌then◌else◌, ◌==◌, nat_lt, is_some, option_map, IfSome}
 use Rattle.std.specs.List.{AllByRecursion}
 use Rattle.std.proofs.lemmas.Bool.{ltb-false, ne_eqb, or_parts}
 use Rattle.co_frame.specs.FrameContent.{FrameContent}
@@ -8,7 +8,6 @@ use Rattle.co_frame.specs.Emergencies.{emergency_in}
 use Rattle.co_frame.specs.Heartbeats.{heartbeat_bytes, state_byte}
 use Rattle.co_frame.specs.Nmt.{nmt_command_in}
 use Rattle.co_frame.specs.declared.emergency.Emergency.{Emergency}
-use Rattle.co_frame.specs.declared.heartbeat.Heartbeat.{Heartbeat}
 use Rattle.co_frame.specs.declared.heartbeat.Heartbeat.TheVariants.{BootUp}
 use Rattle.co_frame.specs.declared.nmt.NmtCommand.{NmtCommand}
 use Rattle.co_frame.specs.declared.nmt.NmtService.{NmtService}
@@ -184,7 +183,7 @@ all_fine is moment pdos id length h =
     (or_fine is _ _ (seen_fine is moment (is_some pdos.sync) 2 pdos.second id length h.second)
     (or_fine is _ _ (seen_fine is moment (is_some pdos.sync) 3 pdos.third id length h.third) (seen_fine is moment (is_some pdos.sync) 4 pdos.fourth id length h.fourth)))
 
-unseen : (is : Deviation → Bool) (moment : Moment) (facts pdos : Pdos) (id length : ℕ) → Knows facts pdos → is_followed facts id ≡ false → AreFine is moment pdos id length
+pub unseen : (is : Deviation → Bool) (moment : Moment) (facts pdos : Pdos) (id length : ℕ) → Knows facts pdos → is_followed facts id ≡ false → AreFine is moment pdos id length
 unseen is moment facts pdos id length knows off =
     let a = or_parts (is_id facts.first.parameters.id id) _ off in
     let b = or_parts (is_id facts.second.parameters.id id) _ a.1 in

@@ -37,7 +37,7 @@ use Rattle.conode_compare_laws.proofs.Heard.{of_device}
 use Rattle.conode_compare_laws.proofs.Heartbeats.{NoSdo, after_those, before_these}
 use Rattle.conode_compare_laws.proofs.Runs.{AllRun, joined}
 use Rattle.conode_compare_laws.proofs.TpdoDue.{AreDistinct}
-use Rattle.conode_compare_laws.proofs.TpdoOthers.{AreFine, Holds, IsFresh, IsKept, IsNewest, IsOther, Passes, all_fine, begun_kept, begun_newest, fresh, lives, one, others, sighted_none}
+use Rattle.conode_compare_laws.proofs.TpdoOthers.{AreFine, Holds, IsKept, IsNewest, IsOther, Passes, all_fine, begun_kept, begun_newest, fresh, lives, one, others, sighted_none}
 
 -- ---- which frames these are
 

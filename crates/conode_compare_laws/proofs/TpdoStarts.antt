@@ -1,8 +1,7 @@
 -- The frame that an input is, to the times of TPDOs: as operational is entered a command comes, and they count anew.
-use Rattle.std.proofs.Common.{◌≡◌, ℕ, ◌+◌, ◌-◌, ◌≤◌, Bool, true, false, List, [], ◌∷◌, Option, Some, None, refl, sym, ap, ◌∙◌, subst, arith}
+use Rattle.std.proofs.Common.{◌≡◌, ℕ, ◌-◌, ◌≤◌, Bool, true, false, List, [], ◌∷◌, Option, Some, None, refl, sym, subst, arith}
 use Rattle.std.specs.Prelude.{if◌then◌else◌, ◌==◌, ◌||◌, not, is_some}
 use Rattle.co_value.specs.declared.key.Key.{Key}
-use Rattle.co_frame.specs.FrameContent.{FrameContent}
 use Rattle.co_frame.specs.Nmt.{nmt_command_in}
 use Rattle.co_frame.specs.declared.nmt.NmtCommand.{NmtCommand}
 use Rattle.co_frame.specs.declared.nmt.NmtService.{NmtService}
@@ -169,7 +168,7 @@ start_commanded k history input is = by (command_in k.description.node input) re
 -- ---- a command comes
 
 module _ (is : Deviation → Bool) (R : ℕ → Sent → List ℕ → Type 0) (ids : ℕ → ℕ) (ages : ℕ → List ℕ) (subject : Subject) (rows : List Row) (micros : ℕ) where
-  I : Pdos → Type 0
+  abbrev pub I : Pdos → Type 0
   I = AreTimed R subject.node ids subject.facts.pdos micros ages
 
   command_holds : (p : Progress) (service : NmtService) (own : Bool) → IsNewest micros p → Knows subject.facts.pdos p.pdos → Holds I (after_command p service own micros)

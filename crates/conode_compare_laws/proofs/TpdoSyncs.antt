@@ -1,7 +1,6 @@
 -- A synchronous TPDO of a device comes after a SYNC that compare has seen.
-use Rattle.std.proofs.Common.{◌≡◌, ◌≢◌, ℕ, ◌+◌, ◌-◌, ◌<◌, ◌≤◌, Bool, true, false, List, [], ◌∷◌, ◌++◌, length, map, Option, Some, None, refl, ap, sym, ◌∙◌, subst, arith, ◌⊎◌, inl, inr}
+use Rattle.std.proofs.Common.{◌≡◌, ℕ, ◌+◌, ◌<◌, ◌≤◌, Bool, true, false, List, [], ◌∷◌, ◌++◌, length, map, Option, Some, None, refl, ap, sym, ◌∙◌, subst, arith, ◌⊎◌, inl, inr}
 use Rattle.std.specs.Prelude.{if◌then◌else◌, ◌==◌, ◌&&◌, ◌||◌, nat_le, is_some, IfSome}
-use Rattle.std.specs.List.{AllByRecursion}
 use Rattle.std.proofs.lemmas.Bool.{and_parts, eq-eqb, eqb-true, ne_eqb, or_parts, or_right}
 use Rattle.std.proofs.lemmas.Bool.Decides.{nat_tests}
 use Rattle.co_frame.specs.FrameContent.{FrameContent}
@@ -13,10 +12,10 @@ use Rattle.co_sheet.specs.Content.{Row}
 use Rattle.co_pdo.specs.declared.tpdo.Occasion.{Occasion}
 use Rattle.co_pdo.specs.declared.tpdo.Occasion.TheVariants as occasion
 use Rattle.co_pdo.specs.declared.settings.Settings.{Settings}
-use Rattle.co_pdo.specs.Due.{event_waits, is_due, is_inhibit_over}
+use Rattle.co_pdo.specs.Due.{event_waits, is_due, is_due_by_event, is_inhibit_over}
 use Rattle.co_pdo.specs.Log as tpdo_log
 use Rattle.co_pdo.specs.Schedules.{History as Schedule, is_among, is_tpdo_due, log_of}
-use Rattle.co_pdo.specs.Tpdos.{is_active, settings_of, tpdo_key}
+use Rattle.co_pdo.specs.Tpdos.{settings_of, tpdo_key}
 use Rattle.co_node_model.specs.declared.turn.Turn.{Turn}
 use Rattle.co_node_model.specs.declared.turn.Turn.TheVariants as turn
 use Rattle.co_node_model.specs.Device.{contents_of, moment, moments, prescribed}
@@ -30,7 +29,7 @@ use Rattle.conode_compare_pdos.specs.declared.deviation.Moment.{Moment as Judged
 use Rattle.conode_compare_pdos.specs.declared.pdos.Pdos.{Pdos}
 use Rattle.conode_compare_pdos.specs.declared.tpdo.Tpdo.{Tpdo}
 use Rattle.conode_compare_pdos.specs.Deviations.{deviation_at, is_synchronous, sync_deviation}
-use Rattle.conode_compare_pdos.specs.Followed.{commanded, framed, interrupted, sighting, unknown_pdos}
+use Rattle.conode_compare_pdos.specs.Followed.{framed, sighting}
 use Rattle.conode_compare_pdos.specs.Tpdos.{after_frame as after_tpdo, after_sync, is_id, most_syncs}
 use Rattle.conode_compare_rules.specs.declared.kind.FrameKind.TheVariants.{Process}
 use Rattle.conode_compare_rules.specs.declared.limits.Subject.{Subject}
@@ -47,7 +46,7 @@ use Rattle.conode_compare_laws.proofs.Heard.{of_device}
 use Rattle.conode_compare_laws.proofs.Heartbeats.{NoSdo, after_those, before_these}
 use Rattle.conode_compare_laws.proofs.Runs.{AllRun, joined}
 use Rattle.conode_compare_laws.proofs.TpdoDue.{IsAt, active, active_kept, alone, due_all, due_distinct, number_kept, tpdo_number}
-use Rattle.conode_compare_laws.proofs.TpdoInputs.{AllInputs, AreTold, all_told, no_sdo_later, of_device_too, of_recording}
+use Rattle.conode_compare_laws.proofs.TpdoInputs.{AllInputs, AreClear, all_clear, no_sdo_later, of_device_too, of_recording}
 use Rattle.conode_compare_laws.proofs.TpdoKinds.{deviation_none, length_none, state_none, untimed}
 use Rattle.conode_compare_laws.proofs.TpdoOthers.{
   AreFine,
@@ -211,9 +210,9 @@ sync_fine : (synced : Bool) (sync : Option ℕ) (sheet pdo : Tpdo) (number n id 
     → is_of is_pdo_sync (sync_deviation (is_some sync) pdo) ≡ false
 sync_fine synced sync sheet pdo number n id later (inl unknown) ok has on = absurd (let off : is_id pdo.parameters.id id ≡ false = ap (λ parameters. is_id parameters.id id) unknown in cc)
 sync_fine synced sync sheet pdo number n id later (inr same) ok has on =
-    let told : (n ≡ number) × ((synced ≡ true) ⊎ (is_synchronous sheet.parameters.kind ≡ false)) = ok (sym (ap (λ parameters. is_id parameters.id id) same) ∙ on) in
-    elim told.1 [
-      | inl came ↦ some_none sync pdo (λ known. has came known (among_first n number later told.0))
+    let mine : (n ≡ number) × ((synced ≡ true) ⊎ (is_synchronous sheet.parameters.kind ≡ false)) = ok (sym (ap (λ parameters. is_id parameters.id id) same) ∙ on) in
+    elim mine.1 [
+      | inl came ↦ some_none sync pdo (λ known. has came known (among_first n number later mine.0))
       | inr off ↦ kind_none (is_some sync) pdo (ap (λ parameters. is_synchronous parameters.kind) same ∙ off)
     ]
 
@@ -243,8 +242,8 @@ sent_has synced sync moment sheet pdo number n id later once of ok h = by (is_id
     by false off known = still_has synced sync number later moment id pdo off (later_has synced sync number n later pdo h)
     by true on (inl unknown) = absurd (let off : is_id pdo.parameters.id id ≡ false = ap (λ parameters. is_id parameters.id id) unknown in cc)
     by true on (inr same) =
-        let told : (n ≡ number) × ((synced ≡ true) ⊎ (is_synchronous sheet.parameters.kind ≡ false)) = ok (sym (ap (λ parameters. is_id parameters.id id) same) ∙ on) in
-        λ came has is. absurd (let no : is_among number later ≡ false = subst (λ i. is_among i later ≡ false) told.0 once in cc)
+        let mine : (n ≡ number) × ((synced ≡ true) ⊎ (is_synchronous sheet.parameters.kind ≡ false)) = ok (sym (ap (λ parameters. is_id parameters.id id) same) ∙ on) in
+        λ came has is. absurd (let no : is_among number later ≡ false = subst (λ i. is_among i later ≡ false) mine.0 once in cc)
 
 sync_step : (subject : Subject) (synced : Bool) (p : Progress) (micros n id length : ℕ) (later : List ℕ) → AreSynced subject.facts.pdos synced n id → is_among n later ≡ false → HaveSync subject.facts.pdos synced (n ∷ later) p.pdos
     → Step is_pdo_sync (HaveSync subject.facts.pdos synced later) subject p micros id length
@@ -279,8 +278,8 @@ sync_walk subject micros synced frame = record {
 -- ---- what a device sends
 
 -- at a SYNC every TPDO may be sent, else those alone that are event-driven
-by_event : (s : Settings) (waits over : Bool) → (types.is_event_driven s.transmission_type.0 && (waits && over)) ≡ true → types.is_event_driven s.transmission_type.0 ≡ true
-by_event s waits over h = (and_parts (types.is_event_driven s.transmission_type.0) (waits && over) h).0
+by_event : (s : Settings) (log : tpdo_log.Log) → is_due_by_event s log ≡ true → types.is_event_driven s.transmission_type.0 ≡ true
+by_event s log h = (and_parts (types.is_event_driven s.transmission_type.0) (event_waits log && is_inhibit_over s.inhibit_time log) h).0
 
 abbrev is_sync_occasion : Occasion → Bool
 is_sync_occasion (occasion.Sync overflow counter) = true
@@ -288,8 +287,12 @@ is_sync_occasion other = false
 
 due_event : (s : Settings) (log : tpdo_log.Log) (o : Occasion) → is_due s log o ≡ true → is_sync_occasion o ≡ false → types.is_event_driven s.transmission_type.0 ≡ true
 due_event s log (occasion.Sync overflow counter) due off = absurd (cc)
-due_event s log occasion.Event due off = by_event s _ _ (and_parts s.is_active _ due).1
-due_event s log occasion.Tick due off = by_event s _ _ (and_parts s.is_active _ due).1
+due_event s log occasion.Event due off =
+    let later : tpdo_log.Log = tpdo_log.Happened occasion.Event s false ∷ log in
+    by_event s later (and_parts s.is_active (is_due_by_event s later) due).1
+due_event s log occasion.Tick due off =
+    let later : tpdo_log.Log = tpdo_log.Happened occasion.Tick s false ∷ log in
+    by_event s later (and_parts s.is_active (is_due_by_event s later) due).1
 
 at_sync : (c : Contents) (t : Turn) (o : Occasion) → IsAt c t o → (is_sync_turn t ≡ true) ⊎ (is_sync_occasion o ≡ false)
 at_sync c turn.Quiet o at = absurd at
@@ -380,7 +383,7 @@ sync_comes subject rows micros frame due p kind off same h =
 -- ---- an input
 
 record IsMet (pdos : Pdos) (k : Constants) (before : Inputs) (s : Stamped) : Type 0 where
-  told : AreTold pdos k before s
+  clear : AreClear pdos k before s
   emergency : IsElsewhere (0x80 + k.description.node) s.input
   keeps : KeepsTpdos k (moment k (moments k before) s.input)
   sync : number_at (contents_of k before) sync_key ≡ number_at k.start sync_key
@@ -392,7 +395,7 @@ sent_id (Some n) word id h is = sym h ∙ is
 came_sync : (k : Constants) (subject : Subject) (rows : List Row) (before : Inputs) (s : Stamped) (due : List ℕ) (p : Progress) → AreTpdosOf k subject.facts.pdos → IsMet subject.facts.pdos k before s → NoSdo k.description.node (frame_of s.input)
     → IsSync (contents_of k before) s.input → Holds (Knows subject.facts.pdos) p
     → AllRun (tpdo_differences is_pdo_sync) (of_device k subject) rows s.micros p (frame_of s.input) (Holds (HaveSync subject.facts.pdos true due))
-came_sync k subject rows before s due p of met none is h = by s.input met.told.control met.told.foreign met.emergency none is
+came_sync k subject rows before s due p of met none is h = by s.input met.clear.control met.clear.foreign met.emergency none is
   where
     node : ℕ
     node = k.description.node
@@ -417,7 +420,7 @@ came_either k subject rows before s p false is of met none h =
     let due : List ℕ = (moment k (moments k before) s.input).due in
     weaken (tpdo_differences is_pdo_sync) (of_device k subject) rows s.micros (frame_of s.input) p (Holds (Knows facts)) (Holds (HaveSync facts false due))
     (λ q g. record { fresh = g.fresh; kept = none_synced facts due q.pdos g.kept })
-    (others is_pdo_sync (Knows facts) (of_device k subject) rows s.micros (frame_of s.input) p (knows_kept facts) (came_other facts k.description.node s.input none met.told.control met.told.foreign) h)
+    (others is_pdo_sync (Knows facts) (of_device k subject) rows s.micros (frame_of s.input) p (knows_kept facts) (came_other facts k.description.node s.input none met.clear.control met.clear.foreign) h)
 came_either k subject rows before s p true is of met none h =
     let m : Moment = moment k (moments k before) s.input in
     elim (sync_or k (moments k before) s.input) [
@@ -450,30 +453,30 @@ input_runs k subject rows before last s p of met h =
     let frame : ℕ → FrameContent = tpdo_frame k.description m.contents in
     let came : List FrameContent = frame_of s.input in
     let more : List FrameContent = besides k m in
-    let sent : NoSdo n (more ++ map frame m.due) = after_those n came (prescribed k before s.input) met.told.sdo in
+    let sent : NoSdo n (more ++ map frame m.due) = after_those n came (prescribed k before s.input) met.clear.sdo in
     let ready : Progress → Type 0 = Holds (HaveSync facts synced m.due) in
     let after : Progress → Type 0 = Holds (Knows facts) in
     joined (tpdo_differences is_pdo_sync) subj rows s.micros came (more ++ map frame m.due) p ready after
-    (came_either k subject rows before s p synced refl of met (before_these n came (prescribed k before s.input) met.told.sdo) h)
+    (came_either k subject rows before s p synced refl of met (before_these n came (prescribed k before s.input) met.clear.sdo) h)
     (λ q g.
     joined (tpdo_differences is_pdo_sync) subj rows s.micros more (map frame m.due) q ready after
-    (besides_run is_pdo_sync (HaveSync facts synced m.due) k subject rows s.micros before s.input q (sync_kept facts synced m.due) (begins_either k facts before s.input synced refl) met.told.aside met.told.beside
+    (besides_run is_pdo_sync (HaveSync facts synced m.due) k subject rows s.micros before s.input q (sync_kept facts synced m.due) (begins_either k facts before s.input synced refl) met.clear.aside met.clear.beside
     (before_these n more (map frame m.due) sent) g)
     (λ r f. weaken (tpdo_differences is_pdo_sync) subj rows s.micros (map frame m.due) r (Walked (HaveSync facts synced []) (λ x. Unit {0})) after
     (λ x e. record { fresh = e.holds.fresh; kept = e.holds.kept.knows })
     (walks is_pdo_sync (λ i. AreSynced facts synced i (frame i).id) (HaveSync facts synced) (λ x. Unit {0}) subj rows s.micros frame m.due r (sync_walk subj s.micros synced frame)
-    (tpdo_ids n frame m.due met.told.aside.tpdos (after_those n more (map frame m.due) sent))
+    (tpdo_ids n frame m.due met.clear.aside.tpdos (after_those n more (map frame m.due) sent))
     (due_all (λ i. AreSynced facts synced i (frame i).id) k.description t m.contents schedule (λ i o less at due sent. all_synced k m facts t schedule o i of met.keeps less at due))
     (due_distinct k.description t m.contents schedule) f tt)))
 
 -- ---- all inputs
 
-all_met : (pdos : Pdos) (k : Constants) (inputs : List Stamped) (before : Inputs) (last : ℕ) → AllInputs (λ b l s. AreTold pdos k b s) before last inputs → AreElsewhere (0x80 + k.description.node) inputs → AllKeepTpdos k before inputs
+all_met : (pdos : Pdos) (k : Constants) (inputs : List Stamped) (before : Inputs) (last : ℕ) → AllInputs (λ b l s. AreClear pdos k b s) before last inputs → AreElsewhere (0x80 + k.description.node) inputs → AllKeepTpdos k before inputs
     → number_at (contents_of k before) sync_key ≡ number_at k.start sync_key → AllInputs (λ b l s. IsMet pdos k b s) before last inputs
-all_met pdos k [] before last told emergency keeps sync = tt
-all_met pdos k (s ∷ later) before last told emergency keeps sync = (
-  record { told = told.0; emergency = emergency.0; keeps = keeps.0; sync = sync },
-  all_met pdos k later (s.input ∷ before) s.micros told.1 emergency.1 keeps.1 (number_kept k (moment k (moments k before) s.input) sync_key keeps.0 refl),
+all_met pdos k [] before last clear emergency keeps sync = tt
+all_met pdos k (s ∷ later) before last clear emergency keeps sync = (
+  record { clear = clear.0; emergency = emergency.0; keeps = keeps.0; sync = sync },
+  all_met pdos k later (s.input ∷ before) s.micros clear.1 emergency.1 keeps.1 (number_kept k (moment k (moments k before) s.input) sync_key keeps.0 refl),
 )
 
 pub no_pdo_sync : (k : Constants) (subject : Subject) (rows : List Row) (inputs : List Stamped) → subject.node ≡ k.description.node → AreTpdosOf k subject.facts.pdos → AllKeepTpdos k [] inputs
@@ -483,4 +486,4 @@ no_pdo_sync k subject rows inputs is of keeps control emergency foreign aside be
     let facts : Pdos = subject.facts.pdos in
     of_device_too is_pdo_sync k subject rows inputs is
     (of_recording is_pdo_sync k subject rows (λ b l s. IsMet facts k b s) (λ b l. Knows facts) (λ before last s p met h. input_runs k subject rows before last s p of met h) inputs (λ micros. knows_sheet facts)
-    (λ last. all_met facts k inputs [] last (all_told facts k inputs [] last control foreign aside beside (no_sdo_later k inputs none)) emergency keeps refl))
+    (λ last. all_met facts k inputs [] last (all_clear facts k inputs [] last control foreign aside beside (no_sdo_later k inputs none)) emergency keeps refl))

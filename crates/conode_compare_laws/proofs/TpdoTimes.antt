@@ -1,5 +1,5 @@
 -- The newest frame of each TPDO that compare has, beside how long ago the device sent it: what a law says of both.
-use Rattle.std.proofs.Common.{◌≡◌, ℕ, ◌+◌, ◌<◌, ◌≤◌, Bool, true, false, List, [], ◌∷◌, Option, Some, None, refl, ap, sym, ◌∙◌, subst, arith, ◌⊎◌, inl, inr}
+use Rattle.std.proofs.Common.{◌≡◌, ℕ, ◌+◌, ◌<◌, ◌≤◌, Bool, true, false, List, ◌∷◌, Option, Some, None, refl, ap, sym, ◌∙◌, subst, arith, ◌⊎◌, inl, inr}
 use Rattle.std.specs.Prelude.{if◌then◌else◌, ◌==◌, ◌||◌, is_some, IfSome}
 use Rattle.std.proofs.lemmas.Bool.{eq-eqb, eqb-true, or_parts}
 use Rattle.co_frame.specs.FrameContent.{FrameContent}
@@ -20,8 +20,8 @@ use Rattle.conode_compare_rules.specs.Progresses.{moment_at}
 use Rattle.conode_compare_laws.specs.TpdoFrames.{is_followed}
 use Rattle.conode_compare_laws.specs.TpdoParameters.{AreTpdosOf}
 use Rattle.conode_compare_laws.proofs.TpdoLogs.{and_sent}
-use Rattle.conode_compare_laws.proofs.TpdoOthers.{AreFine, IsKept, IsNewest, IsOf, Knows, is_of, knows_commanded, knows_framed, knows_interrupted, knows_sheet, knows_unknown, other_id}
-use Rattle.conode_compare_laws.proofs.TpdoParts.{Step, Walk}
+use Rattle.conode_compare_laws.proofs.TpdoOthers.{IsKept, IsNewest, IsOf, Knows, is_of, knows_commanded, knows_framed, knows_interrupted, knows_sheet, knows_unknown, other_id}
+use Rattle.conode_compare_laws.proofs.TpdoParts.{Step}
 
 -- it is seen: it comes on the identifier that compare has for it, which isn't that of EMCY
 abbrev pub IsSeen : ℕ → ℕ → Tpdo → Type 0
@@ -154,7 +154,7 @@ at_first all old number = by (is_among number all)
     by false = refl
 
 module _ (is : Deviation → Bool) (R : ℕ → Sent → List ℕ → Type 0) (subject : Subject) (micros : ℕ) (frame : ℕ → FrameContent) (ids : ℕ → ℕ) (all : List ℕ) (old : ℕ → List ℕ) where
-  node : ℕ
+  abbrev pub node : ℕ
   node = subject.node
 
   -- with the time of the one before it is as it should be
@@ -175,7 +175,7 @@ module _ (is : Deviation → Bool) (R : ℕ → Sent → List ℕ → Type 0) (s
     pub third : IsOwn facts.third 2 n
     pub fourth : IsOwn facts.fourth 3 n
 
-  ages : List ℕ → ℕ → List ℕ
+  abbrev pub ages : List ℕ → ℕ → List ℕ
   ages due number = ages_before all old due number
 
   still_first : (n number : ℕ) (later : List ℕ) → n ≡ number → ages (n ∷ later) number ≡ old number
@@ -190,7 +190,7 @@ module _ (is : Deviation → Bool) (R : ℕ → Sent → List ℕ → Type 0) (s
   as_before n number later off = ap (λ b. if b || is_among number later then old number else and_sent (is_among number all) (old number)) off
 
   -- a frame that isn't seen
-  IsHidden : Tpdo → ℕ → Type 0
+  abbrev IsHidden : Tpdo → ℕ → Type 0
   IsHidden pdo n = (is_id pdo.parameters.id (ids n) ≡ false) ⊎ ((ids n == 0x80 + node) ≡ true)
 
   never_seen : (pdo : Tpdo) (n number : ℕ) → n ≡ number → IsHidden pdo n → IsSeen node (ids number) pdo → ⊥
@@ -219,9 +219,9 @@ module _ (is : Deviation → Bool) (R : ℕ → Sent → List ℕ → Type 0) (s
   one_fine : (p : Progress) (has_sync : Bool) (sheet pdo : Tpdo) (number n : ℕ) (later : List ℕ) → IsNewest micros p → IsOwn sheet number n → IsOf sheet pdo → IsTimed R node micros (ids number) (ages (n ∷ later) number) pdo
       → is_id pdo.parameters.id (frame n).id ≡ true → is_of is (deviation_at (moment_at subject p micros) has_sync pdo (length_of (frame n))) ≡ false
   one_fine p has_sync sheet pdo number n later new ok of h on =
-      let told : (pdo.parameters ≡ sheet.parameters) × (is_id sheet.parameters.id (frame n).id ≡ true) = of_own sheet pdo (frame n).id of on in
-      let same : n ≡ number = ok.own told.1 in
-      ok.judged p has_sync pdo new told.0 same
+      let mine : (pdo.parameters ≡ sheet.parameters) × (is_id sheet.parameters.id (frame n).id ≡ true) = of_own sheet pdo (frame n).id of on in
+      let same : n ≡ number = ok.own mine.1 in
+      ok.judged p has_sync pdo new mine.0 same
       (subst (λ a. IfSome pdo.sent (λ s. R micros s a)) (still_first n number later same) (without_id pdo.sent (λ s. R micros s (ages (n ∷ later) number)) (IsSeen node (ids number) pdo) h))
 
   -- after a frame that is

@@ -1,21 +1,18 @@
 -- How long an event-driven TPDO that is active isn't sent: no longer than its event timer, or than its inhibit time where that is longer.
-use Rattle.std.proofs.Common.{◌≡◌, ℕ, ◌+◌, ◌<◌, ◌≤◌, Bool, true, false, List, [], ◌∷◌, ◌++◌, map, Option, Some, None, refl, ap, sym, ◌∙◌, subst, arith, ◌⊎◌, inl, inr}
-use Rattle.std.specs.Prelude.{if◌then◌else◌, ◌==◌, ◌&&◌, ◌||◌, not, nat_le}
+use Rattle.std.proofs.Common.{◌≡◌, ℕ, ◌+◌, ◌<◌, ◌≤◌, Bool, true, false, List, [], ◌∷◌, ◌++◌, map, Option, refl, ap, sym, ◌∙◌, subst, arith, ◌⊎◌, inl, inr}
+use Rattle.std.specs.Prelude.{if◌then◌else◌, ◌==◌, ◌&&◌, ◌||◌, nat_le}
 use Rattle.std.specs.List.{AllByRecursion, list_all}
 use Rattle.std.proofs.lemmas.Bool.{and_parts, eqb-true, le-leb, leb-true, or_parts}
 use Rattle.std.proofs.lemmas.Bool.Decides.{nat_tests}
 use Rattle.co_frame.specs.InhibitTimes.{has_elapsed, in_ms}
-use Rattle.co_dict.specs.Rows.{Contents, number_at}
-use Rattle.co_dict.specs.Stores.{Description}
 use Rattle.co_profile.specs.TransmissionTypes.{is_event_driven}
 use Rattle.co_pdo.specs.declared.settings.Settings.{Settings}
 use Rattle.co_pdo.specs.declared.tpdo.Occasion.{Occasion}
 use Rattle.co_pdo.specs.declared.tpdo.Occasion.TheVariants as occasion
-use Rattle.co_pdo.specs.Due.{event_waits, is_due, is_due_at_sync, is_due_by_event, is_inhibit_over, is_timer_event, sendings, timer_ticks}
-use Rattle.co_pdo.specs.Log.{Happened, Log, LogEntry}
+use Rattle.co_pdo.specs.Due.{event_waits, is_due, is_due_by_event, is_inhibit_over, is_timer_event, sendings, timer_ticks}
+use Rattle.co_pdo.specs.Log.{Happened, Log}
 use Rattle.co_pdo.specs.Schedules.{is_among, sync_with}
 use Rattle.co_pdo.specs.Tpdos.{is_active, settings_of}
-use Rattle.co_node_model.specs.declared.mark.Asked.{Asked}
 use Rattle.co_node_model.specs.declared.turn.Turn.{Turn}
 use Rattle.co_node_model.specs.declared.turn.Turn.TheVariants as turn
 use Rattle.co_node_model.specs.Device.{moment, moments}
@@ -26,7 +23,7 @@ use Rattle.co_node_laws.specs.TpdoDistances.{tpdo_log, turn_log}
 use Rattle.co_node_laws.proofs.TpdoDistances as distances
 use Rattle.conode_compare_laws.specs.TpdoParameters.{KeepsTpdos}
 use Rattle.conode_compare_laws.proofs.TpdoDue.{active_kept, tpdo_number}
-use Rattle.conode_compare_laws.proofs.TpdoLogs.{ages_at, ages_then, is_start, no_start, sync_off}
+use Rattle.conode_compare_laws.proofs.TpdoLogs.{ages_then, is_start, no_start, sync_off}
 
 -- ---- the sendings in a log
 

@@ -12,9 +12,9 @@ use co_pdo::written_from_2000;
 use co_sdo::Bank;
 
 /// A device built from a data sheet, as by `Node::build` of `co_node`, keeps the parameters of its
-/// TPDOs and 1005h as they are over all inputs, where no SDO channel and no event of the application
-/// writes one of them (`AllWriteNone`): a reset restores what they began with, and nothing else
-/// changes them. This is a law: a call of it changes nothing.
+/// TPDOs and 1005h as they are over all inputs, where no SDO channel and no event of the
+/// application writes one of them (`AllWriteNone`): a reset restores what they began with, and
+/// nothing else changes them. This is a law: a call of it changes nothing.
 pub fn keeps_tpdos()
     ensures { (plan : Plan) (k : Constants) (inputs : List Stamped) → IsBuilt plan k →
         AllWriteNone k [] inputs → AllKeepTpdos k [] inputs }

@@ -22,11 +22,11 @@ use crate::aside::sends_aside;
 
 /// The recording of a device without transfers on its default SDO channel has no `pdo-state` (CiA
 /// 301, 7.3.2.2.3): it sends TPDOs while operational alone, over whatever inputs with whatever
-/// stamps, events of the application and writes on other channels too. Conditions: `compare` has its
-/// node-ID; no other node sends on the identifier of its error control (`AreElsewhere`), and neither
-/// another node nor the device's own SDO and EMCY on one that `compare` has for a TPDO by the data
-/// sheet (`AreNoTpdos`, `AllSendBesideTpdos`); and no frame is one of its default SDO channel
-/// (`AreNoSdo`). This is a law: a call of it changes nothing.
+/// stamps, events of the application and writes on other channels too. Conditions: `compare` has
+/// its node-ID; no other node sends on the identifier of its error control (`AreElsewhere`), and
+/// neither another node nor the device's own SDO and EMCY on one that `compare` has for a TPDO by
+/// the data sheet (`AreNoTpdos`, `AllSendBesideTpdos`); and no frame is one of its default SDO
+/// channel (`AreNoSdo`). This is a law: a call of it changes nothing.
 pub fn no_pdo_state()
     ensures { (k : Constants) (subject : Subject) (rows : List Row) (inputs : List Stamped) →
         subject.node ≡ k.description.node → AreElsewhere (0x700 + k.description.node) inputs →
@@ -38,11 +38,11 @@ pub fn no_pdo_state()
     sends_aside();
 }
 
-/// Nor has it a `pdo-length` (CiA 301, 7.5.2.38): each TPDO has as many bytes as the data sheet maps.
-/// Further conditions: no parameter of a TPDO is written, nor 1005h (`AllKeepTpdos`); the entries are
-/// those of a dictionary, as each store ensures (`AllAreFilled`); what `compare` has of the TPDOs by
-/// the data sheet is what the device was built with, and no two have one identifier (`AreTpdosOf`).
-/// This is a law: a call of it changes nothing.
+/// Nor has it a `pdo-length` (CiA 301, 7.5.2.38): each TPDO has as many bytes as the data sheet
+/// maps. Further conditions: no parameter of a TPDO is written, nor 1005h (`AllKeepTpdos`); the
+/// entries are those of a dictionary, as each store ensures (`AllAreFilled`); what `compare` has of
+/// the TPDOs by the data sheet is what the device was built with, and no two have one identifier
+/// (`AreTpdosOf`). This is a law: a call of it changes nothing.
 pub fn no_pdo_length()
     ensures { (k : Constants) (subject : Subject) (rows : List Row) (inputs : List Stamped) →
         subject.node ≡ k.description.node → AreTpdosOf k subject.facts.pdos →
@@ -56,9 +56,9 @@ pub fn no_pdo_length()
     sends_aside();
 }
 
-/// Nor has it a `pdo-sync` (CiA 301, 7.2.2.2.1): a TPDO of type 0 to 240 comes after a SYNC. Conditions
-/// as those of `no_pdo_length` but that of the entries, and that no other node sends on 80h +
-/// node-ID, not even SYNC (`AreElsewhere`). This is a law: a call of it changes nothing.
+/// Nor has it a `pdo-sync` (CiA 301, 7.2.2.2.1): a TPDO of type 0 to 240 comes after a SYNC.
+/// Conditions as those of `no_pdo_length` but that of the entries, and that no other node sends on
+/// 80h + node-ID, not even SYNC (`AreElsewhere`). This is a law: a call of it changes nothing.
 pub fn no_pdo_sync()
     ensures { (k : Constants) (subject : Subject) (rows : List Row) (inputs : List Stamped) →
         subject.node ≡ k.description.node → AreTpdosOf k subject.facts.pdos →
@@ -89,8 +89,8 @@ pub fn no_pdo_inhibit()
 }
 
 /// Nor has it a `pdo-late` (CiA 301, 7.5.2.37), whatever the tolerance and the drift: conditions as
-/// those of `no_pdo_inhibit`, but that no stamp is later than the ticks have it (`AreTimed`). This is
-/// a law: a call of it changes nothing.
+/// those of `no_pdo_inhibit`, but that no stamp is later than the ticks have it (`AreTimed`). This
+/// is a law: a call of it changes nothing.
 pub fn no_pdo_late()
     ensures { (k : Constants) (subject : Subject) (rows : List Row) (inputs : List Stamped) →
         subject.node ≡ k.description.node → AreTpdosOf k subject.facts.pdos →

@@ -1,5 +1,4 @@
-use Rattle.std.proofs.Common.{◌≡◌, [], true, refl, sym, ap, ◌∙◌}
-use Rattle.co_value.specs.declared.key.Key.{Key}
+use Rattle.std.proofs.Common.{[], refl, sym, ap, ◌∙◌}
 use Rattle.co_dict_build.specs.Built.{Plan, built_contents, built_description}
 use Rattle.co_dict_build.proofs.Plans.{begins_initially}
 use Rattle.co_node.specs.Built.{IsBuilt}
