@@ -36,5 +36,6 @@ pub fn keeps_tpdos()
 /// (`AreOnTheirOwn`). This is a law: a call of it changes nothing.
 pub fn tpdos_of_sheet()
     ensures { (plan : Plan) (k : Constants) → IsBuilt plan k → All IsSheetRow plan.rows →
-        AreOnTheirOwn k (pdos_of plan.rows plan.node) → AreTpdosOf k (pdos_of plan.rows plan.node) }
+        AreOnTheirOwn k (pdos_of plan.rows plan.node) →
+        AreTpdosOf k (pdos_of plan.rows plan.node) }
 {}
