@@ -41,10 +41,10 @@ unmapped : (key : Option Key) → option_map BadCobId key ≡ None → key ≡ N
 unmapped None h = refl
 unmapped (Some key) h = absurd (cc)
 
-node_ok : (plan : Plan) → build_fault plan ≡ None → is_node plan.node ≡ true
+pub node_ok : (plan : Plan) → build_fault plan ≡ None → is_node plan.node ≡ true
 node_ok plan h = unless (is_node plan.node) NodeId (neither _ _ h).0
 
-to_127 : (node : ℕ) → is_node node ≡ true → node ≤ 127
+pub to_127 : (node : ℕ) → is_node node ≡ true → node ≤ 127
 to_127 node h = grind (arith, nat_tests)
 
 none_bad : (plan : Plan) → build_fault plan ≡ None → bad_cob_id (built_description plan) (built_contents plan) ≡ None

@@ -33,3 +33,4 @@ pub mod TpdoWaits
 pub mod TpdoLates
 mod TpdoExamples
 pub mod TpdoKept
+pub mod TpdoSheets

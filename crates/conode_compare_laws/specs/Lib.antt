@@ -5,3 +5,4 @@ pub mod Periods
 pub mod TpdoDifferences
 pub mod TpdoFrames
 pub mod TpdoParameters
+pub mod TpdoSheets

@@ -17,5 +17,5 @@ pub use early_emergencies::no_early_emergencies;
 pub use emergencies::no_emergency_differences;
 pub use late_heartbeats::no_late_heartbeats;
 pub use states::no_state_differences;
-pub use tpdo_built::keeps_tpdos;
+pub use tpdo_built::{keeps_tpdos, tpdos_of_sheet};
 pub use tpdo_laws::{no_pdo_inhibit, no_pdo_late, no_pdo_length, no_pdo_state, no_pdo_sync};
