@@ -14,4 +14,6 @@ pub mod Beats
 pub mod Heartbeats
 pub mod Pauses
 pub mod Pausing
+pub mod AnswerTurns
+pub mod AnswerFollowed
 mod Examples

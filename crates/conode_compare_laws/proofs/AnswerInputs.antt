@@ -1,0 +1,411 @@
+-- All inputs of a device: what is found of its answers at the frames of each.
+use Rattle.std.proofs.Common.{◌≡◌, ℕ, ◌+◌, ◌≢◌, Bool, true, false, List, [], ◌∷◌, ◌++◌, map, length, Option, Some, None, refl, sym, ap, ◌∙◌, ◌⊎◌, inl, inr, subst, arith}
+use Rattle.std.specs.Prelude.{◌==◌, ◌&&◌, if◌then◌else◌, is_some, IfSome}
+use Rattle.std.specs.List.{AllByRecursion}
+use Rattle.std.proofs.lemmas.Bool.{eqb-true, false≢true, ne_eqb}
+use Rattle.std.proofs.lemmas.Bool.Decides.{nat_tests}
+use Rattle.co_value.specs.Numbers.{AreBytes}
+use Rattle.co_frame.specs.FrameContent.{FrameContent}
+use Rattle.co_frame.specs.Emergencies.{emergency_in}
+use Rattle.co_frame.specs.Heartbeats.{heartbeat_bytes, state_byte}
+use Rattle.co_frame.specs.Nmt.{nmt_command_in}
+use Rattle.co_frame.specs.SdoRequests.{request_in}
+use Rattle.co_frame.specs.declared.emergency.Emergency.{Emergency}
+use Rattle.co_frame.specs.declared.heartbeat.Heartbeat.TheVariants.{BootUp}
+use Rattle.co_frame.specs.declared.nmt.NmtService.{NmtService}
+use Rattle.co_frame.specs.declared.nmt.NmtService.TheVariants.{Start, Stop, EnterPreOperational, ResetNode, ResetCommunication}
+use Rattle.co_frame.specs.declared.sdo_request.SdoRequest.{SdoRequest}
+use Rattle.co_frame.specs.declared.sdo_request.SdoRequest.TheVariants.{DownloadExpedited, DownloadInitiate, Upload as UploadInitiate, BlockUploadInitiate, BlockDownloadInitiate}
+use Rattle.co_frame.specs.declared.sdo_response.SdoResponse.TheVariants.{Abort as Refuse}
+use Rattle.co_dict.specs.Rows.{Contents}
+use Rattle.co_sdo.specs.Channels.{ChannelSettings}
+use Rattle.co_sdo.specs.Events.{ChannelEvent, exchange_at, exchange_of, exchange_on, frames_at, receiver, time_out_on}
+use Rattle.co_sdo.specs.Log.{Answer, Log, Ticked as Elapsed, frames_on}
+use Rattle.co_sdo.specs.Opened.{is_time_over, opened, opened_after}
+use Rattle.co_sdo.specs.OpenTransfers.{is_initiate as initiates, open_transfer}
+use Rattle.co_sdo.specs.Replies.{reply_to, time_out_reply}
+use Rattle.co_sdo_laws.proofs.Channel.{tick_opens}
+use Rattle.co_node_laws.proofs.Channel.{default_channel, receives, takes}
+use Rattle.co_node_parts.specs.declared.nmt_state.LossReaction.{LossReaction}
+use Rattle.co_node_parts.specs.declared.nmt_state.LossReaction.TheVariants.{LeaveOperational, NoChange, EnterStopped}
+use Rattle.co_node_parts.specs.declared.nmt_state.NodeState.{NodeState}
+use Rattle.co_node_parts.specs.declared.nmt_state.NodeState.TheVariants as node
+use Rattle.co_node_parts.specs.NmtStates.{after_loss, heartbeat_of, is_state}
+use Rattle.co_node_parts.specs.Producers.{is_heartbeat_due}
+use Rattle.co_node_model.specs.declared.address.Address.TheVariants.{Channel}
+use Rattle.co_node_model.specs.Addresses.{address_at}
+use Rattle.co_node_model.specs.Device.{contents_of, moment, moments, prescribed, received_at, state_of}
+use Rattle.co_node_model.specs.Emergencies.{emergency_frames}
+use Rattle.co_node_model.specs.Heartbeats.{boot_up, life_frames, producer_event, producer_log}
+use Rattle.co_node_model.specs.Inputs.{Applied, Framed, Inputs, InputView, Ticked}
+use Rattle.co_node_model.specs.Marks.{marked_command}
+use Rattle.co_node_model.specs.Moments.{Constants, History, Moment, channels, contents_at, nothing_of}
+use Rattle.co_node_model.specs.Nmt.{is_reset_by, service_for, state_at}
+use Rattle.co_node_model.specs.Sdo.{channel_logs, with_request}
+use Rattle.co_node_model.specs.Sync.{is_sync_id}
+use Rattle.co_node_model.specs.Tpdos.{tpdo_frame}
+use Rattle.co_sheet.specs.Content.{Row}
+use Rattle.conode_explain_transfers.specs.declared.kinds.Side.TheVariants.{Client, Server}
+use Rattle.conode_explain_transfers.specs.declared.transfer.Transfer.{Transfer}
+use Rattle.conode_explain_laws.specs.Downloads.{is_block_begin}
+use Rattle.conode_compare_transfers.specs.declared.dialogue.Asked.{Asked}
+use Rattle.conode_compare_transfers.specs.declared.dialogue.Dialogue.{Dialogue}
+use Rattle.conode_compare_transfers.specs.Dialogues.{dialogue_heard}
+use Rattle.conode_compare_rules.specs.declared.finding.Finding.{Finding}
+use Rattle.conode_compare_rules.specs.declared.kind.FrameKind.{FrameKind}
+use Rattle.conode_compare_rules.specs.declared.kind.FrameKind.TheVariants.{Control, Process, Sdo}
+use Rattle.conode_compare_rules.specs.declared.limits.Subject.{Subject}
+use Rattle.conode_compare_rules.specs.declared.nmt.Commanded.{Commanded}
+use Rattle.conode_compare_rules.specs.declared.nmt.Nmt.{Nmt}
+use Rattle.conode_compare_rules.specs.declared.progress.Progress.{Progress}
+use Rattle.conode_compare_rules.specs.declared.verdict.Findings.{Findings}
+use Rattle.conode_compare_rules.specs.FrameKinds.{command_kind, command_to, control_kind, data_kind, emergency_kind, emergency_with, length_of}
+use Rattle.conode_compare_rules.specs.Progresses.{answer_noted, before_recording, begun, progress_with}
+use Rattle.conode_compare_laws.specs.AnswerFindings.{answer_differences}
+use Rattle.conode_compare_laws.specs.AnswerSenders.{AllSendOther, AreOther, BeginNoBlocks, BeginsNoBlocks, HasBytes, HaveBytes, HaveOtherChannels, IsOther, SendsOther}
+use Rattle.conode_compare_laws.specs.Differences.{differences_from, differences_in, state_differences}
+use Rattle.conode_compare_laws.specs.Identifiers.{AllSendAside, AreAside, AreElsewhere, IsAside, IsElsewhere, SendsAside}
+use Rattle.conode_compare_laws.specs.Recordings.{Stamped, frame_of, heard_from, recording}
+use Rattle.conode_compare_laws.proofs.Along.{AllGo}
+use Rattle.conode_compare_laws.proofs.Frames.{FitsAt, begun_fits, life_kind, nmt_kind}
+use Rattle.conode_compare_laws.proofs.Heard.{boot_goes, input_goes, of_device, stage_at}
+use Rattle.conode_compare_laws.proofs.Inputs.{command_in, command_is, state_by}
+use Rattle.conode_compare_laws.proofs.Runs.{AllRun, joined, then_none}
+use Rattle.conode_compare_laws.proofs.Shown.{Stage, boots, fits_nothing, is_shown, runs, stage_after}
+use Rattle.conode_compare_laws.proofs.AnswerTurns.{Sound}
+use Rattle.conode_compare_laws.proofs.AnswerFollowed.{begins_sound}
+use Rattle.conode_compare_laws.proofs.AnswerFound.{unasked}
+use Rattle.conode_compare_laws.proofs.AnswerDialogues.{InitiateHeard, ServerHeard, asked_before, initiate_heard, later_heard, server_heard}
+use Rattle.conode_compare_laws.proofs.AnswerSteps.{Awaits, Excused, Holds, HoldsOf, IsBy, Quiet, Since, apart_quiet, begun_holds, begun_newest, boot_quiet, client_quiet, command_quiet, frame_runs, is_apart, life_quiet, none_holds, server_quiet, some_map}
+use Rattle.conode_compare_laws.proofs.AnswerExchange.{IsRested, Ready, Rested, answer_kind, cons_runs, exchange_runs, request_kind, rested, shown_running}
+use Rattle.conode_compare_laws.proofs.AnswerDevice.{Clean, IsAnother, IsCleanEvent, IsNumbered, at_end, clean_at, exchange_of_frame, expired_at, found_with, frame_exchange, idle_stays, idle_stopped, no_exchange_of_event, none_stopped, numbered, outside, timed_out}
+
+-- ---- frames apart from the channel
+
+-- an identifier of none of these: NMT commands, error control, the default channel
+abbrev IsCalm : ℕ → ℕ → Type 0
+IsCalm node id = IsAside node id × IsOther node id
+
+abbrev AreCalm : ℕ → List FrameContent → Type 0
+AreCalm node frames = AllByRecursion (λ frame. IsCalm node frame.id) frames
+
+emergency_apart : (length : ℕ) (o : Option Emergency) → is_apart (emergency_with length o) ≡ true
+emergency_apart length None = refl
+emergency_apart length (Some emergency) = refl
+
+calm_kind : (node : ℕ) (frame : FrameContent) → IsCalm node frame.id → is_apart (data_kind node frame) ≡ true
+calm_kind node frame calm =
+    by (frame.id == 0) (frame.id == 0x80 + node) (frame.id == 0x580 + node) (frame.id == 0x600 + node) (frame.id == 0x700 + node)
+    (ne_eqb frame.id 0 calm.0.0) (ne_eqb frame.id (0x580 + node) calm.1.0) (ne_eqb frame.id (0x600 + node) calm.1.1) (ne_eqb frame.id (0x700 + node) calm.0.1)
+  where
+    by : (a b c d e : Bool) → a ≡ false → c ≡ false → d ≡ false → e ≡ false
+        → is_apart (if a then command_kind node frame
+        else (if b then emergency_kind frame
+        else (if c then Sdo Server frame
+        else (if d then Sdo Client frame
+        else (if e then control_kind frame else Process frame.id (length_of frame)))))) ≡ true
+    by true b c d e p q r s = absurd (false≢true (sym p))
+    by false true c d e p q r s = emergency_apart (length_of frame) (emergency_in frame.bytes)
+    by false false true d e p q r s = absurd (false≢true (sym q))
+    by false false false true e p q r s = absurd (false≢true (sym r))
+    by false false false false true p q r s = absurd (false≢true (sym s))
+    by false false false false false p q r s = refl
+
+calm_runs : (Idle : Type 0) (subject : Subject) (rows : List Row) (micros : ℕ) (frames : List FrameContent) (stage : Stage) (p : Progress) → AreCalm subject.node frames → Holds Idle stage p
+    → AllRun answer_differences subject rows micros p frames (Holds Idle stage)
+calm_runs Idle subject rows micros [] stage p calm h = h
+calm_runs Idle subject rows micros (frame ∷ later) stage p calm h =
+    cons_runs subject rows micros p frame later (data_kind subject.node frame) (Holds Idle stage) (Holds Idle stage) refl
+    (apart_quiet Idle subject rows (begun subject p micros) micros (data_kind subject.node frame) stage (calm_kind subject.node frame calm.0) (begun_holds Idle subject p micros stage h))
+    (λ q g. calm_runs Idle subject rows micros later stage q calm.1 g)
+
+both_calm : (node : ℕ) (frames : List FrameContent) → AreAside node frames → AreOther node frames → AreCalm node frames
+both_calm node [] aside other = tt
+both_calm node (frame ∷ later) aside other = ((aside.0, other.0), both_calm node later aside.1 other.1)
+
+-- ---- the frames of the channels
+
+answers_calm : (node id : ℕ) (answers : List Answer) → IsCalm node id → AreCalm node (frames_on id answers)
+answers_calm node id [] calm = tt
+answers_calm node id (answer ∷ later) calm = (calm, answers_calm node id later calm)
+
+abbrev CalmEvent : ℕ → ChannelEvent → Type 0
+CalmEvent node e = AreCalm node (frames_on e.channel.response e.responses)
+
+calm_event : (node : ℕ) (event : Option ChannelEvent) → IfSome event (CalmEvent node) → AreCalm node (frames_at event)
+calm_event node None h = tt
+calm_event node (Some e) h = h
+
+other_number : (node : ℕ) (c : ChannelSettings) (id : ℕ) → IsNumbered node c → (c.request == id) ≡ true → id ≢ 0x600 + node → c.number ≢ 0
+other_number node c id n is other = λ zero. other (sym (eqb-true c.request id is) ∙ (n.first zero).0)
+
+zero_eqb : (n : ℕ) → n ≢ 0 → (0 == n) ≡ false
+zero_eqb n h = ne_eqb 0 n (λ e. h (sym e))
+
+-- of a frame that the default channel doesn't take, another one may
+module _ (k : Constants) (history : History) (frame : FrameContent) (all : AllByRecursion (IsNumbered k.description.node) (channels k)) (other : frame.id ≢ 0x600 + k.description.node) where
+  found_other : (P : ChannelEvent → Type 0) → ((c : ChannelSettings) → IsNumbered k.description.node c → c.number ≢ 0 → P (exchange_of_frame k history frame c)) → IfSome (moment k history (Framed frame)).exchange P
+  found_other P h =
+      frame_exchange P k history frame
+      (some_map (receiver (channels k) frame.id) (λ c. IsNumbered k.description.node c × ((c.request == frame.id) ≡ true)) (λ c. P (exchange_of_frame k history frame c))
+      (λ c found. h c found.0 (other_number k.description.node c frame.id found.0 found.1 other)) (found_with (IsNumbered k.description.node) (λ c. c.request == frame.id) (channels k) all))
+
+  another_exchange : IsAnother (moment k history (Framed frame)).exchange
+  another_exchange = found_other (λ e. (0 == e.channel.number) ≡ false) (λ c n no. zero_eqb c.number no)
+
+  calm_exchange : AreCalm k.description.node (frames_at (moment k history (Framed frame)).exchange)
+  calm_exchange =
+      calm_event k.description.node (moment k history (Framed frame)).exchange
+      (found_other (CalmEvent k.description.node) (λ c n no. answers_calm k.description.node c.response (reply_to k.description (contents_at k history) (channel_logs history c.number) frame.bytes) (n.aside, n.other no)))
+
+-- no frame but a request on the default channel adds to its log
+clean_exchange : (k : Constants) (history : History) (input : InputView) → AllByRecursion (IsNumbered k.description.node) (channels k) → BeginsNoBlocks k.description.node input
+    → IfSome (moment k history input).exchange (λ e. (0 == e.channel.number) ≡ true → IsCleanEvent e.event)
+clean_exchange k history Ticked all n = tt
+clean_exchange k history (Applied event) all n = subst (λ o. IfSome o (λ (e : ChannelEvent). (0 == e.channel.number) ≡ true → IsCleanEvent e.event)) (sym (no_exchange_of_event k history event)) tt
+clean_exchange k history (Framed frame) all n =
+    frame_exchange (λ e. (0 == e.channel.number) ≡ true → IsCleanEvent e.event) k history frame
+    (some_map (receiver (channels k) frame.id) (λ c. IsNumbered k.description.node c × ((c.request == frame.id) ≡ true)) _
+    (λ c found zero. n (sym (eqb-true c.request frame.id found.1) ∙ (found.0.first (sym (eqb-true 0 c.number zero))).0))
+    (found_with (IsNumbered k.description.node) (λ c. c.request == frame.id) (channels k) all))
+
+-- ---- what holds before an input
+
+abbrev IsIdle : Constants → Inputs → Type 0
+IsIdle k before = open_transfer (channel_logs (moments k before) 0) ≡ None
+
+pub record Given (k : Constants) (before : Inputs) (input : InputView) : Type 0 where
+  pub answers : IsElsewhere (0x580 + k.description.node) input
+  pub control : IsElsewhere (0x700 + k.description.node) input
+  pub bytes : HasBytes input
+  pub blocks : BeginsNoBlocks k.description.node input
+  pub aside : SendsAside k (moment k (moments k before) input)
+  pub other : SendsOther k (moment k (moments k before) input)
+  pub sync : is_sync_id (contents_of k before) (0x600 + k.description.node) ≡ false
+  pub clean : Clean (channel_logs (moments k before) 0)
+  pub channels : AllByRecursion (IsNumbered k.description.node) (channels k)
+
+-- ---- the frame that an input is, and the answers to it
+
+-- where the device takes it as a request, none is open then; else what was, and the channel goes on only by another frame
+abbrev IdleIf : Bool → Constants → Inputs → Type 0
+IdleIf true k before = ⊥
+IdleIf false k before = IsIdle k before
+
+pub record First (served : Bool) (k : Constants) (subject : Subject) (rows : List Row) (micros : ℕ) (before : Inputs) (input : InputView) (p : Progress) : Type 0 where
+  pub runs_on : AllRun answer_differences subject rows micros p (frame_of input)
+      (λ q. AllRun answer_differences subject rows micros q (frames_at (moment k (moments k before) input).exchange) (Holds (IdleIf served k before) (stage_after (command_in k.description.node input) (state_of k before))))
+  pub another : served ≡ false → IsAnother (moment k (moments k before) input).exchange
+
+map_runs : (subject : Subject) (rows : List Row) (micros : ℕ) (frames : List FrameContent) (p : Progress) (x y : Progress → Type 0) → ((q : Progress) → x q → y q) → AllRun answer_differences subject rows micros p frames x
+    → AllRun answer_differences subject rows micros p frames y
+map_runs subject rows micros [] p x y f h = f p h
+map_runs subject rows micros (frame ∷ later) p x y f h = (h.0, map_runs subject rows micros later (progress_with subject p micros (data_kind subject.node frame)) x y f h.1)
+
+-- after it no answer comes
+silent_after : (subject : Subject) (rows : List Row) (micros : ℕ) (p : Progress) (frames : List FrameContent) (exchange : Option ChannelEvent) (after : Progress → Type 0) → exchange ≡ None
+    → AllRun answer_differences subject rows micros p frames after → AllRun answer_differences subject rows micros p frames (λ q. AllRun answer_differences subject rows micros q (frames_at exchange) after)
+silent_after subject rows micros p frames exchange after none h =
+    map_runs subject rows micros frames p after _ (λ q g. subst (λ e. AllRun answer_differences subject rows micros q (frames_at e) after) (sym none) g) h
+
+none_another : (event : Option ChannelEvent) → event ≡ None → IsAnother event
+none_another event none = subst IsAnother (sym none) tt
+
+nmt_exchange : (k : Constants) (history : History) (frame : FrameContent) → (frame.id == 0) ≡ true → (moment k history (Framed frame)).exchange ≡ None
+nmt_exchange k history frame is = rw is refl
+
+-- a request that the device ignores, since it is stopped; or since it hasn't eight bytes
+same_eqb : (n : ℕ) → (n == n) ≡ true
+same_eqb n = grind (arith, nat_tests)
+
+stopped_is : (state : NodeState) → is_state node.Stopped state ≡ true → state ≡ node.Stopped
+stopped_is node.Stopped h = refl
+stopped_is node.PreOperational h = absurd (false≢true h)
+stopped_is node.Operational h = absurd (false≢true h)
+
+-- an initiate request that is asked now
+record AskedNow (micros : ℕ) (d : Dialogue) : Type 0 where
+  pub sound : IfSome d.channel.transfer Sound
+  pub request : Asked
+  pub asked : d.asked ≡ Some request
+  pub at_once : request.micros ≡ micros
+
+asked_by : (t : Transfer) (micros : ℕ) (d : Dialogue) → InitiateHeard t micros d → AskedNow micros d
+asked_by t micros d h = record { sound = subst (λ o. IfSome o Sound) (sym h.transfer) h.sound; request = h.request; asked = h.asked; at_once = h.at_once }
+
+asked_now : (answer started : ℕ) (d : Dialogue) (micros : ℕ) (frame : FrameContent) (r : Option SdoRequest) → IfSome d.channel.transfer Sound → request_in frame.bytes ≡ r → initiates r ≡ true → is_block_begin r ≡ false
+    → AskedNow micros (dialogue_heard answer started d micros Client frame)
+asked_now answer started d micros frame (Some (DownloadExpedited key value)) s is i n =
+    asked_by _ micros _ (initiate_heard answer started d micros frame (DownloadExpedited key value) _ s is refl refl (begins_sound (DownloadExpedited key value) micros frame.bytes refl))
+asked_now answer started d micros frame (Some (DownloadInitiate key size)) s is i n =
+    asked_by _ micros _ (initiate_heard answer started d micros frame (DownloadInitiate key size) _ s is refl refl (begins_sound (DownloadInitiate key size) micros frame.bytes refl))
+asked_now answer started d micros frame (Some (UploadInitiate key)) s is i n =
+    asked_by _ micros _ (initiate_heard answer started d micros frame (UploadInitiate key) _ s is refl refl (begins_sound (UploadInitiate key) micros frame.bytes refl))
+asked_now answer started d micros frame (Some (BlockUploadInitiate key size threshold)) s is i n =
+    asked_by _ micros _ (initiate_heard answer started d micros frame (BlockUploadInitiate key size threshold) _ s is refl refl (begins_sound (BlockUploadInitiate key size threshold) micros frame.bytes refl))
+asked_now answer started d micros frame (Some (BlockDownloadInitiate key size)) s is i n = absurd (false≢true (sym n))
+asked_now answer started d micros frame _ s is i n = absurd (false≢true i)
+
+at_now : (t micros : ℕ) (newest : Option ℕ) → t ≡ micros → newest ≡ Some micros → IsBy t newest
+at_now t micros newest e now = subst (IsBy t) (sym now) (omega arith)
+
+stopped_excused : (state : NodeState) (t : ℕ) (commanded : Option Commanded) → state ≡ node.Stopped → Excused (runs state) t commanded
+stopped_excused state t commanded e = subst (λ s. Excused (runs s) t commanded) (sym e) tt
+
+ignored_initiate : (Idle : Type 0) (subject : Subject) (p : Progress) (micros : ℕ) (frame : FrameContent) (state : NodeState) → p.newest ≡ Some micros → IfSome p.dialogue.channel.transfer Sound → is_block_begin (request_in frame.bytes) ≡ false
+    → initiates (request_in frame.bytes) ≡ true → state ≡ node.Stopped → Idle
+    → HoldsOf Idle (runs state) p.newest p.nmt.commanded (dialogue_heard subject.limits.answer p.started p.dialogue micros Client frame)
+ignored_initiate Idle subject p micros frame state now sound n is stopped idle =
+    let a : AskedNow micros (dialogue_heard subject.limits.answer p.started p.dialogue micros Client frame) =
+    asked_now subject.limits.answer p.started p.dialogue micros frame (request_in frame.bytes) sound refl is n in
+    record {
+      sound = a.sound;
+      asked = subst (λ o. IfSome o (Awaits Idle (runs state) p.newest p.nmt.commanded)) (sym a.asked)
+          (record { by = at_now a.request.micros micros p.newest a.at_once now; excused = stopped_excused state a.request.micros p.nmt.commanded stopped; idle = idle });
+    }
+
+ignored_runs : (Idle : Type 0) (subject : Subject) (rows : List Row) (micros : ℕ) (p : Progress) (frame : FrameContent) (state : NodeState) → frame.id ≡ 0x600 + subject.node → is_block_begin (request_in frame.bytes) ≡ false
+    → (initiates (request_in frame.bytes) ≡ true → (state ≡ node.Stopped) × Idle) → Holds Idle (runs state) p → AllRun answer_differences subject rows micros p (frame ∷ []) (Holds Idle (runs state))
+ignored_runs Idle subject rows micros p frame state id n ignores h =
+    let held : Holds Idle (runs state) (begun subject p micros) = begun_holds Idle subject p micros (runs state) h in
+    let q : Progress = begun subject p micros in
+    frame_runs subject rows micros p frame (Sdo Client frame) (Holds Idle (runs state)) (request_kind subject.node frame id)
+    (client_quiet subject rows q micros frame (λ newest nmt d. HoldsOf Idle (runs state) newest nmt.commanded d) (by (initiates (request_in frame.bytes)) refl held))
+  where
+    by : (b : Bool) → initiates (request_in frame.bytes) ≡ b → Holds Idle (runs state) (begun subject p micros)
+        → HoldsOf Idle (runs state) (begun subject p micros).newest (begun subject p micros).nmt.commanded
+        (dialogue_heard subject.limits.answer (begun subject p micros).started (begun subject p micros).dialogue micros Client frame)
+    by true is held =
+        ignored_initiate Idle subject (begun subject p micros) micros frame state (begun_newest subject p micros) held.sound n is (ignores is).0 (ignores is).1
+    by false is held =
+        let heard = later_heard subject.limits.answer (begun subject p micros).started (begun subject p micros).dialogue micros frame held.sound is in
+        none_holds Idle (runs state) (begun subject p micros).newest (begun subject p micros).nmt.commanded _ heard.sound heard.asked
+
+-- ---- each input
+
+-- the exchange of a request that the device takes
+taken_is : (k : Constants) (history : History) (frame : FrameContent) → frame.id ≡ 0x600 + k.description.node → is_sync_id (contents_at k history) (0x600 + k.description.node) ≡ false → is_state node.Stopped (state_at history) ≡ false
+    → (moment k history (Framed frame)).exchange ≡ exchange_of (channels k) k.description (contents_at k history) (channel_logs history) frame
+taken_is k history frame id sync running =
+    let address : address_at k history frame.id ≡ Channel 0 = ap (address_at k history) id ∙ takes k history sync in
+    rw (address, running) refl
+
+exchange_id : (k : Constants) (history : History) (frame : FrameContent) (c : Option ChannelSettings) → receiver (channels k) frame.id ≡ c
+    → exchange_of (channels k) k.description (contents_at k history) (channel_logs history) frame ≡ exchange_at c k.description (contents_at k history) (channel_logs history) frame
+exchange_id k history frame c is = ap (λ o. exchange_at o k.description (contents_at k history) (channel_logs history) frame) is
+
+received_by : (k : Constants) (frame : FrameContent) → frame.id ≡ 0x600 + k.description.node → receiver (channels k) frame.id ≡ Some (default_channel k)
+received_by k frame id = ap (receiver (channels k)) id ∙ receives k
+
+-- of eight bytes or not
+served_is : (k : Constants) (history : History) (frame : FrameContent) (eight : Bool) → (length frame.bytes == 8) ≡ eight → frame.id ≡ 0x600 + k.description.node → is_sync_id (contents_at k history) (0x600 + k.description.node) ≡ false
+    → is_state node.Stopped (state_at history) ≡ false
+    → (moment k history (Framed frame)).exchange
+    ≡ (if eight then Some (exchange_on (default_channel k) k.description (contents_at k history) (channel_logs history 0) frame.bytes) else None)
+served_is k history frame eight is id sync running =
+    taken_is k history frame id sync running ∙ exchange_id k history frame (Some (default_channel k)) (received_by k frame id)
+    ∙ ap (λ b. if b then Some (exchange_on (default_channel k) k.description (contents_at k history) (channel_logs history 0) frame.bytes) else None) is
+
+not_eight : (bytes : List ℕ) → (length bytes == 8) ≡ false → initiates (request_in bytes) ≡ false
+not_eight bytes off = rw off refl
+
+rested_holds : (stage : Stage) (p : Progress) → IsRested p → Holds ⊥ stage p
+rested_holds stage p h = none_holds ⊥ stage p.newest p.nmt.commanded p.dialogue h.sound h.asked
+
+-- it is no command
+no_command : (node : ℕ) (frame : FrameContent) (actual : NodeState) → (frame.id == 0) ≡ false → stage_after (command_in node (Framed frame)) actual ≡ runs actual
+no_command node frame actual off = ap (λ b. stage_after (if b then service_for node (nmt_command_in frame) else None) actual) off
+
+module _ (k : Constants) (subject : Subject) (rows : List Row) (micros : ℕ) (before : Inputs) where
+  abbrev Firsts : Bool → FrameContent → Progress → Type 0
+  Firsts served frame p = First served k (of_device k subject) rows micros before (Framed frame) p
+
+  by_nmt : (frame : FrameContent) (p : Progress) → (frame.id == 0) ≡ true → Holds (IsIdle k before) (runs (state_of k before)) p → Firsts false frame p
+  by_nmt frame p is h =
+      let none : (moment k (moments k before) (Framed frame)).exchange ≡ None = nmt_exchange k (moments k before) frame is in
+      record {
+        runs_on = silent_after (of_device k subject) rows micros p (frame ∷ []) (moment k (moments k before) (Framed frame)).exchange _ none
+            (subst (λ b. AllRun answer_differences (of_device k subject) rows micros p (frame ∷ []) (Holds (IsIdle k before) (stage_after (if b then service_for k.description.node (nmt_command_in frame) else None) (state_of k before)))) (sym is)
+            (frame_runs (of_device k subject) rows micros p frame (command_to k.description.node (nmt_command_in frame)) _ (nmt_kind k.description.node frame is)
+            (command_quiet (IsIdle k before) (of_device k subject) rows (begun (of_device k subject) p micros) micros (nmt_command_in frame) (state_of k before) (begun_newest (of_device k subject) p micros)
+            (begun_holds (IsIdle k before) (of_device k subject) p micros (runs (state_of k before)) h))));
+        another = λ e. none_another _ none;
+      }
+
+  by_calm : (frame : FrameContent) (p : Progress) → (frame.id == 0) ≡ false → IsCalm k.description.node frame.id → AllByRecursion (IsNumbered k.description.node) (channels k) → Holds (IsIdle k before) (runs (state_of k before)) p
+      → Firsts false frame p
+  by_calm frame p is calm all h =
+      record {
+        runs_on = subst (λ stage. AllRun answer_differences (of_device k subject) rows micros p (frame ∷ []) (λ q. AllRun answer_differences (of_device k subject) rows micros q (frames_at (moment k (moments k before) (Framed frame)).exchange) (Holds (IsIdle k before) stage)))
+            (sym (no_command k.description.node frame (state_of k before) is))
+            (map_runs (of_device k subject) rows micros (frame ∷ []) p (Holds (IsIdle k before) (runs (state_of k before))) _
+            (λ q g. calm_runs (IsIdle k before) (of_device k subject) rows micros (frames_at (moment k (moments k before) (Framed frame)).exchange) (runs (state_of k before)) q (calm_exchange k (moments k before) frame all calm.1.1) g)
+            (calm_runs (IsIdle k before) (of_device k subject) rows micros (frame ∷ []) (runs (state_of k before)) p (calm, tt) h));
+        another = λ e. another_exchange k (moments k before) frame all calm.1.1;
+      }
+
+  -- a request that it ignores
+  by_ignored : (frame : FrameContent) (p : Progress) → (frame.id == 0) ≡ false → frame.id ≡ 0x600 + k.description.node → is_block_begin (request_in frame.bytes) ≡ false
+      → (initiates (request_in frame.bytes) ≡ true → (state_of k before ≡ node.Stopped) × IsIdle k before) → (moment k (moments k before) (Framed frame)).exchange ≡ None
+      → Holds (IsIdle k before) (runs (state_of k before)) p → Firsts false frame p
+  by_ignored frame p is id n ignores none h =
+      record {
+        runs_on = subst (λ stage. AllRun answer_differences (of_device k subject) rows micros p (frame ∷ []) (λ q. AllRun answer_differences (of_device k subject) rows micros q (frames_at (moment k (moments k before) (Framed frame)).exchange) (Holds (IsIdle k before) stage)))
+            (sym (no_command k.description.node frame (state_of k before) is))
+            (silent_after (of_device k subject) rows micros p (frame ∷ []) (moment k (moments k before) (Framed frame)).exchange _ none
+            (ignored_runs (IsIdle k before) (of_device k subject) rows micros p frame (state_of k before) id n ignores h));
+        another = λ e. none_another _ none;
+      }
+
+  -- one that it takes
+  by_served : (frame : FrameContent) (p : Progress) → (frame.id == 0) ≡ false → frame.id ≡ 0x600 + k.description.node → AreBytes frame.bytes → is_block_begin (request_in frame.bytes) ≡ false → Clean (channel_logs (moments k before) 0)
+      → is_state node.Stopped (state_of k before) ≡ false → is_shown p.nmt.state (state_of k before) ≡ true
+      → (moment k (moments k before) (Framed frame)).exchange ≡ Some (exchange_on (default_channel k) k.description (contents_of k before) (channel_logs (moments k before) 0) frame.bytes)
+      → Holds (IsIdle k before) (runs (state_of k before)) p → Firsts true frame p
+  by_served frame p is id bytes n clean running shown exchange h =
+      record {
+        runs_on = subst (λ stage. AllRun answer_differences (of_device k subject) rows micros p (frame ∷ []) (λ q. AllRun answer_differences (of_device k subject) rows micros q (frames_at (moment k (moments k before) (Framed frame)).exchange) (Holds ⊥ stage)))
+            (sym (no_command k.description.node frame (state_of k before) is))
+            (subst (λ e. AllRun answer_differences (of_device k subject) rows micros p (frame ∷ []) (λ q. AllRun answer_differences (of_device k subject) rows micros q (frames_at e) (Holds ⊥ (runs (state_of k before))))) (sym exchange)
+            (map_runs (of_device k subject) rows micros (frame ∷ []) p _ _
+            (λ q g. map_runs (of_device k subject) rows micros (frames_on (0x580 + k.description.node) (reply_to k.description (contents_of k before) (channel_logs (moments k before) 0) frame.bytes)) q IsRested (Holds ⊥ (runs (state_of k before)))
+            (λ x r. rested_holds (runs (state_of k before)) x r) g)
+            (exchange_runs (of_device k subject) rows micros k.description (contents_of k before) (channel_logs (moments k before) 0) frame p id bytes n (outside (channel_logs (moments k before) 0) clean)
+            (record {
+              newest = begun_newest (of_device k subject) p micros;
+              running = shown_running (begun (of_device k subject) p micros).nmt.state (state_of k before) (begun_fits (of_device k subject) p micros micros (runs (state_of k before)) shown) running;
+              sound = (begun_holds (IsIdle k before) (of_device k subject) p micros (runs (state_of k before)) h).sound;
+            }))));
+        another = λ e. absurd (false≢true (sym e));
+      }
+
+  abbrev Either : InputView → Progress → Type 0
+  Either input p = First true k (of_device k subject) rows micros before input p ⊎ First false k (of_device k subject) rows micros before input p
+
+  by_request : (frame : FrameContent) (p : Progress) → Given k before (Framed frame) → (frame.id == 0) ≡ false → frame.id ≡ 0x600 + k.description.node → is_shown p.nmt.state (state_of k before) ≡ true
+      → Holds (IsIdle k before) (runs (state_of k before)) p → Either (Framed frame) p
+  by_request frame p g is id shown h = by (is_state node.Stopped (state_of k before)) (length frame.bytes == 8) refl refl
+    where
+      by : (stopped eight : Bool) → is_state node.Stopped (state_of k before) ≡ stopped → (length frame.bytes == 8) ≡ eight → Either (Framed frame) p
+      by true eight on e =
+          inr (by_ignored frame p is id (g.blocks id) (λ i. (stopped_is (state_of k before) on, idle_stopped k before on)) (none_stopped k (moments k before) (Framed frame) on) h)
+      by false false on e =
+          inr (by_ignored frame p is id (g.blocks id) (λ i. absurd (false≢true (sym (not_eight frame.bytes e) ∙ i))) (served_is k (moments k before) frame false e id g.sync on) h)
+      by false true on e =
+          inl (by_served frame p is id g.bytes (g.blocks id) g.clean on shown (served_is k (moments k before) frame true e id g.sync on) h)
+
+  not_equal : (a b : ℕ) → (a == b) ≡ false → a ≢ b
+  not_equal a b off = λ e. absurd (false≢true (sym off ∙ ap (λ x. x == b) e ∙ same_eqb b))
+
+  first : (input : InputView) (p : Progress) → Given k before input → is_shown p.nmt.state (state_of k before) ≡ true → Holds (IsIdle k before) (runs (state_of k before)) p → Either input p
+  first Ticked p g shown h = inr (record { runs_on = h; another = λ e. tt })
+  first (Applied event) p g shown h =
+      let none : (moment k (moments k before) (Applied event)).exchange ≡ None = no_exchange_of_event k (moments k before) event in
+      inr (record { runs_on = silent_after (of_device k subject) rows micros p [] (moment k (moments k before) (Applied event)).exchange _ none h; another = λ e. none_another _ none })
+  first (Framed frame) p g shown h = by (frame.id == 0) (frame.id == 0x600 + k.description.node) refl refl
+    where
+      by : (command request : Bool) → (frame.id == 0) ≡ command → (frame.id == 0x600 + k.description.node) ≡ request → Either (Framed frame) p
+      by true request is r = inr (by_nmt frame p is h)
+      by false true is r = by_request frame p g is (eqb-true frame.id (0x600 + k.description.node) r) shown h
+      by false false is r =
+          inr (by_calm frame p is ((not_equal frame.id 0 is, g.control), (g.answers, not_equal frame.id (0x600 + k.description.node) r)) g.channels h)
