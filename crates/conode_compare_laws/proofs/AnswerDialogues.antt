@@ -116,9 +116,9 @@ open_after : (answer started : ℕ) (d : Dialogue) (micros : ℕ) (frame : Frame
 open_after answer started d micros frame l = elim l.lasts [
   | inl doubt ↦ inl (doubted_is answer started d micros Server frame ∙ ap (λ b. if b then Some micros else d.doubted) doubt)
   | inr live ↦ inr (
-      ap (λ (f : Following). is_some f.transfer) (channel_is answer started d micros Server frame) ∙ live,
-      subst (λ (f : Following). IfSome f.transfer Lasts) (sym (channel_is answer started d micros Server frame)) l.upload,
-    )
+    ap (λ (f : Following). is_some f.transfer) (channel_is answer started d micros Server frame) ∙ live,
+    subst (λ (f : Following). IfSome f.transfer Lasts) (sym (channel_is answer started d micros Server frame)) l.upload,
+  )
 ]
 
 pub sends_on : (answer started : ℕ) (d : Dialogue) (micros : ℕ) (frame : FrameContent) → Sends micros d → Sends micros (dialogue_heard answer started d micros Server frame)

@@ -20,10 +20,11 @@ use Rattle.co_frame.specs.declared.sdo_response.SdoResponse.TheVariants.{Abort a
 use Rattle.co_dict.specs.Rows.{Contents}
 use Rattle.co_sdo.specs.Channels.{ChannelSettings}
 use Rattle.co_sdo.specs.Events.{ChannelEvent, exchange_at, exchange_of, exchange_on, frames_at, receiver, time_out_on}
-use Rattle.co_sdo.specs.Log.{Answer, Log, Ticked as Elapsed, frames_on}
+use Rattle.co_sdo.specs.Log.{Answer, Log, Response as Replied, Ticked as Elapsed, answer_bytes, frames_on}
 use Rattle.co_sdo.specs.Opened.{is_time_over, opened, opened_after}
 use Rattle.co_sdo.specs.OpenTransfers.{is_initiate as initiates, open_transfer}
-use Rattle.co_sdo.specs.Replies.{reply_to, time_out_reply}
+use Rattle.co_sdo.specs.Replies.{open_key, reply_to, time_out_reply}
+use Rattle.co_frame.specs.AbortCodes.{timed_out as timed_out_code}
 use Rattle.co_sdo_laws.proofs.Channel.{tick_opens}
 use Rattle.co_node_laws.proofs.Channel.{default_channel, receives, takes}
 use Rattle.co_node_parts.specs.declared.nmt_state.LossReaction.{LossReaction}
@@ -409,3 +410,222 @@ module _ (k : Constants) (subject : Subject) (rows : List Row) (micros : ℕ) (b
       by false true is r = by_request frame p g is (eqb-true frame.id (0x600 + k.description.node) r) shown h
       by false false is r =
           inr (by_calm frame p is ((not_equal frame.id 0 is, g.control), (g.answers, not_equal frame.id (0x600 + k.description.node) r)) g.channels h)
+
+-- ---- an abort when a transfer times out
+
+zero_is : (n : ℕ) → (0 == n) ≡ true → n ≡ 0
+zero_is n h = sym (eqb-true 0 n h)
+
+not_zero : (n : ℕ) → (0 == n) ≡ false → n ≢ 0
+not_zero n h = λ e. absurd (let same : (0 == n) ≡ true = ap (λ x. 0 == x) e in false≢true (sym h ∙ same))
+
+-- nothing times out where nothing is open
+never_over : (time : ℕ) (log : Log) → open_transfer log ≡ None → is_time_over time (Elapsed ∷ log) ≡ true → ⊥
+never_over time log idle over =
+    let none : is_some (opened_after (Elapsed ∷ log)) ≡ false = ap (λ o. is_some (opened o)) (tick_opens log ∙ idle) in
+    false≢true (sym (first_off (is_some (opened_after (Elapsed ∷ log))) _ none) ∙ over)
+  where
+    first_off : (a b : Bool) → a ≡ false → (a && b) ≡ false
+    first_off true b h = absurd (false≢true (sym h))
+    first_off false b h = refl
+
+abort_runs : (Idle : Type 0) (subject : Subject) (rows : List Row) (micros : ℕ) (stage : Stage) (q : Progress) (id : ℕ) (log : Log) → id ≡ 0x580 + subject.node → (Idle → ⊥) → Holds Idle stage q
+    → AllRun answer_differences subject rows micros q (frames_on id (time_out_reply log)) (Holds Idle stage)
+abort_runs Idle subject rows micros stage q id log is never h =
+    let p : Progress = begun subject q micros in
+    let held : Holds Idle stage p = begun_holds Idle subject q micros stage h in
+    let frame : FrameContent = record { id = 0x580 + subject.node; bytes = answer_bytes (Replied (Refuse (open_key (opened_after log)) (record { 0 = timed_out_code }))) } in
+    subst (λ i. AllRun answer_differences subject rows micros q (frames_on i (time_out_reply log)) (Holds Idle stage)) (sym is)
+    (map_runs subject rows micros (frame ∷ []) q IsRested (Holds Idle stage) (λ x r. none_holds Idle stage x.newest x.nmt.commanded x.dialogue r.sound r.asked)
+    (frame_runs subject rows micros q frame (Sdo Server frame) IsRested (answer_kind subject.node frame.bytes)
+    (server_quiet subject rows p micros frame Rested
+    (unasked subject rows p.written p.started micros (answer_noted subject p micros).nmt _ frame (asked_before subject.limits.answer p.started p.dialogue micros frame ∙ none p.dialogue.asked held.asked) (inl refl))
+    (rested p.newest p.dialogue.channel.transfer _ (server_heard subject.limits.answer p.started p.dialogue micros frame held.sound)))))
+  where
+    none : (o : Option Asked) → IfSome o (Awaits Idle stage (begun subject q micros).newest (begun subject q micros).nmt.commanded) → o ≡ None
+    none None w = refl
+    none (Some a) w = absurd (never w.idle)
+
+time_out_runs : (Idle : Type 0) (k : Constants) (subject : Subject) (rows : List Row) (micros : ℕ) (before : Inputs) (input : InputView) (stage : Stage) → AllByRecursion (IsNumbered k.description.node) (channels k) → (Idle → IsIdle k before)
+    → (q : Progress) → Holds Idle stage q → AllRun answer_differences (of_device k subject) rows micros q (frames_at (moment k (moments k before) input).timed_out) (Holds Idle stage)
+time_out_runs Idle k subject rows micros before input stage all idle = runs_by (moment k (moments k before) input).timed_out (timed_out Runs k (moments k before) input each)
+  where
+    Runs : ChannelEvent → Type 0
+    Runs e = (q : Progress) → Holds Idle stage q → AllRun answer_differences (of_device k subject) rows micros q (frames_on e.channel.response e.responses) (Holds Idle stage)
+
+    runs_by : (event : Option ChannelEvent) → IfSome event Runs → (q : Progress) → Holds Idle stage q → AllRun answer_differences (of_device k subject) rows micros q (frames_at event) (Holds Idle stage)
+    runs_by None h q g = g
+    runs_by (Some e) h q g = h q g
+
+    one : (c : ChannelSettings) → IsNumbered k.description.node c → is_time_over c.time (Elapsed ∷ channel_logs (moments k before) c.number) ≡ true → Runs (time_out_on c (Elapsed ∷ channel_logs (moments k before) c.number))
+    one c n over = by (0 == c.number) refl
+      where
+        by : (b : Bool) → (0 == c.number) ≡ b → Runs (time_out_on c (Elapsed ∷ channel_logs (moments k before) c.number))
+        by true is = λ q g.
+            abort_runs Idle (of_device k subject) rows micros stage q c.response (Elapsed ∷ channel_logs (moments k before) c.number) (n.first (zero_is c.number is)).1
+            (λ i. never_over c.time (channel_logs (moments k before) c.number) (subst (λ j. open_transfer (channel_logs (moments k before) j) ≡ None) (sym (zero_is c.number is)) (idle i)) over) g
+        by false is = λ q g.
+            calm_runs Idle (of_device k subject) rows micros _ stage q (answers_calm k.description.node c.response (time_out_reply (Elapsed ∷ channel_logs (moments k before) c.number)) (n.aside, n.other (not_zero c.number is))) g
+
+    each : IfSome (expired_at k (moments k before)) (λ c. Runs (time_out_on c (Elapsed ∷ channel_logs (moments k before) c.number)))
+    each =
+        some_map (expired_at k (moments k before)) _ _ (λ c found. one c found.0 found.1)
+        (found_with (IsNumbered k.description.node) (λ c. is_time_over c.time (Elapsed ∷ channel_logs (moments k before) c.number)) (channels k) all)
+
+-- ---- the boot-up, or a heartbeat
+
+lives : (Idle : Type 0) (subject : Subject) (rows : List Row) (micros : ℕ) (p : Progress) (command : Option NmtService) (due : Bool) (final : NodeState) → Holds Idle (stage_at command final) p
+    → AllRun answer_differences subject rows micros p (life_frames subject.node (if is_reset_by command then Some BootUp else (if due then Some (heartbeat_of final) else None))) (Holds Idle (runs final))
+lives Idle subject rows micros p command due final h = by (is_reset_by command) due refl h
+  where
+    by : (reset due : Bool) → is_reset_by command ≡ reset → Holds Idle (if reset then boots else runs final) p
+        → AllRun answer_differences subject rows micros p (life_frames subject.node (if reset then Some BootUp else (if due then Some (heartbeat_of final) else None))) (Holds Idle (runs final))
+    by true due is h =
+        frame_runs subject rows micros p (record { id = 0x700 + subject.node; bytes = heartbeat_bytes BootUp }) (Control 0) (Holds Idle (runs final)) (life_kind subject.node BootUp)
+        (boot_quiet Idle subject rows (begun subject p micros) micros (runs final))
+    by false false is h = h
+    by false true is h =
+        frame_runs subject rows micros p (record { id = 0x700 + subject.node; bytes = heartbeat_bytes (heartbeat_of final) }) (Control (state_byte (heartbeat_of final))) (Holds Idle (runs final)) (life_kind subject.node (heartbeat_of final))
+        (life_quiet Idle subject rows (begun subject p micros) micros final (begun_holds Idle subject p micros (runs final) h))
+
+-- ---- before the frames that the device sends
+
+excuse_map : (Idle : Type 0) (x y : Stage) (newest : Option ℕ) (commanded : Option Commanded) (d : Dialogue) → ((t : ℕ) → Excused x t commanded → Excused y t commanded) → HoldsOf Idle x newest commanded d → HoldsOf Idle y newest commanded d
+excuse_map Idle x y newest commanded d f h = record {
+  sound = h.sound;
+  asked = some_map d.asked (Awaits Idle x newest commanded) (Awaits Idle y newest commanded) (λ a w. record { by = w.by; excused = f a.micros w.excused; idle = w.idle }) h.asked;
+}
+
+lost_excused : (t : ℕ) (c : Option Commanded) (state : NodeState) (reaction : LossReaction) → Excused (runs state) t c → Excused (runs (after_loss reaction state)) t c
+lost_excused t c node.PreOperational LeaveOperational h = h
+lost_excused t c node.PreOperational NoChange h = h
+lost_excused t c node.PreOperational EnterStopped h = tt
+lost_excused t c node.Operational LeaveOperational h = h
+lost_excused t c node.Operational NoChange h = h
+lost_excused t c node.Operational EnterStopped h = tt
+lost_excused t c node.Stopped LeaveOperational h = tt
+lost_excused t c node.Stopped NoChange h = tt
+lost_excused t c node.Stopped EnterStopped h = tt
+
+sending_holds : (Idle : Type 0) (command : Option NmtService) (actual final : NodeState) (q : Progress) → ((t : ℕ) → Excused (runs (state_by command actual)) t q.nmt.commanded → Excused (runs final) t q.nmt.commanded)
+    → Holds Idle (stage_after command actual) q → Holds Idle (stage_at command final) q
+sending_holds Idle None actual final q f h = excuse_map Idle (runs actual) (runs final) q.newest q.nmt.commanded q.dialogue f h
+sending_holds Idle (Some Start) actual final q f h = excuse_map Idle (runs node.Operational) (runs final) q.newest q.nmt.commanded q.dialogue f h
+sending_holds Idle (Some Stop) actual final q f h = excuse_map Idle (runs node.Stopped) (runs final) q.newest q.nmt.commanded q.dialogue f h
+sending_holds Idle (Some EnterPreOperational) actual final q f h = excuse_map Idle (runs node.PreOperational) (runs final) q.newest q.nmt.commanded q.dialogue f h
+sending_holds Idle (Some ResetNode) actual final q f h = h
+sending_holds Idle (Some ResetCommunication) actual final q f h = h
+
+at_sending : (Idle : Type 0) (k : Constants) (before : Inputs) (input : InputView) (q : Progress) → Holds Idle (stage_after (command_in k.description.node input) (state_of k before)) q
+    → Holds Idle (stage_at (marked_command (moment k (moments k before) input).mark) (state_of k (input ∷ before))) q
+at_sending Idle k before input q h =
+    subst (λ c. Holds Idle (stage_at c (state_of k (input ∷ before))) q) (sym (command_is k (moments k before) input))
+    (sending_holds Idle (command_in k.description.node input) (state_of k before) (state_of k (input ∷ before)) q
+    (λ t e. at_end (λ state. Excused (runs state) t q.nmt.commanded) (lost_excused t q.nmt.commanded) k (moments k before) input e) h)
+
+rest_runs : (Idle : Type 0) (k : Constants) (subject : Subject) (rows : List Row) (micros : ℕ) (before : Inputs) (input : InputView) (p : Progress) → Given k before input → (Idle → IsIdle k before)
+    → AllRun answer_differences (of_device k subject) rows micros p (frames_at (moment k (moments k before) input).exchange) (Holds Idle (stage_after (command_in k.description.node input) (state_of k before)))
+    → AllRun answer_differences (of_device k subject) rows micros p (prescribed k before input) (Holds Idle (runs (state_of k (input ∷ before))))
+rest_runs Idle k subject rows micros before input p given idle h =
+    let s : Subject = of_device k subject in
+    let m : Moment = moment k (moments k before) input in
+    let command : Option NmtService = marked_command m.mark in
+    let final : NodeState = state_of k (input ∷ before) in
+    let a : List FrameContent = frames_at m.exchange in
+    let b : List FrameContent = frames_at m.timed_out in
+    let c : List FrameContent = emergency_frames m.contents m.emergency in
+    let d : List FrameContent = life_frames k.description.node m.life in
+    let e : List FrameContent = map (tpdo_frame k.description m.contents) m.due in
+    let sending : Progress → Type 0 = Holds Idle (stage_at command final) in
+    let second : AllRun answer_differences s rows micros p (a ++ b) sending =
+    joined answer_differences s rows micros a b p (Holds Idle (stage_after (command_in k.description.node input) (state_of k before))) sending h
+    (λ q g. time_out_runs Idle k subject rows micros before input (stage_at command final) given.channels idle q (at_sending Idle k before input q g)) in
+    let third : AllRun answer_differences s rows micros p (a ++ b ++ c) sending =
+    joined answer_differences s rows micros (a ++ b) c p sending sending second (λ q g. calm_runs Idle s rows micros c (stage_at command final) q (both_calm k.description.node c given.aside.emergency given.other.emergency) g) in
+    let fourth : AllRun answer_differences s rows micros p (a ++ b ++ c ++ d) (Holds Idle (runs final)) =
+    joined answer_differences s rows micros (a ++ b ++ c) d p sending (Holds Idle (runs final)) third
+    (λ q g. lives Idle s rows micros q command (is_heartbeat_due (producer_event m.mark m.contents) (producer_log k (moments k before))) final g) in
+    joined answer_differences s rows micros (a ++ b ++ c ++ d) e p (Holds Idle (runs final)) (Holds Idle (runs final)) fourth
+    (λ q g. calm_runs Idle s rows micros e (runs final) q (both_calm k.description.node e given.aside.tpdos given.other.tpdos) g)
+
+-- ---- an input
+
+idle_map : (X Y : Type 0) (stage : Stage) (q : Progress) → (X → Y) → Holds X stage q → Holds Y stage q
+idle_map X Y stage q f h = record {
+  sound = h.sound;
+  asked = some_map q.dialogue.asked (Awaits X stage q.newest q.nmt.commanded) (Awaits Y stage q.newest q.nmt.commanded) (λ a w. record { by = w.by; excused = w.excused; idle = f w.idle }) h.asked;
+}
+
+by_first : (served : Bool) (Idle : Type 0) (k : Constants) (subject : Subject) (rows : List Row) (micros : ℕ) (before : Inputs) (input : InputView) (p : Progress) → Given k before input → (Idle → IsIdle k before)
+    → (Idle → IsIdle k (input ∷ before))
+    → AllRun answer_differences (of_device k subject) rows micros p (frame_of input)
+    (λ q. AllRun answer_differences (of_device k subject) rows micros q (frames_at (moment k (moments k before) input).exchange) (Holds Idle (stage_after (command_in k.description.node input) (state_of k before))))
+    → AllRun answer_differences (of_device k subject) rows micros p (frame_of input ++ prescribed k before input) (Holds (IsIdle k (input ∷ before)) (runs (state_of k (input ∷ before))))
+by_first served Idle k subject rows micros before input p given idle stays h =
+    joined answer_differences (of_device k subject) rows micros (frame_of input) (prescribed k before input) p _ (Holds (IsIdle k (input ∷ before)) (runs (state_of k (input ∷ before)))) h
+    (λ q g. map_runs (of_device k subject) rows micros (prescribed k before input) q (Holds Idle (runs (state_of k (input ∷ before)))) (Holds (IsIdle k (input ∷ before)) (runs (state_of k (input ∷ before))))
+    (λ x r. idle_map Idle (IsIdle k (input ∷ before)) (runs (state_of k (input ∷ before))) x stays r)
+    (rest_runs Idle k subject rows micros before input q given idle g))
+
+input_runs : (k : Constants) (subject : Subject) (rows : List Row) (micros : ℕ) (before : Inputs) (input : InputView) (p : Progress) → Given k before input → is_shown p.nmt.state (state_of k before) ≡ true
+    → Holds (IsIdle k before) (runs (state_of k before)) p
+    → AllRun answer_differences (of_device k subject) rows micros p (frame_of input ++ prescribed k before input) (Holds (IsIdle k (input ∷ before)) (runs (state_of k (input ∷ before))))
+input_runs k subject rows micros before input p given shown h = elim (first k subject rows micros before input p given shown h) [
+  | inl served ↦ by_first true ⊥ k subject rows micros before input p given (λ i. absurd i) (λ i. absurd i) served.runs_on
+  | inr other ↦ by_first false (IsIdle k before) k subject rows micros before input p given (λ i. i) (λ i. idle_stays k (moments k before) input (other.another refl) i) other.runs_on
+]
+
+-- ---- all inputs
+
+both : (these : FrameKind → Findings → List Finding) (subject : Subject) (rows : List Row) (micros : ℕ) (frames : List FrameContent) (p : Progress) (stage : Stage) (after : Progress → Type 0)
+    → AllGo state_differences subject rows micros p frames stage → AllRun these subject rows micros p frames after → AllRun these subject rows micros p frames (λ q. FitsAt micros stage q × after q)
+both these subject rows micros [] p stage after h r = (h, r)
+both these subject rows micros (frame ∷ later) p stage after h r = (r.0, both these subject rows micros later (progress_with subject p micros (data_kind subject.node frame)) stage after h.1 r.1)
+
+all_none : (k : Constants) (subject : Subject) (rows : List Row) (inputs : List Stamped) (before : Inputs) (p : Progress) → AreElsewhere (0x580 + k.description.node) inputs → AreElsewhere (0x700 + k.description.node) inputs → HaveBytes inputs
+    → BeginNoBlocks k.description.node inputs → AllSendAside k before inputs → AllSendOther k before inputs → ((all : Inputs) → is_sync_id (contents_of k all) (0x600 + k.description.node) ≡ false)
+    → AllByRecursion (IsNumbered k.description.node) (channels k) → Clean (channel_logs (moments k before) 0) → is_shown p.nmt.state (state_of k before) ≡ true → Holds (IsIdle k before) (runs (state_of k before)) p
+    → differences_from answer_differences (of_device k subject) rows p (heard_from k before inputs) ≡ []
+all_none k subject rows [] before p answers control bytes blocks aside other sync all clean shown h = refl
+all_none k subject rows (s ∷ later) before p answers control bytes blocks aside other sync all clean shown h =
+    let given : Given k before s.input = record {
+      answers = answers.0;
+      control = control.0;
+      bytes = bytes.0;
+      blocks = blocks.0;
+      aside = aside.0;
+      other = other.0;
+      sync = sync before;
+      clean = clean;
+      channels = all;
+    } in
+    let frames : List FrameContent = frame_of s.input ++ prescribed k before s.input in
+    let state : NodeState = state_of k (s.input ∷ before) in
+    then_none answer_differences (of_device k subject) rows s.micros frames (heard_from k (s.input ∷ before) later) p (λ q. FitsAt s.micros (runs state) q × Holds (IsIdle k (s.input ∷ before)) (runs state) q)
+    (both answer_differences (of_device k subject) rows s.micros frames p (runs state) (Holds (IsIdle k (s.input ∷ before)) (runs state))
+    (input_goes k subject rows s.micros before s.input p control.0 aside.0 shown) (input_runs k subject rows s.micros before s.input p given shown h))
+    (λ q g. all_none k subject rows later (s.input ∷ before) q answers.1 control.1 bytes.1 blocks.1 aside.1 other.1 sync all
+    (clean_at k (moments k before) s.input (clean_exchange k (moments k before) s.input all blocks.0) clean) g.0 g.1)
+
+of_recording : (k : Constants) (subject : Subject) (rows : List Row) (inputs : List Stamped) → AreElsewhere (0x580 + k.description.node) inputs → AreElsewhere (0x700 + k.description.node) inputs → HaveBytes inputs
+    → BeginNoBlocks k.description.node inputs → AllSendAside k [] inputs → AllSendOther k [] inputs → ((all : Inputs) → is_sync_id (contents_of k all) (0x600 + k.description.node) ≡ false)
+    → AllByRecursion (IsNumbered k.description.node) (channels k)
+    → differences_in answer_differences (of_device k subject) rows (recording k inputs) ≡ []
+of_recording k subject rows [] answers control bytes blocks aside other sync all = refl
+of_recording k subject rows (s ∷ later) answers control bytes blocks aside other sync all =
+    let subj : Subject = of_device k subject in
+    let p : Progress = before_recording subj in
+    let state : Progress → Type 0 = Holds (IsIdle k []) (runs node.PreOperational) in
+    then_none answer_differences subj rows s.micros (boot_up k ∷ []) (heard_from k [] (s ∷ later)) p (λ q. FitsAt s.micros (runs node.PreOperational) q × state q)
+    (both answer_differences subj rows s.micros (boot_up k ∷ []) p (runs node.PreOperational) state
+    (let g = boot_goes subj rows s.micros p (fits_nothing s.micros boots) in (g.none, g.fits))
+    (frame_runs subj rows s.micros p (boot_up k) (Control 0) state (life_kind k.description.node BootUp) (boot_quiet (IsIdle k []) subj rows (begun subj p s.micros) s.micros (runs node.PreOperational))))
+    (λ q g. all_none k subject rows (s ∷ later) [] q answers control bytes blocks aside other sync all tt g.0 g.1)
+
+pub no_answer_differences : (k : Constants) (subject : Subject) (rows : List Row) (inputs : List Stamped) → subject.node ≡ k.description.node → AreElsewhere (0x580 + k.description.node) inputs
+    → AreElsewhere (0x700 + k.description.node) inputs → HaveBytes inputs → BeginNoBlocks k.description.node inputs → AllSendAside k [] inputs → AllSendOther k [] inputs
+    → ((all : Inputs) → is_sync_id (contents_of k all) (0x600 + k.description.node) ≡ false) → HaveOtherChannels k → AllByRecursion (λ c. IsAside k.description.node c.response) (channels k)
+    → differences_in answer_differences subject rows (recording k inputs) ≡ []
+no_answer_differences k subject rows inputs is answers control bytes blocks aside other sync others channels =
+    subst (λ n. differences_in answer_differences (record subject { node = n }) rows (recording k inputs) ≡ []) (sym is)
+    (of_recording k subject rows inputs answers control bytes blocks aside other sync (numbered k others channels))

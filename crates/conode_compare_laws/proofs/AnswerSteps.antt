@@ -276,9 +276,9 @@ apart_quiet Idle subject rows p micros _ stage is h = absurd (false≢true is)
 
 -- ---- the boot-up, and heartbeats
 
-pub boot_quiet : (Idle : Type 0) (subject : Subject) (rows : List Row) (p : Progress) (micros : ℕ) → Quiet subject rows p micros (Control 0) (Holds Idle (runs node.PreOperational))
+pub boot_quiet : (Idle : Type 0) (subject : Subject) (rows : List Row) (p : Progress) (micros : ℕ) (stage : Stage) → Quiet subject rows p micros (Control 0) (Holds Idle stage)
 unfolding found booted
-boot_quiet Idle subject rows p micros = record { none = refl; then = record { sound = tt; asked = tt } }
+boot_quiet Idle subject rows p micros stage = record { none = refl; then = record { sound = tt; asked = tt } }
 
 same_command : (limits : Limits) (started : ℕ) (nmt : Nmt) (micros : ℕ) (final : NodeState) → (states.after_control limits started nmt micros (state_byte (heartbeat_of final))).commanded ≡ nmt.commanded
 unfolding states.after_control after_other

@@ -16,4 +16,13 @@ pub mod Pauses
 pub mod Pausing
 pub mod AnswerTurns
 pub mod AnswerFollowed
+pub mod AnswerFound
+pub mod AnswerDialogues
+pub mod AnswerSteps
+pub mod AnswerDevice
+pub mod AnswerExchange
+pub mod AnswerInputs
+pub mod AnswerWords
+pub mod AnswerSending
+pub mod AnswerBegins
 mod Examples

@@ -1,12 +1,14 @@
 -- Whose frames have the identifiers of a device's default SDO channel: what the laws about answers ask of the inputs, and of the
 -- device's own frames.
-use Rattle.std.specs.Prelude.{◌≡◌, ℕ, ◌+◌, ◌≢◌, false, List, [], ◌∷◌, map}
+use Rattle.std.specs.Prelude.{◌≡◌, ℕ, ◌+◌, ◌≢◌, ◌<◌, ◌≤◌, true, false, List, [], ◌∷◌, map}
 use Rattle.std.specs.List.{AllByRecursion}
 use Rattle.co_value.specs.Numbers.{AreBytes}
 use Rattle.co_frame.specs.FrameContent.{FrameContent}
 use Rattle.co_frame.specs.SdoRequests.{request_in}
-use Rattle.co_frame.specs.declared.sdo_request.SdoRequest.{SdoRequest}
-use Rattle.co_frame.specs.declared.sdo_request.SdoRequest.TheVariants.{BlockDownloadInitiate}
+use Rattle.co_profile.specs.Keys.{emergency_key}
+use Rattle.co_dict.specs.CobIds.{identifier_of, is_default_sdo, is_valid}
+use Rattle.co_dict.specs.Rows.{Contents, number_at}
+use Rattle.co_pdo.specs.Tpdos.{tpdo_key}
 use Rattle.co_node_model.specs.Inputs.{InputView, Inputs, Framed, Ticked, Applied}
 use Rattle.co_node_model.specs.Moments.{Constants, Moment, channels}
 use Rattle.co_node_model.specs.Device.{moment, moments}
@@ -57,3 +59,23 @@ AllSendOther k before (s ∷ later) = SendsOther k (moment k (moments k before) 
 -- nor do other SDO channels answer there
 abbrev pub HaveOtherChannels : Constants → Type 0
 HaveOtherChannels k = AllByRecursion (λ c. c.number ≢ 0 → IsOther k.description.node c.response) (channels k)
+
+-- ---- a device that keeps to them
+
+-- a COB-ID word isn't valid, or its identifier is of no node's default SDO channel
+abbrev pub IsOtherWord : ℕ → Type 0
+IsOtherWord word = is_valid word ≡ true → is_default_sdo (identifier_of word) ≡ false
+
+-- 1014:00, and 1800:01 to 19FF:01
+pub record HasOtherWords (contents : Contents) : Type 0 where
+  pub emergency : IsOtherWord (number_at contents emergency_key)
+  pub tpdos : (n : ℕ) → n < 512 → IsOtherWord (number_at contents (tpdo_key n 1))
+
+-- a device with node-ID 1 to 127 whose other SDO channels answer elsewhere, and whose COB-IDs are so
+-- when it is built, and as a reset restores them
+pub record BeginsOther (k : Constants) : Type 0 where
+  pub first_node : 1 ≤ k.description.node
+  pub last_node : k.description.node ≤ 127
+  pub channels : HaveOtherChannels k
+  pub start : HasOtherWords k.start
+  pub initial : HasOtherWords k.description.initial

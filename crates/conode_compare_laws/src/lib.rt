@@ -2,6 +2,7 @@
 //! prescribed, `compare` says so. A call of a law changes nothing.
 #![tactic(auto)]
 
+mod answer_laws;
 mod aside;
 mod built_devices;
 mod early_emergencies;
@@ -9,6 +10,9 @@ mod emergencies;
 mod late_heartbeats;
 mod states;
 
+pub use answer_laws::{
+    begins_other, built_no_answer_differences, no_answer_differences, sends_other,
+};
 pub use aside::sends_aside;
 pub use built_devices::{begins_aside, built_no_state_differences};
 pub use early_emergencies::no_early_emergencies;
