@@ -214,7 +214,7 @@ was_stopped Operational Operational reset on off = absurd (false≢true on)
 -- while stopped nothing is
 pub idle_stopped : (k : Constants) (before : Inputs) → is_state Stopped (state_of k before) ≡ true → open_transfer (channel_logs (moments k before) 0) ≡ None
 idle_stopped k [] on = refl
-idle_stopped k (input ∷ before) on = by (drops m history) refl
+idle_stopped k (input ∷ before) on = by (drops m history) refl (idle_stopped k before)
   where
     history : History
     history = moments k before
@@ -222,14 +222,14 @@ idle_stopped k (input ∷ before) on = by (drops m history) refl
     m : Moment
     m = moment k (moments k before) input
 
-    by : (b : Bool) → drops m history ≡ b
+    by : (b : Bool) → drops m history ≡ b → (is_state Stopped (state_of k before) ≡ true → open_transfer (channel_logs (moments k before) 0) ≡ None)
         → open_transfer (with_drop b (logs_after m.timed_out (with_channel_ticks (marked_tick m.mark) (logs_after m.exchange (channel_logs history)))) 0) ≡ None
-    by true is = dropped_since (since_initiate (logs_after m.timed_out (with_channel_ticks (marked_tick m.mark) (logs_after m.exchange (channel_logs history))) 0))
-    by false is =
+    by true is earlier = dropped_since (since_initiate (logs_after m.timed_out (with_channel_ticks (marked_tick m.mark) (logs_after m.exchange (channel_logs history))) 0))
+    by false is earlier =
         let stopped : is_state Stopped (state_of k before) ≡ true = was_stopped (state_at history) (state_at (m ∷ history)) (is_reset m.mark) on is in
         idle_timed_out m.timed_out _ (timed_out (λ e. IsTimeOut e.event) k history input (all_time_outs k history (expired_at k history)))
         (idle_ticked (marked_tick m.mark) _
-        (idle_another m.exchange (channel_logs history) (none_some m.exchange (λ e. (0 == e.channel.number) ≡ false) (none_stopped k history input stopped)) (idle_stopped k before stopped)))
+        (idle_another m.exchange (channel_logs history) (none_some m.exchange (λ e. (0 == e.channel.number) ≡ false) (none_stopped k history input stopped)) (earlier stopped)))
 
 -- ---- no block download
 
@@ -330,13 +330,15 @@ all_own : (k : Constants) (numbers : List ℕ)
     → AllByRecursion (λ (c : ChannelSettings). c.number ≡ 0 → (c.request ≡ 0x600 + k.description.node) × (c.response ≡ 0x580 + k.description.node))
     (map (settings_for k.description k.start k.greatest k.time) (filter (is_channel k.start) numbers))
 all_own k [] = tt
-all_own k (n ∷ numbers) = by (is_channel k.start n)
+all_own k (n ∷ numbers) = by (is_channel k.start n) (all_own k numbers)
   where
     by : (b : Bool)
         → AllByRecursion (λ (c : ChannelSettings). c.number ≡ 0 → (c.request ≡ 0x600 + k.description.node) × (c.response ≡ 0x580 + k.description.node))
+        (map (settings_for k.description k.start k.greatest k.time) (filter (is_channel k.start) numbers))
+        → AllByRecursion (λ (c : ChannelSettings). c.number ≡ 0 → (c.request ≡ 0x600 + k.description.node) × (c.response ≡ 0x580 + k.description.node))
         (map (settings_for k.description k.start k.greatest k.time) (if b then n ∷ filter (is_channel k.start) numbers else filter (is_channel k.start) numbers))
-    by true = (own_ids k n, all_own k numbers)
-    by false = all_own k numbers
+    by true later = (own_ids k n, later)
+    by false later = later
 
 own : (k : Constants) → AllByRecursion (λ (c : ChannelSettings). c.number ≡ 0 → (c.request ≡ 0x600 + k.description.node) × (c.response ≡ 0x580 + k.description.node)) (channels k)
 unfolding channels_below
@@ -353,11 +355,11 @@ numbered k other aside = all_three k.description.node (channels k) (own k) other
 -- one that is found
 pub found_with : (P : ChannelSettings → Type 0) (test : ChannelSettings → Bool) (all : List ChannelSettings) → AllByRecursion P all → IfSome (find test all) (λ c. P c × (test c ≡ true))
 found_with P test [] h = tt
-found_with P test (c ∷ others) h = by (test c) refl
+found_with P test (c ∷ others) h = by (test c) refl (found_with P test others h.1)
   where
-    by : (b : Bool) → test c ≡ b → IfSome (if b then Some c else find test others) (λ c. P c × (test c ≡ true))
-    by true is = (h.0, is)
-    by false is = found_with P test others h.1
+    by : (b : Bool) → test c ≡ b → IfSome (find test others) (λ c. P c × (test c ≡ true)) → IfSome (if b then Some c else find test others) (λ c. P c × (test c ≡ true))
+    by true is later = (h.0, is)
+    by false is later = later
 
 -- ---- the state after an input
 

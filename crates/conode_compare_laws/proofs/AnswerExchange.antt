@@ -13,15 +13,17 @@ use Rattle.co_frame.specs.declared.sdo_request.ExpeditedData.TheVariants.{Indica
 use Rattle.co_frame.specs.declared.sdo_request.SdoRequest.{SdoRequest}
 use Rattle.co_frame.specs.declared.sdo_request.SdoRequest.TheVariants.{DownloadExpedited, DownloadInitiate, DownloadSegment, Upload as UploadInitiate, UploadSegment as NextSegment, Abort as Abandon, BlockUploadInitiate, BlockUploadEnd as UploadEnd, BlockUploadAcknowledge, BlockUploadStart, BlockDownloadInitiate, BlockDownloadEnd}
 use Rattle.co_frame.specs.declared.sdo_response.SdoResponse.{SdoResponse}
-use Rattle.co_frame.specs.declared.sdo_response.SdoResponse.TheVariants.{Abort as Refuse, DownloadDone, UploadExpedited, UploadInitiated, BlockUploadInitiated}
+use Rattle.co_frame.specs.Segments.{is_odd, without}
+use Rattle.co_frame.specs.declared.sdo_response.SdoResponse.TheVariants.{Abort as Refuse, DownloadDone, DownloadSegmentDone, UploadExpedited, UploadInitiated, BlockDownloadDone, BlockUploadInitiated}
 use Rattle.co_dict.specs.Rows.{Contents}
 use Rattle.co_dict.specs.Stores.{Description}
 use Rattle.co_sdo.specs.declared.stage.Stage.{Stage}
 use Rattle.co_sdo.specs.declared.stage.Stage.TheVariants.{Download as Receiving, Upload as Uploading, LastTaken, BlockUploadEnded}
+use Rattle.co_sdo.specs.Refused.{completion_refusal}
 use Rattle.co_sdo.specs.Log.{Answer, Log, Response as Replied, answer_bytes, frames_on}
 use Rattle.co_sdo.specs.Opened.{OpenTransfer, opened_after}
 use Rattle.co_sdo.specs.OpenTransfers.{is_initiate as initiates}
-use Rattle.co_sdo.specs.Replies.{aborted, answers_to, initiate_answers, is_in_sub_block, on_open, reply_to, request_answers, segment_answers, unexpected, unless_refused, upload_answers, upload_end_answers, block_end_answers}
+use Rattle.co_sdo.specs.Replies.{aborted, answers_to, initiate_answers, is_in_sub_block, on_open, reply_to, request_answers, segment_answers, segment_refusal, toggle_refusal, unexpected, unless_refused, upload_answers, upload_end_answers, block_end_answers}
 use Rattle.co_sdo.specs.Uploads.{upload_initiated, upload_segment, value_at}
 use Rattle.co_node_parts.specs.declared.nmt_state.NodeState.{NodeState}
 use Rattle.co_node_parts.specs.declared.nmt_state.NodeState.TheVariants as node
@@ -111,7 +113,7 @@ IsRested p = Rested p.newest p.dialogue
 
 -- while answers are sent
 pub record Sending (micros : ℕ) (newest : Option ℕ) (d : Dialogue) : Type 0 where
-  pub newest : newest ≡ Some micros
+  pub now : newest ≡ Some micros
   pub sends : Sends micros d
 
 none_sent : (subject : Subject) (rows : List Row) (p : Progress) (micros : ℕ) (frame : FrameContent) → Sends micros p.dialogue → answer_found subject rows p micros frame ≡ []
@@ -131,12 +133,12 @@ sends_runs subject rows micros (answer ∷ later) q now s =
     let frame : FrameContent = record { id = 0x580 + subject.node; bytes = answer_bytes answer } in
     cons_runs subject rows micros q frame (frames_on (0x580 + subject.node) later) (Sdo Server frame) (λ x. Sending micros x.newest x.dialogue) IsRested (answer_kind subject.node (answer_bytes answer))
     (server_quiet subject rows p micros frame (Sending micros) (none_sent subject rows p micros frame sends)
-    (record { newest = same.newest; sends = sends_on subject.limits.answer p.started p.dialogue micros frame sends }))
-    (λ x h. sends_runs subject rows micros later x h.newest h.sends)
+    (record { now = same.newest; sends = sends_on subject.limits.answer p.started p.dialogue micros frame sends }))
+    (λ x h. sends_runs subject rows micros later x h.now h.sends)
 
 -- one answer, after a frame that began nothing
 pub record Later (blocks : Bool) (micros : ℕ) (newest : Option ℕ) (d : Dialogue) : Type 0 where
-  pub newest : newest ≡ Some micros
+  pub now : newest ≡ Some micros
   pub heard : LaterHeard blocks micros d
 
 none_later : (subject : Subject) (rows : List Row) (blocks : Bool) (p : Progress) (micros : ℕ) (frame : FrameContent) → LaterHeard blocks micros p.dialogue → answer_found subject rows p micros frame ≡ []
@@ -152,7 +154,7 @@ IsFew [] = Unit {0}
 IsFew (x ∷ []) = Unit {0}
 IsFew (x ∷ y ∷ later) = ⊥
 
-rested : (newest : Option ℕ) (before : Option Transfer) (d : Dialogue) → ServerHeard before d → Rested newest d
+pub rested : (newest : Option ℕ) (before : Option Transfer) (d : Dialogue) → ServerHeard before d → Rested newest d
 rested newest before d h = record { sound = h.sound; asked = h.asked }
 
 few_runs : (subject : Subject) (rows : List Row) (micros : ℕ) (blocks : Bool) (answers : List Answer) (q : Progress) → IsFew answers → q.newest ≡ Some micros → LaterHeard blocks micros q.dialogue
@@ -179,11 +181,11 @@ open_few None answers h = tt
 open_few (Some o) answers h = h o o.stage
 
 segment_few : (d : Description) (contents : Contents) (o : OpenTransfer) (stage : Stage) (toggle : Bool) (part : List ℕ) (last : Bool) → IsFew (segment_answers d contents o stage toggle part last)
-segment_few d contents o (Receiving indicated expected) toggle part last = refused_few _ o.key _ tt
+segment_few d contents o (Receiving indicated expected) toggle part last = refused_few (segment_refusal d contents o indicated expected toggle part last) o.key (Replied (DownloadSegmentDone toggle) ∷ []) tt
 segment_few d contents o _ toggle part last = tt
 
 upload_few : (o : OpenTransfer) (stage : Stage) (toggle : Bool) → IsFew (upload_answers o stage toggle)
-upload_few o (Uploading sent) toggle = refused_few _ o.key (upload_segment toggle sent o.bytes) tt
+upload_few o (Uploading sent) toggle = refused_few (toggle_refusal toggle (is_odd sent)) o.key (upload_segment toggle sent o.bytes) tt
 upload_few o _ toggle = tt
 
 end_few : (o : OpenTransfer) (stage : Stage) → IsFew (upload_end_answers o stage)
@@ -191,7 +193,7 @@ end_few o BlockUploadEnded = tt
 end_few o _ = tt
 
 block_end_few : (d : Description) (contents : Contents) (o : OpenTransfer) (stage : Stage) (unused : ℕ) → IsFew (block_end_answers d contents o stage unused)
-block_end_few d contents o (LastTaken indicated) unused = refused_few _ o.key _ tt
+block_end_few d contents o (LastTaken indicated) unused = refused_few (completion_refusal d contents o.key indicated (without unused o.bytes)) o.key (Replied BlockDownloadDone ∷ []) tt
 block_end_few d contents o _ unused = tt
 
 -- at most one, or segments of a sub-block
@@ -304,9 +306,9 @@ initiate_runs subject rows micros d contents _ frame bytes has n = tt
 -- ---- a request and its answers
 
 quiet_map : (subject : Subject) (rows : List Row) (p : Progress) (micros : ℕ) (kind : FrameKind) (x y : Progress → Type 0) → ((q : Progress) → x q → y q) → Quiet subject rows p micros kind x → Quiet subject rows p micros kind y
-quiet_map subject rows p micros kind x y f q = record { none = q.none; then = f _ q.then }
+quiet_map subject rows p micros kind x y f q = record { none = q.none; next = f _ q.next }
 
-shown_running : (state : NmtState) (actual : NodeState) → is_shown state actual ≡ true → is_state node.Stopped actual ≡ false → is_stopped state ≡ false
+pub shown_running : (state : NmtState) (actual : NodeState) → is_shown state actual ≡ true → is_state node.Stopped actual ≡ false → is_stopped state ≡ false
 shown_running Stopped node.PreOperational h s = absurd (false≢true h)
 shown_running Stopped node.Operational h s = absurd (false≢true h)
 shown_running Stopped node.Stopped h s = absurd (false≢true (sym s))
@@ -331,18 +333,18 @@ module _ (subject : Subject) (rows : List Row) (micros : ℕ) (d : Description) 
       let heard : LaterHeard (asks_in (request_in frame.bytes)) micros (dialogue_heard subject.limits.answer p.started p.dialogue micros Client frame) =
       later_heard subject.limits.answer p.started p.dialogue micros frame ready.sound (ap initiates is ∙ n) in
       quiet_map subject rows p micros (Sdo Client frame) (λ q. Later (asks_in r) micros q.newest q.dialogue) _
-      (λ q l. later_runs subject rows micros (asks_in r) (request_answers d contents current r) q (later_few d contents current r n) l.newest l.heard)
+      (λ q l. later_runs subject rows micros (asks_in r) (request_answers d contents current r) q (later_few d contents current r n) l.now l.heard)
       (client_quiet subject rows p micros frame (λ newest nmt x. Later (asks_in r) micros newest x)
-      (record { newest = ready.newest; heard = subst (λ o. LaterHeard (asks_in o) micros (dialogue_heard subject.limits.answer p.started p.dialogue micros Client frame)) is heard }))
+      (record { now = ready.newest; heard = subst (λ o. LaterHeard (asks_in o) micros (dialogue_heard subject.limits.answer p.started p.dialogue micros Client frame)) is heard }))
 
   begins_one : (request : SdoRequest) (t : Transfer) → request_in frame.bytes ≡ Some request → begun_with request micros frame.bytes ≡ Some t → request_reading (Some request) micros frame.bytes ≡ Begin t → Sound t
       → AnswersRun subject rows micros t (initiate_answers d contents request) → Answered (initiate_answers d contents request)
   begins_one request t is begins reading sound runs =
       quiet_map subject rows p micros (Sdo Client frame) (λ q. Asks t micros q) _ (λ q a. runs q a)
       (quiet_map subject rows p micros (Sdo Client frame) (λ q. (q.newest ≡ Some micros) × (is_stopped q.nmt.state ≡ false) × InitiateHeard t micros q.dialogue) _
-      (λ q h. record { newest = h.0.0; running = h.0.1; heard = h.1 })
+      (λ q h. record { newest = h.0; running = h.1; heard = h.2 })
       (client_quiet subject rows p micros frame (λ newest nmt x. (newest ≡ Some micros) × (is_stopped nmt.state ≡ false) × InitiateHeard t micros x)
-      ((ready.newest, ready.running), initiate_heard subject.limits.answer p.started p.dialogue micros frame request t ready.sound is begins reading sound)))
+      (ready.newest, ready.running, initiate_heard subject.limits.answer p.started p.dialogue micros frame request t ready.sound is begins reading sound)))
 
   by_request : (r : Option SdoRequest) → request_in frame.bytes ≡ r → AreBytes frame.bytes → IfSome r (HasKey frame.bytes) → is_block_begin r ≡ false → Answered (request_answers d contents current r)
   by_request None is bytes has n = begins_nothing None is refl

@@ -92,7 +92,11 @@ held_none subject written x = no_held (held_mismatch subject.held.entries.items 
 pub uncertain : (subject : Subject) (rows : List Row) (written : Written) (started micros : ℕ) (nmt : Nmt) (x : Exchange) (frame : FrameContent) → x.certain ≡ false
     → of_answers (option_or (stopped_finding subject.limits started nmt x) (option_or (answer_finding subject rows micros x frame) (held_finding subject written x))) ≡ []
 unfolding stopped_finding answer_finding
-uncertain subject rows written started micros nmt x frame off = rw off (held_none subject written x)
+uncertain subject rows written started micros nmt x frame off =
+    only_or (if x.certain then stopped_with subject.limits started nmt x.asked else None) _
+    (ap (λ b. of_answers (if b then stopped_with subject.limits started nmt x.asked else None)) off)
+    (only_or (if x.certain then option_or (overdue_answer subject.limits x micros) (known_answer subject rows x frame) else None) (held_finding subject written x)
+    (ap (λ b. of_answers (if b then option_or (overdue_answer subject.limits x micros) (known_answer subject rows x frame) else None)) off) (held_none subject written x))
 
 -- ---- where no initiate request is right before the answer
 

@@ -465,11 +465,12 @@ time_out_runs Idle k subject rows micros before input stage all idle = runs_by (
             abort_runs Idle (of_device k subject) rows micros stage q c.response (Elapsed ∷ channel_logs (moments k before) c.number) (n.first (zero_is c.number is)).1
             (λ i. never_over c.time (channel_logs (moments k before) c.number) (subst (λ j. open_transfer (channel_logs (moments k before) j) ≡ None) (sym (zero_is c.number is)) (idle i)) over) g
         by false is = λ q g.
-            calm_runs Idle (of_device k subject) rows micros _ stage q (answers_calm k.description.node c.response (time_out_reply (Elapsed ∷ channel_logs (moments k before) c.number)) (n.aside, n.other (not_zero c.number is))) g
+            calm_runs Idle (of_device k subject) rows micros (frames_on c.response (time_out_reply (Elapsed ∷ channel_logs (moments k before) c.number))) stage q (answers_calm k.description.node c.response (time_out_reply (Elapsed ∷ channel_logs (moments k before) c.number)) (n.aside, n.other (not_zero c.number is))) g
 
     each : IfSome (expired_at k (moments k before)) (λ c. Runs (time_out_on c (Elapsed ∷ channel_logs (moments k before) c.number)))
     each =
-        some_map (expired_at k (moments k before)) _ _ (λ c found. one c found.0 found.1)
+        some_map (expired_at k (moments k before)) (λ c. IsNumbered k.description.node c × (is_time_over c.time (Elapsed ∷ channel_logs (moments k before) c.number) ≡ true)) (λ c. Runs (time_out_on c (Elapsed ∷ channel_logs (moments k before) c.number)))
+        (λ c found. one c found.0 found.1)
         (found_with (IsNumbered k.description.node) (λ c. is_time_over c.time (Elapsed ∷ channel_logs (moments k before) c.number)) (channels k) all)
 
 -- ---- the boot-up, or a heartbeat

@@ -2,6 +2,7 @@
 use Rattle.std.proofs.Common.{◌≡◌, ℕ, zero, suc, ◌+◌, ◌∙◌, ap, ◌<◌, ◌≤◌, Bool, true, false, [], ◌∷◌, List, map, Option, Some, None, refl, arith}
 use Rattle.std.specs.Prelude.{◌==◌, ◌&&◌, not, if◌then◌else◌, find, filter, length, option_map, slice_get, IfSome}
 use Rattle.std.specs.List.{AllByRecursion, range_with_len}
+use Rattle.std.proofs.lemmas.Bool.Decides.{nat_tests}
 use Rattle.co_frame.specs.FrameContent.{FrameContent}
 use Rattle.co_frame.specs.Heartbeats.{heartbeat_in}
 use Rattle.co_frame.specs.declared.emergency.Emergency.{Emergency}
@@ -74,7 +75,7 @@ due_other node c true log h = by (is_inhibit_over log)
     by true = front_other node c (slice_get (queue_of log) 0) (h refl)
     by false = tt
 
-emergency_other : (k : Constants) (history : History) (input : InputView) → 1 ≤ k.description.node → k.description.node ≤ 127 → IsOtherWord k.description.node (number_at (moment k history input).contents emergency_key)
+emergency_other : (k : Constants) (history : History) (input : InputView) → 1 ≤ k.description.node → k.description.node ≤ 127 → IsOtherWord (number_at (moment k history input).contents emergency_key)
     → AreOther k.description.node (emergency_frames (moment k history input).contents (moment k history input).emergency)
 emergency_other k history input first last h =
     let m : Moment = moment k history input in

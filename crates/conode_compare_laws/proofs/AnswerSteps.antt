@@ -158,13 +158,13 @@ begun_holds Idle subject p micros stage h =
     begun_either Idle stage (begins_anew subject.limits p micros) _ _ (record { sound = tt; asked = tt })
     (λ e. quiet_holds Idle stage (Some micros) p.nmt.commanded p.dialogue micros (was_quiet subject.limits p micros) (newer Idle stage subject.limits p.entries.period micros p.newest p.nmt.commanded p.dialogue e h))
 
+newest_either : (b : Bool) (x y : Progress) (n : Option ℕ) → x.newest ≡ n → y.newest ≡ n → (if b then x else y).newest ≡ n
+newest_either true x y n p q = p
+newest_either false x y n p q = q
+
 pub begun_newest : (subject : Subject) (p : Progress) (micros : ℕ) → (begun subject p micros).newest ≡ Some micros
 unfolding begun
-begun_newest subject p micros = by (begins_anew subject.limits p micros)
-  where
-    by : (b : Bool) {x y : Progress} → (if b then record x { newest = Some micros } else record y { newest = Some micros }).newest ≡ Some micros
-    by true = refl
-    by false = refl
+begun_newest subject p micros = newest_either (begins_anew subject.limits p micros) _ _ (Some micros) refl refl
 
 -- at the same time as the frame before nothing of it changes
 pub record Same (p q : Progress) (micros : ℕ) : Type 0 where
@@ -195,14 +195,14 @@ begun_same subject p micros now =
 -- nothing is found at it, and this holds then
 pub record Quiet (subject : Subject) (rows : List Row) (p : Progress) (micros : ℕ) (kind : FrameKind) (after : Progress → Type 0) : Type 0 where
   pub none : answer_differences kind (findings_in subject rows p micros kind) ≡ []
-  pub then : after (after_frame subject p micros kind)
+  pub next : after (after_frame subject p micros kind)
 
 pub frame_runs : (subject : Subject) (rows : List Row) (micros : ℕ) (p : Progress) (frame : FrameContent) (kind : FrameKind) (after : Progress → Type 0) → data_kind subject.node frame ≡ kind
     → Quiet subject rows (begun subject p micros) micros kind after → AllRun answer_differences subject rows micros p (frame ∷ []) after
 unfolding findings_at progress_with
 frame_runs subject rows micros p frame kind after is q =
     let at : Quiet subject rows (begun subject p micros) micros (data_kind subject.node frame) after = subst (λ k. Quiet subject rows (begun subject p micros) micros k after) (sym is) q in
-    (at.none, at.then)
+    (at.none, at.next)
 
 -- ---- commands
 
@@ -233,15 +233,15 @@ service_holds Idle p micros ResetCommunication own actual now h = record { sound
 
 pub command_quiet : (Idle : Type 0) (subject : Subject) (rows : List Row) (p : Progress) (micros : ℕ) (command : Option NmtCommand) (actual : NodeState) → p.newest ≡ Some micros → Holds Idle (runs actual) p
     → Quiet subject rows p micros (command_to subject.node command) (Holds Idle (stage_after (service_for subject.node command) actual))
-command_quiet Idle subject rows p micros None actual now h = record { none = refl; then = h }
+command_quiet Idle subject rows p micros None actual now h = record { none = refl; next = h }
 command_quiet Idle subject rows p micros (Some command) actual now h = by (command.node == 0) (command.node == subject.node)
   where
     by : (all this : Bool)
         → Quiet subject rows p micros (if all then CommandToAll command.service else (if this then Command command.service else Other))
         (Holds Idle (stage_after (if all || this then Some command.service else None) actual))
-    by true this = record { none = refl; then = service_holds Idle p micros command.service subject.facts.starts_itself actual now h }
-    by false true = record { none = refl; then = service_holds Idle p micros command.service false actual now h }
-    by false false = record { none = refl; then = h }
+    by true this = record { none = refl; next = service_holds Idle p micros command.service subject.facts.starts_itself actual now h }
+    by false true = record { none = refl; next = service_holds Idle p micros command.service false actual now h }
+    by false false = record { none = refl; next = h }
 
 -- ---- frames that are neither of the channel nor of error control nor commands
 
@@ -253,11 +253,11 @@ is_apart _ = false
 
 emergency_quiet : (Idle : Type 0) (subject : Subject) (rows : List Row) (p : Progress) (micros code register : ℕ) (stage : Stage) → Holds Idle stage p → Quiet subject rows p micros (Emcy code register) (Holds Idle stage)
 unfolding emergency_findings after_emergency found
-emergency_quiet Idle subject rows p micros code register stage h = record { none = refl; then = record { sound = h.sound; asked = h.asked } }
+emergency_quiet Idle subject rows p micros code register stage h = record { none = refl; next = record { sound = h.sound; asked = h.asked } }
 
 odd_emergency_quiet : (Idle : Type 0) (subject : Subject) (rows : List Row) (p : Progress) (micros length : ℕ) (stage : Stage) → Holds Idle stage p → Quiet subject rows p micros (OddEmergency length) (Holds Idle stage)
 unfolding after_emergency found
-odd_emergency_quiet Idle subject rows p micros length stage h = record { none = refl; then = record { sound = h.sound; asked = h.asked } }
+odd_emergency_quiet Idle subject rows p micros length stage h = record { none = refl; next = record { sound = h.sound; asked = h.asked } }
 
 sighted_none : (id length : ℕ) (o : Option Sighting) → answer_differences (Process id length) (sighting_findings o) ≡ []
 unfolding found
@@ -266,7 +266,7 @@ sighted_none id length (Some sighting) = refl
 
 process_quiet : (Idle : Type 0) (subject : Subject) (rows : List Row) (p : Progress) (micros id length : ℕ) (stage : Stage) → Holds Idle stage p → Quiet subject rows p micros (Process id length) (Holds Idle stage)
 unfolding process_findings after_process
-process_quiet Idle subject rows p micros id length stage h = record { none = sighted_none id length (tpdos.sighting _ p.pdos id length); then = record { sound = h.sound; asked = h.asked } }
+process_quiet Idle subject rows p micros id length stage h = record { none = sighted_none id length (tpdos.sighting _ p.pdos id length); next = record { sound = h.sound; asked = h.asked } }
 
 pub apart_quiet : (Idle : Type 0) (subject : Subject) (rows : List Row) (p : Progress) (micros : ℕ) (kind : FrameKind) (stage : Stage) → is_apart kind ≡ true → Holds Idle stage p → Quiet subject rows p micros kind (Holds Idle stage)
 apart_quiet Idle subject rows p micros (Emcy code register) stage is h = emergency_quiet Idle subject rows p micros code register stage h
@@ -278,7 +278,7 @@ apart_quiet Idle subject rows p micros _ stage is h = absurd (false≢true is)
 
 pub boot_quiet : (Idle : Type 0) (subject : Subject) (rows : List Row) (p : Progress) (micros : ℕ) (stage : Stage) → Quiet subject rows p micros (Control 0) (Holds Idle stage)
 unfolding found booted
-boot_quiet Idle subject rows p micros stage = record { none = refl; then = record { sound = tt; asked = tt } }
+boot_quiet Idle subject rows p micros stage = record { none = refl; next = record { sound = tt; asked = tt } }
 
 same_command : (limits : Limits) (started : ℕ) (nmt : Nmt) (micros : ℕ) (final : NodeState) → (states.after_control limits started nmt micros (state_byte (heartbeat_of final))).commanded ≡ nmt.commanded
 unfolding states.after_control after_other
@@ -337,9 +337,9 @@ life_holds Idle subject p micros final h =
 
 pub life_quiet : (Idle : Type 0) (subject : Subject) (rows : List Row) (p : Progress) (micros : ℕ) (final : NodeState) → Holds Idle (runs final) p
     → Quiet subject rows p micros (Control (state_byte (heartbeat_of final))) (Holds Idle (runs final))
-life_quiet Idle subject rows p micros node.PreOperational h = record { none = life_none Idle subject rows p micros node.PreOperational h; then = life_holds Idle subject p micros node.PreOperational h }
-life_quiet Idle subject rows p micros node.Operational h = record { none = life_none Idle subject rows p micros node.Operational h; then = life_holds Idle subject p micros node.Operational h }
-life_quiet Idle subject rows p micros node.Stopped h = record { none = life_none Idle subject rows p micros node.Stopped h; then = life_holds Idle subject p micros node.Stopped h }
+life_quiet Idle subject rows p micros node.PreOperational h = record { none = life_none Idle subject rows p micros node.PreOperational h; next = life_holds Idle subject p micros node.PreOperational h }
+life_quiet Idle subject rows p micros node.Operational h = record { none = life_none Idle subject rows p micros node.Operational h; next = life_holds Idle subject p micros node.Operational h }
+life_quiet Idle subject rows p micros node.Stopped h = record { none = life_none Idle subject rows p micros node.Stopped h; next = life_holds Idle subject p micros node.Stopped h }
 
 -- ---- a frame of the client
 
@@ -368,7 +368,7 @@ pub client_quiet : (subject : Subject) (rows : List Row) (p : Progress) (micros 
     → After p.newest p.nmt (dialogue_heard subject.limits.answer p.started p.dialogue micros Client frame)
     → Quiet subject rows p micros (Sdo Client frame) (λ q. After q.newest q.nmt q.dialogue)
 unfolding channel_heard exchange_noted
-client_quiet subject rows p micros frame After h = record { none = client_none subject rows p micros frame; then = h }
+client_quiet subject rows p micros frame After h = record { none = client_none subject rows p micros frame; next = h }
 
 -- ---- a frame of the server
 
@@ -389,4 +389,4 @@ pub server_quiet : (subject : Subject) (rows : List Row) (p : Progress) (micros 
     → After p.newest (dialogue_heard subject.limits.answer p.started p.dialogue micros Server frame)
     → Quiet subject rows p micros (Sdo Server frame) (λ q. After q.newest q.dialogue)
 unfolding channel_heard exchange_noted late_noted
-server_quiet subject rows p micros frame After none h = record { none = server_none subject rows p micros frame none; then = h }
+server_quiet subject rows p micros frame After none h = record { none = server_none subject rows p micros frame none; next = h }

@@ -25,4 +25,10 @@ pub mod AnswerInputs
 pub mod AnswerWords
 pub mod AnswerSending
 pub mod AnswerBegins
+pub mod AnswerKeys
+pub mod AnswerOpened
+pub mod AnswerBreaches
+pub mod AnswerTransfers
+pub mod AnswerTransferRuns
+mod AnswerExamples
 mod Examples

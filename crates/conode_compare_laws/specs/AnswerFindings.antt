@@ -2,7 +2,8 @@
 use Rattle.std.specs.Prelude.{List, [], ◌∷◌, ◌++◌, Option, Some}
 use Rattle.std.specs.Option.{option_to_list}
 use Rattle.conode_compare_rules.specs.declared.finding.Finding.{Finding}
-use Rattle.conode_compare_rules.specs.declared.finding.Finding.TheVariants.{NoAnswer, Unasked, AnswerKey, AnswerForm, AnswerStopped}
+use Rattle.conode_compare_transfers.specs.declared.breach.Breach.TheVariants.{Toggle, Form, AbortKey, Crc}
+use Rattle.conode_compare_rules.specs.declared.finding.Finding.TheVariants.{NoAnswer, Unasked, AnswerKey, AnswerForm, AnswerStopped, Transfer}
 use Rattle.conode_compare_rules.specs.declared.kind.FrameKind.{FrameKind}
 use Rattle.conode_compare_rules.specs.declared.kind.FrameKind.TheVariants.{Sdo}
 use Rattle.conode_compare_rules.specs.declared.verdict.Findings.{Findings}
@@ -21,3 +22,17 @@ of_answers finding = []
 abbrev pub answer_differences : FrameKind → Findings → List Finding
 answer_differences (Sdo side frame) found = option_to_list found.answer ++ of_answers found.frame
 answer_differences kind found = option_to_list found.answer
+
+-- ---- within a transfer
+
+-- `answer-toggle`, `answer-form` of later answers, `abort-key`, `answer-crc`
+abbrev pub of_transfers : Option Finding → List Finding
+of_transfers (Some (Transfer (Toggle key))) = Transfer (Toggle key) ∷ []
+of_transfers (Some (Transfer (Form key))) = Transfer (Form key) ∷ []
+of_transfers (Some (Transfer (AbortKey key))) = Transfer (AbortKey key) ∷ []
+of_transfers (Some (Transfer (Crc key came computed))) = Transfer (Crc key came computed) ∷ []
+of_transfers finding = []
+
+abbrev pub transfer_differences : FrameKind → Findings → List Finding
+transfer_differences (Sdo side frame) found = of_transfers found.frame
+transfer_differences kind found = []

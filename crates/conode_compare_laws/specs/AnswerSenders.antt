@@ -1,10 +1,12 @@
 -- Whose frames have the identifiers of a device's default SDO channel: what the laws about answers ask of the inputs, and of the
 -- device's own frames.
-use Rattle.std.specs.Prelude.{◌≡◌, ℕ, ◌+◌, ◌≢◌, ◌<◌, ◌≤◌, true, false, List, [], ◌∷◌, map}
+use Rattle.std.specs.Prelude.{◌≡◌, ℕ, ◌+◌, ◌≢◌, ◌<◌, ◌≤◌, true, false, Bool, List, [], ◌∷◌, map, Option, Some}
 use Rattle.std.specs.List.{AllByRecursion}
 use Rattle.co_value.specs.Numbers.{AreBytes}
 use Rattle.co_frame.specs.FrameContent.{FrameContent}
 use Rattle.co_frame.specs.SdoRequests.{request_in}
+use Rattle.co_frame.specs.declared.sdo_request.SdoRequest.{SdoRequest}
+use Rattle.co_frame.specs.declared.sdo_request.SdoRequest.TheVariants.{BlockUploadInitiate}
 use Rattle.co_profile.specs.Keys.{emergency_key}
 use Rattle.co_dict.specs.CobIds.{identifier_of, is_default_sdo, is_valid}
 use Rattle.co_dict.specs.Rows.{Contents, number_at}
@@ -36,6 +38,19 @@ BeginsNoBlocks node (Applied event) = Unit {0}
 
 abbrev pub BeginNoBlocks : ℕ → List Stamped → Type 0
 BeginNoBlocks node inputs = AllByRecursion (λ s. BeginsNoBlocks node s.input) inputs
+
+-- nor a block upload (CiA 301, 7.2.4.3.13)
+abbrev pub is_block_upload_begin : Option SdoRequest → Bool
+is_block_upload_begin (Some (BlockUploadInitiate key block_size threshold)) = true
+is_block_upload_begin other = false
+
+abbrev pub BeginsNoBlockUpload : ℕ → InputView → Type 0
+BeginsNoBlockUpload node (Framed frame) = frame.id ≡ 0x600 + node → is_block_upload_begin (request_in frame.bytes) ≡ false
+BeginsNoBlockUpload node Ticked = Unit {0}
+BeginsNoBlockUpload node (Applied event) = Unit {0}
+
+abbrev pub BeginNoBlockUploads : ℕ → List Stamped → Type 0
+BeginNoBlockUploads node inputs = AllByRecursion (λ s. BeginsNoBlockUpload node s.input) inputs
 
 -- ---- frames of the device
 
