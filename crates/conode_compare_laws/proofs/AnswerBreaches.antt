@@ -194,7 +194,7 @@ came_goes t toggle segment last frame e = rw (e, same_toggle toggle) (record { p
 outside_reading : (t : Transfer) (micros : ℕ) (bytes : List ℕ) → is_in_sub_block t.stage ≡ false → reading_of (Some t) Server micros bytes ≡ response_reading (response_in bytes)
 outside_reading t micros bytes off = rw off refl
 
-response_fine : (heard : Bool) (t : Transfer) (response : SdoResponse) (micros : ℕ) (frame : FrameContent) → is_in_sub_block t.stage ≡ false → response_reading (response_in frame.bytes) ≡ Response response → GoesFine (response_turn t response frame.bytes)
+pub response_fine : (heard : Bool) (t : Transfer) (response : SdoResponse) (micros : ℕ) (frame : FrameContent) → is_in_sub_block t.stage ≡ false → response_reading (response_in frame.bytes) ≡ Response response → GoesFine (response_turn t response frame.bytes)
     → Fine frame (reads (record { heard = heard; transfer = Some t }) micros Server frame.bytes).says
 response_fine heard t response micros frame off read goes =
     subst (λ r. Fine frame (follows_by heard (Some t) r micros Server frame.bytes).says) (sym (outside_reading t micros frame.bytes off ∙ read)) (turn_fine heard t (response_turn t response frame.bytes) micros frame goes)

@@ -133,6 +133,12 @@ timed_by k history (Rpdo n) frame input c = timed_either (is_state Operational (
 timed_by k history (ErrorControl node) frame input c = timed_either (is_heartbeat (heartbeat_in frame.bytes)) _ _ refl refl
 timed_by k history Nobody frame input c = refl
 
+pub none_at_frame : (k : Constants) (history : History) (frame : FrameContent) → (moment k history (Framed frame)).timed_out ≡ None
+none_at_frame k history frame = timed_by k history (address_at k history frame.id) frame (Framed frame) (contents_at k history)
+
+pub none_at_event : (k : Constants) (history : History) (event : AppView) → (moment k history (Applied event)).timed_out ≡ None
+none_at_event k history event = event_timed_out k.description event (event_refusal k.description (contents_at k history) event) (Applied event) (contents_at k history)
+
 -- the channel that times out, as it is found at a tick
 abbrev pub expired_at : Constants → History → Option ChannelSettings
 expired_at k history = expired_in (channels k) (with_each Elapsed (channel_logs history))

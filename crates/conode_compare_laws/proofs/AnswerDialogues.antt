@@ -29,15 +29,15 @@ use Rattle.conode_compare_laws.proofs.AnswerFound.{never_past}
 
 module _ (answer started : ℕ) (d : Dialogue) (micros : ℕ) (side : Side) (frame : FrameContent) where
   -- by what explain says of the frame
-  channel_is : (dialogue_heard answer started d micros side frame).channel ≡ (reads d.channel micros side frame.bytes).next
+  pub channel_is : (dialogue_heard answer started d micros side frame).channel ≡ (reads d.channel micros side frame.bytes).next
   unfolding dialogue_heard
   channel_is = next_is d.channel micros side frame.bytes
 
-  asked_is : (dialogue_heard answer started d micros side frame).asked ≡ asked_after (reads d.channel micros side frame.bytes).says.what micros frame
+  pub asked_is : (dialogue_heard answer started d micros side frame).asked ≡ asked_after (reads d.channel micros side frame.bytes).says.what micros frame
   unfolding dialogue_heard
   asked_is = ap (λ w. asked_after w micros frame) (what_is d.channel micros side frame.bytes)
 
-  doubted_is : (dialogue_heard answer started d micros side frame).doubted
+  pub doubted_is : (dialogue_heard answer started d micros side frame).doubted
       ≡ (if leaves_request_open side (reads d.channel micros side frame.bytes).says frame then Some micros else d.doubted)
   unfolding dialogue_heard
   doubted_is = ap (λ b. if b then Some micros else d.doubted) (leaves_is d.channel micros side frame)
@@ -147,7 +147,7 @@ pub record LaterHeard (blocks : Bool) (micros : ℕ) (d : Dialogue) : Type 0 whe
   pub live : (d.doubted ≡ Some micros) ⊎ (is_some d.channel.transfer ≡ true)
   pub upload : blocks ≡ true → (d.doubted ≡ Some micros) ⊎ IfSome d.channel.transfer Lasts
 
-client_is : (d : Dialogue) (micros : ℕ) (frame : FrameContent) → IfSome d.channel.transfer Sound
+pub client_is : (d : Dialogue) (micros : ℕ) (frame : FrameContent) → IfSome d.channel.transfer Sound
     → reads d.channel micros Client frame.bytes ≡ follows_by d.channel.heard d.channel.transfer (request_reading (request_in frame.bytes) micros frame.bytes) micros Client frame.bytes
 client_is d micros frame s = ap (λ r. follows_by d.channel.heard d.channel.transfer r micros Client frame.bytes) (client_reading d.channel.transfer micros frame.bytes s)
 

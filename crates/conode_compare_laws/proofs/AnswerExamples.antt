@@ -73,7 +73,7 @@ paused_heard = refl
 
 taken_for_request : answers_found paused ≡ NoAnswer identity 1100000 ∷ []
 unfolding findings_at progress_with begun booted found states.after_control after_boot_up after_other awaits_boot_up is_settled progresses.after_control control_findings heartbeat_findings silence_finding channel_heard exchange_at exchange_noted late_noted
-  request_findings confirmed_finding answer_findings answer_finding stopped_finding held_finding what_finding held_mismatch dialogue_heard exchange_in is_certain newest_with newest_after breach_at shown_period shown_inhibit asked_to_write mismatch_at request_row_in response_row_in
+    request_findings confirmed_finding answer_findings answer_finding stopped_finding held_finding what_finding held_mismatch dialogue_heard exchange_in is_certain newest_with newest_after breach_at shown_period shown_inhibit asked_to_write mismatch_at request_row_in response_row_in
 taken_for_request = refl
 
 -- ---- a second answer is another device's
@@ -88,5 +88,5 @@ twice_answered = with_stamp 0 (frame 0x705 1 0)
 
 second_answer : answers_found twice_answered ≡ Unasked ∷ []
 unfolding findings_at progress_with begun booted found states.after_control after_boot_up after_other awaits_boot_up is_settled progresses.after_control control_findings heartbeat_findings silence_finding channel_heard exchange_at exchange_noted late_noted
-  request_findings confirmed_finding answer_findings answer_finding stopped_finding held_finding what_finding held_mismatch dialogue_heard exchange_in is_certain newest_with newest_after breach_at shown_period shown_inhibit asked_to_write mismatch_at request_row_in response_row_in
+    request_findings confirmed_finding answer_findings answer_finding stopped_finding held_finding what_finding held_mismatch dialogue_heard exchange_in is_certain newest_with newest_after breach_at shown_period shown_inhibit asked_to_write mismatch_at request_row_in response_row_in
 second_answer = refl

@@ -263,17 +263,17 @@ refused_runs : (subject : Subject) (rows : List Row) (micros : ℕ) (t : Transfe
 refused_runs subject rows micros t None key answer q a part = initiated_runs subject rows micros t answer q a part
 refused_runs subject rows micros t (Some code) key answer q a part = initiated_runs subject rows micros t (Replied (Refuse key (record { 0 = code }))) q a (λ heard. aborted_part heard t key code micros)
 
-some_bytes : (value : List ℕ) → (nat_le 1 (length value) && nat_le (length value) 4) ≡ true → 1 ≤ length value
+pub some_bytes : (value : List ℕ) → (nat_le 1 (length value) && nat_le (length value) 4) ≡ true → 1 ≤ length value
 some_bytes value e = grind (arith, nat_tests)
 
-few_bytes : (value : List ℕ) → (nat_le 1 (length value) && nat_le (length value) 4) ≡ true → length value ≤ 4
+pub few_bytes : (value : List ℕ) → (nat_le 1 (length value) && nat_le (length value) 4) ≡ true → length value ≤ 4
 few_bytes value e = grind (arith, nat_tests)
 
 -- by the request
 abbrev pub AnswersRun : Subject → List Row → ℕ → Transfer → List Answer → Type 0
 AnswersRun subject rows micros t answers = (q : Progress) → Asks t micros q → AllRun answer_differences subject rows micros q (frames_on (0x580 + subject.node) answers) IsRested
 
-small_key : (frame : List ℕ) (key : Key) → AreBytes frame → key ≡ key_in frame → key.index < 65536
+pub small_key : (frame : List ℕ) (key : Key) → AreBytes frame → key ≡ key_in frame → key.index < 65536
 small_key frame key bytes is = subst (λ (k : Key). k.index < 65536) (sym is) (small_index frame bytes)
 
 upload_runs : (subject : Subject) (rows : List Row) (micros : ℕ) (refusal : Option ℕ) (key : Key) (value frame : List ℕ) → key.index < 65536

@@ -381,7 +381,7 @@ expedited_upload heard key value micros frame small some few =
 two_bytes : (x : ℕ) → x < 65536 → unsigned_of (low_bytes 2 x) ≡ x
 two_bytes x h = omega arith
 
-upload_read : (key : Key) (size : ℕ) → key.index < 65536 → response_in (response_bytes (UploadInitiated key (Some size))) ≡ Some (UploadInitiated key (Some (unsigned_of (low_bytes 4 size))))
+pub upload_read : (key : Key) (size : ℕ) → key.index < 65536 → response_in (response_bytes (UploadInitiated key (Some size))) ≡ Some (UploadInitiated key (Some (unsigned_of (low_bytes 4 size))))
 unfolding response_row_in
 upload_read key size small = rw (two_bytes key.index small) refl
 

@@ -137,7 +137,7 @@ calm_event : (node : ℕ) (event : Option ChannelEvent) → IfSome event (CalmEv
 calm_event node None h = tt
 calm_event node (Some e) h = h
 
-other_number : (node : ℕ) (c : ChannelSettings) (id : ℕ) → IsNumbered node c → (c.request == id) ≡ true → id ≢ 0x600 + node → c.number ≢ 0
+pub other_number : (node : ℕ) (c : ChannelSettings) (id : ℕ) → IsNumbered node c → (c.request == id) ≡ true → id ≢ 0x600 + node → c.number ≢ 0
 other_number node c id n is other = λ zero. other (sym (eqb-true c.request id is) ∙ (n.first zero).0)
 
 zero_eqb : (n : ℕ) → n ≢ 0 → (0 == n) ≡ false
@@ -151,16 +151,16 @@ module _ (k : Constants) (history : History) (frame : FrameContent) (all : AllBy
       (some_map (receiver (channels k) frame.id) (λ c. IsNumbered k.description.node c × ((c.request == frame.id) ≡ true)) (λ c. P (exchange_of_frame k history frame c))
       (λ c found. h c found.0 (other_number k.description.node c frame.id found.0 found.1 other)) (found_with (IsNumbered k.description.node) (λ c. c.request == frame.id) (channels k) all))
 
-  another_exchange : IsAnother (moment k history (Framed frame)).exchange
+  pub another_exchange : IsAnother (moment k history (Framed frame)).exchange
   another_exchange = found_other (λ e. (0 == e.channel.number) ≡ false) (λ c n no. zero_eqb c.number no)
 
-  calm_exchange : AreCalm k.description.node (frames_at (moment k history (Framed frame)).exchange)
+  pub calm_exchange : AreCalm k.description.node (frames_at (moment k history (Framed frame)).exchange)
   calm_exchange =
       calm_event k.description.node (moment k history (Framed frame)).exchange
       (found_other (CalmEvent k.description.node) (λ c n no. answers_calm k.description.node c.response (reply_to k.description (contents_at k history) (channel_logs history c.number) frame.bytes) (n.aside, n.other no)))
 
 -- no frame but a request on the default channel adds to its log
-clean_exchange : (k : Constants) (history : History) (input : InputView) → AllByRecursion (IsNumbered k.description.node) (channels k) → BeginsNoBlocks k.description.node input
+pub clean_exchange : (k : Constants) (history : History) (input : InputView) → AllByRecursion (IsNumbered k.description.node) (channels k) → BeginsNoBlocks k.description.node input
     → IfSome (moment k history input).exchange (λ e. (0 == e.channel.number) ≡ true → IsCleanEvent e.event)
 clean_exchange k history Ticked all n = tt
 clean_exchange k history (Applied event) all n = subst (λ o. IfSome o (λ (e : ChannelEvent). (0 == e.channel.number) ≡ true → IsCleanEvent e.event)) (sym (no_exchange_of_event k history event)) tt
@@ -212,14 +212,14 @@ silent_after subject rows micros p frames exchange after none h =
 none_another : (event : Option ChannelEvent) → event ≡ None → IsAnother event
 none_another event none = subst IsAnother (sym none) tt
 
-nmt_exchange : (k : Constants) (history : History) (frame : FrameContent) → (frame.id == 0) ≡ true → (moment k history (Framed frame)).exchange ≡ None
+pub nmt_exchange : (k : Constants) (history : History) (frame : FrameContent) → (frame.id == 0) ≡ true → (moment k history (Framed frame)).exchange ≡ None
 nmt_exchange k history frame is = rw is refl
 
 -- a request that the device ignores, since it is stopped; or since it hasn't eight bytes
 same_eqb : (n : ℕ) → (n == n) ≡ true
 same_eqb n = grind (arith, nat_tests)
 
-stopped_is : (state : NodeState) → is_state node.Stopped state ≡ true → state ≡ node.Stopped
+pub stopped_is : (state : NodeState) → is_state node.Stopped state ≡ true → state ≡ node.Stopped
 stopped_is node.Stopped h = refl
 stopped_is node.PreOperational h = absurd (false≢true h)
 stopped_is node.Operational h = absurd (false≢true h)
@@ -299,7 +299,7 @@ received_by : (k : Constants) (frame : FrameContent) → frame.id ≡ 0x600 + k.
 received_by k frame id = ap (receiver (channels k)) id ∙ receives k
 
 -- of eight bytes or not
-served_is : (k : Constants) (history : History) (frame : FrameContent) (eight : Bool) → (length frame.bytes == 8) ≡ eight → frame.id ≡ 0x600 + k.description.node → is_sync_id (contents_at k history) (0x600 + k.description.node) ≡ false
+pub served_is : (k : Constants) (history : History) (frame : FrameContent) (eight : Bool) → (length frame.bytes == 8) ≡ eight → frame.id ≡ 0x600 + k.description.node → is_sync_id (contents_at k history) (0x600 + k.description.node) ≡ false
     → is_state node.Stopped (state_at history) ≡ false
     → (moment k history (Framed frame)).exchange
     ≡ (if eight then Some (exchange_on (default_channel k) k.description (contents_at k history) (channel_logs history 0) frame.bytes) else None)
@@ -307,7 +307,7 @@ served_is k history frame eight is id sync running =
     taken_is k history frame id sync running ∙ exchange_id k history frame (Some (default_channel k)) (received_by k frame id)
     ∙ ap (λ b. if b then Some (exchange_on (default_channel k) k.description (contents_at k history) (channel_logs history 0) frame.bytes) else None) is
 
-not_eight : (bytes : List ℕ) → (length bytes == 8) ≡ false → initiates (request_in bytes) ≡ false
+pub not_eight : (bytes : List ℕ) → (length bytes == 8) ≡ false → initiates (request_in bytes) ≡ false
 not_eight bytes off = rw off refl
 
 rested_holds : (stage : Stage) (p : Progress) → IsRested p → Holds ⊥ stage p
@@ -395,7 +395,7 @@ module _ (k : Constants) (subject : Subject) (rows : List Row) (micros : ℕ) (b
       by false true on e =
           inl (by_served frame p is id g.bytes (g.blocks id) g.clean on shown (served_is k (moments k before) frame true e id g.sync on) h)
 
-  not_equal : (a b : ℕ) → (a == b) ≡ false → a ≢ b
+  pub not_equal : (a b : ℕ) → (a == b) ≡ false → a ≢ b
   not_equal a b off = λ e. absurd (false≢true (sym off ∙ ap (λ x. x == b) e ∙ same_eqb b))
 
   first : (input : InputView) (p : Progress) → Given k before input → is_shown p.nmt.state (state_of k before) ≡ true → Holds (IsIdle k before) (runs (state_of k before)) p → Either input p
@@ -413,10 +413,10 @@ module _ (k : Constants) (subject : Subject) (rows : List Row) (micros : ℕ) (b
 
 -- ---- an abort when a transfer times out
 
-zero_is : (n : ℕ) → (0 == n) ≡ true → n ≡ 0
+pub zero_is : (n : ℕ) → (0 == n) ≡ true → n ≡ 0
 zero_is n h = sym (eqb-true 0 n h)
 
-not_zero : (n : ℕ) → (0 == n) ≡ false → n ≢ 0
+pub not_zero : (n : ℕ) → (0 == n) ≡ false → n ≢ 0
 not_zero n h = λ e. absurd (let same : (0 == n) ≡ true = ap (λ x. 0 == x) e in false≢true (sym h ∙ same))
 
 -- nothing times out where nothing is open

@@ -45,6 +45,7 @@ pub record Shape (key : Key) (t : Transfer) : Type 0 where
   pub sound : Sound t
   pub block : is_block t.protocol ≡ false
   pub of : t.key ≡ key
+  pub small : key.index < 65536
 
 pub outside_blocks : (key : Key) (t : Transfer) → Shape key t → in_blocks t.stage ≡ false
 outside_blocks key t s = by (in_blocks t.stage) refl
@@ -62,7 +63,7 @@ outside_sub_block key t s = inside_blocks t.stage (outside_blocks key t s)
 
 -- with a frame that begins nothing it is of the same entry
 abbrev OfSame : Key → Transfer → Type 0
-OfSame key u = (is_block u.protocol ≡ false) × (u.key ≡ key)
+OfSame key u = (is_block u.protocol ≡ false) × (u.key ≡ key) × (key.index < 65536)
 
 frame_same : (key : Key) (w : What) (u : Transfer) (micros : ℕ) (side : Side) → OfSame key u → OfSame key (with_frame w u micros side)
 frame_same key what.Overtaken u micros side h = h
@@ -76,7 +77,7 @@ by_turn : (key : Key) (heard : Bool) (t : Transfer) (reading : Reading) (micros 
     → IfSome (turns_at (confirmed_with (turn_of t reading bytes).transfer.stage) heard (turn_of t reading bytes).what (after t (turn_of t reading bytes)) micros side).next.transfer (OfSame key)
 by_turn key heard t reading micros side bytes s =
     let k : Kept t (turn_of t reading bytes).transfer = kept t reading bytes in
-    turn_same key (confirmed_with (turn_of t reading bytes).transfer.stage) heard (turn_of t reading bytes).what (after t (turn_of t reading bytes)) micros side (k.protocol s.block, k.key ∙ s.of)
+    turn_same key (confirmed_with (turn_of t reading bytes).transfer.stage) heard (turn_of t reading bytes).what (after t (turn_of t reading bytes)) micros side (k.protocol s.block, k.key ∙ s.of, s.small)
 
 stray_same : (key : Key) (heard : Bool) (reading : Reading) (micros : ℕ) (side : Side) (bytes : List ℕ) → is_begin reading ≡ false → IfSome (follows_by heard None reading micros side bytes).next.transfer (OfSame key)
 stray_same key heard (Begin new) micros side bytes n = absurd (false≢true (sym n))
@@ -94,7 +95,7 @@ goes_same key heard (Some t) Nothing micros side bytes s n = by_turn key heard t
 
 both_some : (key : Key) (o : Option Transfer) → IfSome o Sound → IfSome o (OfSame key) → IfSome o (Shape key)
 both_some key None s h = tt
-both_some key (Some t) s h = record { sound = s; block = h.0; of = h.1 }
+both_some key (Some t) s h = record { sound = s; block = h.0; of = h.1; small = h.2 }
 
 sound_of : (key : Key) (o : Option Transfer) → IfSome o (Shape key) → IfSome o Sound
 sound_of key None s = tt

@@ -30,5 +30,7 @@ pub mod AnswerOpened
 pub mod AnswerBreaches
 pub mod AnswerTransfers
 pub mod AnswerTransferRuns
+pub mod AnswerTransferExchange
+pub mod AnswerTransferInputs
 mod AnswerExamples
 mod Examples

@@ -7,9 +7,10 @@ ghost use Rattle.co_node.specs.Built.{IsBuilt};
 ghost use Rattle.co_node_laws.specs.Apart.{BeginsApart};
 ghost use Rattle.co_node_model.specs.Moments.{Constants};
 ghost use Rattle.conode_compare_rules.specs.declared.limits.Subject.{Subject};
-ghost use Rattle.conode_compare_laws.specs.AnswerFindings.{answer_differences};
+ghost use Rattle.conode_compare_laws.specs.AnswerFindings.{answer_differences, transfer_differences};
 ghost use Rattle.conode_compare_laws.specs.AnswerSenders.{
   AllSendOther,
+  BeginNoBlockUploads,
   BeginNoBlocks,
   BeginsOther,
   HaveBytes,
@@ -81,4 +82,38 @@ pub fn built_no_answer_differences()
     begins_aside();
     begins_other();
     no_answer_differences();
+}
+
+/// The recording of a device without block transfers, over whatever inputs with whatever stamps, has
+/// no difference of these within its transfers: `answer-toggle`, `answer-form` of later answers,
+/// `abort-key` and `answer-crc` (CiA 301, 7.2.4.3). Requests may come while the device is stopped, out
+/// of turn, with wrong toggle bits, and of any length; transfers may time out; events of the
+/// application may come. Conditions: those of `no_answer_differences`, but for error control; and no
+/// frame begins a block upload on the default channel (`BeginNoBlockUploads`). This is a law: a call
+/// of it changes nothing.
+pub fn no_transfer_differences()
+    ensures { (k : Constants) (subject : Subject) (rows : List Row) (inputs : List Stamped) →
+        subject.node ≡ k.description.node → HaveBytes inputs → BeginNoBlocks k.description.node inputs →
+        BeginNoBlockUploads k.description.node inputs →
+        AreElsewhere (0x580 + k.description.node) inputs → BeginsApart k → BeginsAside k → BeginsOther k →
+        differences_in transfer_differences subject rows (recording k inputs) ≡ [] }
+{
+    sends_other();
+    stays_apart();
+}
+
+/// So has the recording of each device that is built from a data sheet: `no_transfer_differences` of
+/// it. This is a law: a call of it changes nothing.
+pub fn built_no_transfer_differences()
+    ensures { (plan : Plan) (k : Constants) (subject : Subject) (rows : List Row)
+        (inputs : List Stamped) → IsBuilt plan k → subject.node ≡ k.description.node →
+        HaveBytes inputs → BeginNoBlocks k.description.node inputs →
+        BeginNoBlockUploads k.description.node inputs →
+        AreElsewhere (0x580 + k.description.node) inputs →
+        differences_in transfer_differences subject rows (recording k inputs) ≡ [] }
+{
+    begins_apart();
+    begins_aside();
+    begins_other();
+    no_transfer_differences();
 }
