@@ -1,13 +1,10 @@
 -- Answers within a transfer that isn't in blocks: nothing is found of their toggle bit, their form, the entry of an abort, and of a CRC.
-use Rattle.std.proofs.Common.{◌≡◌, ℕ, ◌+◌, ◌*◌, ◌/◌, ◌%◌, ◌<◌, ◌≤◌, Bool, true, false, not, List, [], ◌∷◌, length, Option, Some, None, refl, sym, ap, ◌∙◌, ◌⊎◌, inl, inr, subst, arith}
-use Rattle.std.specs.Prelude.{◌==◌, ◌&&◌, ◌||◌, if◌then◌else◌, is_some, IfSome, option_map}
-use Rattle.std.specs.Option.{option_map_or, option_or}
+use Rattle.std.proofs.Common.{◌≡◌, ℕ, ◌+◌, ◌*◌, ◌/◌, ◌%◌, ◌<◌, ◌≤◌, Bool, true, false, List, [], length, Option, Some, None, refl, sym, ap, ◌∙◌, subst, arith}
+use Rattle.std.specs.Prelude.{◌==◌, ◌||◌, if◌then◌else◌}
 use Rattle.std.proofs.lemmas.Bool.{false≢true}
-use Rattle.std.proofs.lemmas.Bool.Decides.{nat_tests}
 use Rattle.arrayvec.specs.ArrayVec.{ArrayVec}
 use Rattle.co_value.specs.declared.key.Key.{Key}
 use Rattle.co_value.specs.Keys.{same_key, same_key-refl}
-use Rattle.co_value.specs.Numbers.{low_bytes, unsigned_of}
 use Rattle.co_frame.specs.AbortCodes.{unknown_command}
 use Rattle.co_frame.specs.FrameContent.{FrameContent}
 use Rattle.co_frame.specs.Segments.{same_bool}
@@ -17,34 +14,29 @@ use Rattle.co_frame.specs.declared.abort_code.AbortCode.{AbortCode}
 use Rattle.co_frame.specs.declared.sdo_response.SdoResponse.{SdoResponse}
 use Rattle.co_frame.specs.declared.sdo_response.SdoResponse.TheVariants.{Abort as Refuse, DownloadSegmentDone, UploadSegment}
 use Rattle.co_sdo_laws.proofs.Frames.{segment_done_read, segment_sent_read}
-use Rattle.co_sheet.specs.Content.{Row}
 use Rattle.conode_explain_transfers.specs.declared.channel.Heard.{Heard}
 use Rattle.conode_explain_transfers.specs.declared.ended.Ended.{Ended}
-use Rattle.conode_explain_transfers.specs.declared.ended.Ending.{Ending}
-use Rattle.conode_explain_transfers.specs.declared.ended.Ending.TheVariants.{Aborted, CrcDiffers, Done, Irregular, SizeDiffers}
+use Rattle.conode_explain_transfers.specs.declared.ended.Ending.TheVariants.{Aborted, Done, Irregular}
 use Rattle.conode_explain_transfers.specs.declared.kinds.Direction.{Direction}
 use Rattle.conode_explain_transfers.specs.declared.kinds.Direction.TheVariants.{Download, Upload}
-use Rattle.conode_explain_transfers.specs.declared.kinds.Side.TheVariants.{Client, Server}
+use Rattle.conode_explain_transfers.specs.declared.kinds.Side.TheVariants.{Server}
 use Rattle.conode_explain_transfers.specs.declared.kinds.What.{What}
 use Rattle.conode_explain_transfers.specs.declared.kinds.What.TheVariants as what
-use Rattle.conode_explain_transfers.specs.declared.stage.Stage.{Stage}
 use Rattle.conode_explain_transfers.specs.declared.stage.Stage.TheVariants.{DownloadSent, UploadAsked}
 use Rattle.conode_explain_transfers.specs.declared.transfer.Transfer.{Transfer}
 use Rattle.conode_explain_transfers.specs.Endings.{ended, size_fault, size_verdict, verdict}
-use Rattle.conode_explain_transfers.specs.Followed.{Followed, Following, followed, one_more, turns_at}
+use Rattle.conode_explain_transfers.specs.Followed.{one_more, turns_at}
 use Rattle.conode_explain_transfers.specs.SegmentedTurns.{download_stage, upload_stage}
 use Rattle.conode_explain_transfers.specs.Readings.{is_in_sub_block}
 use Rattle.conode_explain_transfers.specs.Stages.{confirmed_with}
 use Rattle.conode_explain_transfers.specs.Transfers.{Turn, after}
 use Rattle.conode_explain_transfers.specs.Turns.{response_turn}
 use Rattle.conode_explain_laws.proofs.Views.{is_begin}
-use Rattle.conode_explain_laws.proofs.Readings.{Reading, Begin, Abort, Response, follows_by, reading_of, response_reading, same as same_reading}
-use Rattle.conode_compare_transfers.specs.declared.breach.Breach.{Breach}
+use Rattle.conode_explain_laws.proofs.Readings.{Reading, Begin, Abort, Response, follows_by, reading_of, response_reading}
 use Rattle.conode_compare_transfers.specs.declared.breach.Breach.TheVariants.{AbortKey, Size}
 use Rattle.conode_compare_transfers.specs.declared.newest.Newest.{Newest}
 use Rattle.conode_compare_transfers.specs.declared.newest.Newest.TheVariants.{Request, Answer, Data, LastData, Acknowledge, LaterData, LaterAcknowledge, AllAcknowledged}
-use Rattle.conode_compare_transfers.specs.Breaches.{abort_breach, breach_at, ended_breach, ending_breach, is_padded, keyed_breach, key_in, server_breach, size_breach}
-use Rattle.conode_compare_rules.specs.declared.finding.Finding.{Finding}
+use Rattle.conode_compare_transfers.specs.Breaches.{breach_at, ended_breach, ending_breach, is_padded, key_in, server_breach}
 use Rattle.conode_compare_rules.specs.Answers.{breach_finding}
 use Rattle.conode_compare_laws.specs.AnswerFindings.{of_transfers}
 use Rattle.conode_compare_laws.proofs.AnswerFollowed.{reads}

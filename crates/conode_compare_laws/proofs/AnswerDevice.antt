@@ -1,13 +1,10 @@
 -- The default SDO channel of a device: what is open on it, which frames it takes, and which identifiers all others of the device have.
-use Rattle.std.proofs.Common.{◌≡◌, ℕ, ◌+◌, ◌<◌, ◌≢◌, Bool, true, false, not, List, [], ◌∷◌, map, length, Option, Some, None, refl, sym, ap, ◌∙◌, ◌⊎◌, inl, inr, subst, arith}
+use Rattle.std.proofs.Common.{◌≡◌, ℕ, ◌+◌, ◌≢◌, Bool, true, false, not, List, [], ◌∷◌, map, length, Option, Some, None, refl, sym, ap, ◌∙◌, subst}
 use Rattle.std.specs.Prelude.{◌==◌, ◌&&◌, ◌||◌, if◌then◌else◌, is_some, IfSome, find, filter, option_map}
 use Rattle.std.specs.List.{AllByRecursion, range_with_len}
-use Rattle.std.specs.Option.{option_map_or}
-use Rattle.std.proofs.lemmas.Bool.{eqb-true, false≢true, ne_eqb}
-use Rattle.std.proofs.lemmas.Bool.Decides.{nat_tests}
+use Rattle.std.proofs.lemmas.Bool.{false≢true}
 use Rattle.co_frame.specs.FrameContent.{FrameContent}
 use Rattle.co_frame.specs.Heartbeats.{heartbeat_in}
-use Rattle.co_frame.specs.Nmt.{nmt_command_in}
 use Rattle.co_frame.specs.SdoRequests.{request_in}
 use Rattle.co_frame.specs.declared.nmt.NmtService.{NmtService}
 use Rattle.co_frame.specs.declared.sdo_request.SdoRequest.{SdoRequest}
@@ -17,16 +14,16 @@ use Rattle.co_dict.specs.SdoChannels.{is_channel}
 use Rattle.co_dict.specs.Stores.{Description}
 use Rattle.co_sdo.specs.declared.stage.Stage.TheVariants.{BlockUpload, BlockUploadEnded}
 use Rattle.co_sdo.specs.Channels.{ChannelSettings, channels_below, settings_for}
-use Rattle.co_sdo.specs.Events.{ChannelEvent, exchange_at, exchange_on, expired_in, frames_at, logs_after, receiver, time_out_on, with_each}
-use Rattle.co_sdo.specs.Log.{Answer, Event, Exchange, Exchanged, Ticked as Elapsed, TimedOut, Dropped, Log, frames_on}
-use Rattle.co_sdo.specs.Opened.{block_upload_stage, is_end_sent, is_time_over, opened, opened_after, opened_by}
-use Rattle.co_sdo.specs.OpenTransfers.{Since, Transfer, and_event, begins, has_cut, is_finished, open_since, open_transfer, since_initiate, since_with, transfer_of}
-use Rattle.co_sdo.specs.Replies.{is_in_sub_block, is_sub_block, reply_to}
+use Rattle.co_sdo.specs.Events.{ChannelEvent, exchange_at, exchange_on, expired_in, logs_after, receiver, time_out_on, with_each}
+use Rattle.co_sdo.specs.Log.{Event, Exchange, Exchanged, Ticked as Elapsed, TimedOut, Dropped, Log}
+use Rattle.co_sdo.specs.Opened.{block_upload_stage, opened, opened_after, opened_by}
+use Rattle.co_sdo.specs.OpenTransfers.{Since, Transfer, and_event, begins, has_cut, is_finished, open_since, open_transfer, since_initiate, transfer_of}
+use Rattle.co_sdo.specs.Replies.{is_in_sub_block, is_sub_block}
 use Rattle.co_sdo_laws.proofs.Channel.{ended, tick_opens}
 use Rattle.co_node_parts.specs.declared.nmt_state.LossReaction.{LossReaction}
 use Rattle.co_node_parts.specs.declared.nmt_state.NodeState.{NodeState}
 use Rattle.co_node_parts.specs.declared.nmt_state.NodeState.TheVariants.{Operational, PreOperational, Stopped}
-use Rattle.co_node_parts.specs.NmtStates.{StateLog, after_loss, commanded, enters, is_state, reaction_with, state_after}
+use Rattle.co_node_parts.specs.NmtStates.{StateLog, after_loss, is_state, state_after}
 use Rattle.co_node_model.specs.declared.address.Address.{Address}
 use Rattle.co_node_model.specs.declared.address.Address.TheVariants.{Channel, ErrorControl, Nmt, Nobody, Rpdo, Sync}
 use Rattle.co_node_model.specs.Addresses.{address_at}
@@ -36,10 +33,10 @@ use Rattle.co_node_model.specs.Heartbeats.{is_heartbeat, loss_event}
 use Rattle.co_node_model.specs.Inputs.{AppView, Applied, ChangedAt, Cleared, EventOn, Framed, Inputs, InputView, Raised, Ticked, Written}
 use Rattle.co_node_model.specs.Marks.{marked_command, marked_tick}
 use Rattle.co_node_model.specs.Moments.{Constants, History, Moment, channels, contents_at, nothing_of}
-use Rattle.co_node_model.specs.Nmt.{commanded_event, is_reset, state_at, state_log, transition_of}
+use Rattle.co_node_model.specs.Nmt.{commanded_event, is_reset, state_at, state_log}
 use Rattle.co_node_model.specs.Sdo.{channel_logs, drops, with_channel_ticks, with_drop}
 use Rattle.conode_explain_laws.specs.Downloads.{is_block_begin}
-use Rattle.conode_compare_laws.specs.AnswerSenders.{BeginsNoBlocks, HaveOtherChannels, IsOther}
+use Rattle.conode_compare_laws.specs.AnswerSenders.{HaveOtherChannels, IsOther}
 use Rattle.conode_compare_laws.specs.Identifiers.{IsAside}
 use Rattle.conode_compare_laws.proofs.Inputs.{command_in, command_is, state_by}
 

@@ -1,30 +1,26 @@
 -- What compare has of the channel after a frame: the initiate request that is not answered, and what leaves a doubt.
-use Rattle.std.proofs.Common.{◌≡◌, ℕ, Bool, true, false, not, List, Option, Some, None, refl, sym, ap, ◌∙◌, ◌⊎◌, inl, inr, subst, arith}
-use Rattle.std.specs.Prelude.{◌&&◌, ◌||◌, if◌then◌else◌, is_some, IfSome}
+use Rattle.std.proofs.Common.{◌≡◌, ℕ, Bool, true, false, not, Option, Some, None, refl, sym, ap, ◌∙◌, ◌⊎◌, inl, inr, subst}
+use Rattle.std.specs.Prelude.{◌&&◌, if◌then◌else◌, is_some, IfSome}
 use Rattle.std.specs.Option.{option_map_or}
 use Rattle.std.proofs.lemmas.Bool.{false≢true}
-use Rattle.std.proofs.lemmas.Bool.Decides.{nat_tests}
 use Rattle.co_frame.specs.FrameContent.{FrameContent}
 use Rattle.co_frame.specs.SdoRequests.{request_in}
 use Rattle.co_frame.specs.declared.sdo_request.SdoRequest.{SdoRequest}
 use Rattle.co_sdo.specs.OpenTransfers.{is_initiate as initiates}
-use Rattle.conode_explain_transfers.specs.declared.channel.Heard.{Heard}
 use Rattle.conode_explain_transfers.specs.declared.kinds.Side.{Side}
 use Rattle.conode_explain_transfers.specs.declared.kinds.Side.TheVariants.{Client, Server}
 use Rattle.conode_explain_transfers.specs.declared.kinds.What.{What}
 use Rattle.conode_explain_transfers.specs.declared.kinds.What.TheVariants as what
 use Rattle.conode_explain_transfers.specs.declared.transfer.Transfer.{Transfer}
 use Rattle.conode_explain_transfers.specs.Followed.{Followed, Following, followed}
-use Rattle.conode_explain_laws.specs.Downloads.{is_block_begin}
-use Rattle.conode_explain_laws.proofs.Readings.{Begin, begun_with, follows_by, request_reading, reading_of}
+use Rattle.conode_explain_laws.proofs.Readings.{Begin, begun_with, follows_by, request_reading}
 use Rattle.conode_compare_transfers.specs.declared.dialogue.Asked.{Asked}
 use Rattle.conode_compare_transfers.specs.declared.dialogue.Dialogue.{Dialogue}
-use Rattle.conode_compare_transfers.specs.declared.dialogue.Exchange.{Exchange}
 use Rattle.conode_compare_transfers.specs.declared.left.Left.{Left}
-use Rattle.conode_compare_transfers.specs.Dialogues.{asked_after, dialogue_heard, doubted_after, exchange_in, is_awaited, is_certain, is_initiate, is_late_answer, leaves_request_open}
+use Rattle.conode_compare_transfers.specs.Dialogues.{asked_after, dialogue_heard, exchange_in, is_awaited, is_certain, is_initiate, is_late_answer, leaves_request_open}
 use Rattle.conode_compare_transfers.specs.Times.{is_past}
 use Rattle.conode_compare_laws.proofs.AnswerTurns.{Lasts, Sound, is_turned}
-use Rattle.conode_compare_laws.proofs.AnswerFollowed.{GoesOn, GoesOpen, LastsOn, asks_in, begins_sound, client_open, client_reading, goes_on, leaves_is, next_is, no_begin, reads, server_goes, server_lasts, what_is}
+use Rattle.conode_compare_laws.proofs.AnswerFollowed.{GoesOn, GoesOpen, LastsOn, asks_in, client_open, client_reading, goes_on, leaves_is, next_is, no_begin, reads, server_goes, server_lasts, what_is}
 use Rattle.conode_compare_laws.proofs.AnswerFound.{never_past}
 
 module _ (answer started : ℕ) (d : Dialogue) (micros : ℕ) (side : Side) (frame : FrameContent) where

@@ -1,6 +1,6 @@
 -- A request on the default channel of a device that isn't stopped, and its answers: none of them is found.
-use Rattle.std.proofs.Common.{◌≡◌, ℕ, ◌+◌, ◌<◌, ◌≤◌, Bool, true, false, not, List, [], ◌∷◌, ◌++◌, map, length, Option, Some, None, refl, sym, ap, ◌∙◌, ◌⊎◌, inl, inr, subst, arith}
-use Rattle.std.specs.Prelude.{◌==◌, ◌&&◌, ◌||◌, if◌then◌else◌, is_some, IfSome, nat_le}
+use Rattle.std.proofs.Common.{◌≡◌, ℕ, ◌+◌, ◌<◌, ◌≤◌, Bool, true, false, List, [], ◌∷◌, length, Option, Some, None, refl, sym, ap, ◌∙◌, ◌⊎◌, inl, inr, subst, arith}
+use Rattle.std.specs.Prelude.{◌==◌, ◌&&◌, if◌then◌else◌, is_some, IfSome, nat_le}
 use Rattle.std.proofs.lemmas.Bool.{false≢true}
 use Rattle.std.proofs.lemmas.Bool.Decides.{nat_tests}
 use Rattle.co_value.specs.declared.key.Key.{Key}
@@ -8,11 +8,9 @@ use Rattle.co_value.specs.Numbers.{AreBytes}
 use Rattle.co_frame.specs.FrameContent.{FrameContent}
 use Rattle.co_frame.specs.SdoFields.{key_in}
 use Rattle.co_frame.specs.SdoRequests.{request_in}
-use Rattle.co_frame.specs.SdoResponses.{response_bytes}
 use Rattle.co_frame.specs.declared.sdo_request.ExpeditedData.TheVariants.{Indicated}
 use Rattle.co_frame.specs.declared.sdo_request.SdoRequest.{SdoRequest}
 use Rattle.co_frame.specs.declared.sdo_request.SdoRequest.TheVariants.{DownloadExpedited, DownloadInitiate, DownloadSegment, Upload as UploadInitiate, UploadSegment as NextSegment, Abort as Abandon, BlockUploadInitiate, BlockUploadEnd as UploadEnd, BlockUploadAcknowledge, BlockUploadStart, BlockDownloadInitiate, BlockDownloadEnd}
-use Rattle.co_frame.specs.declared.sdo_response.SdoResponse.{SdoResponse}
 use Rattle.co_frame.specs.Segments.{is_odd, without}
 use Rattle.co_frame.specs.declared.sdo_response.SdoResponse.TheVariants.{Abort as Refuse, DownloadDone, DownloadSegmentDone, UploadExpedited, UploadInitiated, BlockDownloadDone, BlockUploadInitiated}
 use Rattle.co_dict.specs.Rows.{Contents}
@@ -23,7 +21,7 @@ use Rattle.co_sdo.specs.Refused.{completion_refusal}
 use Rattle.co_sdo.specs.Log.{Answer, Log, Response as Replied, answer_bytes, frames_on}
 use Rattle.co_sdo.specs.Opened.{OpenTransfer, opened_after}
 use Rattle.co_sdo.specs.OpenTransfers.{is_initiate as initiates}
-use Rattle.co_sdo.specs.Replies.{aborted, answers_to, initiate_answers, is_in_sub_block, on_open, reply_to, request_answers, segment_answers, segment_refusal, toggle_refusal, unexpected, unless_refused, upload_answers, upload_end_answers, block_end_answers}
+use Rattle.co_sdo.specs.Replies.{initiate_answers, is_in_sub_block, on_open, reply_to, request_answers, segment_answers, segment_refusal, toggle_refusal, unless_refused, upload_answers, upload_end_answers, block_end_answers}
 use Rattle.co_sdo.specs.Uploads.{upload_initiated, upload_segment, value_at}
 use Rattle.co_node_parts.specs.declared.nmt_state.NodeState.{NodeState}
 use Rattle.co_node_parts.specs.declared.nmt_state.NodeState.TheVariants as node
@@ -53,7 +51,7 @@ use Rattle.conode_compare_rules.specs.declared.kind.FrameKind.TheVariants.{Proce
 use Rattle.conode_compare_rules.specs.Progresses.{answer_noted, begun as begun_progress, late_noted}
 use Rattle.conode_compare_rules.specs.States.{after_other, awaits_boot_up}
 use Rattle.conode_compare_laws.specs.AnswerFindings.{answer_differences}
-use Rattle.conode_compare_laws.proofs.AnswerTurns.{Lasts, Sound, asks_for_blocks}
+use Rattle.conode_compare_laws.proofs.AnswerTurns.{Sound}
 use Rattle.conode_compare_laws.proofs.AnswerFollowed.{aborted_part, asks_in, begins_sound, block_upload, expedited_download, expedited_upload, reads, says_of, segmented_download, segmented_upload}
 use Rattle.conode_compare_laws.proofs.AnswerFound.{answered, unasked, uncertain}
 use Rattle.conode_compare_laws.proofs.AnswerDialogues.{InitiateHeard, LaterHeard, Sends, ServerHeard, asked_before, in_doubt, initiate_heard, later_heard, sends_on, server_heard, server_turned, what_heard}

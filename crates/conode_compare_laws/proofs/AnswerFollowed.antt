@@ -34,7 +34,7 @@ use Rattle.conode_explain_transfers.specs.declared.transfer.Transfer.{Transfer}
 use Rattle.conode_explain_transfers.specs.BlockTurns.{is_block}
 use Rattle.conode_explain_transfers.specs.Endings.{ended, verdict}
 use Rattle.conode_explain_transfers.specs.Followed.{Followed, Following, followed, one_more, turns_at, with_frame}
-use Rattle.conode_explain_transfers.specs.Readings.{awaits_segment, is_in_sub_block, is_sender, reading_of as their_reading_of}
+use Rattle.conode_explain_transfers.specs.Readings.{awaits_segment, is_in_sub_block, is_sender}
 use Rattle.conode_explain_transfers.specs.Stages.{confirmed_with}
 use Rattle.conode_explain_transfers.specs.Initiates.{initiate_of}
 use Rattle.conode_explain_transfers.specs.Transfers.{Turn, after, begun}
@@ -42,10 +42,10 @@ use Rattle.conode_explain_laws.specs.Downloads.{is_block_begin}
 use Rattle.conode_explain_transfers.specs.Turns.{request_turn, response_turn}
 use Rattle.conode_explain_laws.proofs.Begins.{response_is}
 use Rattle.conode_explain_laws.proofs.Kept.{Keeps, keeps}
-use Rattle.conode_explain_laws.proofs.Readings.{Reading, Segment, Begin, Abort, Request, Response, Nothing, begun_with, begins_or, request_reading, response_reading, plain_reading, beginning, segment_reading, reading_of, turn_of, follows_by, same as same_reading}
+use Rattle.conode_explain_laws.proofs.Readings.{Reading, Segment, Begin, Abort, Request, Response, Nothing, begun_with, request_reading, response_reading, plain_reading, beginning, segment_reading, reading_of, turn_of, follows_by, same as same_reading}
 use Rattle.conode_explain_laws.proofs.Views.{abort_is, is_abort_reading, is_begin, server_no_begin}
 use Rattle.conode_compare_transfers.specs.Dialogues.{continues, ends_in_doubt, is_initiate, is_odd, leaves_request_open}
-use Rattle.conode_compare_laws.proofs.AnswerTurns.{Asked, Blocks, IsBlockUpload, Lasts, Plain, Sound, Turned, asked, asks_for_blocks, in_blocks, is_request, is_turned, lasts, turned, unconfirmed}
+use Rattle.conode_compare_laws.proofs.AnswerTurns.{Asked, Blocks, Lasts, Plain, Sound, Turned, asked, asks_for_blocks, in_blocks, is_request, is_turned, lasts, turned, unconfirmed}
 
 -- ---- explain's frames, by the readings of conode_explain_laws
 

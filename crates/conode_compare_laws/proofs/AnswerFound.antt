@@ -1,5 +1,5 @@
 -- What compare finds at an answer by what is known of the request before it, and at a heartbeat while a request isn't answered.
-use Rattle.std.proofs.Common.{◌≡◌, ℕ, ◌-◌, ◌≤◌, Bool, true, false, not, List, [], Option, Some, None, refl, sym, ap, ◌∙◌, ◌⊎◌, inl, inr, arith}
+use Rattle.std.proofs.Common.{◌≡◌, ℕ, ◌-◌, ◌≤◌, Bool, true, false, List, [], Option, Some, None, refl, sym, ap, ◌∙◌, ◌⊎◌, inl, inr, arith}
 use Rattle.std.specs.Prelude.{◌&&◌, if◌then◌else◌, option_map}
 use Rattle.std.specs.Option.{option_map_or, option_or}
 use Rattle.std.proofs.lemmas.Bool.{false≢true}
@@ -21,34 +21,12 @@ use Rattle.conode_compare_transfers.specs.declared.dialogue.Exchange.{Exchange}
 use Rattle.conode_compare_transfers.specs.Dialogues.{is_certain, is_timed}
 use Rattle.conode_compare_transfers.specs.Times.{is_past}
 use Rattle.conode_compare_rules.specs.declared.finding.Finding.{Finding}
-use Rattle.conode_compare_rules.specs.declared.finding.Finding.TheVariants.{AnswerStopped, Held, NoAnswer, Transfer, Value}
+use Rattle.conode_compare_rules.specs.declared.finding.Finding.TheVariants.{Held, NoAnswer}
 use Rattle.conode_compare_rules.specs.declared.limits.Limits.{Limits}
 use Rattle.conode_compare_rules.specs.declared.limits.Subject.{Subject}
 use Rattle.conode_compare_rules.specs.declared.nmt.Commanded.{Commanded}
 use Rattle.conode_compare_rules.specs.declared.nmt.Nmt.{Nmt}
-use Rattle.conode_compare_rules.specs.Answers.{
-  answer_finding,
-  answers_in,
-  breach_finding,
-  ended_finding,
-  finding_of,
-  held_finding,
-  is_abort,
-  is_indicated,
-  known_answer,
-  late_after,
-  late_answer,
-  overdue_answer,
-  refuses_other,
-  shows_stopped,
-  silence_finding,
-  silence_of,
-  stopped_finding,
-  stopped_with,
-  unasked_finding,
-  value_finding,
-  what_finding,
-}
+use Rattle.conode_compare_rules.specs.Answers.{answer_finding, answers_in, breach_finding, ended_finding, finding_of, held_finding, is_abort, is_indicated, known_answer, late_after, late_answer, overdue_answer, refuses_other, shows_stopped, silence_finding, silence_of, stopped_finding, stopped_with, value_finding, what_finding}
 use Rattle.conode_compare_rules.specs.EmergencyRules.{is_stopped}
 use Rattle.conode_compare_rules.specs.States.{is_settled}
 use Rattle.conode_compare_laws.specs.AnswerFindings.{of_answers}

@@ -1,6 +1,6 @@
 -- Of which entry the transfer is that is open on the channel of a device, frame by frame.
-use Rattle.std.proofs.Common.{◌≡◌, ℕ, Bool, true, false, not, List, [], ◌∷◌, length, Option, Some, None, refl, sym, ap, ◌∙◌, subst}
-use Rattle.std.specs.Prelude.{◌==◌, ◌&&◌, ◌||◌, if◌then◌else◌, is_some, IfSome}
+use Rattle.std.proofs.Common.{◌≡◌, ℕ, Bool, true, false, not, List, [], ◌∷◌, Option, Some, None, refl, sym, ap, ◌∙◌}
+use Rattle.std.specs.Prelude.{◌&&◌, ◌||◌, if◌then◌else◌, is_some, IfSome}
 use Rattle.std.specs.List.{list_any}
 use Rattle.std.specs.Option.{option_map_or}
 use Rattle.std.proofs.lemmas.Bool.{false≢true}
@@ -10,9 +10,9 @@ use Rattle.co_frame.specs.declared.sdo_request.SdoRequest.{SdoRequest}
 use Rattle.co_frame.specs.declared.sdo_request.SdoRequest.TheVariants.{DownloadExpedited, DownloadInitiate, DownloadSegment, Upload as UploadInitiate, UploadSegment as NextSegment, Abort as Abandon, BlockUploadInitiate, BlockUploadEnd as UploadEnd, BlockUploadAcknowledge, BlockUploadStart, BlockDownloadInitiate, BlockDownloadEnd}
 use Rattle.co_dict.specs.Rows.{Contents}
 use Rattle.co_dict.specs.Stores.{Description}
-use Rattle.co_sdo.specs.Log.{Answer, Event, Exchange, Exchanged, Ticked as Elapsed, TimedOut, Dropped, Log, is_abort}
+use Rattle.co_sdo.specs.Log.{Exchange, Exchanged, Log, is_abort}
 use Rattle.co_sdo.specs.Opened.{OpenTransfer, opened, opened_after, opened_by}
-use Rattle.co_sdo.specs.OpenTransfers.{Since, Transfer, and_event, begins, has_cut, is_abort_received, is_abort_request, is_cut, is_finished, is_initiate as initiates, is_inside, is_inside_after, open_since, open_transfer, since_initiate, since_with, transfer_of}
+use Rattle.co_sdo.specs.OpenTransfers.{Since, Transfer, and_event, begins, has_cut, is_abort_received, is_abort_request, is_cut, is_finished, is_initiate as initiates, is_inside, is_inside_after, open_since, since_initiate, transfer_of}
 use Rattle.co_sdo.specs.Replies.{answers_to, reply_to, request_answers}
 use Rattle.conode_explain_laws.specs.Downloads.{is_block_begin}
 

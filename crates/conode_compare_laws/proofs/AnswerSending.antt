@@ -1,19 +1,13 @@
 -- EMCY and TPDOs aren't sent on the identifiers of the default SDO channel.
 use Rattle.std.proofs.Common.{◌≡◌, ℕ, zero, suc, ◌+◌, ◌∙◌, ap, ◌<◌, ◌≤◌, Bool, true, false, [], ◌∷◌, List, map, Option, Some, None, refl, arith}
-use Rattle.std.specs.Prelude.{◌==◌, ◌&&◌, not, if◌then◌else◌, find, filter, length, option_map, slice_get, IfSome}
+use Rattle.std.specs.Prelude.{◌&&◌, not, if◌then◌else◌, filter, slice_get}
 use Rattle.std.specs.List.{AllByRecursion, range_with_len}
 use Rattle.std.proofs.lemmas.Bool.Decides.{nat_tests}
-use Rattle.co_frame.specs.FrameContent.{FrameContent}
-use Rattle.co_frame.specs.Heartbeats.{heartbeat_in}
 use Rattle.co_frame.specs.declared.emergency.Emergency.{Emergency}
 use Rattle.co_profile.specs.Keys.{emergency_key}
 use Rattle.co_dict.specs.CobIds.{identifier_of, is_default_sdo, is_valid}
 use Rattle.co_dict.specs.Rows.{Contents, number_at}
 use Rattle.co_dict.specs.Stores.{Description}
-use Rattle.co_sdo.specs.Log.{Answer, Log, Ticked as Elapsed, frames_on}
-use Rattle.co_sdo.specs.Opened.{is_time_over}
-use Rattle.co_sdo.specs.Channels.{ChannelSettings}
-use Rattle.co_sdo.specs.Events.{exchange_at, exchange_on, expired_in, frames_at, receiver, time_out_on, with_each}
 use Rattle.co_pdo.specs.declared.settings.Settings.{Settings}
 use Rattle.co_pdo.specs.declared.tpdo.Occasion.{Occasion}
 use Rattle.co_pdo.specs.declared.tpdo.Occasion.TheVariants as occasion
@@ -23,21 +17,15 @@ use Rattle.co_pdo.specs.Schedules.{History as Schedule, is_among, is_tpdo_due, l
 use Rattle.co_pdo.specs.Tpdos.{is_active, settings_of, tpdo_key, tpdo_numbers}
 use Rattle.co_node_parts.specs.EmergencyQueues.{EmergencyLog, emergency_due, is_inhibit_over, queue_of}
 use Rattle.co_node_parts.specs.NmtStates.{is_state}
-use Rattle.co_node_parts.specs.declared.nmt_state.NodeState.TheVariants.{Operational, Stopped}
-use Rattle.co_node_model.specs.declared.address.Address.{Address}
-use Rattle.co_node_model.specs.declared.address.Address.TheVariants.{ErrorControl, Nobody, Rpdo, Channel, Nmt, Sync}
+use Rattle.co_node_parts.specs.declared.nmt_state.NodeState.TheVariants.{Stopped}
 use Rattle.co_node_model.specs.declared.turn.Turn.{Turn}
 use Rattle.co_node_model.specs.declared.turn.Turn.TheVariants as turn
-use Rattle.co_node_model.specs.Addresses.{address_at}
-use Rattle.co_node_model.specs.AppEvents.{event_refusal, with_app_event}
-use Rattle.co_node_model.specs.Device.{contents_of, moment, moments, with_frame}
+use Rattle.co_node_model.specs.Device.{contents_of, moment, moments}
 use Rattle.co_node_model.specs.Emergencies.{emergency_frames, emergency_log, may_send, unsent_log}
-use Rattle.co_node_model.specs.Heartbeats.{is_heartbeat}
-use Rattle.co_node_model.specs.Inputs.{AppView, Applied, ChangedAt, Cleared, EventOn, Framed, Inputs, InputView, Raised, Ticked, Written}
+use Rattle.co_node_model.specs.Inputs.{Inputs, InputView}
 use Rattle.co_node_model.specs.Marks.{marked_time_out}
-use Rattle.co_node_model.specs.Moments.{Constants, History, Moment, channels, contents_at, nothing_of}
+use Rattle.co_node_model.specs.Moments.{Constants, History, Moment}
 use Rattle.co_node_model.specs.Nmt.{state_at}
-use Rattle.co_node_model.specs.Sdo.{channel_logs}
 use Rattle.co_node_model.specs.Tpdos.{due_at, numbers_asked, schedule_log, tpdo_frame, turn_at}
 use Rattle.conode_compare_laws.specs.AnswerSenders.{AllSendOther, AreOther, HasOtherWords, IsOther, IsOtherWord, SendsOther}
 use Rattle.conode_compare_laws.specs.Recordings.{Stamped}

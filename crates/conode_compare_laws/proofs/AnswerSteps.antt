@@ -1,24 +1,20 @@
 -- What holds of what compare knows of the channel, frame by frame: which transfer is open, and why an initiate request isn't answered.
-use Rattle.std.proofs.Common.{◌≡◌, ℕ, ◌+◌, ◌-◌, ◌*◌, ◌≤◌, Bool, true, false, not, List, [], ◌∷◌, ◌++◌, Option, Some, None, refl, sym, ap, ◌∙◌, ◌⊎◌, inl, inr, subst, arith}
-use Rattle.std.specs.Prelude.{◌==◌, ◌&&◌, ◌||◌, if◌then◌else◌, is_some, IfSome, nat_lt}
+use Rattle.std.proofs.Common.{◌≡◌, ℕ, ◌-◌, ◌*◌, ◌≤◌, Bool, true, false, List, [], ◌∷◌, Option, Some, None, refl, sym, ap, ◌∙◌, subst, arith}
+use Rattle.std.specs.Prelude.{◌==◌, ◌||◌, if◌then◌else◌, is_some, IfSome, nat_lt}
 use Rattle.std.specs.Option.{option_map_or, option_or, option_to_list}
 use Rattle.std.proofs.lemmas.Bool.{false≢true}
 use Rattle.std.proofs.lemmas.Bool.Decides.{nat_tests}
 use Rattle.co_frame.specs.FrameContent.{FrameContent}
 use Rattle.co_frame.specs.Heartbeats.{state_byte}
-use Rattle.co_frame.specs.SdoRequests.{request_in}
 use Rattle.co_frame.specs.declared.nmt.NmtCommand.{NmtCommand}
 use Rattle.co_frame.specs.declared.nmt.NmtService.{NmtService}
 use Rattle.co_frame.specs.declared.nmt.NmtService.TheVariants.{Start, Stop, EnterPreOperational, ResetNode, ResetCommunication}
-use Rattle.co_sdo.specs.OpenTransfers.{is_initiate as initiates}
 use Rattle.co_sheet.specs.Content.{Row}
 use Rattle.co_node_model.specs.Nmt.{service_for}
 use Rattle.co_node_parts.specs.declared.nmt_state.NodeState.{NodeState}
 use Rattle.co_node_parts.specs.declared.nmt_state.NodeState.TheVariants as node
 use Rattle.co_node_parts.specs.NmtStates.{heartbeat_of}
 use Rattle.conode_explain_transfers.specs.declared.kinds.Side.TheVariants.{Client, Server}
-use Rattle.conode_explain_transfers.specs.declared.kinds.What.TheVariants as what
-use Rattle.conode_explain_transfers.specs.declared.transfer.Transfer.{Transfer}
 use Rattle.conode_compare_transfers.specs.declared.breach.Breach.{Breach}
 use Rattle.conode_compare_transfers.specs.declared.dialogue.Asked.{Asked}
 use Rattle.conode_compare_transfers.specs.declared.dialogue.Dialogue.{Dialogue}
@@ -33,8 +29,7 @@ use Rattle.conode_compare_rules.specs.declared.limits.Subject.{Subject}
 use Rattle.conode_compare_rules.specs.declared.nmt.Commanded.{Commanded}
 use Rattle.conode_compare_rules.specs.declared.nmt.Nmt.{Nmt}
 use Rattle.conode_compare_rules.specs.declared.progress.Progress.{Progress}
-use Rattle.conode_compare_rules.specs.Answers.{answer_finding, breach_finding, confirmed_finding, held_finding, is_abort, silence_finding, stopped_finding}
-use Rattle.conode_compare_rules.specs.EmergencyRules.{is_stopped}
+use Rattle.conode_compare_rules.specs.Answers.{answer_finding, breach_finding, confirmed_finding, held_finding, silence_finding, stopped_finding}
 use Rattle.conode_compare_rules.specs.FrameKinds.{command_to, data_kind}
 use Rattle.conode_compare_rules.specs.Heartbeats.{is_gap}
 use Rattle.conode_compare_rules.specs.Progresses as progresses
@@ -72,12 +67,9 @@ use Rattle.conode_compare_pdos.specs.Followed as tpdos
 use Rattle.conode_compare_rules.specs.States as states
 use Rattle.conode_compare_rules.specs.States.{after_other, shows_state}
 use Rattle.conode_compare_rules.specs.Verdicts.{found}
-use Rattle.conode_explain_laws.specs.Downloads.{is_block_begin}
 use Rattle.conode_compare_laws.specs.AnswerFindings.{answer_differences, of_answers}
-use Rattle.conode_compare_laws.proofs.AnswerTurns.{Sound, is_turned}
-use Rattle.conode_compare_laws.proofs.AnswerFollowed.{asks_in}
-use Rattle.conode_compare_laws.proofs.AnswerFound.{answered, commanded_since, never_past, none_awaited, silent, unasked, uncertain}
-use Rattle.conode_compare_laws.proofs.AnswerDialogues.{InitiateHeard, LaterHeard, Sends, ServerHeard, asked_before, in_doubt, later_heard, sends_on, server_heard, server_turned, what_heard}
+use Rattle.conode_compare_laws.proofs.AnswerTurns.{Sound}
+use Rattle.conode_compare_laws.proofs.AnswerFound.{commanded_since, never_past, none_awaited, silent}
 use Rattle.conode_compare_laws.proofs.Runs.{AllRun}
 use Rattle.conode_compare_laws.proofs.Shown.{Stage, boots, runs, stage_after}
 

@@ -1,7 +1,7 @@
 -- A request on the default channel of a device without block transfers, and its answers: nothing is found within the transfer, and the
 -- transfer that is open then is of the same entry for both.
-use Rattle.std.proofs.Common.{◌≡◌, ℕ, ◌+◌, ◌<◌, ◌≤◌, Bool, true, false, not, List, [], ◌∷◌, ◌++◌, length, Option, Some, None, refl, sym, ap, ◌∙◌, ◌⊎◌, inl, inr, subst, arith}
-use Rattle.std.specs.Prelude.{◌==◌, ◌&&◌, ◌||◌, if◌then◌else◌, is_some, IfSome, nat_le}
+use Rattle.std.proofs.Common.{◌≡◌, ℕ, ◌+◌, ◌<◌, ◌≤◌, Bool, true, false, List, [], ◌∷◌, length, Option, Some, None, refl, sym, ap, ◌∙◌, ◌⊎◌, inl, inr, subst}
+use Rattle.std.specs.Prelude.{◌&&◌, if◌then◌else◌, IfSome, nat_le}
 use Rattle.std.proofs.lemmas.Bool.{false≢true}
 use Rattle.arrayvec.specs.ArrayVec.{ArrayVec}
 use Rattle.co_value.specs.declared.key.Key.{Key}
@@ -11,11 +11,10 @@ use Rattle.co_frame.specs.Segments.{is_odd}
 use Rattle.co_frame.specs.AbortCodes.{unknown_command}
 use Rattle.co_frame.specs.FrameContent.{FrameContent}
 use Rattle.co_frame.specs.SdoRequests.{request_in}
-use Rattle.co_frame.specs.SdoResponses.{response_bytes, response_in}
+use Rattle.co_frame.specs.SdoResponses.{response_bytes}
 use Rattle.co_frame.specs.declared.sdo_request.ExpeditedData.TheVariants.{Indicated}
 use Rattle.co_frame.specs.declared.sdo_request.SdoRequest.{SdoRequest}
 use Rattle.co_frame.specs.declared.sdo_request.SdoRequest.TheVariants.{DownloadExpedited, DownloadInitiate, DownloadSegment, Upload as UploadInitiate, UploadSegment as NextSegment, Abort as Abandon, BlockUploadInitiate, BlockUploadEnd as UploadEnd, BlockUploadAcknowledge, BlockUploadStart, BlockDownloadInitiate, BlockDownloadEnd}
-use Rattle.co_frame.specs.declared.sdo_response.SdoResponse.{SdoResponse}
 use Rattle.co_frame.specs.declared.sdo_response.SdoResponse.TheVariants.{Abort as Refuse, DownloadDone, DownloadSegmentDone, UploadExpedited, UploadInitiated, UploadSegment}
 use Rattle.co_dict.specs.Rows.{Contents}
 use Rattle.co_dict.specs.Stores.{Description}
@@ -24,15 +23,15 @@ use Rattle.co_sdo.specs.declared.stage.Stage.TheVariants.{Download as Receiving,
 use Rattle.co_sdo.specs.Log.{Answer, Exchanged, Log, Response as Replied, answer_bytes, frames_on}
 use Rattle.co_sdo.specs.Opened.{OpenTransfer, opened_after}
 use Rattle.co_sdo.specs.OpenTransfers.{is_initiate as initiates, since_initiate}
-use Rattle.co_sdo.specs.Replies.{initiate_answers, is_in_sub_block as is_inside, on_open, open_key, reply_to, request_answers, segment_answers, segment_refusal, toggle_refusal, unless_refused, upload_answers}
-use Rattle.co_sdo.specs.Uploads.{is_last_after, part_after, upload_initiated, upload_segment, value_at}
+use Rattle.co_sdo.specs.Replies.{initiate_answers, is_in_sub_block as is_inside, open_key, reply_to, request_answers, segment_answers, segment_refusal, toggle_refusal, unless_refused, upload_answers}
+use Rattle.co_sdo.specs.Uploads.{is_last_after, part_after, upload_initiated, value_at}
 use Rattle.co_sdo_laws.proofs.Frames.{done_read, expedited_sent_read}
 use Rattle.co_sdo_laws.proofs.Segments.{part_small}
 use Rattle.co_sheet.specs.Content.{Row}
 use Rattle.conode_explain_transfers.specs.declared.kinds.Direction.TheVariants.{Download, Upload}
 use Rattle.conode_explain_transfers.specs.declared.kinds.Protocol.TheVariants.{Expedited, Segmented, Undecided}
 use Rattle.conode_explain_transfers.specs.declared.kinds.Side.TheVariants.{Client, Server}
-use Rattle.conode_explain_transfers.specs.declared.stage.Stage.TheVariants.{DownloadSent, Initiated, UploadAsked}
+use Rattle.conode_explain_transfers.specs.declared.stage.Stage.TheVariants.{DownloadSent, UploadAsked}
 use Rattle.conode_explain_transfers.specs.declared.transfer.Transfer.{Transfer}
 use Rattle.conode_explain_transfers.specs.BlockTurns.{is_block}
 use Rattle.conode_explain_transfers.specs.Followed.{Followed, Following}
@@ -40,7 +39,7 @@ use Rattle.conode_explain_transfers.specs.Initiates.{data_of, initiate_of}
 use Rattle.conode_explain_transfers.specs.Transfers.{begun}
 use Rattle.conode_explain_laws.specs.Downloads.{is_block_begin}
 use Rattle.conode_explain_laws.proofs.Begins.{HasKey, has_key, outside_answers}
-use Rattle.conode_explain_laws.proofs.Readings.{Begin, begun_with, follows_by, request_reading, response_reading}
+use Rattle.conode_explain_laws.proofs.Readings.{Begin, begun_with, request_reading, response_reading}
 use Rattle.conode_compare_transfers.specs.declared.dialogue.Dialogue.{Dialogue}
 use Rattle.conode_compare_transfers.specs.Dialogues.{dialogue_heard, leaves_request_open}
 use Rattle.conode_compare_rules.specs.declared.kind.FrameKind.{FrameKind}
@@ -53,11 +52,11 @@ use Rattle.conode_compare_laws.specs.AnswerFindings.{transfer_differences}
 use Rattle.conode_compare_laws.specs.AnswerSenders.{is_block_upload_begin}
 use Rattle.conode_compare_laws.proofs.AnswerTurns.{Sound}
 use Rattle.conode_compare_laws.proofs.AnswerFollowed.{begins_sound, no_begin, reads, upload_read}
-use Rattle.conode_compare_laws.proofs.AnswerBreaches.{Fine, GoesFine, own_fit, refusal_fine, response_fine, segment_done_fine, segment_fine, unknown_fit}
+use Rattle.conode_compare_laws.proofs.AnswerBreaches.{Fine, own_fit, refusal_fine, response_fine, segment_done_fine, segment_fine, unknown_fit}
 use Rattle.conode_compare_laws.proofs.AnswerDialogues.{InitiateHeard, channel_is, client_is, doubted_is, initiate_heard}
 use Rattle.conode_compare_laws.proofs.AnswerOpened.{IsOf, asked_key, exchange_with, of_initiate, of_later}
 use Rattle.conode_compare_laws.proofs.AnswerTransfers.{Shape, StandsFor, StandsIn, later_stands, outside_sub_block, shape_goes}
-use Rattle.conode_compare_laws.proofs.AnswerTransferRuns.{HasShape, InDoubt, Quiet, client_quiet, doubt_runs, frame_runs, one_runs, sound_in}
+use Rattle.conode_compare_laws.proofs.AnswerTransferRuns.{HasShape, Quiet, client_quiet, doubt_runs, frame_runs, one_runs, sound_in}
 use Rattle.conode_compare_laws.proofs.AnswerExchange.{few_bytes, request_kind, small_key, some_bytes}
 use Rattle.conode_compare_laws.proofs.Runs.{AllRun}
 

@@ -1,6 +1,6 @@
 -- All inputs of a device without block transfers: nothing is found within the transfers of its default channel.
-use Rattle.std.proofs.Common.{◌≡◌, ℕ, ◌+◌, ◌<◌, ◌≢◌, Bool, true, false, List, [], ◌∷◌, ◌++◌, map, length, Option, Some, None, refl, sym, ap, ◌∙◌, ◌⊎◌, inl, inr, subst, arith}
-use Rattle.std.specs.Prelude.{◌==◌, ◌&&◌, ◌||◌, if◌then◌else◌, is_some, IfSome, slice_index}
+use Rattle.std.proofs.Common.{◌≡◌, ℕ, ◌+◌, ◌<◌, ◌≢◌, Bool, true, false, List, [], ◌∷◌, ◌++◌, map, length, Option, Some, None, refl, sym, ap, ◌∙◌, inr, subst, arith}
+use Rattle.std.specs.Prelude.{◌==◌, ◌&&◌, if◌then◌else◌, is_some, IfSome, slice_index}
 use Rattle.std.specs.List.{AllByRecursion}
 use Rattle.std.proofs.lemmas.Bool.{eqb-true, false≢true, ne_eqb}
 use Rattle.std.proofs.lemmas.Bool.Decides.{nat_tests}
@@ -8,7 +8,7 @@ use Rattle.co_value.specs.declared.key.Key.{Key}
 use Rattle.co_frame.specs.AbortCodes.{timed_out as timed_out_code}
 use Rattle.co_frame.specs.FrameContent.{FrameContent}
 use Rattle.co_frame.specs.Emergencies.{emergency_in}
-use Rattle.co_frame.specs.Heartbeats.{heartbeat_bytes, state_byte}
+use Rattle.co_frame.specs.Heartbeats.{heartbeat_bytes}
 use Rattle.co_frame.specs.Nmt.{nmt_command_in}
 use Rattle.co_frame.specs.SdoRequests.{request_in}
 use Rattle.co_frame.specs.declared.emergency.Emergency.{Emergency}
@@ -22,10 +22,10 @@ use Rattle.co_frame.specs.declared.sdo_request.SdoRequest.TheVariants.{DownloadE
 use Rattle.co_frame.specs.declared.sdo_response.SdoResponse.TheVariants.{Abort as Refuse}
 use Rattle.co_sdo.specs.Channels.{ChannelSettings}
 use Rattle.co_sdo.specs.Events.{ChannelEvent, exchange_on, frames_at, logs_after, time_out_on}
-use Rattle.co_sdo.specs.Log.{Answer, Event, Exchanged, Log, Response as Replied, Ticked as Elapsed, TimedOut, Dropped, answer_bytes, frames_on}
+use Rattle.co_sdo.specs.Log.{Answer, Event, Log, Response as Replied, Ticked as Elapsed, TimedOut, Dropped, answer_bytes, frames_on}
 use Rattle.co_sdo.specs.Opened.{OpenTransfer, is_time_over, opened, opened_after}
 use Rattle.co_sdo.specs.OpenTransfers.{Since, and_event, is_initiate as initiates, open_since, open_transfer, since_initiate}
-use Rattle.co_sdo.specs.Replies.{open_key, reply_to, time_out_reply}
+use Rattle.co_sdo.specs.Replies.{open_key, time_out_reply}
 use Rattle.co_sdo_laws.proofs.Channel.{ended, tick_opens}
 use Rattle.co_node_laws.proofs.Channel.{default_channel}
 use Rattle.co_node_parts.specs.declared.nmt_state.NodeState.TheVariants as node
@@ -42,7 +42,6 @@ use Rattle.co_node_model.specs.Tpdos.{tpdo_frame}
 use Rattle.co_sheet.specs.Content.{Row}
 use Rattle.conode_explain_transfers.specs.declared.kinds.Side.TheVariants.{Client, Server}
 use Rattle.conode_explain_transfers.specs.declared.transfer.Transfer.{Transfer}
-use Rattle.conode_explain_transfers.specs.Followed.{Following}
 use Rattle.conode_explain_laws.specs.Downloads.{is_block_begin}
 use Rattle.conode_explain_laws.proofs.Begins.{HasKey, has_key}
 use Rattle.conode_explain_laws.proofs.Views.{server_no_begin}
@@ -72,11 +71,12 @@ use Rattle.conode_compare_laws.proofs.AnswerDevice.{Clean, IsAnother, IsNumbered
 use Rattle.conode_compare_laws.proofs.AnswerDialogues.{InitiateHeard, initiate_heard}
 use Rattle.conode_compare_laws.proofs.AnswerSteps.{begun_newest, some_map}
 use Rattle.conode_compare_laws.proofs.AnswerExchange.{answer_kind, request_kind, small_key}
-use Rattle.conode_compare_laws.proofs.AnswerInputs.{another_exchange, calm_exchange, clean_exchange, not_eight, not_zero, nmt_exchange, served_is, zero_is}
-use Rattle.conode_compare_laws.proofs.AnswerOpened.{IsOf, exchange_with, none_of}
+use Rattle.conode_compare_laws.proofs.AnswerCalm.{another_exchange, calm_exchange, clean_exchange}
+use Rattle.conode_compare_laws.proofs.AnswerInputs.{not_eight, not_zero, nmt_exchange, served_is, zero_is}
+use Rattle.conode_compare_laws.proofs.AnswerOpened.{IsOf, none_of}
 use Rattle.conode_compare_laws.proofs.AnswerTransfers.{Shape, outside_sub_block}
-use Rattle.conode_compare_laws.proofs.AnswerTransferRuns.{HasShape, Quiet, client_quiet, cons_runs, frame_runs, server_quiet, shape_after, sound_in}
-use Rattle.conode_compare_laws.proofs.AnswerTransferExchange.{HasTied, Ready, Tied, all_tied, exchange_runs, later_shape, map_runs}
+use Rattle.conode_compare_laws.proofs.AnswerTransferRuns.{HasShape, client_quiet, cons_runs, frame_runs, server_quiet, shape_after, sound_in}
+use Rattle.conode_compare_laws.proofs.AnswerTransferExchange.{HasTied, Tied, all_tied, exchange_runs, later_shape, map_runs}
 
 -- ---- frames of other services: the transfer stays, or none is known to be open
 

@@ -1,24 +1,19 @@
 -- Frames of a device without block transfers, one after another: nothing is found within the transfers of its default channel.
-use Rattle.std.proofs.Common.{◌≡◌, ℕ, ◌+◌, ◌-◌, ◌<◌, ◌≤◌, Bool, true, false, not, List, [], ◌∷◌, ◌++◌, length, Option, Some, None, refl, sym, ap, ◌∙◌, ◌⊎◌, inl, inr, subst, arith}
-use Rattle.std.specs.Prelude.{◌==◌, ◌&&◌, ◌||◌, if◌then◌else◌, is_some, IfSome, nat_le, option_map}
+use Rattle.std.proofs.Common.{◌≡◌, ℕ, ◌+◌, ◌-◌, Bool, true, false, List, [], ◌∷◌, Option, Some, None, refl, sym, ap, ◌∙◌, ◌⊎◌, inl, inr, subst}
+use Rattle.std.specs.Prelude.{◌&&◌, if◌then◌else◌, is_some, IfSome, option_map}
 use Rattle.std.specs.Option.{option_or}
 use Rattle.std.proofs.lemmas.Bool.{false≢true}
 use Rattle.co_value.specs.declared.key.Key.{Key}
-use Rattle.co_value.specs.Numbers.{AreBytes}
-use Rattle.co_frame.specs.AbortCodes.{unknown_command}
 use Rattle.co_frame.specs.FrameContent.{FrameContent}
 use Rattle.co_frame.specs.SdoRequests.{request_in}
-use Rattle.co_frame.specs.SdoResponses.{response_bytes}
 use Rattle.co_frame.specs.declared.abort_code.AbortCode.{AbortCode}
-use Rattle.co_frame.specs.declared.nmt.NmtService.{NmtService}
-use Rattle.co_frame.specs.declared.nmt.NmtService.TheVariants.{Start, Stop, EnterPreOperational, ResetNode, ResetCommunication}
 use Rattle.co_frame.specs.declared.sdo_request.SdoRequest.{SdoRequest}
 use Rattle.co_frame.specs.declared.sdo_request.SdoRequest.TheVariants.{DownloadExpedited, DownloadInitiate, DownloadSegment, Upload as UploadInitiate, UploadSegment as NextSegment, Abort as Abandon, BlockUploadInitiate, BlockUploadEnd as UploadEnd, BlockUploadAcknowledge, BlockUploadStart, BlockDownloadInitiate, BlockDownloadEnd}
-use Rattle.co_sdo.specs.Log.{Answer, Log, answer_bytes, frames_on}
+use Rattle.co_sdo.specs.Log.{Answer, answer_bytes, frames_on}
 use Rattle.co_sheet.specs.Content.{Row}
 use Rattle.conode_explain_transfers.specs.declared.channel.Heard.{Heard}
 use Rattle.conode_explain_transfers.specs.declared.ended.Ended.{Ended}
-use Rattle.conode_explain_transfers.specs.declared.ended.Ending.TheVariants.{Aborted, Interrupted, Repeated, Unanswered}
+use Rattle.conode_explain_transfers.specs.declared.ended.Ending.TheVariants.{Aborted, Repeated}
 use Rattle.conode_explain_transfers.specs.declared.kinds.Direction.{Direction}
 use Rattle.conode_explain_transfers.specs.declared.kinds.Direction.TheVariants.{Download, Upload}
 use Rattle.conode_explain_transfers.specs.declared.kinds.Side.{Side}
@@ -33,14 +28,13 @@ use Rattle.conode_explain_transfers.specs.Readings.{reading_of as their_reading_
 use Rattle.conode_explain_transfers.specs.Stages.{confirmed_with}
 use Rattle.conode_explain_transfers.specs.Transfers.{Turn, after, is_same_request}
 use Rattle.conode_explain_transfers.specs.Turns.{request_turn}
-use Rattle.conode_explain_laws.proofs.Readings.{Reading, Begin, Abort, Request, Nothing, follows_by, request_reading, same as same_reading, turn_of}
+use Rattle.conode_explain_laws.proofs.Readings.{Request, Nothing, follows_by, request_reading, same as same_reading, turn_of}
 use Rattle.conode_explain_laws.proofs.Views.{server_no_begin}
 use Rattle.conode_compare_held.specs.declared.written.HeldMismatch.{HeldMismatch}
 use Rattle.conode_compare_held.specs.declared.written.Written.{Written}
 use Rattle.conode_compare_held.specs.HeldNumbers.{held_mismatch}
 use Rattle.conode_compare_values.specs.declared.mismatch.Mismatch.{Mismatch}
 use Rattle.conode_compare_values.specs.SheetValues.{mismatch_at}
-use Rattle.conode_compare_transfers.specs.declared.breach.Breach.{Breach}
 use Rattle.conode_compare_transfers.specs.declared.dialogue.Asked.{Asked}
 use Rattle.conode_compare_transfers.specs.declared.dialogue.Dialogue.{Dialogue}
 use Rattle.conode_compare_transfers.specs.declared.dialogue.Exchange.{Exchange}
@@ -63,7 +57,7 @@ use Rattle.conode_compare_rules.specs.Progresses.{after_frame, answer_findings, 
 use Rattle.conode_compare_rules.specs.States.{is_settled}
 use Rattle.conode_compare_rules.specs.Verdicts.{found}
 use Rattle.conode_compare_laws.specs.AnswerFindings.{of_transfers, transfer_differences}
-use Rattle.conode_compare_laws.proofs.AnswerTurns.{Asked as AskedTurn, Sound, asked, asks_for_blocks}
+use Rattle.conode_compare_laws.proofs.AnswerTurns.{Sound, asked}
 use Rattle.conode_compare_laws.proofs.AnswerKeys.{kept}
 use Rattle.conode_compare_laws.proofs.AnswerFollowed.{client_reading, reads}
 use Rattle.conode_compare_laws.proofs.AnswerBreaches.{Fine, FineEnd}

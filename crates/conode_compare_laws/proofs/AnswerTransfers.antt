@@ -1,30 +1,19 @@
 -- A request on the default channel of a device without block transfers, and its answers: nothing is found within the transfer.
-use Rattle.std.proofs.Common.{◌≡◌, ℕ, ◌+◌, ◌<◌, ◌≤◌, Bool, true, false, not, List, [], ◌∷◌, ◌++◌, length, Option, Some, None, refl, sym, ap, ◌∙◌, ◌⊎◌, inl, inr, subst, arith}
-use Rattle.std.specs.Prelude.{◌==◌, ◌&&◌, ◌||◌, if◌then◌else◌, is_some, IfSome, nat_le}
-use Rattle.std.specs.Option.{option_or}
+use Rattle.std.proofs.Common.{◌≡◌, ℕ, ◌<◌, Bool, true, false, not, List, Option, Some, None, refl, sym, ap, ◌∙◌, ◌⊎◌, inl, inr}
+use Rattle.std.specs.Prelude.{◌&&◌, if◌then◌else◌, is_some, IfSome}
 use Rattle.std.proofs.lemmas.Bool.{false≢true}
 use Rattle.co_value.specs.declared.key.Key.{Key}
-use Rattle.co_value.specs.Numbers.{AreBytes}
-use Rattle.co_frame.specs.AbortCodes.{unknown_command}
 use Rattle.co_frame.specs.FrameContent.{FrameContent}
-use Rattle.co_frame.specs.SdoRequests.{request_in}
-use Rattle.co_frame.specs.SdoResponses.{response_bytes}
-use Rattle.co_frame.specs.declared.sdo_request.ExpeditedData.TheVariants.{Indicated}
 use Rattle.co_frame.specs.declared.sdo_request.SdoRequest.{SdoRequest}
 use Rattle.co_frame.specs.declared.sdo_request.SdoRequest.TheVariants.{DownloadExpedited, DownloadInitiate, DownloadSegment, Upload as UploadInitiate, UploadSegment as NextSegment, Abort as Abandon, BlockUploadInitiate, BlockUploadEnd as UploadEnd, BlockUploadAcknowledge, BlockUploadStart, BlockDownloadInitiate, BlockDownloadEnd}
 use Rattle.co_frame.specs.declared.abort_code.AbortCode.{AbortCode}
-use Rattle.co_dict.specs.Rows.{Contents}
-use Rattle.co_dict.specs.Stores.{Description}
-use Rattle.co_sdo.specs.Log.{Answer, Log, Response as Replied, answer_bytes}
-use Rattle.co_sdo.specs.Opened.{OpenTransfer, opened_after}
 use Rattle.co_sdo.specs.OpenTransfers.{is_initiate as initiates}
-use Rattle.co_sdo.specs.Replies.{is_in_sub_block as is_inside}
 use Rattle.conode_explain_transfers.specs.declared.kinds.Side.{Side}
-use Rattle.conode_explain_transfers.specs.declared.kinds.Side.TheVariants.{Client, Server}
+use Rattle.conode_explain_transfers.specs.declared.kinds.Side.TheVariants.{Client}
 use Rattle.conode_explain_transfers.specs.declared.kinds.What.{What}
 use Rattle.conode_explain_transfers.specs.declared.kinds.What.TheVariants as what
 use Rattle.conode_explain_transfers.specs.declared.stage.Stage.{Stage}
-use Rattle.conode_explain_transfers.specs.declared.stage.Stage.TheVariants.{DownloadSent, UploadAsked, SubBlock, BlockInitiated, AllAcknowledged, BlockEnded}
+use Rattle.conode_explain_transfers.specs.declared.stage.Stage.TheVariants.{DownloadSent, UploadAsked, SubBlock, BlockInitiated, AllAcknowledged}
 use Rattle.conode_explain_transfers.specs.declared.transfer.Transfer.{Transfer}
 use Rattle.conode_explain_transfers.specs.BlockTurns.{acknowledged, acknowledged_at, block_ended, block_ended_at, crc_in, end_confirmed, end_confirmed_at, is_block, upload_started_at}
 use Rattle.conode_explain_transfers.specs.Followed.{Followed, turns_at, with_frame}

@@ -21,6 +21,7 @@ pub mod AnswerDialogues
 pub mod AnswerSteps
 pub mod AnswerDevice
 pub mod AnswerExchange
+pub mod AnswerCalm
 pub mod AnswerInputs
 pub mod AnswerWords
 pub mod AnswerSending
