@@ -1,11 +1,10 @@
 -- What compare finds of answers in recordings: where another sender answers too, and where a block download was begun before a pause.
-use Rattle.std.proofs.Common.{◌≡◌, ℕ, ◌+◌, true, false, List, [], ◌∷◌, Some, None, refl}
+use Rattle.std.proofs.Common.{◌≡◌, ℕ, true, false, List, [], ◌∷◌, Some, None, refl}
 use Rattle.co_frame.specs.SdoRequests.{request_row_in}
 use Rattle.co_frame.specs.SdoResponses.{response_row_in}
 use Rattle.co_profile.specs.declared.access.Access.TheVariants.{Rw}
 use Rattle.co_value.specs.declared.key.Key.{Key}
 use Rattle.co_node_model.specs.Inputs.{InputView, Ticked}
-use Rattle.co_node_model.specs.Moments.{Constants}
 use Rattle.co_node_model.proofs.ExampleNode.{device_with, frame, request, searches, u16}
 use Rattle.conode_compare_pdos.specs.Followed.{unknown_pdos}
 use Rattle.conode_compare_held.specs.HeldNumbers.{held_mismatch}
