@@ -156,7 +156,7 @@ sent k subject rows micros before input p aside h =
     joined state_differences s rows micros (a ++ b ++ c ++ d) (map (tpdo_frame k.description m.contents) m.due) p (runs final) (runs final) fourth
     (λ q g. asides s rows micros (map (tpdo_frame k.description m.contents) m.due) q (runs final) aside.tpdos g)
 
-input_goes : (k : Constants) (subject : Subject) (rows : List Row) (micros : ℕ) (before : Inputs) (input : InputView) (p : Progress) → IsElsewhere (0x700 + k.description.node) input → SendsAside k (moment k (moments k before) input)
+pub input_goes : (k : Constants) (subject : Subject) (rows : List Row) (micros : ℕ) (before : Inputs) (input : InputView) (p : Progress) → IsElsewhere (0x700 + k.description.node) input → SendsAside k (moment k (moments k before) input)
     → FitsAt micros (runs (state_of k before)) p
     → AllGo state_differences (of_device k subject) rows micros p (frame_of input ++ prescribed k before input) (runs (state_of k (input ∷ before)))
 input_goes k subject rows micros before input p foreign aside h =

@@ -14,6 +14,26 @@ pub mod Beats
 pub mod Heartbeats
 pub mod Pauses
 pub mod Pausing
+pub mod AnswerTurns
+pub mod AnswerFollowed
+pub mod AnswerFound
+pub mod AnswerDialogues
+pub mod AnswerSteps
+pub mod AnswerDevice
+pub mod AnswerExchange
+pub mod AnswerCalm
+pub mod AnswerInputs
+pub mod AnswerWords
+pub mod AnswerSending
+pub mod AnswerBegins
+pub mod AnswerKeys
+pub mod AnswerOpened
+pub mod AnswerBreaches
+pub mod AnswerTransfers
+pub mod AnswerTransferRuns
+pub mod AnswerTransferExchange
+pub mod AnswerTransferInputs
+mod AnswerExamples
 mod Examples
 pub mod TpdoOthers
 pub mod TpdoParts

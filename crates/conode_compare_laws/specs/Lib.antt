@@ -6,3 +6,5 @@ pub mod TpdoDifferences
 pub mod TpdoFrames
 pub mod TpdoParameters
 pub mod TpdoSheets
+pub mod AnswerFindings
+pub mod AnswerSenders

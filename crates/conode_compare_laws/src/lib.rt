@@ -2,6 +2,7 @@
 //! prescribed, `compare` says so. A call of a law changes nothing.
 #![tactic(auto)]
 
+mod answer_laws;
 mod aside;
 mod built_devices;
 mod early_emergencies;
@@ -11,6 +12,10 @@ mod states;
 mod tpdo_built;
 mod tpdo_laws;
 
+pub use answer_laws::{
+    begins_other, built_no_answer_differences, built_no_transfer_differences,
+    no_answer_differences, no_transfer_differences, sends_other,
+};
 pub use aside::sends_aside;
 pub use built_devices::{begins_aside, built_no_state_differences};
 pub use early_emergencies::no_early_emergencies;

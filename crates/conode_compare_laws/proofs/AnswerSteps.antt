@@ -1,0 +1,384 @@
+-- What holds of what compare knows of the channel, frame by frame: which transfer is open, and why an initiate request isn't answered.
+use Rattle.std.proofs.Common.{◌≡◌, ℕ, ◌-◌, ◌*◌, ◌≤◌, Bool, true, false, List, [], ◌∷◌, Option, Some, None, refl, sym, ap, ◌∙◌, subst, arith}
+use Rattle.std.specs.Prelude.{◌==◌, ◌||◌, if◌then◌else◌, is_some, IfSome, nat_lt}
+use Rattle.std.specs.Option.{option_map_or, option_or, option_to_list}
+use Rattle.std.proofs.lemmas.Bool.{false≢true}
+use Rattle.std.proofs.lemmas.Bool.Decides.{nat_tests}
+use Rattle.co_frame.specs.FrameContent.{FrameContent}
+use Rattle.co_frame.specs.Heartbeats.{state_byte}
+use Rattle.co_frame.specs.declared.nmt.NmtCommand.{NmtCommand}
+use Rattle.co_frame.specs.declared.nmt.NmtService.{NmtService}
+use Rattle.co_frame.specs.declared.nmt.NmtService.TheVariants.{Start, Stop, EnterPreOperational, ResetNode, ResetCommunication}
+use Rattle.co_sheet.specs.Content.{Row}
+use Rattle.co_node_model.specs.Nmt.{service_for}
+use Rattle.co_node_parts.specs.declared.nmt_state.NodeState.{NodeState}
+use Rattle.co_node_parts.specs.declared.nmt_state.NodeState.TheVariants as node
+use Rattle.co_node_parts.specs.NmtStates.{heartbeat_of}
+use Rattle.conode_explain_transfers.specs.declared.kinds.Side.TheVariants.{Client, Server}
+use Rattle.conode_compare_transfers.specs.declared.breach.Breach.{Breach}
+use Rattle.conode_compare_transfers.specs.declared.dialogue.Asked.{Asked}
+use Rattle.conode_compare_transfers.specs.declared.dialogue.Dialogue.{Dialogue}
+use Rattle.conode_compare_transfers.specs.declared.dialogue.Exchange.{Exchange}
+use Rattle.conode_compare_transfers.specs.Dialogues.{dialogue_heard, exchange_in, given_up, interrupted}
+use Rattle.conode_compare_transfers.specs.Times.{is_past, micros_of}
+use Rattle.conode_compare_rules.specs.declared.finding.Finding.{Finding}
+use Rattle.conode_compare_rules.specs.declared.kind.FrameKind.{FrameKind}
+use Rattle.conode_compare_rules.specs.declared.kind.FrameKind.TheVariants.{Command, CommandToAll, Control, Emergency as Emcy, OddEmergency, Process, Sdo, Other}
+use Rattle.conode_compare_rules.specs.declared.limits.Limits.{Limits}
+use Rattle.conode_compare_rules.specs.declared.limits.Subject.{Subject}
+use Rattle.conode_compare_rules.specs.declared.nmt.Commanded.{Commanded}
+use Rattle.conode_compare_rules.specs.declared.nmt.Nmt.{Nmt}
+use Rattle.conode_compare_rules.specs.declared.progress.Progress.{Progress}
+use Rattle.conode_compare_rules.specs.Answers.{answer_finding, breach_finding, confirmed_finding, held_finding, silence_finding, stopped_finding}
+use Rattle.conode_compare_rules.specs.FrameKinds.{command_to, data_kind}
+use Rattle.conode_compare_rules.specs.Heartbeats.{is_gap}
+use Rattle.conode_compare_rules.specs.Progresses as progresses
+use Rattle.conode_compare_rules.specs.Progresses.{
+  after_command,
+  after_emergency,
+  after_frame,
+  after_process,
+  answer_findings,
+  answer_noted,
+  anew_after,
+  begins_anew,
+  begun,
+  booted,
+  channel_heard,
+  confirmed_findings,
+  control_findings,
+  emergency_findings,
+  exchange_at,
+  exchange_noted,
+  findings_at,
+  findings_in,
+  heartbeat_findings,
+  late_noted,
+  process_findings,
+  progress_with,
+  request_findings,
+  sighting_findings,
+  silence_at,
+  was_quiet,
+  with_gap,
+}
+use Rattle.conode_compare_pdos.specs.declared.pdos.Sighting.{Sighting}
+use Rattle.conode_compare_pdos.specs.Followed as tpdos
+use Rattle.conode_compare_rules.specs.States as states
+use Rattle.conode_compare_rules.specs.States.{after_other, shows_state}
+use Rattle.conode_compare_rules.specs.Verdicts.{found}
+use Rattle.conode_compare_laws.specs.AnswerFindings.{answer_differences, of_answers}
+use Rattle.conode_compare_laws.proofs.AnswerTurns.{Sound}
+use Rattle.conode_compare_laws.proofs.AnswerFound.{commanded_since, never_past, none_awaited, silent}
+use Rattle.conode_compare_laws.proofs.Runs.{AllRun}
+use Rattle.conode_compare_laws.proofs.Shown.{Stage, boots, runs, stage_after}
+
+-- ---- what holds
+
+-- not later than the newest frame
+abbrev pub IsBy : ℕ → Option ℕ → Type 0
+IsBy micros None = ⊥
+IsBy micros (Some newest) = micros ≤ newest
+
+-- a command came since
+abbrev pub Since : ℕ → Option Commanded → Type 0
+Since micros None = ⊥
+Since micros (Some c) = micros ≤ c.micros
+
+-- the device needn't have answered what was asked then: it is stopped, or was before a command that came since
+abbrev pub Excused : Stage → ℕ → Option Commanded → Type 0
+Excused boots micros commanded = ⊥
+Excused (runs node.Stopped) micros commanded = Unit {0}
+Excused (runs node.PreOperational) micros commanded = Since micros commanded
+Excused (runs node.Operational) micros commanded = Since micros commanded
+
+-- an initiate request that isn't answered, where the channel is idle
+pub record Awaits (Idle : Type 0) (stage : Stage) (newest : Option ℕ) (commanded : Option Commanded) (a : Asked) : Type 0 where
+  pub by : IsBy a.micros newest
+  pub excused : Excused stage a.micros commanded
+  pub idle : Idle
+
+pub record HoldsOf (Idle : Type 0) (stage : Stage) (newest : Option ℕ) (commanded : Option Commanded) (d : Dialogue) : Type 0 where
+  pub sound : IfSome d.channel.transfer Sound
+  pub asked : IfSome d.asked (Awaits Idle stage newest commanded)
+
+abbrev pub Holds : Type 0 → Stage → Progress → Type 0
+Holds Idle stage p = HoldsOf Idle stage p.newest p.nmt.commanded p.dialogue
+
+pub some_map : {A : Type 0} (o : Option A) (P Q : A → Type 0) → ((x : A) → P x → Q x) → IfSome o P → IfSome o Q
+some_map None P Q f h = tt
+some_map (Some x) P Q f h = f x h
+
+pub if_none : {A : Type 0} (o : Option A) (P : A → Type 0) → o ≡ None → IfSome o P
+if_none None P h = tt
+if_none (Some x) P h = absurd (let no : is_some (Some x) ≡ false = ap is_some h in false≢true (sym no))
+
+-- nothing is asked
+pub none_holds : (Idle : Type 0) (stage : Stage) (newest : Option ℕ) (commanded : Option Commanded) (d : Dialogue) → IfSome d.channel.transfer Sound → d.asked ≡ None → HoldsOf Idle stage newest commanded d
+none_holds Idle stage newest commanded d s none = record { sound = s; asked = if_none d.asked (Awaits Idle stage newest commanded) none }
+
+-- ---- a recording that begins anew at a frame, and one that was quiet
+
+quiet_holds : (Idle : Type 0) (stage : Stage) (newest : Option ℕ) (commanded : Option Commanded) (d : Dialogue) (micros : ℕ) (quiet : Bool) → HoldsOf Idle stage newest commanded d
+    → HoldsOf Idle stage newest commanded (if quiet then interrupted d micros else d)
+quiet_holds Idle stage newest commanded d micros true h = record { sound = tt; asked = tt }
+quiet_holds Idle stage newest commanded d micros false h = h
+
+up_to_now : (period : Option ℕ) (limits : Limits) (t micros : ℕ) (newest : Option ℕ) → anew_after limits period newest micros ≡ false → IsBy t newest → IsBy t (Some micros)
+up_to_now period limits t micros None e h = absurd h
+up_to_now period limits t micros (Some n) e h = by (nat_lt micros n) (is_gap limits period n micros) refl e
+  where
+    by : (back gap : Bool) → nat_lt micros n ≡ back → (back || gap) ≡ false → t ≤ micros
+    by true gap b off = absurd (false≢true (sym off))
+    by false gap b off = grind (arith, nat_tests)
+
+newer : (Idle : Type 0) (stage : Stage) (limits : Limits) (period : Option ℕ) (micros : ℕ) (newest : Option ℕ) (commanded : Option Commanded) (d : Dialogue) → anew_after limits period newest micros ≡ false
+    → HoldsOf Idle stage newest commanded d → HoldsOf Idle stage (Some micros) commanded d
+newer Idle stage limits period micros newest commanded d e h = record {
+  sound = h.sound;
+  asked = some_map d.asked (Awaits Idle stage newest commanded) (Awaits Idle stage (Some micros) commanded)
+      (λ a w. record { by = up_to_now period limits a.micros micros newest e w.by; excused = w.excused; idle = w.idle }) h.asked;
+}
+
+begun_either : (Idle : Type 0) (stage : Stage) (b : Bool) (x y : Progress) → Holds Idle stage x → (b ≡ false → Holds Idle stage y) → Holds Idle stage (if b then x else y)
+begun_either Idle stage true x y p q = p
+begun_either Idle stage false x y p q = q refl
+
+pub begun_holds : (Idle : Type 0) (subject : Subject) (p : Progress) (micros : ℕ) (stage : Stage) → Holds Idle stage p → Holds Idle stage (begun subject p micros)
+unfolding begun
+begun_holds Idle subject p micros stage h =
+    begun_either Idle stage (begins_anew subject.limits p micros) _ _ (record { sound = tt; asked = tt })
+    (λ e. quiet_holds Idle stage (Some micros) p.nmt.commanded p.dialogue micros (was_quiet subject.limits p micros) (newer Idle stage subject.limits p.entries.period micros p.newest p.nmt.commanded p.dialogue e h))
+
+newest_either : (b : Bool) (x y : Progress) (n : Option ℕ) → x.newest ≡ n → y.newest ≡ n → (if b then x else y).newest ≡ n
+newest_either true x y n p q = p
+newest_either false x y n p q = q
+
+pub begun_newest : (subject : Subject) (p : Progress) (micros : ℕ) → (begun subject p micros).newest ≡ Some micros
+unfolding begun
+begun_newest subject p micros = newest_either (begins_anew subject.limits p micros) _ _ (Some micros) refl refl
+
+-- at the same time as the frame before nothing of it changes
+pub record Same (p q : Progress) (micros : ℕ) : Type 0 where
+  pub newest : q.newest ≡ Some micros
+  pub dialogue : q.dialogue ≡ p.dialogue
+  pub nmt : q.nmt ≡ p.nmt
+
+no_gap : (limits : Limits) (period : Option ℕ) (micros : ℕ) → anew_after limits period (Some micros) micros ≡ false
+no_gap limits None micros = grind (arith, nat_tests)
+no_gap limits (Some period) micros = by (nat_lt 0 period) (nat_lt micros micros) (nat_lt (3 * micros_of period) (micros - micros)) (is_past micros limits.answer micros) (grind (arith, nat_tests)) (grind (arith, nat_tests)) (never_past micros limits.answer)
+  where
+    by : (some back far past : Bool) → back ≡ false → far ≡ false → past ≡ false → (back || (if some then far else past)) ≡ false
+    by true back far past b f p = rw (b, f) refl
+    by false back far past b f p = rw (b, p) refl
+
+not_quiet : (limits : Limits) (micros : ℕ) (newest : Option ℕ) → newest ≡ Some micros → option_map_or (λ n. is_past n limits.answer micros) newest false ≡ false
+not_quiet limits micros newest e = ap (λ o. option_map_or (λ n. is_past n limits.answer micros) o false) e ∙ never_past micros limits.answer
+
+pub begun_same : (subject : Subject) (p : Progress) (micros : ℕ) → p.newest ≡ Some micros → Same p (begun subject p micros) micros
+unfolding begun
+begun_same subject p micros now =
+    let same : begins_anew subject.limits p micros ≡ false = ap (λ o. anew_after subject.limits p.entries.period o micros) now ∙ no_gap subject.limits p.entries.period micros in
+    let heard : was_quiet subject.limits p micros ≡ false = not_quiet subject.limits micros p.newest now in
+    rw same (record { newest = refl; dialogue = ap (λ b. if b then interrupted p.dialogue micros else p.dialogue) heard; nmt = refl })
+
+-- ---- one frame
+
+-- nothing is found at it, and this holds then
+pub record Quiet (subject : Subject) (rows : List Row) (p : Progress) (micros : ℕ) (kind : FrameKind) (after : Progress → Type 0) : Type 0 where
+  pub none : answer_differences kind (findings_in subject rows p micros kind) ≡ []
+  pub next : after (after_frame subject p micros kind)
+
+pub frame_runs : (subject : Subject) (rows : List Row) (micros : ℕ) (p : Progress) (frame : FrameContent) (kind : FrameKind) (after : Progress → Type 0) → data_kind subject.node frame ≡ kind
+    → Quiet subject rows (begun subject p micros) micros kind after → AllRun answer_differences subject rows micros p (frame ∷ []) after
+unfolding findings_at progress_with
+frame_runs subject rows micros p frame kind after is q =
+    let at : Quiet subject rows (begun subject p micros) micros (data_kind subject.node frame) after = subst (λ k. Quiet subject rows (begun subject p micros) micros k after) (sym is) q in
+    (at.none, at.next)
+
+-- ---- commands
+
+now_by : (t micros : ℕ) (newest : Option ℕ) → newest ≡ Some micros → IsBy t newest → t ≤ micros
+now_by t micros newest e h = subst (IsBy t) e h
+
+commanded_holds : (Idle : Type 0) (state : NodeState) (actual : Stage) (micros : ℕ) (newest : Option ℕ) (old : Option Commanded) (service : NmtService) (d : Dialogue) → newest ≡ Some micros → HoldsOf Idle actual newest old d
+    → HoldsOf Idle (runs state) newest (Some (record { service = service; micros = micros })) d
+commanded_holds Idle state actual micros newest old service d now h = record {
+  sound = h.sound;
+  asked = some_map d.asked (Awaits Idle actual newest old) (Awaits Idle (runs state) newest (Some (record { service = service; micros = micros })))
+      (λ a w. record { by = w.by; excused = by state (now_by a.micros micros newest now w.by); idle = w.idle }) h.asked;
+}
+  where
+    by : {t : ℕ} (state : NodeState) → t ≤ micros → Excused (runs state) t (Some (record { service = service; micros = micros }))
+    by node.Stopped h = tt
+    by node.PreOperational h = h
+    by node.Operational h = h
+
+service_holds : (Idle : Type 0) (p : Progress) (micros : ℕ) (service : NmtService) (own : Bool) (actual : NodeState) → p.newest ≡ Some micros → Holds Idle (runs actual) p
+    → Holds Idle (stage_after (Some service) actual) (after_command p service own micros)
+unfolding after_command states.after_command with_gap
+service_holds Idle p micros Start own actual now h = commanded_holds Idle node.Operational (runs actual) micros p.newest p.nmt.commanded Start p.dialogue now h
+service_holds Idle p micros Stop own actual now h = commanded_holds Idle node.Stopped (runs actual) micros p.newest p.nmt.commanded Stop p.dialogue now h
+service_holds Idle p micros EnterPreOperational own actual now h = commanded_holds Idle node.PreOperational (runs actual) micros p.newest p.nmt.commanded EnterPreOperational p.dialogue now h
+service_holds Idle p micros ResetNode own actual now h = record { sound = tt; asked = tt }
+service_holds Idle p micros ResetCommunication own actual now h = record { sound = tt; asked = tt }
+
+pub command_quiet : (Idle : Type 0) (subject : Subject) (rows : List Row) (p : Progress) (micros : ℕ) (command : Option NmtCommand) (actual : NodeState) → p.newest ≡ Some micros → Holds Idle (runs actual) p
+    → Quiet subject rows p micros (command_to subject.node command) (Holds Idle (stage_after (service_for subject.node command) actual))
+command_quiet Idle subject rows p micros None actual now h = record { none = refl; next = h }
+command_quiet Idle subject rows p micros (Some command) actual now h = by (command.node == 0) (command.node == subject.node)
+  where
+    by : (all this : Bool)
+        → Quiet subject rows p micros (if all then CommandToAll command.service else (if this then Command command.service else Other))
+        (Holds Idle (stage_after (if all || this then Some command.service else None) actual))
+    by true this = record { none = refl; next = service_holds Idle p micros command.service subject.facts.starts_itself actual now h }
+    by false true = record { none = refl; next = service_holds Idle p micros command.service false actual now h }
+    by false false = record { none = refl; next = h }
+
+-- ---- frames that are neither of the channel nor of error control nor commands
+
+abbrev pub is_apart : FrameKind → Bool
+is_apart (Emcy code register) = true
+is_apart (OddEmergency length) = true
+is_apart (Process id length) = true
+is_apart _ = false
+
+emergency_quiet : (Idle : Type 0) (subject : Subject) (rows : List Row) (p : Progress) (micros code register : ℕ) (stage : Stage) → Holds Idle stage p → Quiet subject rows p micros (Emcy code register) (Holds Idle stage)
+unfolding emergency_findings after_emergency found
+emergency_quiet Idle subject rows p micros code register stage h = record { none = refl; next = record { sound = h.sound; asked = h.asked } }
+
+odd_emergency_quiet : (Idle : Type 0) (subject : Subject) (rows : List Row) (p : Progress) (micros length : ℕ) (stage : Stage) → Holds Idle stage p → Quiet subject rows p micros (OddEmergency length) (Holds Idle stage)
+unfolding after_emergency found
+odd_emergency_quiet Idle subject rows p micros length stage h = record { none = refl; next = record { sound = h.sound; asked = h.asked } }
+
+sighted_none : (id length : ℕ) (o : Option Sighting) → answer_differences (Process id length) (sighting_findings o) ≡ []
+unfolding found
+sighted_none id length None = refl
+sighted_none id length (Some sighting) = refl
+
+process_quiet : (Idle : Type 0) (subject : Subject) (rows : List Row) (p : Progress) (micros id length : ℕ) (stage : Stage) → Holds Idle stage p → Quiet subject rows p micros (Process id length) (Holds Idle stage)
+unfolding process_findings after_process
+process_quiet Idle subject rows p micros id length stage h = record { none = sighted_none id length (tpdos.sighting _ p.pdos id length); next = record { sound = h.sound; asked = h.asked } }
+
+pub apart_quiet : (Idle : Type 0) (subject : Subject) (rows : List Row) (p : Progress) (micros : ℕ) (kind : FrameKind) (stage : Stage) → is_apart kind ≡ true → Holds Idle stage p → Quiet subject rows p micros kind (Holds Idle stage)
+apart_quiet Idle subject rows p micros (Emcy code register) stage is h = emergency_quiet Idle subject rows p micros code register stage h
+apart_quiet Idle subject rows p micros (OddEmergency length) stage is h = odd_emergency_quiet Idle subject rows p micros length stage h
+apart_quiet Idle subject rows p micros (Process id length) stage is h = process_quiet Idle subject rows p micros id length stage h
+apart_quiet Idle subject rows p micros _ stage is h = absurd (false≢true is)
+
+-- ---- the boot-up, and heartbeats
+
+pub boot_quiet : (Idle : Type 0) (subject : Subject) (rows : List Row) (p : Progress) (micros : ℕ) (stage : Stage) → Quiet subject rows p micros (Control 0) (Holds Idle stage)
+unfolding found booted
+boot_quiet Idle subject rows p micros stage = record { none = refl; next = record { sound = tt; asked = tt } }
+
+same_command : (limits : Limits) (started : ℕ) (nmt : Nmt) (micros : ℕ) (final : NodeState) → (states.after_control limits started nmt micros (state_byte (heartbeat_of final))).commanded ≡ nmt.commanded
+unfolding states.after_control after_other
+same_command limits started nmt micros node.PreOperational = by (shows_state limits started nmt micros 127)
+  where
+    by : (b : Bool) → (if b then record (after_other limits nmt micros) { state = states.state_of 127 } else after_other limits nmt micros).commanded ≡ nmt.commanded
+    by true = refl
+    by false = refl
+same_command limits started nmt micros node.Operational = by (shows_state limits started nmt micros 5)
+  where
+    by : (b : Bool) → (if b then record (after_other limits nmt micros) { state = states.state_of 5 } else after_other limits nmt micros).commanded ≡ nmt.commanded
+    by true = refl
+    by false = refl
+same_command limits started nmt micros node.Stopped = by (shows_state limits started nmt micros 4)
+  where
+    by : (b : Bool) → (if b then record (after_other limits nmt micros) { state = states.state_of 4 } else after_other limits nmt micros).commanded ≡ nmt.commanded
+    by true = refl
+    by false = refl
+
+-- a request that isn't answered is no difference
+excused_by : (limits : Limits) (started : ℕ) (nmt : Nmt) (d : Dialogue) (micros byte : ℕ) (a : Asked) (o : Option Commanded) → d.asked ≡ Some a → nmt.commanded ≡ o → Since a.micros o → silence_finding limits started nmt d micros byte ≡ None
+excused_by limits started nmt d micros byte a None is commanded h = absurd h
+excused_by limits started nmt d micros byte a (Some c) is commanded h = commanded_since limits started nmt d micros byte a c is commanded h
+
+excused_none : (limits : Limits) (started : ℕ) (nmt : Nmt) (d : Dialogue) (micros : ℕ) (a : Asked) (final : NodeState) → d.asked ≡ Some a → Excused (runs final) a.micros nmt.commanded
+    → silence_finding limits started nmt d micros (state_byte (heartbeat_of final)) ≡ None
+excused_none limits started nmt d micros a node.Stopped is h = silent limits started nmt d micros 4 refl
+excused_none limits started nmt d micros a node.PreOperational is h = excused_by limits started nmt d micros 127 a nmt.commanded is refl h
+excused_none limits started nmt d micros a node.Operational is h = excused_by limits started nmt d micros 5 a nmt.commanded is refl h
+
+none_silent : (Idle : Type 0) (subject : Subject) (p : Progress) (micros : ℕ) (final : NodeState) → Holds Idle (runs final) p → silence_at subject p micros (state_byte (heartbeat_of final)) ≡ None
+none_silent Idle subject p micros final h = by p.dialogue.asked refl h.asked
+  where
+    by : (o : Option Asked) → p.dialogue.asked ≡ o → IfSome o (Awaits Idle (runs final) p.newest p.nmt.commanded) → silence_at subject p micros (state_byte (heartbeat_of final)) ≡ None
+    by None is w = none_awaited subject.limits p.started p.nmt p.dialogue micros (state_byte (heartbeat_of final)) is
+    by (Some a) is w = excused_none subject.limits p.started p.nmt p.dialogue micros a final is w.excused
+
+given_up_holds : (Idle : Type 0) (stage : Stage) (newest : Option ℕ) (commanded : Option Commanded) (d : Dialogue) (micros : ℕ) (late : Bool) → HoldsOf Idle stage newest commanded d
+    → HoldsOf Idle stage newest commanded (if late then given_up d micros else d)
+given_up_holds Idle stage newest commanded d micros true h = record { sound = h.sound; asked = tt }
+given_up_holds Idle stage newest commanded d micros false h = h
+
+life_none : (Idle : Type 0) (subject : Subject) (rows : List Row) (p : Progress) (micros : ℕ) (final : NodeState) → Holds Idle (runs final) p
+    → answer_differences (Control (state_byte (heartbeat_of final))) (findings_in subject rows p micros (Control (state_byte (heartbeat_of final)))) ≡ []
+unfolding found control_findings heartbeat_findings
+life_none Idle subject rows p micros node.PreOperational h = ap option_to_list (none_silent Idle subject p micros node.PreOperational h)
+life_none Idle subject rows p micros node.Operational h = ap option_to_list (none_silent Idle subject p micros node.Operational h)
+life_none Idle subject rows p micros node.Stopped h = ap option_to_list (none_silent Idle subject p micros node.Stopped h)
+
+life_holds : (Idle : Type 0) (subject : Subject) (p : Progress) (micros : ℕ) (final : NodeState) → Holds Idle (runs final) p → Holds Idle (runs final) (progresses.after_control subject p micros (state_byte (heartbeat_of final)))
+unfolding progresses.after_control
+life_holds Idle subject p micros final h =
+    subst (λ c. HoldsOf Idle (runs final) p.newest c (if is_some (silence_at subject p micros (state_byte (heartbeat_of final))) then given_up p.dialogue micros else p.dialogue))
+    (sym (same_command subject.limits p.started p.nmt micros final))
+    (given_up_holds Idle (runs final) p.newest p.nmt.commanded p.dialogue micros (is_some (silence_at subject p micros (state_byte (heartbeat_of final)))) h)
+
+pub life_quiet : (Idle : Type 0) (subject : Subject) (rows : List Row) (p : Progress) (micros : ℕ) (final : NodeState) → Holds Idle (runs final) p
+    → Quiet subject rows p micros (Control (state_byte (heartbeat_of final))) (Holds Idle (runs final))
+life_quiet Idle subject rows p micros node.PreOperational h = record { none = life_none Idle subject rows p micros node.PreOperational h; next = life_holds Idle subject p micros node.PreOperational h }
+life_quiet Idle subject rows p micros node.Operational h = record { none = life_none Idle subject rows p micros node.Operational h; next = life_holds Idle subject p micros node.Operational h }
+life_quiet Idle subject rows p micros node.Stopped h = record { none = life_none Idle subject rows p micros node.Stopped h; next = life_holds Idle subject p micros node.Stopped h }
+
+-- ---- a frame of the client
+
+breach_none : (b : Option Breach) → answer_differences (Sdo Client (record { id = 0; bytes = [] })) (confirmed_findings (breach_finding b)) ≡ []
+unfolding found
+breach_none None = refl
+breach_none (Some b) = refl
+
+client_none : (subject : Subject) (rows : List Row) (p : Progress) (micros : ℕ) (frame : FrameContent) → answer_differences (Sdo Client frame) (findings_in subject rows p micros (Sdo Client frame)) ≡ []
+unfolding request_findings confirmed_finding found
+client_none subject rows p micros frame = by x.certain
+  where
+    x : Exchange
+    x = exchange_at subject p micros Client frame
+
+    breach : (b : Option Breach) → answer_differences (Sdo Client frame) (confirmed_findings (breach_finding b)) ≡ []
+    breach None = refl
+    breach (Some b) = refl
+
+    by : (certain : Bool) → answer_differences (Sdo Client frame) (confirmed_findings (if certain then breach_finding (exchange_at subject p micros Client frame).breach else None)) ≡ []
+    by true = breach (exchange_at subject p micros Client frame).breach
+    by false = refl
+
+-- after which this holds of what is known of the channel
+pub client_quiet : (subject : Subject) (rows : List Row) (p : Progress) (micros : ℕ) (frame : FrameContent) (After : Option ℕ → Nmt → Dialogue → Type 0)
+    → After p.newest p.nmt (dialogue_heard subject.limits.answer p.started p.dialogue micros Client frame)
+    → Quiet subject rows p micros (Sdo Client frame) (λ q. After q.newest q.nmt q.dialogue)
+unfolding channel_heard exchange_noted
+client_quiet subject rows p micros frame After h = record { none = client_none subject rows p micros frame; next = h }
+
+-- ---- a frame of the server
+
+-- the answer's own finding
+abbrev pub answer_found : Subject → List Row → Progress → ℕ → FrameContent → List Finding
+answer_found subject rows p micros frame =
+    let noted = answer_noted subject p micros in
+    let x = exchange_in subject.limits.answer p.started p.dialogue micros Server frame in
+    of_answers (option_or (stopped_finding subject.limits p.started noted.nmt x)
+    (option_or (answer_finding subject rows micros x frame) (held_finding subject p.written x)))
+
+server_none : (subject : Subject) (rows : List Row) (p : Progress) (micros : ℕ) (frame : FrameContent) → answer_found subject rows p micros frame ≡ []
+    → answer_differences (Sdo Server frame) (findings_in subject rows p micros (Sdo Server frame)) ≡ []
+unfolding answer_findings found exchange_at late_noted
+server_none subject rows p micros frame h = h
+
+pub server_quiet : (subject : Subject) (rows : List Row) (p : Progress) (micros : ℕ) (frame : FrameContent) (After : Option ℕ → Dialogue → Type 0) → answer_found subject rows p micros frame ≡ []
+    → After p.newest (dialogue_heard subject.limits.answer p.started p.dialogue micros Server frame)
+    → Quiet subject rows p micros (Sdo Server frame) (λ q. After q.newest q.dialogue)
+unfolding channel_heard exchange_noted late_noted
+server_quiet subject rows p micros frame After none h = record { none = server_none subject rows p micros frame none; next = h }

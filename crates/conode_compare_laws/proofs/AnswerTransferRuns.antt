@@ -1,0 +1,375 @@
+-- Frames of a device without block transfers, one after another: nothing is found within the transfers of its default channel.
+use Rattle.std.proofs.Common.{◌≡◌, ℕ, ◌+◌, ◌-◌, Bool, true, false, List, [], ◌∷◌, Option, Some, None, refl, sym, ap, ◌∙◌, ◌⊎◌, inl, inr, subst}
+use Rattle.std.specs.Prelude.{◌&&◌, if◌then◌else◌, is_some, IfSome, option_map}
+use Rattle.std.specs.Option.{option_or}
+use Rattle.std.proofs.lemmas.Bool.{false≢true}
+use Rattle.co_value.specs.declared.key.Key.{Key}
+use Rattle.co_frame.specs.FrameContent.{FrameContent}
+use Rattle.co_frame.specs.SdoRequests.{request_in}
+use Rattle.co_frame.specs.declared.abort_code.AbortCode.{AbortCode}
+use Rattle.co_frame.specs.declared.sdo_request.SdoRequest.{SdoRequest}
+use Rattle.co_frame.specs.declared.sdo_request.SdoRequest.TheVariants.{DownloadExpedited, DownloadInitiate, DownloadSegment, Upload as UploadInitiate, UploadSegment as NextSegment, Abort as Abandon, BlockUploadInitiate, BlockUploadEnd as UploadEnd, BlockUploadAcknowledge, BlockUploadStart, BlockDownloadInitiate, BlockDownloadEnd}
+use Rattle.co_sdo.specs.Log.{Answer, answer_bytes, frames_on}
+use Rattle.co_sheet.specs.Content.{Row}
+use Rattle.conode_explain_transfers.specs.declared.channel.Heard.{Heard}
+use Rattle.conode_explain_transfers.specs.declared.ended.Ended.{Ended}
+use Rattle.conode_explain_transfers.specs.declared.ended.Ending.TheVariants.{Aborted, Repeated}
+use Rattle.conode_explain_transfers.specs.declared.kinds.Direction.{Direction}
+use Rattle.conode_explain_transfers.specs.declared.kinds.Direction.TheVariants.{Download, Upload}
+use Rattle.conode_explain_transfers.specs.declared.kinds.Side.{Side}
+use Rattle.conode_explain_transfers.specs.declared.kinds.Side.TheVariants.{Client, Server}
+use Rattle.conode_explain_transfers.specs.declared.kinds.What.{What}
+use Rattle.conode_explain_transfers.specs.declared.kinds.What.TheVariants as what
+use Rattle.conode_explain_transfers.specs.declared.transfer.Transfer.{Transfer}
+use Rattle.conode_explain_transfers.specs.BlockTurns.{is_block}
+use Rattle.conode_explain_transfers.specs.Endings.{ended}
+use Rattle.conode_explain_transfers.specs.Followed.{Followed, Following, followed, key_for, left, left_by, one_more, turns_at}
+use Rattle.conode_explain_transfers.specs.Readings.{reading_of as their_reading_of}
+use Rattle.conode_explain_transfers.specs.Stages.{confirmed_with}
+use Rattle.conode_explain_transfers.specs.Transfers.{Turn, after, is_same_request}
+use Rattle.conode_explain_transfers.specs.Turns.{request_turn}
+use Rattle.conode_explain_laws.proofs.Readings.{Request, Nothing, follows_by, request_reading, same as same_reading, turn_of}
+use Rattle.conode_explain_laws.proofs.Views.{server_no_begin}
+use Rattle.conode_compare_held.specs.declared.written.HeldMismatch.{HeldMismatch}
+use Rattle.conode_compare_held.specs.declared.written.Written.{Written}
+use Rattle.conode_compare_held.specs.HeldNumbers.{held_mismatch}
+use Rattle.conode_compare_values.specs.declared.mismatch.Mismatch.{Mismatch}
+use Rattle.conode_compare_values.specs.SheetValues.{mismatch_at}
+use Rattle.conode_compare_transfers.specs.declared.dialogue.Asked.{Asked}
+use Rattle.conode_compare_transfers.specs.declared.dialogue.Dialogue.{Dialogue}
+use Rattle.conode_compare_transfers.specs.declared.dialogue.Exchange.{Exchange}
+use Rattle.conode_compare_transfers.specs.declared.newest.Newest.{Newest}
+use Rattle.conode_compare_transfers.specs.Breaches.{breach_at, breach_by, ending_breach}
+use Rattle.conode_compare_transfers.specs.Dialogues.{dialogue_heard, exchange_in, is_timed, leaves_request_open}
+use Rattle.conode_compare_transfers.specs.Times.{is_past}
+use Rattle.conode_compare_rules.specs.declared.finding.Finding.{Finding}
+use Rattle.conode_compare_rules.specs.declared.finding.Finding.TheVariants.{AnswerStopped, Held, NoAnswer, Unasked}
+use Rattle.conode_compare_rules.specs.declared.kind.FrameKind.{FrameKind}
+use Rattle.conode_compare_rules.specs.declared.kind.FrameKind.TheVariants.{Sdo}
+use Rattle.conode_compare_rules.specs.declared.limits.Limits.{Limits}
+use Rattle.conode_compare_rules.specs.declared.limits.Subject.{Subject}
+use Rattle.conode_compare_rules.specs.declared.nmt.Nmt.{Nmt}
+use Rattle.conode_compare_rules.specs.declared.progress.Progress.{Progress}
+use Rattle.conode_compare_rules.specs.Answers.{answer_finding, breach_finding, confirmed_finding, ended_finding, finding_of, held_finding, is_abort, is_indicated, known_answer, late_answer, overdue_answer, refuses_other, stopped_finding, stopped_with, value_finding, what_finding}
+use Rattle.conode_compare_rules.specs.EmergencyRules.{is_stopped}
+use Rattle.conode_compare_rules.specs.FrameKinds.{data_kind}
+use Rattle.conode_compare_rules.specs.Progresses.{after_frame, answer_findings, answer_noted, begun, channel_heard, confirmed_findings, exchange_at, exchange_noted, findings_at, findings_in, late_noted, progress_with, request_findings}
+use Rattle.conode_compare_rules.specs.States.{is_settled}
+use Rattle.conode_compare_rules.specs.Verdicts.{found}
+use Rattle.conode_compare_laws.specs.AnswerFindings.{of_transfers, transfer_differences}
+use Rattle.conode_compare_laws.proofs.AnswerTurns.{Sound, asked}
+use Rattle.conode_compare_laws.proofs.AnswerKeys.{kept}
+use Rattle.conode_compare_laws.proofs.AnswerFollowed.{client_reading, reads}
+use Rattle.conode_compare_laws.proofs.AnswerBreaches.{Fine, FineEnd}
+use Rattle.conode_compare_laws.proofs.AnswerDialogues.{channel_is, doubted_is, in_doubt}
+use Rattle.conode_compare_laws.proofs.AnswerSteps.{Same, begun_same}
+use Rattle.conode_compare_laws.proofs.AnswerTransfers.{Shape, shape_goes}
+use Rattle.conode_compare_laws.proofs.AnswerExchange.{answer_kind}
+use Rattle.conode_compare_laws.proofs.Runs.{AllRun, joined}
+
+-- ---- what isn't of these kinds
+
+only_or : (x y : Option Finding) → of_transfers x ≡ [] → of_transfers y ≡ [] → of_transfers (option_or x y) ≡ []
+only_or None y p q = q
+only_or (Some finding) y p q = p
+
+no_value : (m : Option Mismatch) → of_transfers (value_finding m) ≡ []
+no_value None = refl
+no_value (Some m) = refl
+
+no_end : (subject : Subject) (rows : List Row) (frame : FrameContent) (ended : Option Ended) → of_transfers (ended_finding subject rows frame ended) ≡ []
+no_end subject rows frame None = refl
+no_end subject rows frame (Some e) = by (refuses_other frame e)
+  where
+    by : (b : Bool) → of_transfers (if b then None else value_finding (mismatch_at subject.node subject.facts.modular rows (is_indicated frame) e)) ≡ []
+    by true = refl
+    by false = no_value _
+
+no_held : (m : Option HeldMismatch) → of_transfers (option_map (λ m. Held m) m) ≡ []
+no_held None = refl
+no_held (Some m) = refl
+
+held_none : (subject : Subject) (written : Written) (x : Exchange) → of_transfers (held_finding subject written x) ≡ []
+unfolding held_finding
+held_none subject written x = no_held (held_mismatch subject.held.entries.items written x.certain x.heard.ended)
+
+stopped_by : (limits : Limits) (started : ℕ) (nmt : Nmt) (asked : Option Asked) → of_transfers (stopped_with limits started nmt asked) ≡ []
+stopped_by limits started nmt None = refl
+stopped_by limits started nmt (Some a) = by (is_stopped nmt.state && is_settled limits started nmt.commanded a.micros)
+  where
+    by : (b : Bool) → of_transfers (if b then Some (AnswerStopped a.key) else None) ≡ []
+    by true = refl
+    by false = refl
+
+stopped_none : (limits : Limits) (started : ℕ) (nmt : Nmt) (x : Exchange) → of_transfers (stopped_finding limits started nmt x) ≡ []
+unfolding stopped_finding
+stopped_none limits started nmt x = by x.certain
+  where
+    by : (certain : Bool) → of_transfers (if certain then stopped_with limits started nmt x.asked else None) ≡ []
+    by true = stopped_by limits started nmt x.asked
+    by false = refl
+
+late_none : (limits : Limits) (asked : Option Asked) (micros : ℕ) → of_transfers (late_answer limits asked micros) ≡ []
+late_none limits None micros = refl
+late_none limits (Some a) micros = by (is_timed a.key && is_past a.micros limits.answer micros)
+  where
+    by : (b : Bool) → of_transfers (if b then Some (NoAnswer a.key (micros - a.micros)) else None) ≡ []
+    by true = refl
+    by false = refl
+
+overdue_none : (limits : Limits) (x : Exchange) (micros : ℕ) → of_transfers (overdue_answer limits x micros) ≡ []
+overdue_none limits x micros = by x.owed
+  where
+    by : (b : Bool) → of_transfers (if b then late_answer limits x.asked micros else None) ≡ []
+    by true = late_none limits x.asked micros
+    by false = refl
+
+asked_none : (f : Asked → Finding) (o : Option Asked) → ((a : Asked) → of_transfers (Some (f a)) ≡ []) → of_transfers (option_map f o) ≡ []
+asked_none f None h = refl
+asked_none f (Some a) h = h a
+
+what_by : (subject : Subject) (rows : List Row) (x : Exchange) (frame : FrameContent) (w : What) → of_transfers (finding_of subject rows x frame w) ≡ []
+what_by subject rows x frame what.Stray = by (is_abort frame)
+  where
+    by : (b : Bool) → of_transfers (if b then None else Some Unasked) ≡ []
+    by true = refl
+    by false = refl
+what_by subject rows x frame what.Overtaken = asked_none _ x.asked (λ a. refl)
+what_by subject rows x frame what.Unexpected = asked_none _ x.asked (λ a. refl)
+what_by subject rows x frame what.Part = no_end subject rows frame x.heard.ended
+what_by subject rows x frame _ = refl
+
+what_none : (subject : Subject) (rows : List Row) (x : Exchange) (frame : FrameContent) → of_transfers (what_finding subject rows x frame) ≡ []
+unfolding what_finding
+what_none subject rows x frame = what_by subject rows x frame x.heard.what
+
+answer_none : (subject : Subject) (rows : List Row) (micros : ℕ) (x : Exchange) (frame : FrameContent) → (x.certain ≡ false) ⊎ (of_transfers (breach_finding x.breach) ≡ []) → of_transfers (answer_finding subject rows micros x frame) ≡ []
+unfolding answer_finding
+answer_none subject rows micros x frame h = by x.certain h
+  where
+    by : (certain : Bool) → (certain ≡ false) ⊎ (of_transfers (breach_finding x.breach) ≡ [])
+        → of_transfers (if certain then option_or (overdue_answer subject.limits x micros) (known_answer subject rows x frame) else None) ≡ []
+    by false h = refl
+    by true (inl off) = absurd (false≢true (sym off))
+    by true (inr none) =
+        only_or (overdue_answer subject.limits x micros) (known_answer subject rows x frame) (overdue_none subject.limits x micros)
+        (only_or (what_finding subject rows x frame) (breach_finding x.breach) (what_none subject rows x frame) none)
+
+-- ---- a frame of the server
+
+says_is : (following : Following) (micros : ℕ) (side : Side) (bytes : List ℕ)
+    → (followed following micros side bytes).says ≡ record (reads following micros side bytes).says { of = key_for following.transfer (their_reading_of following.transfer side bytes) }
+says_is following micros side bytes =
+    ap (λ (f : Followed). record f.says { of = key_for following.transfer (their_reading_of following.transfer side bytes) }) (same_reading following.heard following.transfer micros side bytes bytes).followed
+
+no_breach : (answer started : ℕ) (d : Dialogue) (micros : ℕ) (frame : FrameContent) → Fine frame (reads d.channel micros Server frame.bytes).says
+    → of_transfers (breach_finding (exchange_in answer started d micros Server frame).breach) ≡ []
+unfolding exchange_in
+no_breach answer started d micros frame f = ap (λ h. of_transfers (breach_finding (breach_at d.newest Server h frame))) (says_is d.channel micros Server frame.bytes) ∙ f d.newest _
+
+-- it is in doubt, or nothing is found of it in its transfer
+abbrev pub IsFine : ℕ → Dialogue → FrameContent → Type 0
+IsFine micros d frame = (d.doubted ≡ Some micros) ⊎ Fine frame (reads d.channel micros Server frame.bytes).says
+
+server_none : (subject : Subject) (rows : List Row) (p : Progress) (micros : ℕ) (frame : FrameContent) → IsFine micros p.dialogue frame
+    → transfer_differences (Sdo Server frame) (findings_in subject rows p micros (Sdo Server frame)) ≡ []
+unfolding answer_findings found exchange_at late_noted
+server_none subject rows p micros frame h =
+    let x : Exchange = exchange_in subject.limits.answer p.started p.dialogue micros Server frame in
+    only_or (stopped_finding subject.limits p.started (answer_noted subject p micros).nmt x) _ (stopped_none subject.limits p.started (answer_noted subject p micros).nmt x)
+    (only_or (answer_finding subject rows micros x frame) (held_finding subject p.written x)
+    (answer_none subject rows micros x frame (elim h [
+      | inl doubt ↦ inl (in_doubt subject.limits.answer p.started p.dialogue micros frame doubt)
+      | inr f ↦ inr (no_breach subject.limits.answer p.started p.dialogue micros frame f)
+    ]))
+    (held_none subject p.written x))
+
+-- ---- a frame of the client
+
+-- how the transfer ends that another one follows, or the client's abort
+left_end : (frame : FrameContent) (current : Option Transfer) (micros : ℕ) (bytes : List ℕ) → FineEnd frame (left current micros bytes)
+left_end frame None micros bytes = tt
+left_end frame (Some t) micros bytes = by t.direction (is_same_request t bytes) t.by
+  where
+    by : (direction : Direction) (same : Bool) (side : Side)
+        → of_transfers (breach_finding (ending_breach frame (ended t micros (if same then Repeated else left_by side)) direction (if same then Repeated else left_by side))) ≡ []
+    by Download true side = refl
+    by Upload true side = refl
+    by Download false Client = refl
+    by Upload false Client = refl
+    by Download false Server = refl
+    by Upload false Server = refl
+
+abort_end : (frame : FrameContent) (t : Transfer) (code : AbortCode) (micros : ℕ) (direction : Direction) → of_transfers (breach_finding (ending_breach frame (ended (one_more t) micros (Aborted Client code)) direction (Aborted Client code))) ≡ []
+abort_end frame t code micros Download = refl
+abort_end frame t code micros Upload = refl
+
+-- no request confirms a transfer that isn't in blocks
+turn_end : (x : Option (Option ℕ)) (heard : Bool) (w : What) (u : Transfer) (micros : ℕ) (frame : FrameContent) → is_some x ≡ false → FineEnd frame (turns_at x heard w u micros Client).says.ended
+turn_end None heard w u micros frame h = tt
+turn_end (Some crc) heard w u micros frame h = absurd (false≢true (sym h))
+
+unconfirmed_by : (x : Bool) (block : Bool) → (x ≡ true → block ≡ true) → block ≡ false → x ≡ false
+unconfirmed_by true block h off = absurd (false≢true (sym off ∙ h refl))
+unconfirmed_by false block h off = refl
+
+request_end : (key : Key) (heard : Bool) (t : Transfer) (request : SdoRequest) (micros : ℕ) (frame : FrameContent) → Shape key t → FineEnd frame (follows_by heard (Some t) (Request request) micros Client frame.bytes).says.ended
+request_end key heard t request micros frame s =
+    let turn : Turn = request_turn t request frame.bytes in
+    turn_end (confirmed_with turn.transfer.stage) heard turn.what (after t turn) micros frame
+    (unconfirmed_by (is_some (confirmed_with turn.transfer.stage)) (is_block turn.transfer.protocol) (asked t request frame.bytes s.sound.unconfirmed).ends ((kept t (Request request) frame.bytes).protocol s.block))
+
+-- a reading of a request
+client_end : (key : Key) (heard : Bool) (current : Option Transfer) (r : Option SdoRequest) (micros : ℕ) (frame : FrameContent) → IfSome current (Shape key)
+    → FineEnd frame (follows_by heard current (request_reading r micros frame.bytes) micros Client frame.bytes).says.ended
+client_end key heard current None micros frame s = by current s
+  where
+    by : (o : Option Transfer) → IfSome o (Shape key) → FineEnd frame (follows_by heard o Nothing micros Client frame.bytes).says.ended
+    by None s = tt
+    by (Some t) s = turn_end (confirmed_with t.stage) heard what.Unexpected (after t (turn_of t Nothing frame.bytes)) micros frame (ap is_some s.sound.unconfirmed)
+client_end key heard None (Some (Abandon k code)) micros frame s = tt
+client_end key heard (Some t) (Some (Abandon k code)) micros frame s = abort_end frame t code micros t.direction
+client_end key heard current (Some (DownloadExpedited k value)) micros frame s = left_end frame current micros frame.bytes
+client_end key heard current (Some (DownloadInitiate k size)) micros frame s = left_end frame current micros frame.bytes
+client_end key heard current (Some (UploadInitiate k)) micros frame s = left_end frame current micros frame.bytes
+client_end key heard current (Some (BlockUploadInitiate k size threshold)) micros frame s = left_end frame current micros frame.bytes
+client_end key heard current (Some (BlockDownloadInitiate k size)) micros frame s = left_end frame current micros frame.bytes
+client_end key heard None (Some (DownloadSegment toggle segment last)) micros frame s = tt
+client_end key heard (Some t) (Some (DownloadSegment toggle segment last)) micros frame s = request_end key heard t (DownloadSegment toggle segment last) micros frame s
+client_end key heard None (Some (NextSegment toggle)) micros frame s = tt
+client_end key heard (Some t) (Some (NextSegment toggle)) micros frame s = request_end key heard t (NextSegment toggle) micros frame s
+client_end key heard None (Some UploadEnd) micros frame s = tt
+client_end key heard (Some t) (Some UploadEnd) micros frame s = request_end key heard t UploadEnd micros frame s
+client_end key heard None (Some (BlockUploadAcknowledge sequence size)) micros frame s = tt
+client_end key heard (Some t) (Some (BlockUploadAcknowledge sequence size)) micros frame s = request_end key heard t (BlockUploadAcknowledge sequence size) micros frame s
+client_end key heard None (Some BlockUploadStart) micros frame s = tt
+client_end key heard (Some t) (Some BlockUploadStart) micros frame s = request_end key heard t BlockUploadStart micros frame s
+client_end key heard None (Some (BlockDownloadEnd unused)) micros frame s = tt
+client_end key heard (Some t) (Some (BlockDownloadEnd unused)) micros frame s = request_end key heard t (BlockDownloadEnd unused) micros frame s
+
+client_breach : (newest : Option Newest) (heard : Heard) (frame : FrameContent) → FineEnd frame heard.ended → of_transfers (breach_finding (breach_at newest Client heard frame)) ≡ []
+unfolding breach_at
+client_breach None heard frame h = refl
+client_breach (Some newest) heard frame h = by heard.ended h
+  where
+    by : (o : Option Ended) → FineEnd frame o → of_transfers (breach_finding (breach_by newest Client heard frame o)) ≡ []
+    by None h = refl
+    by (Some e) h = h
+
+says_client : (d : Dialogue) (micros : ℕ) (frame : FrameContent) → IfSome d.channel.transfer Sound
+    → (followed d.channel micros Client frame.bytes).says.ended ≡ (follows_by d.channel.heard d.channel.transfer (request_reading (request_in frame.bytes) micros frame.bytes) micros Client frame.bytes).says.ended
+says_client d micros frame s =
+    ap (λ (h : Heard). h.ended) (says_is d.channel micros Client frame.bytes)
+    ∙ ap (λ r. (follows_by d.channel.heard d.channel.transfer r micros Client frame.bytes).says.ended) (client_reading d.channel.transfer micros frame.bytes s)
+
+pub sound_in : (key : Key) (o : Option Transfer) → IfSome o (Shape key) → IfSome o Sound
+sound_in key None s = tt
+sound_in key (Some t) s = s.sound
+
+client_breach_none : (key : Key) (answer started : ℕ) (d : Dialogue) (micros : ℕ) (frame : FrameContent) → IfSome d.channel.transfer (Shape key) → of_transfers (breach_finding (exchange_in answer started d micros Client frame).breach) ≡ []
+unfolding exchange_in
+client_breach_none key answer started d micros frame s =
+    client_breach d.newest (followed d.channel micros Client frame.bytes).says frame
+    (subst (FineEnd frame) (sym (says_client d micros frame (sound_in key d.channel.transfer s))) (client_end key d.channel.heard d.channel.transfer (request_in frame.bytes) micros frame s))
+
+confirmed_none : (frame : FrameContent) (o : Option Finding) → of_transfers o ≡ [] → transfer_differences (Sdo Client frame) (confirmed_findings o) ≡ []
+unfolding found
+confirmed_none frame None h = refl
+confirmed_none frame (Some finding) h = h
+
+client_none : (key : Key) (subject : Subject) (rows : List Row) (p : Progress) (micros : ℕ) (frame : FrameContent) → IfSome p.dialogue.channel.transfer (Shape key)
+    → transfer_differences (Sdo Client frame) (findings_in subject rows p micros (Sdo Client frame)) ≡ []
+unfolding request_findings confirmed_finding exchange_at
+client_none key subject rows p micros frame s = by (exchange_in subject.limits.answer p.started p.dialogue micros Client frame).certain
+  where
+    by : (certain : Bool) → transfer_differences (Sdo Client frame) (confirmed_findings (if certain then breach_finding (exchange_in subject.limits.answer p.started p.dialogue micros Client frame).breach else None)) ≡ []
+    by true = confirmed_none frame _ (client_breach_none key subject.limits.answer p.started p.dialogue micros frame s)
+    by false = refl
+
+-- ---- frames one after another
+
+-- nothing is found at a frame, and this holds then
+pub record Quiet (subject : Subject) (rows : List Row) (p : Progress) (micros : ℕ) (kind : FrameKind) (after : Progress → Type 0) : Type 0 where
+  pub none : transfer_differences kind (findings_in subject rows p micros kind) ≡ []
+  pub next : after (after_frame subject p micros kind)
+
+pub frame_runs : (subject : Subject) (rows : List Row) (micros : ℕ) (p : Progress) (frame : FrameContent) (kind : FrameKind) (after : Progress → Type 0) → data_kind subject.node frame ≡ kind
+    → Quiet subject rows (begun subject p micros) micros kind after → AllRun transfer_differences subject rows micros p (frame ∷ []) after
+unfolding findings_at progress_with
+frame_runs subject rows micros p frame kind after is q =
+    let at : Quiet subject rows (begun subject p micros) micros (data_kind subject.node frame) after = subst (λ k. Quiet subject rows (begun subject p micros) micros k after) (sym is) q in
+    (at.none, at.next)
+
+pub cons_runs : (subject : Subject) (rows : List Row) (micros : ℕ) (p : Progress) (frame : FrameContent) (later : List FrameContent) (kind : FrameKind) (between after : Progress → Type 0) → data_kind subject.node frame ≡ kind
+    → Quiet subject rows (begun subject p micros) micros kind between → ((q : Progress) → between q → AllRun transfer_differences subject rows micros q later after)
+    → AllRun transfer_differences subject rows micros p (frame ∷ later) after
+cons_runs subject rows micros p frame later kind between after is q rest =
+    joined transfer_differences subject rows micros (frame ∷ []) later p between after (frame_runs subject rows micros p frame kind between is q) rest
+
+pub server_quiet : (subject : Subject) (rows : List Row) (p : Progress) (micros : ℕ) (frame : FrameContent) (After : Option ℕ → Dialogue → Type 0) → IsFine micros p.dialogue frame
+    → After p.newest (dialogue_heard subject.limits.answer p.started p.dialogue micros Server frame)
+    → Quiet subject rows p micros (Sdo Server frame) (λ q. After q.newest q.dialogue)
+unfolding channel_heard exchange_noted late_noted
+server_quiet subject rows p micros frame After f h = record { none = server_none subject rows p micros frame f; next = h }
+
+pub client_quiet : (key : Key) (subject : Subject) (rows : List Row) (p : Progress) (micros : ℕ) (frame : FrameContent) (After : Option ℕ → Dialogue → Type 0) → IfSome p.dialogue.channel.transfer (Shape key)
+    → After p.newest (dialogue_heard subject.limits.answer p.started p.dialogue micros Client frame)
+    → Quiet subject rows p micros (Sdo Client frame) (λ q. After q.newest q.dialogue)
+unfolding channel_heard exchange_noted
+client_quiet key subject rows p micros frame After s h = record { none = client_none key subject rows p micros frame s; next = h }
+
+-- ---- the transfer after a frame of the server
+
+pub shape_after : (key : Key) (answer started : ℕ) (d : Dialogue) (micros : ℕ) (frame : FrameContent) → IfSome d.channel.transfer (Shape key)
+    → IfSome (dialogue_heard answer started d micros Server frame).channel.transfer (Shape key)
+shape_after key answer started d micros frame s =
+    subst (λ (f : Following). IfSome f.transfer (Shape key)) (sym (channel_is answer started d micros Server frame))
+    (shape_goes key d.channel.heard d.channel.transfer _ micros Server frame.bytes s (server_no_begin d.channel.transfer micros frame.bytes))
+
+doubt_after : (answer started : ℕ) (d : Dialogue) (micros : ℕ) (frame : FrameContent) → d.doubted ≡ Some micros → (dialogue_heard answer started d micros Server frame).doubted ≡ Some micros
+doubt_after answer started d micros frame h = doubted_is answer started d micros Server frame ∙ by (leaves_request_open Server (reads d.channel micros Server frame.bytes).says frame)
+  where
+    by : (b : Bool) → (if b then Some micros else d.doubted) ≡ Some micros
+    by true = refl
+    by false = h
+
+abbrev pub HasShape : Key → Progress → Type 0
+HasShape key q = IfSome q.dialogue.channel.transfer (Shape key)
+
+-- answers in doubt
+pub record InDoubt (key : Key) (micros : ℕ) (newest : Option ℕ) (d : Dialogue) : Type 0 where
+  pub now : newest ≡ Some micros
+  pub doubt : d.doubted ≡ Some micros
+  pub shape : IfSome d.channel.transfer (Shape key)
+
+pub doubt_runs : (key : Key) (subject : Subject) (rows : List Row) (micros : ℕ) (answers : List Answer) (q : Progress) → InDoubt key micros q.newest q.dialogue
+    → AllRun transfer_differences subject rows micros q (frames_on (0x580 + subject.node) answers) (HasShape key)
+doubt_runs key subject rows micros [] q h = h.shape
+doubt_runs key subject rows micros (answer ∷ later) q h =
+    let same : Same q (begun subject q micros) micros = begun_same subject q micros h.now in
+    let p : Progress = begun subject q micros in
+    let doubt : p.dialogue.doubted ≡ Some micros = ap (λ (d : Dialogue). d.doubted) same.dialogue ∙ h.doubt in
+    let shape : IfSome p.dialogue.channel.transfer (Shape key) = subst (λ (d : Dialogue). IfSome d.channel.transfer (Shape key)) (sym same.dialogue) h.shape in
+    let frame : FrameContent = record { id = 0x580 + subject.node; bytes = answer_bytes answer } in
+    cons_runs subject rows micros q frame (frames_on (0x580 + subject.node) later) (Sdo Server frame) (λ x. InDoubt key micros x.newest x.dialogue) (HasShape key) (answer_kind subject.node (answer_bytes answer))
+    (server_quiet subject rows p micros frame (InDoubt key micros) (inl doubt)
+    (record {
+      now = same.newest;
+      doubt = doubt_after subject.limits.answer p.started p.dialogue micros frame doubt;
+      shape = shape_after key subject.limits.answer p.started p.dialogue micros frame shape;
+    }))
+    (λ x g. doubt_runs key subject rows micros later x g)
+
+-- one answer, of which nothing is found with this transfer
+pub one_runs : (key : Key) (subject : Subject) (rows : List Row) (micros : ℕ) (answer : Answer) (q : Progress) (t : Transfer) → q.newest ≡ Some micros → q.dialogue.channel.transfer ≡ Some t → Shape key t
+    → ((heard : Bool) → Fine (record { id = 0x580 + subject.node; bytes = answer_bytes answer }) (reads (record { heard = heard; transfer = Some t }) micros Server (answer_bytes answer)).says)
+    → AllRun transfer_differences subject rows micros q (frames_on (0x580 + subject.node) (answer ∷ [])) (HasShape key)
+one_runs key subject rows micros answer q t now is shape f =
+    let same : Same q (begun subject q micros) micros = begun_same subject q micros now in
+    let p : Progress = begun subject q micros in
+    let here : p.dialogue.channel.transfer ≡ Some t = ap (λ (d : Dialogue). d.channel.transfer) same.dialogue ∙ is in
+    let frame : FrameContent = record { id = 0x580 + subject.node; bytes = answer_bytes answer } in
+    frame_runs subject rows micros q frame (Sdo Server frame) (HasShape key) (answer_kind subject.node (answer_bytes answer))
+    (server_quiet subject rows p micros frame (λ newest d. IfSome d.channel.transfer (Shape key))
+    (inr (subst (λ o. Fine frame (reads (record { heard = p.dialogue.channel.heard; transfer = o }) micros Server frame.bytes).says) (sym here) (f p.dialogue.channel.heard)))
+    (shape_after key subject.limits.answer p.started p.dialogue micros frame (subst (λ o. IfSome o (Shape key)) (sym here) shape)))
