@@ -116,11 +116,14 @@ one_more frames frame =
     ∙ time_more (λ n. log_with n (sign_of frame) frame.micros (node_log n frames)) most_nodes (shown_by (channels_of frames) frame) frame.micros
 
 -- one node more that sent nothing
-pub one_new : (nodes : List Node) (count : ℕ) (node : Node) → nodes ≡ replicate count (node_of []) → node ≡ node_of []
-    → nodes ++ node ∷ [] ≡ replicate (count + 1) (node_of [])
-one_new nodes count node before is = rw (before, is) (replicate-append-replicate count 1 (node_of []))
+pub one_new : (before after : List Node) (count : ℕ) (node : Node) → before ≡ replicate count (node_of []) → node ≡ node_of [] → after ≡ before ++ node ∷ []
+    → after ≡ replicate (count + 1) (node_of [])
+one_new before after count node so_far is more = more ∙ (rw (so_far, is) (replicate-append-replicate count 1 (node_of [])))
 
 -- no frame
-pub none : nodes_of [] ≡ replicate most_nodes (node_of [])
+none : nodes_of [] ≡ replicate most_nodes (node_of [])
 unfolding nodes_of node_log
 none = alike (node_of []) 0 most_nodes
+
+pub all_new : (nodes : List Node) (count : ℕ) → count ≡ 128 → nodes ≡ replicate count (node_of []) → nodes ≡ nodes_of []
+all_new nodes count e so_far = so_far ∙ rw e (sym none)

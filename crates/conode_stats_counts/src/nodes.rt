@@ -15,7 +15,6 @@ use std::alloc::{AllocError, Global};
 const MOST_NODES: usize = 128;
 
 /// Nodes that sent nothing. `Err`: out of memory.
-#[tactic(auto, using(crate::proofs::Noded::none, crate::proofs::Noded::one_new))]
 pub(crate) fn new_nodes(alloc: Global) -> Result<Vec<Node>, AllocError>
     ensures { IfOk result (λ nodes. nodes.items ≡ nodes_of []) }
 {
