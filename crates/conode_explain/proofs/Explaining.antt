@@ -267,12 +267,12 @@ module _ (form : Layout) (sheets : List KnownSheet) where
 
   -- what is found next
   module _ (held holds : Held) (before after : Option (List ℕ)) (log : Log) (so_far : Progress) (old new : Option (List ℕ)) where
-    module _ (line : List ℕ) (then : Log) (next : Progress) (left : then ≡ (says log line).0) (is : next ≡ progress_after form sheets so_far (line_at log line))
+    module _ (line : List ℕ) (past : Log) (next : Progress) (left : past ≡ (says log line).0) (is : next ≡ progress_after form sheets so_far (line_at log line))
         (written : WritesLines old new (said_lines form sheets so_far (line_at log line))) where
       so : (bad : ℕ) (stopped : Bool) → Takes form sheets held holds before after log (says log line).0 so_far (progress_after form sheets so_far (line_at log line)) old new bad stopped
-          → Takes form sheets held holds before after log then so_far next old new bad stopped
+          → Takes form sheets held holds before after log past so_far next old new bad stopped
       so bad stopped h =
-          subst (λ (n : Progress). Takes form sheets held holds before after log then so_far n old new bad stopped) (sym is)
+          subst (λ (n : Progress). Takes form sheets held holds before after log past so_far n old new bad stopped) (sym is)
           (subst (λ (l : Log). Takes form sheets held holds before after log l so_far (progress_after form sheets so_far (line_at log line)) old new bad stopped) (sym left) h)
 
       whole_line : Gave held.ended holds.ended before after (λ had has. Finds (to_come held had) (to_come holds has) line Line)
@@ -287,9 +287,9 @@ module _ (form : Layout) (sheets : List KnownSheet) where
 
       pub takes_line : (bad : ℕ) → bad ≡ faults_in (line_at log line)
           → Gave held.ended holds.ended before after (λ had has. Finds (to_come held had) (to_come holds has) line Line)
-          → Takes form sheets held holds before after log then so_far next old new bad (form.stop && (bad == 1))
+          → Takes form sheets held holds before after log past so_far next old new bad (form.stop && (bad == 1))
       takes_line bad counts found =
-          subst (λ (b : ℕ). Takes form sheets held holds before after log then so_far next old new b (form.stop && (b == 1))) (sym counts)
+          subst (λ (b : ℕ). Takes form sheets held holds before after log past so_far next old new b (form.stop && (b == 1))) (sym counts)
           (so (faults_in (line_at log line)) (form.stop && (faults_in (line_at log line) == 1)) (whole_line found))
 
       last_line : Gave held.ended holds.ended before after (λ had has. Finds (to_come held had) (to_come holds has) line Last)
@@ -302,7 +302,7 @@ module _ (form : Layout) (sheets : List KnownSheet) where
       }
 
       pub takes_last : Gave held.ended holds.ended before after (λ had has. Finds (to_come held had) (to_come holds has) line Last)
-          → Takes form sheets held holds before after log then so_far next old new 0 (form.stop && (0 == 1))
+          → Takes form sheets held holds before after log past so_far next old new 0 (form.stop && (0 == 1))
       takes_last found = so 0 (form.stop && (0 == 1)) (last_line found)
 
     pub takes_long : (line : List ℕ) → Gave held.ended holds.ended before after (λ had has. Finds (to_come held had) (to_come holds has) line TooLong)
@@ -313,10 +313,10 @@ module _ (form : Layout) (sheets : List KnownSheet) where
       gives = gave_so held.ended holds.ended before after _ _ found (λ had has f. gives_long log so_far f.0 (to_come held had) (to_come holds has) f.1 f.2 f.3);
     }
 
-  module _ (held mid : Held) (before between : Option (List ℕ)) (log then : Log) (first next : Progress) (old has : Option (List ℕ)) (bad : ℕ)
-      (h : Takes form sheets held mid before between log then first next old has bad false) where
+  module _ (held mid : Held) (before between : Option (List ℕ)) (log past : Log) (first next : Progress) (old has : Option (List ℕ)) (bad : ℕ)
+      (h : Takes form sheets held mid before between log past first next old has bad false) where
     -- a flush
-    pub takes_flushed : (new : Option (List ℕ)) → Keeps has new → Takes form sheets held mid before between log then first next old new bad false
+    pub takes_flushed : (new : Option (List ℕ)) → Keeps has new → Takes form sheets held mid before between log past first next old new bad false
     takes_flushed new kept = record {
       written = h.written;
       appended = Appends-kept old has new (flat_map (λ line. line) h.written) h.appended kept;
@@ -325,13 +325,13 @@ module _ (form : Layout) (sheets : List KnownSheet) where
 
     -- more lines
     pub takes_more : (holds : Held) (after : Option (List ℕ)) (left : Log) (last : Progress) (new : Option (List ℕ)) (also : ℕ) (stopped : Bool)
-        → Takes form sheets mid holds between after then left next last has new also stopped
+        → Takes form sheets mid holds between after past left next last has new also stopped
         → Takes form sheets held holds before after log left first last old new (bad + also) stopped
     takes_more holds after left last new also stopped k = record {
       written = h.written ++ k.written;
       appended = lines_after old has new h.written k.written h.appended k.appended;
       gives = gave_then held.ended mid.ended holds.ended before between after _ _ _ h.gives k.gives
-          (λ had middle has p q. gives_then (to_come held had) (to_come mid middle) (to_come holds has) log then left first next last h.written k.written bad also stopped p q);
+          (λ had middle has p q. gives_then (to_come held had) (to_come mid middle) (to_come holds has) log past left first next last h.written k.written bad also stopped p q);
     }
 
 -- ---- whether a line ends it

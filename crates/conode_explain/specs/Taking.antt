@@ -4,7 +4,6 @@ use Rattle.std.specs.Str.Lines.{lines}
 use Rattle.co_stream.specs.Held.{Held, to_come}
 use Rattle.co_stream.specs.Readings.{Gave}
 use Rattle.conode_explain_pdo.specs.Known.{KnownSheet}
-use Rattle.conode_convert.specs.Converted.{at_start}
 use Rattle.conode_io.specs.Written.{WritesLines}
 use Rattle.conode_logs.specs.declared.log.Log.{Log}
 use Rattle.conode_explain.specs.declared.progress.Layout.{Layout}

@@ -4,7 +4,7 @@ use Rattle.conode_record.specs.declared.fields.Identifier.{Identifier}
 use Rattle.conode_record.specs.declared.fields.Identifier.TheVariants.{Base, Extended, Error}
 use Rattle.conode_record.specs.declared.line.Record.{Record}
 use Rattle.conode_explain_filter.specs.declared.kind.Kind.{Kind}
-use Rattle.conode_explain_filter.specs.declared.kind.Kind.TheVariants.{Sdo, Pdo, Emergency, Nmt, Heartbeat, Sync, Other}
+use Rattle.conode_explain_filter.specs.declared.kind.Kind.TheVariants.{Sdo, Emergency, Nmt, Heartbeat}
 use Rattle.conode_explain_filter.specs.declared.subject.Subject.{Subject}
 use Rattle.conode_explain_text.specs.Lines.{odd_words}
 use Rattle.conode_explain_text.specs.SoFar.{SoFar, times_at}
@@ -34,7 +34,7 @@ data_tone Emergency bytes = emergency_tone bytes
 data_tone Sdo bytes = abort_tone bytes
 data_tone Nmt bytes = Notable
 data_tone Heartbeat bytes = boot_up_tone bytes
-data_tone other bytes = Plain
+data_tone _ bytes = Plain
 
 abbrev pub service_tone : Identifier → Kind → List ℕ → Tone
 service_tone (Base id) kind bytes = data_tone kind bytes

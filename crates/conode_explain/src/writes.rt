@@ -410,9 +410,9 @@ fn write_by<W: Write>(
         (sheets_of settings.now) progress.old frame.now told.now) }
     ensures err { IfErr result (λ fault. (fault ≡ CmdFault.Write) ⊎ (fault ≡ CmdFault.Memory)) }
 {
+    let last = progress.last(frame);
     let bus = bus_of(settings, &progress.entries, frame);
     set_claims(claims, bus, frame.id)?;
-    let last = progress.last(frame);
     write_first(
         room,
         &settings.form,

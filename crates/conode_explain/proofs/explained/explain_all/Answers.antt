@@ -35,7 +35,7 @@ returns-in-None-clause-known g c =
     let taken = takes_flushed form sheets nothing_held so_far.lines before between (at_start form.log) so_far.log nothing_known so_far.progress old now bad c.loop-number.invariant.taken out c.let_out.ensures.text in
     let ended = rw c.in-None.is at c.in_ok-more.ensures.end in
     let same = rw c.in-None.is at c.in_ok-more.ensures.progress_kept in
-    let last = g.W.Write.contents c.finish.new.out in
+    let last = g.W.Write.contents c.finish-in-None.new.out in
     let rest = rw (ended.0, same) at c.in_ok-finish-in-None.ensures.lines in
     explained_known form sheets so_far.lines c.take_line.new.self.lines before between after so_far.log so_far.progress old out last bad taken c.loop-number.invariant.none rest ended.1
 
@@ -54,7 +54,7 @@ returns-in-None-clause-any_reader g c =
     let taken = takes_flushed form sheets nothing_held so_far.lines before between (at_start form.log) so_far.log nothing_known so_far.progress old now bad c.loop-number.invariant.taken out c.let_out.ensures.text in
     let ended = rw c.in-None.is at c.in_ok-more.ensures.end in
     let same = rw c.in-None.is at c.in_ok-more.ensures.progress_kept in
-    let last = g.W.Write.contents c.finish.new.out in
+    let last = g.W.Write.contents c.finish-in-None.new.out in
     let rest = rw (ended.0, same) at c.in_ok-finish-in-None.ensures.lines in
     explained_any form sheets so_far.lines c.take_line.new.self.lines before between after so_far.log so_far.progress old out last bad taken c.loop-number.invariant.none rest ended.1
 
@@ -109,7 +109,7 @@ returns-then-ends-clause-known g c =
     let none : bad ≡ 0 = c.loop-number.invariant.none is.0 in
     stopped_known form sheets next.lines before after next.log next.progress old new last (bad + more)
     (takes_more form sheets nothing_held so_far.lines before between (at_start form.log) so_far.log nothing_known so_far.progress old out bad taken next.lines after next.log next.progress new more true up_to)
-    is.0 (omega (arith, none, is.1)) c.in_ok-finish.ensures.lines
+    is.0 (omega (arith, none, is.1)) c.in_ok-finish-in-Some.ensures.lines
 
 pub returns-then-ends-clause-any_reader : goal.returns-then-ends-clause-any_reader
 returns-then-ends-clause-any_reader g c =
@@ -135,4 +135,4 @@ returns-then-ends-clause-any_reader g c =
     let none : bad ≡ 0 = c.loop-number.invariant.none is.0 in
     stopped_any form sheets next.lines before after next.log next.progress old new last (bad + more)
     (takes_more form sheets nothing_held so_far.lines before between (at_start form.log) so_far.log nothing_known so_far.progress old out bad taken next.lines after next.log next.progress new more true up_to)
-    is.0 (omega (arith, none, is.1)) c.in_ok-finish.ensures.lines
+    is.0 (omega (arith, none, is.1)) c.in_ok-finish-in-Some.ensures.lines
