@@ -221,10 +221,7 @@ fn bad_keys<E: Write>(fault: HeldFault, err: &mut E) -> ExitCode
 {
     let _ = match fault {
         HeldFault::Word => writeln!(err, "--held: keys are wanted, as 2001:00,2010:00"),
-        HeldFault::Entry(key) => writeln!(
-            err,
-            "--held: the data sheet has no integer of up to four bytes at {key}"
-        ),
+        HeldFault::Entry(key) => writeln!(err, "--held: the data sheet has no integer at {key}"),
         HeldFault::TooMany => writeln!(err, "--held: more than 64 keys"),
     };
     ExitCode::from(NOT_COMPARED)

@@ -127,6 +127,7 @@ fn warned_type(settings: &Settings<'_, '_>, warning: Warning) -> ValueType
         Warning::Changed(mismatch) => type_at(settings, mismatch.key),
         Warning::Restarted
         | Warning::SteppedBack(_)
+        | Warning::ChangedBytes(_)
         | Warning::OtherText(_)
         | Warning::OddCode(_, _) => ValueType::Plain(DataType::Unsigned32),
     }

@@ -15,7 +15,7 @@ use Rattle.conode_explain_transfers.specs.declared.ended.Ending.TheVariants.{Don
 use Rattle.conode_explain_transfers.specs.declared.kinds.Direction.{Direction}
 use Rattle.conode_explain_transfers.specs.declared.kinds.Direction.TheVariants.{Download, Upload}
 use Rattle.conode_explain_transfers.specs.declared.kinds.Protocol.{Protocol}
-use Rattle.conode_explain_transfers.specs.declared.kinds.Protocol.TheVariants.{Expedited, Segmented}
+use Rattle.conode_explain_transfers.specs.declared.kinds.Protocol.TheVariants.{Expedited, Segmented, Block}
 use Rattle.conode_compare_held.specs.declared.entries.HeldEntry.{HeldEntry}
 use Rattle.conode_compare_held.specs.declared.written.Written.{Written}
 use Rattle.conode_compare_held.specs.HeldWords.{held_in, held_of, words_in}
@@ -68,7 +68,7 @@ short_key : held_in rows (50 ∷ 48 ∷ 48 ∷ 48 ∷ 58 ∷ 48 ∷ []) ≡ None
 unfolding held_of words_in key_in
 short_key = refl
 
--- "2000:01" isn't in the sheet; a BOOLEAN, five bytes and a string
+-- "2000:01" isn't in the sheet; a BOOLEAN and a string; five bytes can be held
 missing : held_in rows (50 ∷ 48 ∷ 48 ∷ 48 ∷ 58 ∷ 48 ∷ 49 ∷ []) ≡ None
 unfolding held_of words_in key_in
 missing = refl
@@ -77,7 +77,7 @@ one_bit : held_in rows (50 ∷ 48 ∷ 48 ∷ 49 ∷ 58 ∷ 48 ∷ 48 ∷ []) ≡
 unfolding held_of words_in key_in
 one_bit = refl
 
-five_bytes : held_in rows (50 ∷ 48 ∷ 48 ∷ 50 ∷ 58 ∷ 48 ∷ 48 ∷ []) ≡ None
+five_bytes : held_in rows (50 ∷ 48 ∷ 48 ∷ 50 ∷ 58 ∷ 48 ∷ 48 ∷ []) ≡ Some (record { key = record { index = 0x2002; sub = 0 }; width = 5 } ∷ [])
 unfolding held_of words_in key_in
 five_bytes = refl
 
@@ -139,14 +139,36 @@ too_short : held_mismatch held wrote true (expedited Upload word.key (3 ∷ []))
 unfolding held_mismatch written_heard nothing_written
 too_short = refl
 
--- an answer that may be one to an earlier request, and another protocol
+-- an answer that may be one to an earlier request
 uncertain : held_mismatch held wrote false (expedited Upload word.key (3 ∷ 1 ∷ [])) ≡ None
 unfolding held_mismatch written_heard nothing_written
 uncertain = refl
 
-in_segments : held_mismatch held wrote true (transfer Upload Segmented (Done false) word.key (3 ∷ 1 ∷ [])) ≡ None
+-- other protocols; of a last segment with n = 0 up to six bytes more may come
+in_segments : held_mismatch held wrote true (transfer Upload Segmented (Done false) word.key (3 ∷ 1 ∷ [])) ≡ Some (record { key = word.key; shown = 0x103; written = 0x102 })
 unfolding held_mismatch written_heard nothing_written
 in_segments = refl
+
+in_blocks : held_mismatch held wrote true (transfer Upload Block (Done true) word.key (3 ∷ 1 ∷ [])) ≡ Some (record { key = word.key; shown = 0x103; written = 0x102 })
+unfolding held_mismatch written_heard nothing_written
+in_blocks = refl
+
+padded : held_mismatch held wrote true (transfer Upload Segmented (Done false) word.key (3 ∷ 1 ∷ 9 ∷ 9 ∷ 9 ∷ 9 ∷ 9 ∷ 9 ∷ [])) ≡ Some (record { key = word.key; shown = 0x103; written = 0x102 })
+unfolding held_mismatch written_heard nothing_written
+padded = refl
+
+too_long : held_mismatch held wrote true (transfer Upload Segmented (Done false) word.key (3 ∷ 1 ∷ 9 ∷ 9 ∷ 9 ∷ 9 ∷ 9 ∷ 9 ∷ 9 ∷ [])) ≡ None
+unfolding held_mismatch written_heard nothing_written
+too_long = refl
+
+-- eight bytes
+abbrev eight : HeldEntry
+eight = record { key = record { index = 0x2006; sub = 0 }; width = 8 }
+
+eight_bytes : held_mismatch (eight ∷ []) (written_heard (eight ∷ []) nothing_written true (transfer Download Segmented (Done false) eight.key (1 ∷ 0 ∷ 0 ∷ 0 ∷ 0 ∷ 0 ∷ 0 ∷ 2 ∷ [])) None)
+    true (transfer Upload Segmented (Done false) eight.key (1 ∷ 0 ∷ 0 ∷ 0 ∷ 0 ∷ 0 ∷ 0 ∷ 3 ∷ [])) ≡ Some (record { key = eight.key; shown = 0x0300000000000001; written = 0x0200000000000001 })
+unfolding held_mismatch written_heard nothing_written
+eight_bytes = refl
 
 irregular : held_mismatch held wrote true (transfer Upload Expedited Irregular word.key (3 ∷ 1 ∷ [])) ≡ None
 unfolding held_mismatch written_heard nothing_written
@@ -166,12 +188,12 @@ again : held_mismatch held wrote true (expedited Download word.key (3 ∷ 1 ∷ 
 unfolding held_mismatch written_heard nothing_written
 again = refl
 
--- a download without its size, of another protocol, without an answer, or whose answer may be one to an earlier request
+-- a download without its size, in segments, without an answer, or whose answer may be one to an earlier request
 wide_write : number_at (written_heard held wrote true (expedited Download word.key (2 ∷ 1 ∷ 0 ∷ 0 ∷ [])) None) (Some 1) ≡ None
 unfolding written_heard nothing_written
 wide_write = refl
 
-segmented_write : number_at (written_heard held wrote true (transfer Download Segmented (Done false) word.key (3 ∷ 1 ∷ [])) None) (Some 1) ≡ None
+segmented_write : number_at (written_heard held wrote true (transfer Download Segmented (Done false) word.key (3 ∷ 1 ∷ [])) None) (Some 1) ≡ Some 0x103
 unfolding written_heard nothing_written
 segmented_write = refl
 

@@ -6,8 +6,6 @@ use Rattle.conode_explain_transfers.specs.declared.ended.Ending.{Ending}
 use Rattle.conode_explain_transfers.specs.declared.ended.Ending.TheVariants.{Done}
 use Rattle.conode_explain_transfers.specs.declared.kinds.Direction.{Direction}
 use Rattle.conode_explain_transfers.specs.declared.kinds.Direction.TheVariants.{Download, Upload}
-use Rattle.conode_explain_transfers.specs.declared.kinds.Protocol.{Protocol}
-use Rattle.conode_explain_transfers.specs.declared.kinds.Protocol.TheVariants.{Expedited}
 use Rattle.conode_compare_transfers.specs.declared.dialogue.Asked.{Asked}
 use Rattle.conode_compare_transfers.specs.Dialogues.{is_timed}
 use Rattle.conode_compare_values.specs.SheetValues.{shown_number}
@@ -32,10 +30,10 @@ with_number written (Some place) number = record { numbers = slice_set written.n
 
 -- ---- what a transfer shows
 
--- a transfer that is done, with all its bytes in one frame
-abbrev pub is_whole : Protocol → Ending → Bool
-is_whole Expedited (Done crc) = true
-is_whole protocol ending = false
+-- a transfer that is done, in one frame, in segments or in blocks
+abbrev pub is_done : Ending → Bool
+is_done (Done crc) = true
+is_done ending = false
 
 -- the number that a download wrote has as many bytes as the type of its entry
 abbrev pub number_written : ℕ → List ℕ → Option ℕ
@@ -43,14 +41,14 @@ number_written width bytes = if length bytes == width then shown_number width by
 
 abbrev pub downloaded : List HeldEntry → Bool → Ended → Option ℕ
 downloaded entries certain ended =
-    if certain && is_whole ended.protocol ended.ending
+    if certain && is_done ended.ending
     then option_and_then (λ entry. number_written entry.width ended.first.items) (entry_of entries ended.key)
     else None
 
--- of an upload without its size the first bytes count
+-- of an upload that doesn't show how many of its bytes count, the first do
 abbrev pub uploaded : List HeldEntry → Bool → Ended → Option ℕ
 uploaded entries certain ended =
-    if certain && is_whole ended.protocol ended.ending
+    if certain && is_done ended.ending
     then option_and_then (λ entry. shown_number entry.width ended.first.items) (entry_of entries ended.key)
     else None
 

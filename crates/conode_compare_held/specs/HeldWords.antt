@@ -1,5 +1,5 @@
 -- The entries that a user names, which are held to what was written.
-use Rattle.std.specs.Prelude.{◌≡◌, ℕ, ◌==◌, nat_le, if◌then◌else◌, List, [], ◌∷◌, Option, Some, None, option_map, option_and_then, find, position, ⊤}
+use Rattle.std.specs.Prelude.{◌≡◌, ℕ, ◌==◌, List, [], ◌∷◌, Option, Some, None, option_map, option_and_then, find, position, ⊤}
 use Rattle.std.specs.List.{slice_split}
 use Rattle.co_sheet.specs.Content.{Row}
 use Rattle.co_value.specs.declared.data_type.DataType.{DataType}
@@ -15,13 +15,10 @@ use Rattle.conode_compare_held.specs.declared.entries.HeldFault.TheVariants.{Wor
 
 -- ---- entries
 
--- an integer of up to four bytes can be held; of the byte of a BOOLEAN only one bit may count
-abbrev pub few_bytes : ℕ → Option ℕ
-few_bytes width = if nat_le width 4 then Some width else None
-
+-- an integer can be held; of the byte of a BOOLEAN only one bit may count
 abbrev pub held_width : DataType → Option ℕ
 held_width Boolean = None
-held_width other = option_and_then few_bytes (width_of other)
+held_width other = width_of other
 
 -- the entry of a key, where the data sheet has such an integer
 abbrev pub held_at : List Row → Key → Option HeldEntry

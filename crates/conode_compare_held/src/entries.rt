@@ -27,7 +27,7 @@ use co_value::{DataType, Key};
 pub struct HeldEntry {
     /// Which one it is.
     pub key: Key,
-    /// How many bytes its values have, 1 to 4.
+    /// How many bytes its values have, 1 to 8.
     pub width: usize,
 }
 
@@ -57,23 +57,20 @@ pub struct HeldEntries {
 pub enum HeldFault {
     /// A word is no key.
     Word,
-    /// The data sheet has no integer of one to four bytes there.
+    /// The data sheet has no integer there.
     Entry(Key),
     /// It names more than 64.
     TooMany,
 }
 
-/// How many bytes a value of a type has, where it can be held: an integer of up to four bytes. Of
-/// the byte of a BOOLEAN only one bit may count.
+/// How many bytes a value of a type has, where it can be held: an integer. Of the byte of a BOOLEAN
+/// only one bit may count.
 pub fn held_width(data_type: DataType) -> Option<usize>
     ensures { result ≡ held_width data_type }
 {
-    if let DataType::Boolean = data_type {
-        return None;
-    }
-    match data_type.width() {
-        Some(width) if width <= 4 => Some(width),
-        _ => None,
+    match data_type {
+        DataType::Boolean => None,
+        _ => data_type.width(),
     }
 }
 
@@ -134,7 +131,7 @@ impl HeldEntries {
     }
 
     /// The entries that a text names: keys with a comma between two, as `2001:00,2010:00`, each of
-    /// an integer of one to four bytes in the data sheet, whose entries are in increasing key.
+    /// an integer in the data sheet, whose entries are in increasing key.
     #[tactic(auto, using(crate::proofs::Readings::goes_on, crate::proofs::Readings::fails_at, crate::proofs::Readings::ends, crate::proofs::Readings::fails_last, crate::proofs::Readings::onto_none))]
     pub fn read(rows: &[EntryRow<'_>], text: &[u8]) -> Result<HeldEntries, HeldFault>
         requires { AllPairs (λ e f. is_key_before e.key f.key ≡ true) rows.now }

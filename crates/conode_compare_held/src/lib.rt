@@ -5,4 +5,4 @@ mod entries;
 mod written;
 
 pub use entries::{HeldEntries, HeldEntry, HeldFault, held_width};
-pub use written::{HeldMismatch, Written, differs, is_whole, number_written};
+pub use written::{HeldMismatch, Written, differs, is_done, number_written};

@@ -7,8 +7,8 @@ ghost use Rattle.conode_compare_held.specs.HeldNumbers.{
   differs,
   downloaded,
   held_mismatch,
+  is_done,
   is_kept,
-  is_whole,
   nothing_written,
   number_at,
   number_written,
@@ -22,7 +22,7 @@ use crate::entries::HeldEntries;
 use co_value::Key;
 use conode_compare_transfers::{Asked, is_timed};
 use conode_compare_values::shown_number;
-use conode_explain_transfers::{Direction, Ended, Ending, Protocol};
+use conode_explain_transfers::{Direction, Ended, Ending};
 
 /// `value-held`: an upload of an entry shows another number than the last download wrote.
 #[derive(Clone, Copy)]
@@ -45,14 +45,11 @@ pub struct Written {
     pub numbers: [Option<u64>; 64],
 }
 
-/// Whether a transfer is done, with all its bytes in one frame.
-pub fn is_whole(ended: &Ended) -> bool
-    ensures { result ≡ is_whole ended.now.protocol ended.now.ending }
+/// Whether a transfer is done, in one frame, in segments or in blocks.
+pub fn is_done(ended: &Ended) -> bool
+    ensures { result ≡ is_done ended.now.ending }
 {
-    matches!(
-        (ended.protocol, ended.ending),
-        (Protocol::Expedited, Ending::Done { crc: _ })
-    )
+    matches!(ended.ending, Ending::Done { crc: _ })
 }
 
 /// The number that so many bytes are, if they are as many.
@@ -70,7 +67,7 @@ pub fn number_written(width: usize, bytes: &[u8]) -> Option<u64>
 fn downloaded(held: &HeldEntries, certain: bool, ended: &Ended) -> Option<u64>
     ensures { result ≡ downloaded held.now.entries.items certain ended.now }
 {
-    if !certain || !is_whole(ended) {
+    if !certain || !is_done(ended) {
         return None;
     }
     let entry = held.entry(ended.key)?;
@@ -81,7 +78,7 @@ fn downloaded(held: &HeldEntries, certain: bool, ended: &Ended) -> Option<u64>
 fn uploaded(held: &HeldEntries, certain: bool, ended: &Ended) -> Option<u64>
     ensures { result ≡ uploaded held.now.entries.items certain ended.now }
 {
-    if !certain || !is_whole(ended) {
+    if !certain || !is_done(ended) {
         return None;
     }
     let entry = held.entry(ended.key)?;

@@ -145,7 +145,7 @@ odd_emergency_passes subject rows p micros length stage h = record { none = refl
 request_passes : (subject : Subject) (rows : List Row) (p : Progress) (micros : ℕ) (frame : FrameContent) (stage : Stage) → FitsAt micros stage p → Passes subject rows p micros (Sdo Client frame) stage
 unfolding request_findings channel_heard exchange_noted
 request_passes subject rows p micros frame stage h = record {
-  none = confirmed_none (Sdo Client frame) (confirmed_finding (exchange_at subject p micros Client frame)) refl;
+  none = confirmed_none (Sdo Client frame) (confirmed_finding subject rows p.written (exchange_at subject p micros Client frame) frame) refl;
   fits = h;
 }
 

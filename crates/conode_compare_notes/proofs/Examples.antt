@@ -1,6 +1,6 @@
 -- What is a warning, and what is learned, on both sides of each edge, computed from the definitions.
 use Rattle.std.proofs.Common.{◌≡◌, ℕ, ◌+◌, Bool, true, false, List, [], ◌∷◌, length, map, Option, Some, None, refl}
-use Rattle.std.specs.Prelude.{pos}
+use Rattle.std.specs.Prelude.{pos, option_map}
 use Rattle.co_frame.specs.declared.nmt.NmtService.TheVariants.{Start, ResetNode}
 use Rattle.co_profile.specs.declared.access.Access.{Access}
 use Rattle.co_profile.specs.declared.access.Access.TheVariants.{Ro, Rw, Wo}
@@ -25,11 +25,14 @@ use Rattle.conode_compare_rules.specs.declared.limits.Subject.{Subject}
 use Rattle.conode_compare_rules.specs.EntriesInForce.{facts_of}
 use Rattle.conode_compare_rules.specs.declared.finding.Remark.TheVariants.{EarlyHeartbeat, Restarted as RestartedRemark}
 use Rattle.conode_compare_rules.specs.declared.kind.FrameKind.TheVariants.{Command, Control, Sdo, Other}
+use Rattle.conode_compare_notes.specs.declared.contents.Content.{Content}
+use Rattle.conode_compare_notes.specs.declared.contents.Content.TheVariants.{Number, Bytes}
 use Rattle.conode_compare_notes.specs.declared.learned.Shown.{Shown}
 use Rattle.conode_compare_notes.specs.declared.warning.Warning.{Warning}
-use Rattle.conode_compare_notes.specs.declared.warning.Warning.TheVariants.{Changed, OddCode, OtherRevision, OtherText, Restarted, SteppedBack, Stored}
+use Rattle.conode_compare_notes.specs.declared.warning.Warning.TheVariants.{Changed, ChangedBytes, OddCode, OtherRevision, OtherText, Restarted, SteppedBack, Stored}
 use Rattle.conode_compare_notes.specs.declared.watched.Watched.{Watched}
 use Rattle.conode_compare_notes.specs.declared.writes.Wrote.{Wrote}
+use Rattle.conode_compare_notes.specs.Contents.{checksum_from, content_warning, is_exact, mixed, shown_content, written_content}
 use Rattle.conode_compare_notes.specs.LearnedValues.{learned_with, number_of, shown_in}
 use Rattle.conode_compare_notes.specs.Versions.{code_warning, has_class, has_text, version_warning}
 use Rattle.conode_compare_notes.specs.Warnings.{after_end, after_other, after_request, ended_warning, is_setting, remark_warning, stepped_back}
@@ -109,7 +112,7 @@ too_short : learned [] true Upload (3 ∷ []) ≡ []
 unfolding learned_with shown_in
 too_short = refl
 
-in_more_frames : learned_with rows [] (exchange true Part None (transfer Upload Segmented (Done false) 2 (3 ∷ 1 ∷ []))) ≡ []
+in_more_frames : learned_with rows [] (exchange true Part None (transfer Upload Segmented (Done false) 2 (3 ∷ 1 ∷ []))) ≡ shown 0x103 ∷ []
 unfolding learned_with shown_in
 in_more_frames = refl
 
@@ -182,7 +185,7 @@ abbrev done : ℕ → ℕ → Direction → List ℕ → Ended
 done index sub direction bytes = record (refused_of index sub direction Expedited bytes) { ending = Done false }
 
 abbrev number_at : ℕ → ℕ → Option ℕ → Wrote
-number_at index sub n = record { key = record { index = index; sub = sub }; number = n }
+number_at index sub n = record { key = record { index = index; sub = sub }; content = option_map (λ x. Number x) n }
 
 abbrev booted_up : List Wrote → Watched
 booted_up writes = record { fresh = true; writes = writes }
@@ -213,6 +216,44 @@ still_looked_for = refl
 -- another value than was written
 changed : map (warned (number_at 0x2000 1 (Some 8) ∷ []) 0x2000 1) ((9 ∷ 0 ∷ []) ∷ (8 ∷ 0 ∷ []) ∷ (8 ∷ []) ∷ []) ≡ Some (Changed (record { key = entry_key 0 1; shown = 9; written = 8 })) ∷ None ∷ None ∷ []
 changed = refl
+
+-- in segments and in blocks
+changed_in_parts : map (λ protocol. ended_warning subject kept (booted_up (number_at 0x2000 1 (Some 8) ∷ [])) true (record (done 0x2000 1 Upload (9 ∷ 0 ∷ [])) { protocol = protocol })) (Segmented ∷ Block ∷ [])
+    ≡ Some (Changed (record { key = entry_key 0 1; shown = 9; written = 8 })) ∷ Some (Changed (record { key = entry_key 0 1; shown = 9; written = 8 })) ∷ []
+changed_in_parts = refl
+
+written_in_parts : map (λ protocol. (after_end subject kept (booted_up (number_at 0x2000 1 None ∷ [])) true (record (done 0x2000 1 Download (8 ∷ 0 ∷ [])) { protocol = protocol })).writes) (Segmented ∷ Block ∷ [])
+    ≡ (number_at 0x2000 1 (Some 8) ∷ []) ∷ (number_at 0x2000 1 (Some 8) ∷ []) ∷ []
+written_in_parts = refl
+
+-- texts: the checksum of "AB" is 65 * 257 + 66, and stays below 2 ^ 32 - 5
+checksums : map (checksum_from 0) ([] ∷ (65 ∷ []) ∷ (65 ∷ 66 ∷ []) ∷ []) ≡ 0 ∷ 65 ∷ 16771 ∷ []
+unfolding mixed
+checksums = refl
+
+modulus : map (λ sum. checksum_from sum (202 ∷ [])) (16711934 ∷ 16711935 ∷ []) ≡ 4294967240 ∷ 206 ∷ []
+unfolding mixed
+modulus = refl
+
+-- in blocks; a last segment of six bytes, and one of seven; one frame
+exact : is_exact Block 7 ∷ is_exact Segmented 6 ∷ is_exact Segmented 7 ∷ is_exact Segmented 14 ∷ is_exact Segmented 15 ∷ is_exact Expedited 2 ∷ [] ≡ true ∷ true ∷ false ∷ false ∷ true ∷ false ∷ []
+exact = refl
+
+abbrev text_of : Direction → Protocol → List ℕ → Ended
+text_of direction protocol bytes = record (done 0x2000 1 direction bytes) { protocol = protocol; bytes = length bytes }
+
+abbrev text_row : Row
+text_row = entry 0x2000 1 VisibleString Rw
+
+shown_text : shown_content text_row (text_of Upload Segmented (65 ∷ 66 ∷ [])) ∷ written_content text_row (text_of Download Block (65 ∷ 66 ∷ [])) ∷ shown_content text_row (text_of Upload Expedited (65 ∷ 66 ∷ [])) ∷ []
+    ≡ Some (Bytes 2 16771) ∷ Some (Bytes 2 16771) ∷ None ∷ []
+unfolding mixed
+shown_text = refl
+
+-- as many other bytes; more of them; a number and bytes
+changed_text : content_warning key (Bytes 2 16771) (Bytes 2 16772) ∷ content_warning key (Bytes 2 16771) (Bytes 2 16771) ∷ content_warning key (Bytes 3 16771) (Bytes 2 16772) ∷ content_warning key (Number 2) (Bytes 2 3) ∷ []
+    ≡ Some (ChangedBytes key) ∷ None ∷ None ∷ None ∷ []
+changed_text = refl
 
 -- not of an entry that is held, of one that a PDO may have, of one that can't be written
 not_changed : warned (number_at 0x2001 0 (Some 8) ∷ []) 0x2001 0 (9 ∷ 0 ∷ []) ∷ warned (number_at 0x2002 0 (Some 8) ∷ []) 0x2002 0 (9 ∷ 0 ∷ []) ∷ warned (number_at 0x2000 0 (Some 8) ∷ []) 0x2000 0 (9 ∷ []) ∷ [] ≡ None ∷ None ∷ None ∷ []

@@ -8,7 +8,7 @@ use Rattle.co_sheet_changes.specs.Names.{row_at}
 use Rattle.conode_explain_transfers.specs.declared.ended.Ended.{Ended}
 use Rattle.conode_explain_transfers.specs.declared.kinds.Direction.{Direction}
 use Rattle.conode_explain_transfers.specs.declared.kinds.Direction.TheVariants.{Upload, Download}
-use Rattle.conode_compare_held.specs.HeldNumbers.{is_whole}
+use Rattle.conode_compare_held.specs.HeldNumbers.{is_done}
 use Rattle.conode_compare_transfers.specs.declared.dialogue.Exchange.{Exchange}
 use Rattle.conode_compare_values.specs.SheetValues.{shown_number}
 use Rattle.conode_compare_notes.specs.declared.learned.Shown.{Shown}
@@ -19,11 +19,11 @@ abbrev pub is_upload : Direction → Bool
 is_upload Upload = true
 is_upload Download = false
 
--- all its bytes in one frame; an acknowledge may be one to an earlier request
+-- it is done; an acknowledge may be one to an earlier request
 abbrev pub is_shown : Bool → Ended → Bool
-is_shown certain ended = is_whole ended.protocol ended.ending && (certain || is_upload ended.direction)
+is_shown certain ended = is_done ended.ending && (certain || is_upload ended.direction)
 
--- of a number of up to four bytes; of an upload without its size the first bytes count
+-- of a number; of an upload that doesn't show how many of its bytes count, the first do
 abbrev pub shown_of : List Row → Ended → Option Shown
 shown_of rows ended =
     option_and_then (λ row. option_and_then (λ width. option_map (λ n. record { key = ended.key; number = n })

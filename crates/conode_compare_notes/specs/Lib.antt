@@ -1,4 +1,5 @@
+pub mod Contents
 pub mod LearnedValues
 pub mod Versions
 pub mod Warnings
-pub mod WrittenNumbers
+pub mod WrittenContents

@@ -1,6 +1,6 @@
 -- What a user may want to know of a device, though it is no difference: that it restarted by itself,
 -- that it may have stored values, that a value changed after it was written; and what `Versions` has.
-use Rattle.std.specs.Prelude.{ℕ, ◌-◌, ◌==◌, nat_le, nat_lt, Bool, true, false, not, ◌&&◌, ◌||◌, if◌then◌else◌, List, [], Option, Some, None, is_some, option_map, option_and_then}
+use Rattle.std.specs.Prelude.{ℕ, ◌-◌, ◌==◌, nat_le, nat_lt, Bool, true, false, not, ◌&&◌, ◌||◌, if◌then◌else◌, List, [], Option, Some, None, is_some, option_and_then}
 use Rattle.std.specs.Option.{option_map_or, option_or}
 use Rattle.co_frame.specs.FrameContent.{FrameContent}
 use Rattle.co_sheet.specs.Content.{Row}
@@ -17,9 +17,9 @@ use Rattle.conode_compare_pdos.specs.SheetNumbers.{number_of as sheet_number}
 use Rattle.conode_compare_transfers.specs.declared.dialogue.Exchange.{Exchange}
 use Rattle.conode_compare_transfers.specs.Breaches.{key_in}
 use Rattle.conode_compare_transfers.specs.Dialogues.{asks_to_write, is_timed}
-use Rattle.conode_compare_values.specs.SheetValues.{is_read_only, shown_number}
-use Rattle.conode_compare_held.specs.HeldNumbers.{differs, is_whole, number_written}
-use Rattle.conode_compare_held.specs.HeldWords.{entry_of, held_width}
+use Rattle.conode_compare_values.specs.SheetValues.{is_read_only}
+use Rattle.conode_compare_held.specs.HeldNumbers.{is_done}
+use Rattle.conode_compare_held.specs.HeldWords.{entry_of}
 use Rattle.conode_compare_rules.specs.declared.finding.Remark.{Remark}
 use Rattle.conode_compare_rules.specs.declared.finding.Remark.TheVariants.{Restarted as RestartedRemark, EarlyHeartbeat}
 use Rattle.conode_compare_rules.specs.declared.kind.FrameKind.{FrameKind}
@@ -28,12 +28,15 @@ use Rattle.conode_compare_rules.specs.declared.limits.Subject.{Subject}
 use Rattle.conode_compare_rules.specs.declared.progress.Progress.{Progress}
 use Rattle.conode_compare_rules.specs.Progresses.{is_begun}
 use Rattle.conode_compare_rules.specs.States.{is_reset}
+use Rattle.conode_compare_notes.specs.declared.contents.Content.{Content}
+use Rattle.conode_compare_notes.specs.declared.contents.Content.TheVariants.{Number, Bytes}
 use Rattle.conode_compare_notes.specs.declared.warning.Warning.{Warning}
-use Rattle.conode_compare_notes.specs.declared.warning.Warning.TheVariants.{Restarted, Stored, Changed, SteppedBack}
+use Rattle.conode_compare_notes.specs.declared.warning.Warning.TheVariants.{Restarted, Stored, SteppedBack}
 use Rattle.conode_compare_notes.specs.declared.watched.Watched.{Watched}
 use Rattle.conode_compare_notes.specs.declared.writes.Wrote.{Wrote}
+use Rattle.conode_compare_notes.specs.Contents.{content_warning, shown_content, written_content}
 use Rattle.conode_compare_notes.specs.Versions.{code_warning, version_warning}
-use Rattle.conode_compare_notes.specs.WrittenNumbers.{number_of, with_number}
+use Rattle.conode_compare_notes.specs.WrittenContents.{content_of, with_content}
 
 -- ---- entries
 
@@ -53,11 +56,10 @@ is_kept row =
 
 -- ---- an upload
 
--- `changed-after-write`: another number than a download wrote; not of an entry that is held, of which
--- it is a difference
-abbrev pub changed_warning : Subject → Key → ℕ → Option ℕ → Option Warning
-changed_warning subject key shown number =
-    if is_some (entry_of subject.held.entries.items key) then None else option_map (λ m. Changed m) (differs key (Some shown) number)
+-- `changed-after-write`: not of an entry that is held, of which it is a difference
+abbrev pub changed_warning : Subject → Key → Content → Option Content → Option Warning
+changed_warning subject key shown written =
+    if is_some (entry_of subject.held.entries.items key) then None else option_and_then (content_warning key shown) written
 
 -- `stored`: another number than the data sheet's, of a setting that wasn't asked to be written
 abbrev pub stored_with : Key → ℕ → ℕ → Option Warning
@@ -67,28 +69,30 @@ abbrev pub stored_warning : ℕ → Row → ℕ → Option Warning
 stored_warning node row shown =
     if is_setting row.key.index then option_and_then (stored_with row.key shown) (sheet_number node row.default) else None
 
-abbrev pub warning_by : Subject → Bool → Row → ℕ → Option (Option ℕ) → Option Warning
-warning_by subject fresh row shown None = if fresh then stored_warning subject.node row shown else None
-warning_by subject fresh row shown (Some number) = changed_warning subject row.key shown number
+abbrev pub stored_content : ℕ → Row → Content → Option Warning
+stored_content node row (Number shown) = stored_warning node row shown
+stored_content node row (Bytes count checksum) = None
 
--- by the number that an upload shows of an entry
-abbrev pub number_warning : Subject → Watched → Row → ℕ → Option Warning
-number_warning subject watched row shown =
-    if is_kept row then warning_by subject watched.fresh row shown (number_of watched.writes row.key) else None
+abbrev pub warning_by : Subject → Bool → Row → Content → Option (Option Content) → Option Warning
+warning_by subject fresh row shown None = if fresh then stored_content subject.node row shown else None
+warning_by subject fresh row shown (Some written) = changed_warning subject row.key shown written
+
+-- by what an upload shows of an entry
+abbrev pub shown_warning : Subject → Watched → Row → Content → Option Warning
+shown_warning subject watched row shown =
+    if is_kept row then warning_by subject watched.fresh row shown (content_of watched.writes row.key) else None
 
 abbrev pub row_warning : Subject → Watched → Ended → Row → Option Warning
-row_warning subject watched ended row =
-    option_and_then (λ width. option_and_then (number_warning subject watched row) (shown_number width ended.first.items))
-    (held_width row.data_type)
+row_warning subject watched ended row = option_and_then (shown_warning subject watched row) (shown_content row ended)
 
 abbrev pub upload_warning : Subject → List Row → Watched → Ended → Option Warning
 upload_warning subject rows watched ended = option_and_then (row_warning subject watched ended) (row_at rows ended.key)
 
 -- ---- the end of a transfer
 
--- a transfer that is done with all its bytes in one frame, where no earlier request can be answered
+-- a transfer that is done, where no earlier request can be answered
 abbrev pub is_plain : Bool → Ended → Bool
-is_plain certain ended = certain && is_whole ended.protocol ended.ending
+is_plain certain ended = certain && is_done ended.ending
 
 abbrev pub warning_of : Subject → List Row → Watched → Bool → Direction → Ended → Option Warning
 warning_of subject rows watched certain Upload ended = if is_plain certain ended then upload_warning subject rows watched ended else None
@@ -97,24 +101,22 @@ warning_of subject rows watched certain Download ended = None
 abbrev pub ended_warning : Subject → List Row → Watched → Bool → Ended → Option Warning
 ended_warning subject rows watched certain ended = warning_of subject rows watched certain ended.direction ended
 
--- the number that a download wrote, where that is known
-abbrev pub downloaded : Row → Bool → Ended → Option ℕ
-downloaded row certain ended =
-    if is_plain certain ended
-    then option_and_then (λ width. number_written width ended.first.items) (held_width row.data_type) else None
+-- what a download wrote, where that is known
+abbrev pub downloaded : Row → Bool → Ended → Option Content
+downloaded row certain ended = if is_plain certain ended then written_content row ended else None
 
 abbrev pub wrote_by : List Wrote → Bool → Ended → Option Row → List Wrote
 wrote_by writes certain ended None = writes
-wrote_by writes certain ended (Some row) = with_number writes ended.key (downloaded row certain ended)
+wrote_by writes certain ended (Some row) = with_content writes ended.key (downloaded row certain ended)
 
 -- what was written is compared with the next upload alone
-abbrev pub read_by : List Wrote → Bool → Ended → Option (Option ℕ) → List Wrote
-read_by writes certain ended (Some (Some number)) = if is_plain certain ended then with_number writes ended.key None else writes
-read_by writes certain ended number = writes
+abbrev pub read_by : List Wrote → Bool → Ended → Option (Option Content) → List Wrote
+read_by writes certain ended (Some (Some content)) = if is_plain certain ended then with_content writes ended.key None else writes
+read_by writes certain ended content = writes
 
 abbrev pub writes_of : List Row → List Wrote → Bool → Direction → Ended → List Wrote
 writes_of rows writes certain Download ended = wrote_by writes certain ended (row_at rows ended.key)
-writes_of rows writes certain Upload ended = read_by writes certain ended (number_of writes ended.key)
+writes_of rows writes certain Upload ended = read_by writes certain ended (content_of writes ended.key)
 
 abbrev pub is_stored : Option Warning → Bool
 is_stored (Some (Stored key shown sheet)) = true
@@ -141,7 +143,7 @@ nothing_watched = record { fresh = false; writes = [] }
 -- parameters, or loads a program, may change any entry.
 abbrev pub after_request : List Row → Watched → Key → Watched
 after_request rows watched key =
-    if is_timed key then (if is_some (row_at rows key) then record watched { writes = with_number watched.writes key None } else watched)
+    if is_timed key then (if is_some (row_at rows key) then record watched { writes = with_content watched.writes key None } else watched)
     else nothing_watched
 
 abbrev pub is_initiate : What → Bool

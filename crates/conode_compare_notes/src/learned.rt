@@ -18,7 +18,7 @@ ghost use Rattle.conode_compare_notes.specs.LearnedValues.{
 use co_sheet::EntryRow;
 use co_sheet_changes::row_at;
 use co_value::Key;
-use conode_compare_held::is_whole;
+use conode_compare_held::is_done;
 use conode_compare_transfers::Exchange;
 use conode_compare_values::shown_number;
 use conode_explain_transfers::{Direction, Ended};
@@ -54,7 +54,7 @@ impl Model for Learned {
 fn is_shown(certain: bool, ended: &Ended) -> bool
     ensures { result ≡ is_shown certain ended.now }
 {
-    is_whole(ended) && (certain || matches!(ended.direction, Direction::Upload))
+    is_done(ended) && (certain || matches!(ended.direction, Direction::Upload))
 }
 
 // the number that a transfer shows of an entry of the data sheet

@@ -2,12 +2,14 @@
 //! entries.
 #![tactic(auto)]
 
+mod contents;
 mod learned;
 mod versions;
 mod warning;
 mod watched;
 mod writes;
 
+pub use contents::Content;
 pub use learned::{Learned, Shown};
 pub use warning::Warning;
 pub use watched::{Watched, stepped_back};

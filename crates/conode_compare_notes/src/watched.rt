@@ -20,11 +20,11 @@ ghost use Rattle.conode_compare_notes.specs.Warnings.{
   is_setting,
   is_stored,
   nothing_watched,
-  number_warning,
   other_warning,
   remark_warning,
-  row_warning,
+  shown_warning,
   stepped_back,
+  stored_content,
   stored_warning,
   upload_warning,
   warning_at,
@@ -32,6 +32,7 @@ ghost use Rattle.conode_compare_notes.specs.Warnings.{
   writes_of,
 };
 
+use crate::contents::{Content, content_warning, shown_content, written_content};
 use crate::versions::{code_warning, version_warning};
 use crate::warning::Warning;
 use crate::writes::Writes;
@@ -40,11 +41,11 @@ use co_profile::{RESTORE_PARAMETERS, STORE_PARAMETERS};
 use co_sheet::EntryRow;
 use co_sheet_changes::row_at;
 use co_value::Key;
-use conode_compare_held::{differs, held_width, is_whole, number_written};
+use conode_compare_held::is_done;
 use conode_compare_pdos::number_of;
 use conode_compare_rules::{FrameKind, Progress, Remark, Subject, is_reset};
 use conode_compare_transfers::{Exchange, asks_to_write, is_timed, key_in};
-use conode_compare_values::{is_read_only, shown_number};
+use conode_compare_values::is_read_only;
 use conode_explain_transfers::{Direction, Ended, Side, What};
 use std::alloc::{AllocError, Global};
 
@@ -79,17 +80,19 @@ fn is_kept(row: &EntryRow<'_>) -> bool
         && (is_setting(row.key.index) || 0x2000 <= row.key.index)
 }
 
-// an upload shows another number than a download wrote, of an entry that isn't held
-fn changed_warning(subject: &Subject, key: Key, shown: u64, number: Option<u64>) -> Option<Warning>
-    ensures { result ≡ changed_warning subject.now key shown number }
+// an upload shows another content than a download wrote, of an entry that isn't held
+fn changed_warning(
+    subject: &Subject,
+    key: Key,
+    shown: Content,
+    written: Option<Content>,
+) -> Option<Warning>
+    ensures { result ≡ changed_warning subject.now key shown written }
 {
     if subject.held.entry(key).is_some() {
         return None;
     }
-    match differs(key, Some(shown), number) {
-        Some(mismatch) => Some(Warning::Changed(mismatch)),
-        None => None,
-    }
+    content_warning(key, shown, written?)
 }
 
 // another number than the data sheet's, of a setting
@@ -105,22 +108,31 @@ fn stored_warning(node: u8, row: &EntryRow<'_>, shown: u64) -> Option<Warning>
     }
 }
 
-// whether a transfer is done with all its bytes in one frame, and no earlier request can be answered
+fn stored_content(node: u8, row: &EntryRow<'_>, shown: Content) -> Option<Warning>
+    ensures { result ≡ stored_content node (row_view row.now) shown }
+{
+    match shown {
+        Content::Number(shown) => stored_warning(node, row, shown),
+        Content::Bytes(_, _) => None,
+    }
+}
+
+// whether a transfer is done, and no earlier request can be answered
 fn is_plain(certain: bool, ended: &Ended) -> bool
     ensures { result ≡ is_plain certain ended.now }
 {
-    certain && is_whole(ended)
+    certain && is_done(ended)
 }
 
-// the number that a download wrote, where that is known
-fn downloaded(row: &EntryRow<'_>, certain: bool, ended: &Ended) -> Option<u64>
+// what a download wrote, where that is known
+fn downloaded(row: &EntryRow<'_>, certain: bool, ended: &Ended) -> Option<Content>
     ensures { result ≡ downloaded (row_view row.now) certain ended.now }
 {
-    if !is_plain(certain, ended) {
-        return None;
+    if is_plain(certain, ended) {
+        written_content(row, ended)
+    } else {
+        None
     }
-    let width = held_width(row.data_type)?;
-    number_written(width, ended.first.as_slice())
 }
 
 // of a boot-up that is remarked
@@ -181,16 +193,21 @@ impl Watched {
         self.writes.clear();
     }
 
-    // by the number that an upload shows of an entry
-    fn number_warning(&self, subject: &Subject, row: &EntryRow<'_>, shown: u64) -> Option<Warning>
-        ensures { result ≡ number_warning subject.now self.now (row_view row.now) shown }
+    // by what an upload shows of an entry
+    fn shown_warning(
+        &self,
+        subject: &Subject,
+        row: &EntryRow<'_>,
+        shown: Content,
+    ) -> Option<Warning>
+        ensures { result ≡ shown_warning subject.now self.now (row_view row.now) shown }
     {
         if !is_kept(row) {
             return None;
         }
-        match self.writes.number(row.key) {
-            Some(number) => changed_warning(subject, row.key, shown, number),
-            None if self.fresh => stored_warning(subject.node, row, shown),
+        match self.writes.content(row.key) {
+            Some(written) => changed_warning(subject, row.key, shown, written),
+            None if self.fresh => stored_content(subject.node, row, shown),
             None => None,
         }
     }
@@ -206,9 +223,8 @@ impl Watched {
         ensures { result ≡ upload_warning subject.now (map row_view rows.now) self.now ended.now }
     {
         let row = row_at(rows, ended.key)?;
-        let width = held_width(row.data_type)?;
-        let shown = shown_number(width, ended.first.as_slice())?;
-        self.number_warning(subject, row, shown)
+        let shown = shown_content(row, ended)?;
+        self.shown_warning(subject, row, shown)
     }
 
     // by the end of a transfer
@@ -249,7 +265,7 @@ impl Watched {
                 Some(row) => self.writes.note(ended.key, downloaded(row, certain, ended)),
                 None => Ok(()),
             },
-            Direction::Upload => match self.writes.number(ended.key) {
+            Direction::Upload => match self.writes.content(ended.key) {
                 Some(Some(_)) if is_plain(certain, ended) => self.writes.note(ended.key, None),
                 _ => Ok(()),
             },

@@ -1,8 +1,9 @@
 //! The entries that clients asked to write.
 
 ghost use Rattle.std.specs.Prelude.{◌≡◌, ◌<◌, [], length, OnOk, IfSome};
-ghost use Rattle.conode_compare_notes.specs.WrittenNumbers.{noted_at, number_of, place_of, with_number};
+ghost use Rattle.conode_compare_notes.specs.WrittenContents.{content_of, noted_at, place_of, with_content};
 
+use crate::contents::Content;
 use co_value::Key;
 use std::alloc::{AllocError, Global};
 use std::marker::Model;
@@ -12,8 +13,8 @@ use std::marker::Model;
 pub struct Wrote {
     /// Which entry it is.
     pub key: Key,
-    /// The number that a download wrote, until an upload showed it.
-    pub number: Option<u64>,
+    /// What a download wrote, until an upload showed it.
+    pub content: Option<Content>,
 }
 
 /// The entries that clients asked to write. Contracts see them in the order in which they were asked
@@ -75,21 +76,21 @@ impl Writes {
     }
 
     /// Notes what is known of an entry. On an `Err` memory ran out.
-    pub(crate) fn note(&mut self, key: Key, number: Option<u64>) -> Result<(), AllocError>
-        ensures { OnOk result (self.new ≡ with_number self.old key number) }
+    pub(crate) fn note(&mut self, key: Key, content: Option<Content>) -> Result<(), AllocError>
+        ensures { OnOk result (self.new ≡ with_content self.old key content) }
     {
         let place = self.place(key);
-        self.note_at(place, Wrote { key, number })
+        self.note_at(place, Wrote { key, content })
     }
 
     /// What is known of an entry, if it was asked to be written.
-    pub(crate) fn number(&self, key: Key) -> Option<Option<u64>>
-        ensures { result ≡ number_of self.now key }
+    pub(crate) fn content(&self, key: Key) -> Option<Option<Content>>
+        ensures { result ≡ content_of self.now key }
     {
         let all = self.all.as_slice();
         for wrote in all {
             if wrote.key == key {
-                return Some(wrote.number);
+                return Some(wrote.content);
             }
         }
         None

@@ -360,11 +360,11 @@ read_constant : after 0x2001 Upload Expedited done ≡ ValueLength ∷ ValueCons
 unfolding ended_passed upload_passed counts_passed
 read_constant = refl
 
-read_in_segments : after 0x2001 Upload Segmented done ≡ AnswerSize ∷ AccessRead ∷ []
+read_in_segments : after 0x2001 Upload Segmented done ≡ AnswerSize ∷ ValueLength ∷ ValueConst ∷ AccessRead ∷ []
 unfolding ended_passed upload_passed counts_passed
 read_in_segments = refl
 
-read_in_blocks : after 0x2000 Upload Block done ≡ AnswerSize ∷ AnswerCrc ∷ AccessRead ∷ []
+read_in_blocks : after 0x2000 Upload Block done ≡ AnswerSize ∷ AnswerCrc ∷ ValueLength ∷ AccessRead ∷ []
 unfolding ended_passed upload_passed counts_passed
 read_in_blocks = refl
 

@@ -179,17 +179,17 @@ is_block Block = true
 is_block other = false
 
 -- an upload; of an entry that the data sheet doesn't have no value is compared
-abbrev pub entry_of_upload : Option Row → Bool → Bool → List Counted → List Counted
-entry_of_upload None done expedited counts = counts
-entry_of_upload (Some row) done expedited counts =
+abbrev pub entry_of_upload : Option Row → Bool → List Counted → List Counted
+entry_of_upload None done counts = counts
+entry_of_upload (Some row) done counts =
     counts_passed (is_readable row.access) AccessRead
-    (counts_passed (done && (expedited && is_held row)) ValueConst (counts_passed (done && expedited) ValueLength counts))
+    (counts_passed (done && is_held row) ValueConst (counts_passed done ValueLength counts))
 
 unfoldable pub upload_passed : Option Row → Bool → Protocol → List Counted → List Counted
 upload_passed row done protocol counts =
     counts_passed (done && is_block protocol) AnswerCrc
     (counts_passed (done && not (is_expedited protocol)) AnswerSize
-    (entry_of_upload row done (is_expedited protocol) counts))
+    (entry_of_upload row done counts))
 
 abbrev pub download_passed : Option Row → List Counted → List Counted
 download_passed None counts = counts

@@ -178,7 +178,7 @@ fn of_mismatch(mismatch: Mismatch) -> Kind
 {
     match mismatch {
         Mismatch::ValueLength(_, _, _) => Kind::ValueLength,
-        Mismatch::ValueConst(_, _, _) => Kind::ValueConst,
+        Mismatch::ValueConst(_, _, _) | Mismatch::ConstText(_) => Kind::ValueConst,
         Mismatch::ReadRefused(_, _) => Kind::AccessRead,
         Mismatch::Written(_) => Kind::AccessWrite,
         Mismatch::AboveLimit(_) | Mismatch::BelowLimit(_) => Kind::AccessLimits,

@@ -308,13 +308,13 @@ fn is_block(protocol: Protocol) -> bool
 }
 
 // an upload of an entry
-fn pass_entry(counts: &mut [Counted], row: Option<&EntryRow<'_>>, done: bool, expedited: bool)
+fn pass_entry(counts: &mut [Counted], row: Option<&EntryRow<'_>>, done: bool)
     ensures { counts.new
-        ≡ entry_of_upload (option_map row_view (option_copied row.entry)) done expedited counts.old }
+        ≡ entry_of_upload (option_map row_view (option_copied row.entry)) done counts.old }
 {
     if let Some(row) = row {
-        pass(counts, done && expedited, Kind::ValueLength);
-        pass(counts, done && expedited && is_held(row), Kind::ValueConst);
+        pass(counts, done, Kind::ValueLength);
+        pass(counts, done && is_held(row), Kind::ValueConst);
         pass(counts, is_readable(row.access), Kind::AccessRead);
     }
 }
@@ -325,7 +325,7 @@ fn pass_upload(counts: &mut [Counted], row: Option<&EntryRow<'_>>, done: bool, p
         ≡ upload_passed (option_map row_view (option_copied row.entry)) done protocol counts.old }
 {
     let expedited = is_expedited(protocol);
-    pass_entry(counts, row, done, expedited);
+    pass_entry(counts, row, done);
     pass(counts, done && !expedited, Kind::AnswerSize);
     pass(counts, done && is_block(protocol), Kind::AnswerCrc);
 }

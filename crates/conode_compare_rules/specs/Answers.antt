@@ -5,6 +5,8 @@ use Rattle.co_frame.specs.FrameContent.{FrameContent}
 use Rattle.co_sheet.specs.Content.{Row}
 use Rattle.co_value.specs.Keys.{same_key}
 use Rattle.conode_explain_transfers.specs.declared.ended.Ended.{Ended}
+use Rattle.conode_explain_transfers.specs.declared.kinds.Protocol.{Protocol}
+use Rattle.conode_explain_transfers.specs.declared.kinds.Protocol.TheVariants.{Expedited, Segmented}
 use Rattle.conode_explain_transfers.specs.declared.kinds.What.{What}
 use Rattle.conode_explain_transfers.specs.declared.kinds.What.TheVariants.{Part, Overtaken, Unexpected, Stray}
 use Rattle.conode_compare_transfers.specs.declared.breach.Breach.{Breach}
@@ -32,9 +34,12 @@ use Rattle.conode_compare_transfers.specs.Times.{is_past}
 abbrev pub is_abort : FrameContent → Bool
 is_abort frame = byte_at frame 0 / 32 == 4
 
--- s = 1
-abbrev pub is_indicated : FrameContent → Bool
-is_indicated frame = byte_at frame 0 % 2 == 1
+-- An upload that ends with a frame shows how many of its bytes count: expedited with s = 1; in a last
+-- segment with n other than 0; in blocks always.
+abbrev pub is_exact : Protocol → FrameContent → Bool
+is_exact Expedited frame = byte_at frame 0 % 2 == 1
+is_exact Segmented frame = not (byte_at frame 0 / 2 % 8 == 0)
+is_exact protocol frame = true
 
 -- `no-answer`: a request isn't answered in time
 abbrev pub late_after : Limits → Asked → ℕ → Option Finding
@@ -67,7 +72,7 @@ value_finding mismatch = option_map (λ m. Value m) mismatch
 abbrev pub known_finding : Subject → List Row → FrameContent → Ended → Option Finding
 known_finding subject rows frame ended =
     if refuses_other frame ended then None
-    else value_finding (mismatch_at subject.node subject.facts.modular rows (is_indicated frame) ended)
+    else value_finding (mismatch_at subject.node subject.facts.modular rows (is_exact ended.protocol frame) ended)
 
 -- by the end of the transfer
 abbrev pub ended_finding : Subject → List Row → FrameContent → Option Ended → Option Finding
@@ -115,9 +120,13 @@ unfoldable pub held_finding : Subject → Written → Exchange → Option Findin
 held_finding subject written exchange =
     option_map (λ m. Held m) (held_mismatch subject.held.entries.items written exchange.certain exchange.heard.ended)
 
--- the client's confirmation shows what the device did in the transfer that ends with it
-unfoldable pub confirmed_finding : Exchange → Option Finding
-confirmed_finding exchange = if exchange.certain then breach_finding exchange.breach else None
+-- the client's confirmation shows what the device did in the block upload that ends with it
+unfoldable pub confirmed_finding : Subject → List Row → Written → Exchange → FrameContent → Option Finding
+confirmed_finding subject rows written exchange frame =
+    if exchange.certain
+    then option_or (breach_finding exchange.breach)
+    (option_or (ended_finding subject rows frame exchange.heard.ended) (held_finding subject written exchange))
+    else None
 
 -- ---- no answer at all
 

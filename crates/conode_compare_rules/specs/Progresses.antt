@@ -299,13 +299,14 @@ abbrev pub after_answer : Subject → Progress → ℕ → FrameContent → Prog
 after_answer subject progress micros frame = after_sdo subject (answer_noted subject progress micros) micros Server frame
 
 -- a request, or another frame of the client: with one that ends a block upload the device's end of
--- it counts
+-- it counts, and what it uploaded
 abbrev pub confirmed_findings : Option Finding → Findings
 confirmed_findings None = nothing_found
 confirmed_findings (Some finding) = found None None None (Some finding) false
 
-unfoldable pub request_findings : Subject → Progress → ℕ → FrameContent → Findings
-request_findings subject progress micros frame = confirmed_findings (confirmed_finding (exchange_at subject progress micros Client frame))
+unfoldable pub request_findings : Subject → List Row → Progress → ℕ → FrameContent → Findings
+request_findings subject rows progress micros frame =
+    confirmed_findings (confirmed_finding subject rows progress.written (exchange_at subject progress micros Client frame) frame)
 
 -- ---- PDOs
 
@@ -354,7 +355,7 @@ findings_in subject rows progress micros (OddControl length) = odd_control_findi
 findings_in subject rows progress micros (Emergency code register) = emergency_findings subject progress micros code register
 findings_in subject rows progress micros (OddEmergency length) = odd_emergency_findings progress length
 findings_in subject rows progress micros (Sdo Server frame) = answer_findings subject rows progress micros frame
-findings_in subject rows progress micros (Sdo Client frame) = request_findings subject progress micros frame
+findings_in subject rows progress micros (Sdo Client frame) = request_findings subject rows progress micros frame
 findings_in subject rows progress micros (Process id length) = process_findings subject progress micros id length
 findings_in subject rows progress micros _ = nothing_found
 

@@ -11,7 +11,7 @@ ghost use Rattle.conode_compare_rules.specs.Answers.{
   ended_finding,
   held_finding,
   is_abort,
-  is_indicated,
+  is_exact,
   known_answer,
   late_answer,
   overdue_answer,
@@ -31,7 +31,7 @@ use conode_compare_transfers::{
     Asked, Breach, Dialogue, Exchange, byte_at, is_past, is_timed, key_in,
 };
 use conode_compare_values::mismatch_at;
-use conode_explain_transfers::{Ended, What};
+use conode_explain_transfers::{Ended, Protocol, What};
 
 // an abort (CiA 301, 7.2.4.3.17)
 fn is_abort(frame: &Frame) -> bool
@@ -40,11 +40,15 @@ fn is_abort(frame: &Frame) -> bool
     byte_at(frame, 0) / 32 == 4
 }
 
-// whether an answer has the size of its data
-fn is_indicated(frame: &Frame) -> bool
-    ensures { result ≡ is_indicated frame.now }
+// whether an upload that ends with a frame shows how many of its bytes count
+fn is_exact(protocol: Protocol, frame: &Frame) -> bool
+    ensures { result ≡ is_exact protocol frame.now }
 {
-    byte_at(frame, 0) % 2 == 1
+    match protocol {
+        Protocol::Expedited => byte_at(frame, 0) % 2 == 1,
+        Protocol::Segmented => byte_at(frame, 0) / 2 % 8 != 0,
+        _ => true,
+    }
 }
 
 // the difference of an answer that took too long
@@ -78,9 +82,9 @@ fn ended_finding(
 {
     match ended {
         Some(ended) if !refuses_other(frame, ended) => {
-            let indicated = is_indicated(frame);
+            let exact = is_exact(ended.protocol, frame);
             let modular = subject.facts.modular;
-            match mismatch_at(subject.node, modular, rows, indicated, ended) {
+            match mismatch_at(subject.node, modular, rows, exact, ended) {
                 Some(mismatch) => Some(Finding::Value(mismatch)),
                 None => None,
             }
@@ -179,16 +183,26 @@ pub(crate) fn held_finding(
     }
 }
 
-/// The difference of the transfer that the client's confirmation ends.
+/// The difference of the block upload that the client's confirmation ends; `written`: what was
+/// written to the entries that are held.
 #[tactic(auto, unfolding(crate::specs::Answers::confirmed_finding))]
-pub(crate) fn confirmed_finding(exchange: &Exchange) -> Option<Finding>
-    ensures { result ≡ confirmed_finding exchange.now }
+pub(crate) fn confirmed_finding(
+    subject: &Subject,
+    rows: &[EntryRow<'_>],
+    written: &Written,
+    exchange: &Exchange,
+    frame: &Frame,
+) -> Option<Finding>
+    requires { AllPairs (λ e f. is_key_before e.key f.key ≡ true) rows.now }
+    ensures { result ≡ confirmed_finding
+        subject.now (map row_view rows.now) written.now exchange.now frame.now }
 {
-    if exchange.certain {
-        breach_finding(exchange.breach)
-    } else {
-        None
+    if !exchange.certain {
+        return None;
     }
+    let held = held_finding(subject, written, exchange);
+    let value = ended_finding(subject, rows, frame, &exchange.heard.ended).or(held);
+    breach_finding(exchange.breach).or(value)
 }
 
 /// The difference of an answer, where no earlier request can be answered.

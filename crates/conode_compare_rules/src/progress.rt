@@ -462,12 +462,21 @@ impl Progress {
 
     // a request, or another frame of the client
     #[tactic(auto, unfolding(crate::specs::Progresses::request_findings))]
-    fn take_request(&mut self, subject: &Subject, micros: u64, frame: &Frame) -> Findings
-        ensures findings { result ≡ request_findings subject.now self.old micros frame.now }
+    fn take_request(
+        &mut self,
+        subject: &Subject,
+        rows: &[EntryRow<'_>],
+        micros: u64,
+        frame: &Frame,
+    ) -> Findings
+        requires { AllPairs (λ e f. is_key_before e.key f.key ≡ true) rows.now }
+        ensures findings { result
+            ≡ request_findings subject.now (map row_view rows.now) self.old micros frame.now }
         ensures progress { self.new ≡ after_sdo subject.now self.old micros Client frame.now }
     {
+        let written = self.written;
         let exchange = self.hear(subject, micros, Side::Client, frame);
-        let finding = confirmed_finding(&exchange);
+        let finding = confirmed_finding(subject, rows, &written, &exchange, frame);
         self.note_exchange(subject, exchange);
         match finding {
             Some(finding) => Findings::of(None, None, None, Some(finding), false),
@@ -499,7 +508,9 @@ impl Progress {
                 return self.take_emergency(subject, micros, *code, *register);
             }
             FrameKind::OddEmergency(length) => return self.take_odd_emergency(micros, *length),
-            FrameKind::Sdo(Side::Client, frame) => return self.take_request(subject, micros, frame),
+            FrameKind::Sdo(Side::Client, frame) => {
+                return self.take_request(subject, rows, micros, frame);
+            }
             FrameKind::Process(id, length) => {
                 return self.take_process(subject, micros, *id, *length);
             }

@@ -10,14 +10,14 @@ use Rattle.conode_explain_values.specs.Numbers.{number_text}
 use Rattle.conode_explain_values.specs.Values.{value_text}
 use Rattle.conode_compare_pdos.specs.declared.deviation.Deviation.TheVariants.{Length, NotOperational, WithoutSync, Inhibit, Timer}
 use Rattle.conode_compare_transfers.specs.declared.breach.Breach.TheVariants.{Toggle, Form, AbortKey, Size, Crc}
-use Rattle.conode_compare_values.specs.declared.mismatch.Mismatch.TheVariants.{ValueLength, ValueConst, ReadRefused, Written, AboveLimit, BelowLimit}
+use Rattle.conode_compare_values.specs.declared.mismatch.Mismatch.TheVariants.{ValueLength, ValueConst, ConstText, ReadRefused, Written, AboveLimit, BelowLimit}
 use Rattle.conode_compare_rules.specs.declared.finding.Finding.TheVariants.{BootMissing, SecondBootUp, HeartbeatLength, NoState, WrongState, HeartbeatLate, EmergencyLength, EmergencyRegister, EmergencyInhibit, NoAnswer, AnswerKey, AnswerForm, AnswerStopped, Transfer, Value, Held, Pdo}
 use Rattle.conode_compare_rules.specs.declared.finding.NmtState.TheVariants.{PreOperational, Operational}
 use Rattle.conode_compare_choices.specs.declared.choice.Choice.TheVariants.{Segments, NoSize, ShortSegment, NoCrc, BlockSize, Switched, Code, Timeout, Heartbeat, Phase, NoEmergency, OtherEmergency}
 use Rattle.conode_compare_choices.specs.declared.length_error.LengthError.TheVariants.{ShortRpdo, LongRpdo, OddSync}
-use Rattle.conode_compare_notes.specs.declared.warning.Warning.TheVariants.{Changed, OddCode, OtherRevision, OtherText, Restarted, SteppedBack, Stored}
+use Rattle.conode_compare_notes.specs.declared.warning.Warning.TheVariants.{Changed, ChangedBytes, OddCode, OtherRevision, OtherText, Restarted, SteppedBack, Stored}
 use Rattle.conode_compare_text.specs.ChoiceTexts.{choice_line, choice_text, choices_summary}
-use Rattle.conode_compare_text.specs.FindingTexts.{coded, finding_line, finding_text, hexadecimal, keyed, keyed_code, keyed_codes, keyed_number, keyed_numbers, keyed_time, keyed_values, millis_text, mismatch_text, named, numbered, numbered_time, numbered_times, pdo_text, shown_value, three_numbers, timed, timed_number, transfer_text, two_codes, two_times}
+use Rattle.conode_compare_text.specs.FindingTexts.{coded, eight_digits, finding_line, finding_text, hexadecimal, keyed, keyed_code, keyed_codes, keyed_number, keyed_numbers, keyed_time, keyed_values, millis_text, mismatch_text, named, numbered, numbered_time, numbered_times, pdo_text, shown_value, three_numbers, timed, timed_number, transfer_text, two_codes, two_times}
 use Rattle.conode_compare_text.specs.LearnedTexts.{learned_line, other_text, typed_text}
 use Rattle.conode_compare_text.specs.Tallies.{summary, tally_text}
 use Rattle.conode_compare_text.specs.WarningTexts.{warning_line, warning_text}
@@ -81,17 +81,21 @@ unfolding finding_text mismatch_text keyed_numbers digits_text digits
 value_length = refl
 
 value_const : finding_text plain (Value (ValueConst key 0x12345678 0xABC)) ≡ codes "value-const: 1018:01 has 12345678h, the sheet 00000ABCh"
-unfolding finding_text mismatch_text keyed_values shown_value hexadecimal digits_text
+unfolding finding_text mismatch_text keyed_values shown_value hexadecimal eight_digits digits_text
 value_const = refl
+
+value_const_text : finding_text plain (Value (ConstText key)) ≡ codes "value-const: 1018:01 has another text than the sheet"
+unfolding finding_text mismatch_text keyed digits_text
+value_const_text = refl
 
 -- a REAL32 of an adapted sheet, by its value
 value_const_real : finding_text Real32 (Value (ValueConst key 0x7F800000 0x80000000)) ≡ codes "value-const: 1018:01 has inf, the sheet -0.0"
 unfolding finding_text mismatch_text keyed_values shown_value value_text digits_text
 value_const_real = refl
 
--- four bytes aren't a whole TIME_OF_DAY
-value_const_time : finding_text TimeOfDay (Value (ValueConst key 1 0x0A000000)) ≡ codes "value-const: 1018:01 has 01000000 (32 of 48 bits), the sheet 0000000A (32 of 48 bits)"
-unfolding finding_text mismatch_text keyed_values shown_value value_text digits digits_text
+-- another original type, of more than four bytes
+value_const_time : finding_text TimeOfDay (Value (ValueConst key 0xFFFFFFFF 0x100000000)) ≡ codes "value-const: 1018:01 has FFFFFFFFh, the sheet 0000000100000000h"
+unfolding finding_text mismatch_text keyed_values shown_value hexadecimal eight_digits digits_text
 value_const_time = refl
 
 refused : finding_text plain (Value (ReadRefused key (record { 0 = 0x06020000 }))) ≡ codes "access-read: 1018:01 refused with 06020000, the sheet has it as readable"
@@ -111,7 +115,7 @@ unfolding finding_text mismatch_text keyed digits_text
 below_limit = refl
 
 value_held : finding_text plain (Held (record { key = key; shown = 0x5; written = 0x12345678 })) ≡ codes "value-held: 1018:01 has 00000005h, written was 12345678h"
-unfolding finding_text keyed_values shown_value hexadecimal digits_text
+unfolding finding_text keyed_values shown_value hexadecimal eight_digits digits_text
 value_held = refl
 
 sums : summary 5 (record { prescribed = 118; different = 2; unjudged = 14 })
@@ -164,7 +168,7 @@ unfolding finding_text transfer_text keyed_numbers digits_text digits
 size = refl
 
 crc : finding_text plain (Transfer (Crc key 0x1234 0xABC)) ≡ codes "answer-crc: 1018:01 has the CRC 00001234h, that of its bytes is 00000ABCh"
-unfolding finding_text transfer_text keyed_codes hexadecimal digits_text
+unfolding finding_text transfer_text keyed_codes hexadecimal eight_digits digits_text
 crc = refl
 
 -- ---- choices
@@ -194,7 +198,7 @@ unfolding choice_text keyed digits_text
 choice_switch = refl
 
 choice_code : choice_text (Code key 0x06010000 0x06010002) ≡ codes "choice-code: 1018:01 is refused with 06010000h, and not with 06010002h"
-unfolding choice_text keyed_codes hexadecimal digits_text
+unfolding choice_text keyed_codes hexadecimal eight_digits digits_text
 choice_code = refl
 
 choice_heartbeat : choice_text (Heartbeat 300001 1000) ≡ codes "choice-heartbeat: 300.001 ms since the last one, 1017:00 has 1000 ms"
@@ -239,7 +243,7 @@ unfolding warning_line warning_text numbered digits
 restarted = refl
 
 stored : warning_text plain (Stored key 0x1F4 0x3E8) ≡ codes "warning: stored: 1018:01 has 000001F4h after the boot-up, the sheet 000003E8h"
-unfolding warning_text keyed_values shown_value hexadecimal digits_text
+unfolding warning_text keyed_values shown_value hexadecimal eight_digits digits_text
 stored = refl
 
 stepped_back : warning_text plain (SteppedBack 3000001) ≡ codes "warning: stepped-back: the stamp is 3000.001 ms before the last one"
@@ -247,12 +251,16 @@ unfolding warning_text timed millis_text digits_text digits
 stepped_back = refl
 
 changed : warning_text plain (Changed (record { key = key; shown = 0x5; written = 0x12345678 })) ≡ codes "warning: changed-after-write: 1018:01 has 00000005h, written was 12345678h"
-unfolding warning_text keyed_values shown_value hexadecimal digits_text
+unfolding warning_text keyed_values shown_value hexadecimal eight_digits digits_text
 changed = refl
 
 other_revision : warning_text plain (OtherRevision key 0x10003 0x10002) ≡ codes "warning: other-version: 1018:01 has 00010003h, the sheet 00010002h"
-unfolding warning_text keyed_values shown_value hexadecimal digits_text
+unfolding warning_text keyed_values shown_value hexadecimal eight_digits digits_text
 other_revision = refl
+
+changed_bytes : warning_text plain (ChangedBytes key) ≡ codes "warning: changed-after-write: 1018:01 has other bytes than were written"
+unfolding warning_text keyed digits_text
+changed_bytes = refl
 
 another_text : warning_text plain (OtherText key) ≡ codes "warning: other-version: 1018:01 has another text than the sheet"
 unfolding warning_text keyed digits_text

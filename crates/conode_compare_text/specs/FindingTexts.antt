@@ -1,18 +1,18 @@
 -- The line of a difference.
-use Rattle.std.specs.Prelude.{ℕ, ◌*◌, ◌/◌, ◌%◌, List, [], ◌∷◌, ◌++◌, codes, decimal}
+use Rattle.std.specs.Prelude.{ℕ, ◌*◌, ◌/◌, ◌%◌, nat_lt, if◌then◌else◌, List, [], ◌∷◌, ◌++◌, codes, decimal}
 use Rattle.co_text.specs.Printed.{digits_text}
 use Rattle.co_value.specs.declared.key.Key.{Key}
 use Rattle.co_value.specs.KeyTexts.{key_text}
 use Rattle.co_value.specs.Numbers.{low_bytes}
 use Rattle.conode_explain_values.specs.declared.value_type.ValueType.{ValueType}
-use Rattle.conode_explain_values.specs.declared.value_type.ValueType.TheVariants.{Plain}
+use Rattle.conode_explain_values.specs.declared.value_type.ValueType.TheVariants.{Real32}
 use Rattle.conode_explain_values.specs.Values.{value_text}
 use Rattle.conode_compare_pdos.specs.declared.deviation.Deviation.{Deviation}
 use Rattle.conode_compare_pdos.specs.declared.deviation.Deviation.TheVariants.{Length, NotOperational, WithoutSync, Inhibit, Timer}
 use Rattle.conode_compare_transfers.specs.declared.breach.Breach.{Breach}
 use Rattle.conode_compare_transfers.specs.declared.breach.Breach.TheVariants.{Toggle, Form, AbortKey, Size, Crc}
 use Rattle.conode_compare_values.specs.declared.mismatch.Mismatch.{Mismatch}
-use Rattle.conode_compare_values.specs.declared.mismatch.Mismatch.TheVariants.{ValueLength, ValueConst, ReadRefused, Written, AboveLimit, BelowLimit}
+use Rattle.conode_compare_values.specs.declared.mismatch.Mismatch.TheVariants.{ValueLength, ValueConst, ConstText, ReadRefused, Written, AboveLimit, BelowLimit}
 use Rattle.conode_compare_rules.specs.declared.finding.Finding.{Finding}
 use Rattle.conode_compare_rules.specs.declared.finding.Finding.TheVariants.{BootMissing, SecondBootUp, HeartbeatLength, NoState, WrongState, HeartbeatLate, EmergencyLength, EmergencyStopped, EmergencyRegister, EmergencyInhibit, NoAnswer, Unasked, AnswerKey, AnswerForm, AnswerStopped, Transfer, Value, Held, Pdo}
 use Rattle.conode_compare_rules.specs.declared.finding.NmtState.{NmtState}
@@ -29,15 +29,23 @@ millis_text micros = decimal (micros / 1000) ++ codes "." ++ digits_text 10 3 (m
 unfoldable pub timed : List ℕ → ℕ → List ℕ → List ℕ
 timed front micros end = front ++ millis_text micros ++ end
 
--- a number in eight hexadecimal digits
-unfoldable pub hexadecimal : ℕ → List ℕ
-hexadecimal number = digits_text 16 4 (number / 0x10000 % 0x10000) ++ digits_text 16 4 (number % 0x10000) ++ codes "h"
+-- the low 32 bits of a number in eight hexadecimal digits
+unfoldable pub eight_digits : ℕ → List ℕ
+eight_digits number = digits_text 16 4 (number / 0x10000 % 0x10000) ++ digits_text 16 4 (number % 0x10000)
 
--- a value of up to four bytes: in hexadecimal digits; one with an original type, in a sheet that
--- was adapted, as `explain` shows it
+-- the digits of the bits above these, where one is set
+abbrev pub high_digits : ℕ → List ℕ
+high_digits number = if nat_lt number 0x100000000 then [] else eight_digits (number / 0x100000000)
+
+-- a number in eight hexadecimal digits, or in sixteen
+unfoldable pub hexadecimal : ℕ → List ℕ
+hexadecimal number = high_digits number ++ eight_digits number ++ codes "h"
+
+-- a value of up to eight bytes: in hexadecimal digits; a REAL32, in a sheet that was adapted, as
+-- `explain` shows it
 unfoldable pub shown_value : ValueType → ℕ → List ℕ
-shown_value (Plain t) number = hexadecimal number
-shown_value original number = value_text original 32 (low_bytes 4 (number % 0x100000000))
+shown_value Real32 number = value_text Real32 32 (low_bytes 4 (number % 0x100000000))
+shown_value t number = hexadecimal number
 
 unfoldable pub keyed : List ℕ → Key → List ℕ → List ℕ
 keyed front key end = front ++ key_text key ++ end
@@ -119,6 +127,7 @@ unfoldable pub mismatch_text : ValueType → Mismatch → List ℕ
 mismatch_text t (ValueLength key length width) =
     keyed_numbers (codes "value-length: ") key (codes " has ") length (codes " bytes, its type ") width
 mismatch_text t (ValueConst key shown held) = keyed_values (codes "value-const: ") key (codes " has ") t shown (codes ", the sheet ") held
+mismatch_text t (ConstText key) = keyed (codes "value-const: ") key (codes " has another text than the sheet")
 mismatch_text t (ReadRefused key code) =
     keyed_code (codes "access-read: ") key (codes " refused with ") code.0 (codes ", the sheet has it as readable")
 mismatch_text t (Written key) = keyed (codes "access-write: ") key (codes " was written, the sheet has it as read only")

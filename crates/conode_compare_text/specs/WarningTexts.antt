@@ -2,7 +2,7 @@
 use Rattle.std.specs.Prelude.{ℕ, List, [], ◌∷◌, ◌++◌, codes}
 use Rattle.conode_explain_values.specs.declared.value_type.ValueType.{ValueType}
 use Rattle.conode_compare_notes.specs.declared.warning.Warning.{Warning}
-use Rattle.conode_compare_notes.specs.declared.warning.Warning.TheVariants.{Restarted, Stored, Changed, SteppedBack, OtherRevision, OtherText, OddCode}
+use Rattle.conode_compare_notes.specs.declared.warning.Warning.TheVariants.{Restarted, Stored, Changed, ChangedBytes, SteppedBack, OtherRevision, OtherText, OddCode}
 use Rattle.conode_compare_text.specs.FindingTexts.{keyed, keyed_values, numbered, timed, two_codes}
 
 -- the name of the kind, and what was seen, where the values of the entry have this type
@@ -13,6 +13,7 @@ warning_text t (Stored key shown sheet) =
 warning_text t (Changed mismatch) =
     keyed_values (codes "warning: changed-after-write: ") mismatch.key (codes " has ") t mismatch.shown (codes ", written was ")
     mismatch.written
+warning_text t (ChangedBytes key) = keyed (codes "warning: changed-after-write: ") key (codes " has other bytes than were written")
 warning_text t (SteppedBack micros) = timed (codes "warning: stepped-back: the stamp is ") micros (codes " before the last one")
 warning_text t (OtherRevision key shown sheet) =
     keyed_values (codes "warning: other-version: ") key (codes " has ") t shown (codes ", the sheet ") sheet

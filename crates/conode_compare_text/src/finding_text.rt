@@ -146,7 +146,7 @@ fn push_mismatch(
             "value-length: ",
             key,
             " has ",
-            u64::from(length),
+            length,
             " bytes, its type ",
             u64::from(width),
         ),
@@ -159,6 +159,12 @@ fn push_mismatch(
             shown,
             ", the sheet ",
             held,
+        ),
+        Mismatch::ConstText(key) => push_key(
+            text,
+            "value-const: ",
+            key,
+            " has another text than the sheet",
         ),
         Mismatch::ReadRefused(key, code) => push_key_code(
             text,
@@ -190,8 +196,8 @@ fn push_mismatch(
 }
 
 /// Appends the name of the kind, and what is different: `heartbeat-late: ..`. The values of an
-/// entry are hexadecimal; in an original type they are as `explain` shows them. On an `Err` memory
-/// ran out, and a part of it may be there.
+/// entry are hexadecimal; a REAL32 is as `explain` shows it. On an `Err` memory ran out, and a part
+/// of it may be there.
 #[tactic(auto, unfolding(crate::specs::FindingTexts::finding_text))]
 pub fn push_finding(
     text: &mut String,
@@ -297,8 +303,9 @@ pub fn push_finding(
 
 /// Sets a text to the line of a difference, with its line feed, as `recording.log:123:
 /// heartbeat-late: ..`: the name of the recording, and the number of its line. The values of an
-/// entry are hexadecimal; in an original type, which an adapted sheet has in `OriginalDataType`,
-/// they are as `explain` shows them. On an `Err` memory ran out, and a part of it may be there.
+/// entry are hexadecimal; those of the original type REAL32, which an adapted sheet has in
+/// `OriginalDataType`, are as `explain` shows them. On an `Err` memory ran out, and a part of it may
+/// be there.
 #[tactic(auto, unfolding(crate::specs::FindingTexts::finding_line))]
 pub fn set_finding_line(
     text: &mut String,

@@ -5,7 +5,9 @@ ghost use Rattle.std.specs.Prelude.{◌≡◌, ◌++◌, ◌<◌, OnOk, string_b
 ghost use Rattle.co_text.specs.Printed.{digits_text};
 ghost use Rattle.conode_compare_text.specs.FindingTexts.{
   coded,
+  eight_digits,
   hexadecimal,
+  high_digits,
   keyed,
   keyed_code,
   keyed_codes,
@@ -107,13 +109,33 @@ pub(crate) fn push_time(
     push_words(text, end)
 }
 
-// a number in eight hexadecimal digits
+// the low 32 bits of a number in eight hexadecimal digits
+#[tactic(auto, unfolding(crate::specs::FindingTexts::eight_digits))]
+fn push_eight_digits(text: &mut String, number: u64) -> Result<(), AllocError>
+    ensures { OnOk result (string_bytes text.new ≡ string_bytes text.old ++ eight_digits number) }
+{
+    push_u16(text, (number / 0x1_0000 % 0x1_0000) as u16)?;
+    push_u16(text, (number % 0x1_0000) as u16)
+}
+
+// the digits of the bits above these, where one is set
+fn push_high_digits(text: &mut String, number: u64) -> Result<(), AllocError>
+    ensures { OnOk result (string_bytes text.new ≡ string_bytes text.old ++ high_digits number) }
+{
+    if number < 0x1_0000_0000 {
+        Ok(())
+    } else {
+        push_eight_digits(text, number / 0x1_0000_0000)
+    }
+}
+
+// a number in eight hexadecimal digits, or in sixteen
 #[tactic(auto, unfolding(crate::specs::FindingTexts::hexadecimal))]
 fn push_hexadecimal(text: &mut String, number: u64) -> Result<(), AllocError>
     ensures { OnOk result (string_bytes text.new ≡ string_bytes text.old ++ hexadecimal number) }
 {
-    push_u16(text, (number / 0x1_0000 % 0x1_0000) as u16)?;
-    push_u16(text, (number % 0x1_0000) as u16)?;
+    push_high_digits(text, number)?;
+    push_eight_digits(text, number)?;
     text.push('h')
 }
 
@@ -293,22 +315,22 @@ pub(crate) fn push_key_codes(
     push_hexadecimal(text, other)
 }
 
-// a value of up to four bytes
+// a value of up to eight bytes
 #[tactic(auto, unfolding(crate::specs::FindingTexts::shown_value))]
 fn push_shown(text: &mut String, value_type: ValueType, number: u64) -> Result<(), AllocError>
     ensures { OnOk result (string_bytes text.new
         ≡ string_bytes text.old ++ shown_value value_type number) }
 {
     match value_type {
-        ValueType::Plain(_) => push_hexadecimal(text, number),
-        _ => {
+        ValueType::Real32 => {
             let bytes = bytes_of_u32((number % 0x1_0000_0000) as u32);
             push_value(text, value_type, 32, &bytes)
         }
+        _ => push_hexadecimal(text, number),
     }
 }
 
-/// A key and two values of up to four bytes, each with words before it.
+/// A key and two values of up to eight bytes, each with words before it.
 #[tactic(auto, unfolding(crate::specs::FindingTexts::keyed_values))]
 pub(crate) fn push_key_values(
     text: &mut String,

@@ -43,6 +43,12 @@ fn push_warning(
             ", written was ",
             mismatch.written,
         ),
+        Warning::ChangedBytes(key) => push_key(
+            text,
+            "warning: changed-after-write: ",
+            key,
+            " has other bytes than were written",
+        ),
         Warning::SteppedBack(micros) => push_time(
             text,
             "warning: stepped-back: the stamp is ",

@@ -1,16 +1,21 @@
 -- What of a transfer's end differs from the data sheet and what doesn't, on both sides of each edge, computed from the definitions.
-use Rattle.std.proofs.Common.{◌≡◌, ℕ, true, false, List, [], ◌∷◌, map, Option, Some, None, refl}
+use Rattle.std.proofs.Common.{◌≡◌, ℕ, ◌-◌, Bool, true, false, List, [], ◌∷◌, length, map, replicate, Option, Some, None, refl}
 use Rattle.std.specs.Prelude.{ℤ, pos, neg_ℤ}
 use Rattle.co_profile.specs.declared.access.Access.{Access}
 use Rattle.co_profile.specs.declared.access.Access.TheVariants.{Ro, Wo, Rw, Constant}
 use Rattle.co_sheet.specs.Content.{Row}
-use Rattle.co_sheet.specs.Limits.{Default, absent, number, node_id}
+use Rattle.co_sheet.specs.Limits.{Default, absent, number, node_id, text}
 use Rattle.co_value.specs.declared.data_type.DataType.{DataType}
-use Rattle.co_value.specs.declared.data_type.DataType.TheVariants.{Boolean, Integer16, Integer24, Integer64, Unsigned8, Unsigned16, Unsigned40, VisibleString}
+use Rattle.co_value.specs.declared.data_type.DataType.TheVariants.{Boolean, Integer16, Integer24, Integer64, Unsigned8, Unsigned16, Unsigned40, Unsigned64, VisibleString}
 use Rattle.co_value.specs.declared.key.Key.{Key}
+use Rattle.conode_explain_transfers.specs.declared.ended.Ended.{Ended}
+use Rattle.conode_explain_transfers.specs.declared.ended.Ending.TheVariants.{Done}
+use Rattle.conode_explain_transfers.specs.declared.kinds.Direction.TheVariants.{Upload}
+use Rattle.conode_explain_transfers.specs.declared.kinds.Protocol.{Protocol}
+use Rattle.conode_explain_transfers.specs.declared.kinds.Protocol.TheVariants.{Expedited, Segmented, Block}
 use Rattle.conode_compare_values.specs.declared.mismatch.Mismatch.{Mismatch}
-use Rattle.conode_compare_values.specs.declared.mismatch.Mismatch.TheVariants.{ValueLength, ValueConst, ReadRefused, Written, AboveLimit, BelowLimit}
-use Rattle.conode_compare_values.specs.SheetValues.{binds, refused_mismatch, upload_mismatch, written_mismatch}
+use Rattle.conode_compare_values.specs.declared.mismatch.Mismatch.TheVariants.{ValueLength, ValueConst, ConstText, ReadRefused, Written, AboveLimit, BelowLimit}
+use Rattle.conode_compare_values.specs.SheetValues.{binds, refused_mismatch, value_mismatch, written_mismatch}
 
 abbrev key : ℕ → ℕ → Key
 key index sub = record { index = index; sub = sub }
@@ -30,50 +35,170 @@ row index sub data_type access default = record {
   line = 1;
 }
 
-same_const : upload_mismatch 5 (row 0x2000 0 Unsigned16 Constant (number (pos 258))) true (2 ∷ 1 ∷ []) ≡ None
-unfolding upload_mismatch
+-- an upload of so many bytes, the first of which are these
+abbrev read : Row → Bool → Protocol → ℕ → List ℕ → Option Mismatch
+read entry exact protocol count bytes = value_mismatch 5 entry exact (record {
+  key = entry.key;
+  direction = Upload;
+  protocol = protocol;
+  bytes = count;
+  first = record { items = bytes };
+  frames = 2;
+  begun = 1;
+  newest = 1;
+  end = 2;
+  ending = Done false;
+})
+
+abbrev upload : Row → Bool → List ℕ → Option Mismatch
+upload entry exact bytes = read entry exact Expedited (length bytes) bytes
+
+same_const : upload (row 0x2000 0 Unsigned16 Constant (number (pos 258))) true (2 ∷ 1 ∷ []) ≡ None
+unfolding value_mismatch
 same_const = refl
 
-other_const : upload_mismatch 5 (row 0x2000 0 Unsigned16 Constant (number (pos 258))) true (3 ∷ 1 ∷ []) ≡ Some (ValueConst (key 0x2000 0) 259 258)
-unfolding upload_mismatch
+other_const : upload (row 0x2000 0 Unsigned16 Constant (number (pos 258))) true (3 ∷ 1 ∷ []) ≡ Some (ValueConst (key 0x2000 0) 259 258)
+unfolding value_mismatch
 other_const = refl
 
 -- without its size the first bytes count
-no_size : upload_mismatch 5 (row 0x2000 0 Unsigned16 Constant (number (pos 258))) false (2 ∷ 1 ∷ 9 ∷ 9 ∷ []) ≡ None
-unfolding upload_mismatch
+no_size : upload (row 0x2000 0 Unsigned16 Constant (number (pos 258))) false (2 ∷ 1 ∷ 9 ∷ 9 ∷ []) ≡ None
+unfolding value_mismatch
 no_size = refl
 
-other_length : upload_mismatch 5 (row 0x2000 0 Unsigned16 Rw absent) true (2 ∷ 1 ∷ 0 ∷ 0 ∷ []) ≡ Some (ValueLength (key 0x2000 0) 4 2)
-unfolding upload_mismatch
+other_length : upload (row 0x2000 0 Unsigned16 Rw absent) true (2 ∷ 1 ∷ 0 ∷ 0 ∷ []) ≡ Some (ValueLength (key 0x2000 0) 4 2)
+unfolding value_mismatch
 other_length = refl
 
-wide : upload_mismatch 5 (row 0x2000 0 Unsigned40 Rw absent) false (1 ∷ 0 ∷ 0 ∷ 0 ∷ []) ≡ Some (ValueLength (key 0x2000 0) 4 5)
-unfolding upload_mismatch
+wide : upload (row 0x2000 0 Unsigned40 Rw absent) false (1 ∷ 0 ∷ 0 ∷ 0 ∷ []) ≡ Some (ValueLength (key 0x2000 0) 4 5)
+unfolding value_mismatch
 wide = refl
 
-text : upload_mismatch 5 (row 0x1008 0 VisibleString Constant absent) true (65 ∷ []) ≡ None
-unfolding upload_mismatch
-text = refl
+no_text : upload (row 0x1008 0 VisibleString Constant absent) true (65 ∷ []) ≡ None
+unfolding value_mismatch
+no_text = refl
 
-not_const : upload_mismatch 5 (row 0x2000 0 Unsigned8 Rw (number (pos 1))) true (2 ∷ []) ≡ None
-unfolding upload_mismatch
+not_const : upload (row 0x2000 0 Unsigned8 Rw (number (pos 1))) true (2 ∷ []) ≡ None
+unfolding value_mismatch
 not_const = refl
 
-node_added : upload_mismatch 5 (row 0x2000 0 Unsigned8 Constant (node_id 1)) true (6 ∷ []) ≡ None
-unfolding upload_mismatch
+node_added : upload (row 0x2000 0 Unsigned8 Constant (node_id 1)) true (6 ∷ []) ≡ None
+unfolding value_mismatch
 node_added = refl
 
-device_type : upload_mismatch 5 (row 0x1000 0 Unsigned8 Ro (number (pos 1))) true (2 ∷ []) ≡ Some (ValueConst (key 0x1000 0) 2 1)
-unfolding upload_mismatch
+device_type : upload (row 0x1000 0 Unsigned8 Ro (number (pos 1))) true (2 ∷ []) ≡ Some (ValueConst (key 0x1000 0) 2 1)
+unfolding value_mismatch
 device_type = refl
 
-product : upload_mismatch 5 (row 0x1018 2 Unsigned8 Ro (number (pos 1))) true (2 ∷ []) ≡ Some (ValueConst (key 0x1018 2) 2 1)
-unfolding upload_mismatch
+product : upload (row 0x1018 2 Unsigned8 Ro (number (pos 1))) true (2 ∷ []) ≡ Some (ValueConst (key 0x1018 2) 2 1)
+unfolding value_mismatch
 product = refl
 
-revision : upload_mismatch 5 (row 0x1018 3 Unsigned8 Constant (number (pos 1))) true (2 ∷ []) ≡ None
-unfolding upload_mismatch
+revision : upload (row 0x1018 3 Unsigned8 Constant (number (pos 1))) true (2 ∷ []) ≡ None
+unfolding value_mismatch
 revision = refl
+
+-- ---- in segments and blocks
+
+abbrev long : Row
+long = row 0x2000 0 Unsigned64 Constant (number (pos 258))
+
+-- 102h and 0100000000000102h
+long_const : map (λ last. read long true Segmented 8 (2 ∷ 1 ∷ 0 ∷ 0 ∷ 0 ∷ 0 ∷ 0 ∷ last ∷ [])) (0 ∷ 1 ∷ []) ≡ None ∷ Some (ValueConst (key 0x2000 0) 0x0100000000000102 258) ∷ []
+unfolding value_mismatch
+long_const = refl
+
+in_blocks : map (λ last. read long true Block 8 (2 ∷ 1 ∷ 0 ∷ 0 ∷ 0 ∷ 0 ∷ 0 ∷ last ∷ [])) (0 ∷ 1 ∷ []) ≡ None ∷ Some (ValueConst (key 0x2000 0) 0x0100000000000102 258) ∷ []
+unfolding value_mismatch
+in_blocks = refl
+
+too_few : map (λ exact. read long exact Segmented 7 (2 ∷ 1 ∷ 0 ∷ 0 ∷ 0 ∷ 0 ∷ 0 ∷ [])) (true ∷ false ∷ []) ≡ Some (ValueLength (key 0x2000 0) 7 8) ∷ Some (ValueLength (key 0x2000 0) 7 8) ∷ []
+unfolding value_mismatch
+too_few = refl
+
+-- a last segment with n = 0 has seven bytes, of which one is the number; eight bytes aren't a number of one byte
+abbrev short : Row
+short = row 0x2000 0 Unsigned8 Constant (number (pos 2))
+
+padded : map (λ count. read short false Segmented count (2 ∷ replicate (count - 1) 9)) (7 ∷ 8 ∷ []) ≡ None ∷ Some (ValueLength (key 0x2000 0) 8 1) ∷ []
+unfolding value_mismatch
+padded = refl
+
+padded_other : read short false Segmented 7 (3 ∷ replicate 6 9) ≡ Some (ValueConst (key 0x2000 0) 3 2)
+unfolding value_mismatch
+padded_other = refl
+
+-- n is 6, and 5
+exact : read short true Segmented 1 (2 ∷ []) ≡ None
+unfolding value_mismatch
+exact = refl
+
+exact_other : read short true Segmented 2 (2 ∷ 9 ∷ []) ≡ Some (ValueLength (key 0x2000 0) 2 1)
+unfolding value_mismatch
+exact_other = refl
+
+-- of an entry that may change the length is compared
+may_change : map (λ count. read (row 0x2000 0 Unsigned16 Rw (number (pos 1))) true Block count (replicate count 7)) (2 ∷ 300 ∷ []) ≡ None ∷ Some (ValueLength (key 0x2000 0) 300 2) ∷ []
+unfolding value_mismatch
+may_change = refl
+
+-- ---- texts
+
+-- the sheet has "PT"
+abbrev named : Row
+named = row 0x2005 0 VisibleString Constant (text (0x50 ∷ 0x54 ∷ []))
+
+abbrev shows : Row → Bool → List ℕ → Option Mismatch
+shows entry exact bytes = read entry exact Segmented (length bytes) bytes
+
+abbrev other : Option Mismatch
+other = Some (ConstText (key 0x2005 0))
+
+-- "PT", "PU", "P", and nothing
+texts : map (shows named true) ((0x50 ∷ 0x54 ∷ []) ∷ (0x50 ∷ 0x55 ∷ []) ∷ (0x50 ∷ []) ∷ [] ∷ []) ≡ None ∷ other ∷ other ∷ other ∷ []
+unfolding value_mismatch
+texts = refl
+
+-- "PT" with a zero, a blank, and "!" after it; "PT!" where one byte may not count
+going_on : map (λ byte. shows named true (0x50 ∷ 0x54 ∷ byte ∷ [])) (0 ∷ 0x20 ∷ 0x21 ∷ 0x7E ∷ 0x7F ∷ []) ≡ None ∷ None ∷ other ∷ other ∷ None ∷ []
+unfolding value_mismatch
+going_on = refl
+
+may_not_count : shows named false (0x50 ∷ 0x54 ∷ 0x21 ∷ []) ≡ None
+unfolding value_mismatch
+may_not_count = refl
+
+-- in one frame, without its size and with it; in blocks
+in_one_frame : read named false Expedited 4 (0x50 ∷ 0x54 ∷ 9 ∷ 9 ∷ []) ∷ read named true Expedited 2 (0x50 ∷ 0x55 ∷ []) ∷ read named true Block 2 (0x50 ∷ 0x55 ∷ []) ∷ [] ≡ None ∷ other ∷ other ∷ []
+unfolding value_mismatch
+in_one_frame = refl
+
+-- " PU": the sheet has no blank at the begin
+blank_first : shows named true (0x20 ∷ 0x50 ∷ 0x55 ∷ []) ≡ None
+unfolding value_mismatch
+blank_first = refl
+
+-- of an entry that is read only, 1008h and 100Ah; 1007h and 100Bh
+no_constant : shows (record named { access = Ro }) true (0x50 ∷ 0x55 ∷ []) ≡ None
+unfolding value_mismatch
+no_constant = refl
+
+versions : map (λ index. shows (row index 0 VisibleString Constant (text (0x50 ∷ 0x54 ∷ []))) true (0x51 ∷ [])) (0x1007 ∷ 0x1008 ∷ 0x100A ∷ 0x100B ∷ [])
+    ≡ Some (ConstText (key 0x1007 0)) ∷ None ∷ None ∷ Some (ConstText (key 0x100B 0)) ∷ []
+unfolding value_mismatch
+versions = refl
+
+-- the sheet has nothing, quotes, a letter with an accent; 64 letters, and 65
+abbrev of_sheet : List ℕ → Option Mismatch
+of_sheet bytes = shows (record named { default = text bytes }) true (0x51 ∷ [])
+
+not_compared : map of_sheet ([] ∷ (0x22 ∷ 0x50 ∷ 0x22 ∷ []) ∷ (0x27 ∷ 0x50 ∷ []) ∷ (0x50 ∷ 0xE9 ∷ []) ∷ (0x50 ∷ 0x1F ∷ []) ∷ []) ≡ None ∷ None ∷ None ∷ None ∷ None ∷ []
+unfolding value_mismatch
+not_compared = refl
+
+compared : map of_sheet ((0x50 ∷ 0x22 ∷ []) ∷ (0x50 ∷ 0x20 ∷ 0x7E ∷ []) ∷ replicate 64 0x41 ∷ replicate 65 0x41 ∷ []) ≡ other ∷ other ∷ other ∷ None ∷ []
+unfolding value_mismatch
+compared = refl
 
 -- ---- refusals
 

@@ -1,6 +1,7 @@
 -- The end of a transfer, compared with the row of its entry in the data sheet (CiA 301, 7.4 and
 -- 7.2.4.3; CiA 306).
-use Rattle.std.specs.Prelude.{ℕ, ℤ, pos, ◌==◌, int_lt, nat_lt, nat_le, Bool, true, false, not, ◌&&◌, ◌||◌, if◌then◌else◌, List, length, take, Option, Some, None, option_and_then}
+use Rattle.std.specs.Prelude.{ℕ, ◌+◌, ℤ, pos, ◌==◌, int_lt, nat_lt, nat_le, Bool, true, false, not, ◌&&◌, ◌||◌, if◌then◌else◌, List, length, take, slice_index, bytes_eq, Option, Some, None, option_and_then}
+use Rattle.std.specs.List.{list_all}
 use Rattle.std.specs.Option.{option_map_or}
 use Rattle.co_frame.specs.declared.abort_code.AbortCode.{AbortCode}
 use Rattle.co_frame.specs.AbortCodes.{write_only, object_missing, sub_index_missing}
@@ -8,6 +9,7 @@ use Rattle.co_profile.specs.declared.access.Access.{Access}
 use Rattle.co_profile.specs.declared.access.Access.TheVariants.{Ro, Wo, Constant}
 use Rattle.co_profile.specs.Indices.{device_type}
 use Rattle.co_sheet.specs.Content.{Row}
+use Rattle.co_sheet.specs.Limits.{Default, text}
 use Rattle.co_value.specs.declared.data_type.DataType.{DataType}
 use Rattle.co_value.specs.declared.data_type.DataType.TheVariants.{Boolean}
 use Rattle.co_value.specs.declared.key.Key.{Key}
@@ -25,7 +27,7 @@ use Rattle.conode_explain_transfers.specs.declared.kinds.Protocol.TheVariants.{E
 use Rattle.conode_explain_transfers.specs.declared.kinds.Side.TheVariants.{Server}
 use Rattle.conode_compare_pdos.specs.SheetNumbers.{number_of}
 use Rattle.conode_compare_values.specs.declared.mismatch.Mismatch.{Mismatch}
-use Rattle.conode_compare_values.specs.declared.mismatch.Mismatch.TheVariants.{ValueLength, ValueConst, ReadRefused, Written, AboveLimit, BelowLimit}
+use Rattle.conode_compare_values.specs.declared.mismatch.Mismatch.TheVariants.{ValueLength, ValueConst, ConstText, ReadRefused, Written, AboveLimit, BelowLimit}
 
 -- ---- values
 
@@ -47,9 +49,15 @@ is_held row =
 abbrev pub held_number : ℕ → Row → Option ℕ
 held_number node row = if is_held row then number_of node row.default else None
 
--- the number that the first bytes are
+-- So many bytes have room for the value, and for up to six more: expedited without a size there are
+-- four, and of a last segment with n = 0 seven, however many count.
+abbrev pub has_room : ℕ → ℕ → Bool
+has_room width count = nat_le width count && nat_le count (width + 6)
+
+-- the number that the first bytes are, up to eight
 abbrev pub shown_number : ℕ → List ℕ → Option ℕ
-shown_number width bytes = if nat_le width 4 && nat_le width (length bytes) then Some (unsigned_of (take width bytes)) else None
+shown_number width bytes =
+    if nat_le width 8 && has_room width (length bytes) then Some (unsigned_of (take width bytes)) else None
 
 -- `value-const`: another number than the data sheet's
 abbrev pub constant_mismatch : Key → Option ℕ → Option ℕ → Option Mismatch
@@ -64,8 +72,65 @@ number_mismatch node row indicated bytes width =
     if nat_lt 4 width || (indicated && not (width == length bytes)) then Some (ValueLength row.key (length bytes) width)
     else constant_mismatch row.key (shown_number width bytes) (held_number node row)
 
-unfoldable pub upload_mismatch : ℕ → Row → Bool → List ℕ → Option Mismatch
-upload_mismatch node row indicated bytes = option_and_then (number_mismatch node row indicated bytes) (width_of row.data_type)
+-- in segments or blocks; where the number of bytes is known exactly, it is the type's
+abbrev pub has_width : Bool → ℕ → ℕ → Bool
+has_width exact width count = if exact then width == count else has_room width count
+
+abbrev pub long_mismatch : ℕ → Row → Bool → ℕ → List ℕ → ℕ → Option Mismatch
+long_mismatch node row exact count bytes width =
+    if has_width exact width count then constant_mismatch row.key (shown_number width bytes) (held_number node row)
+    else Some (ValueLength row.key count width)
+
+-- by the protocol, of so many bytes, the first of which are these
+abbrev pub width_mismatch : ℕ → Row → Bool → Protocol → ℕ → List ℕ → ℕ → Option Mismatch
+width_mismatch node row exact Expedited count bytes width = number_mismatch node row exact bytes width
+width_mismatch node row exact other count bytes width = long_mismatch node row exact count bytes width
+
+-- ---- texts
+
+-- 1008h to 100Ah: the device's name, the versions of hardware and software
+abbrev pub is_version : Key → Bool
+is_version key = nat_le 0x1008 key.index && nat_le key.index 0x100A
+
+-- a visible character, and a blank or one
+abbrev pub is_visible : ℕ → Bool
+is_visible byte = nat_lt 0x20 byte && nat_lt byte 0x7F
+
+abbrev pub is_printed : ℕ → Bool
+is_printed byte = nat_le 0x20 byte && nat_lt byte 0x7F
+
+abbrev pub byte_of : List ℕ → ℕ → ℕ
+byte_of bytes place = slice_index bytes place
+
+-- neither of the quotes, which may be meant to be left out
+abbrev pub is_first : ℕ → Bool
+is_first byte = is_visible byte && (not (byte == 0x22) && not (byte == 0x27))
+
+-- a text of the data sheet that is compared: of up to 64 characters, since so many bytes of a transfer
+-- are kept
+abbrev pub is_comparable : List ℕ → Bool
+is_comparable bytes = nat_le (length bytes) 64 && (list_all is_printed bytes && is_first (byte_of bytes 0))
+
+abbrev pub begins_with : List ℕ → List ℕ → Bool
+begins_with bytes shown = nat_le (length bytes) (length shown) && bytes_eq (take (length bytes) shown) bytes
+
+-- Another text is shown: one that begins otherwise, or goes on with a visible character. A data sheet
+-- has no blanks at either end, and a device may add zeros.
+abbrev pub is_other_text : Bool → List ℕ → List ℕ → Bool
+is_other_text exact bytes shown =
+    not (byte_of shown 0 == 0x20) && (not (begins_with bytes shown) || (exact && is_visible (byte_of shown (length bytes))))
+
+abbrev pub is_held_text : Row → Bool
+is_held_text row = is_constant row.access && not (is_version row.key)
+
+-- `value-const`: another text than the data sheet's
+abbrev pub text_with : Row → Bool → Default → List ℕ → Option Mismatch
+text_with row exact (text bytes) shown =
+    if is_held_text row && (is_comparable bytes && is_other_text exact bytes shown) then Some (ConstText row.key) else None
+text_with row exact default shown = None
+
+abbrev pub text_mismatch : Row → Bool → List ℕ → Option Mismatch
+text_mismatch row exact shown = text_with row exact row.default shown
 
 -- ---- refusals
 
@@ -134,24 +199,26 @@ written_mismatch row bytes = if is_read_only row.access then Some (Written row.k
 
 -- ---- the end of a transfer
 
-abbrev pub value_by : ℕ → Row → Bool → Protocol → List ℕ → Option Mismatch
-value_by node row indicated Expedited bytes = upload_mismatch node row indicated bytes
-value_by node row indicated other bytes = None
+-- by the width of the entry's type, if it is a number's
+abbrev pub value_by : ℕ → Row → Bool → Ended → Option ℕ → Option Mismatch
+value_by node row exact ended (Some width) = width_mismatch node row exact ended.protocol ended.bytes ended.first.items width
+value_by node row exact ended None = text_mismatch row exact ended.first.items
 
-abbrev pub value_mismatch : ℕ → Row → Bool → Ended → Option Mismatch
-value_mismatch node row indicated ended = value_by node row indicated ended.protocol ended.first.items
+unfoldable pub value_mismatch : ℕ → Row → Bool → Ended → Option Mismatch
+value_mismatch node row exact ended = value_by node row exact ended (width_of row.data_type)
 
--- of a device with a node-ID; whether it is modular; whether an upload indicates its size
+-- of a device with a node-ID; whether it is modular; whether the number of bytes of an upload is known
+-- exactly
 abbrev pub mismatch_by : ℕ → Bool → Row → Bool → Ended → Direction → Ending → Option Mismatch
-mismatch_by node modular row indicated ended Upload (Done crc) = value_mismatch node row indicated ended
-mismatch_by node modular row indicated ended Download (Done crc) = written_mismatch row ended.first.items
-mismatch_by node modular row indicated ended Upload (Aborted Server code) = refused_mismatch modular row code
-mismatch_by node modular row indicated ended direction ending = None
+mismatch_by node modular row exact ended Upload (Done crc) = value_mismatch node row exact ended
+mismatch_by node modular row exact ended Download (Done crc) = written_mismatch row ended.first.items
+mismatch_by node modular row exact ended Upload (Aborted Server code) = refused_mismatch modular row code
+mismatch_by node modular row exact ended direction ending = None
 
 unfoldable pub row_mismatch : ℕ → Bool → Row → Bool → Ended → Option Mismatch
-row_mismatch node modular row indicated ended = mismatch_by node modular row indicated ended ended.direction ended.ending
+row_mismatch node modular row exact ended = mismatch_by node modular row exact ended ended.direction ended.ending
 
 -- of an entry that the data sheet has
 unfoldable pub mismatch_at : ℕ → Bool → List Row → Bool → Ended → Option Mismatch
-mismatch_at node modular rows indicated ended =
-    option_and_then (λ row. row_mismatch node modular row indicated ended) (row_at rows ended.key)
+mismatch_at node modular rows exact ended =
+    option_and_then (λ row. row_mismatch node modular row exact ended) (row_at rows ended.key)

@@ -7,10 +7,12 @@ use co_value::Key;
 #[derive(Clone, Copy)]
 pub enum Mismatch {
     /// `value-length`: an upload of this entry has so many bytes, and its type has so many.
-    ValueLength(Key, u8, u8),
+    ValueLength(Key, u64, u8),
     /// `value-const`: an upload of this entry gives the first number, and the data sheet has the
     /// second.
     ValueConst(Key, u64, u64),
+    /// `value-const`: an upload of this entry gives another text than the data sheet has.
+    ConstText(Key),
     /// `access-read`: an upload of this entry, which the data sheet has as readable, is refused
     /// with this code.
     ReadRefused(Key, AbortCode),

@@ -1,29 +1,43 @@
 //! The end of a transfer, compared with the row of its entry in the data sheet.
 
-ghost use Rattle.std.specs.Prelude.{◌≡◌, ◌≤◌, true, map, length};
-ghost use Rattle.std.specs.List.{AllPairs};
+ghost use Rattle.std.specs.Prelude.{◌≡◌, ◌≤◌, true, map};
+ghost use Rattle.std.specs.List.{AllPairs, list_all};
 ghost use Rattle.co_sheet.specs.SheetViews.{row_view};
 ghost use Rattle.co_value.specs.Keys.{is_key_before};
 ghost use Rattle.conode_compare_values.specs.SheetValues.{
+  begins_with,
   beyond_mismatch,
   binds,
+  byte_of,
   constant_mismatch,
   denies,
   has_limits,
+  has_room,
+  has_width,
   held_number,
   is_above,
   is_below,
   is_boolean,
+  is_comparable,
+  is_first,
   is_held,
+  is_held_text,
+  is_other_text,
+  is_printed,
   is_readable,
   is_read_only,
+  is_version,
+  is_visible,
   limit_mismatch,
+  long_mismatch,
   mismatch_at,
+  number_mismatch,
   refused_mismatch,
   row_mismatch,
   shown_number,
-  upload_mismatch,
+  text_mismatch,
   value_mismatch,
+  width_mismatch,
   written_mismatch,
 };
 
@@ -32,9 +46,13 @@ use co_frame::AbortCode;
 use co_profile::{Access, DEVICE_TYPE};
 use co_sheet::EntryRow;
 use co_sheet_changes::row_at;
+use co_sheet_rows::Preset;
 use co_value::{DataType, Key, from_bytes, unsigned_of};
 use conode_compare_pdos::number_of;
 use conode_explain_transfers::{Direction, Ended, Ending, Protocol, Side};
+
+// of a transfer's bytes so many are kept
+const KEPT: usize = 64;
 
 // the identity object (CiA 301, 7.5.2.21)
 const IDENTITY: u16 = 0x1018;
@@ -74,11 +92,20 @@ fn held_number(node: u8, row: &EntryRow<'_>) -> Option<u64>
     }
 }
 
-/// The number that the first bytes are, up to four.
+// whether so many bytes have room for the value, and for up to six that don't count
+fn has_room(width: usize, count: u64) -> bool
+    requires { width ≤ 8 }
+    ensures { result ≡ has_room width count }
+{
+    let width = width as u64;
+    width <= count && count <= width + 6
+}
+
+/// The number that the first bytes are, up to eight; up to six more may come that don't count.
 pub fn shown_number(width: usize, bytes: &[u8]) -> Option<u64>
     ensures { result ≡ shown_number width bytes.now }
 {
-    if width <= 4 && width <= bytes.len() {
+    if width <= 8 && has_room(width, bytes.len() as u64) {
         Some(unsigned_of(&bytes[..width]))
     } else {
         None
@@ -95,18 +122,154 @@ fn constant_mismatch(key: Key, shown: Option<u64>, held: Option<u64>) -> Option<
     }
 }
 
-// The difference of an expedited upload, with its size or without. One of a number has as many
+// The difference of an expedited upload of a number, with its size or without. One has as many
 // bytes as its type.
-#[tactic(auto, unfolding(crate::specs::SheetValues::upload_mismatch))]
-fn upload_mismatch(node: u8, row: &EntryRow<'_>, indicated: bool, bytes: &[u8]) -> Option<Mismatch>
-    requires { length bytes.now ≤ 64 }
-    ensures { result ≡ upload_mismatch node (row_view row.now) indicated bytes.now }
+fn number_mismatch(
+    node: u8,
+    row: &EntryRow<'_>,
+    indicated: bool,
+    bytes: &[u8],
+    width: usize,
+) -> Option<Mismatch>
+    requires { width ≤ 8 }
+    ensures { result ≡ number_mismatch node (row_view row.now) indicated bytes.now width }
 {
-    let width = row.data_type.width()?;
     if width > 4 || (indicated && width != bytes.len()) {
-        return Some(Mismatch::ValueLength(row.key, bytes.len() as u8, width as u8));
+        return Some(Mismatch::ValueLength(row.key, bytes.len() as u64, width as u8));
     }
     constant_mismatch(row.key, shown_number(width, bytes), held_number(node, row))
+}
+
+fn has_width(exact: bool, width: usize, count: u64) -> bool
+    requires { width ≤ 8 }
+    ensures { result ≡ has_width exact width count }
+{
+    if exact {
+        width as u64 == count
+    } else {
+        has_room(width, count)
+    }
+}
+
+// the difference of one in segments or blocks, of so many bytes, the first of which are these
+fn long_mismatch(
+    node: u8,
+    row: &EntryRow<'_>,
+    exact: bool,
+    count: u64,
+    bytes: &[u8],
+    width: usize,
+) -> Option<Mismatch>
+    requires { width ≤ 8 }
+    ensures { result ≡ long_mismatch node (row_view row.now) exact count bytes.now width }
+{
+    if has_width(exact, width, count) {
+        constant_mismatch(row.key, shown_number(width, bytes), held_number(node, row))
+    } else {
+        Some(Mismatch::ValueLength(row.key, count, width as u8))
+    }
+}
+
+// the difference of an upload of a number, whose type has so many bytes
+fn width_mismatch(
+    node: u8,
+    row: &EntryRow<'_>,
+    exact: bool,
+    ended: &Ended,
+    width: usize,
+) -> Option<Mismatch>
+    requires { width ≤ 8 }
+    ensures { result ≡ width_mismatch node (row_view row.now) exact ended.now.protocol
+        ended.now.bytes ended.now.first.items width }
+{
+    let bytes = ended.first.as_slice();
+    match ended.protocol {
+        Protocol::Expedited => number_mismatch(node, row, exact, bytes, width),
+        _ => long_mismatch(node, row, exact, ended.bytes, bytes, width),
+    }
+}
+
+// the device's name, the versions of hardware and software (CiA 301, 7.5.2.8 to 7.5.2.10)
+fn is_version(key: Key) -> bool
+    ensures { result ≡ is_version key }
+{
+    0x1008 <= key.index && key.index <= 0x100A
+}
+
+fn is_visible(byte: u8) -> bool
+    ensures { result ≡ is_visible byte }
+{
+    0x20 < byte && byte < 0x7F
+}
+
+fn is_printed(byte: u8) -> bool
+    ensures { result ≡ is_printed byte }
+{
+    0x20 <= byte && byte < 0x7F
+}
+
+// a byte of several, 0 where there is none
+fn byte_of(bytes: &[u8], place: usize) -> u8
+    ensures { result ≡ byte_of bytes.now place }
+{
+    match bytes.get(place) {
+        Some(byte) => *byte,
+        None => 0,
+    }
+}
+
+// whether a text of a data sheet may begin so: one in quotes may be meant without them
+fn is_first(byte: u8) -> bool
+    ensures { result ≡ is_first byte }
+{
+    is_visible(byte) && (byte != b'"' && byte != b'\'')
+}
+
+fn all_printed(bytes: &[u8]) -> bool
+    ensures { result ≡ list_all is_printed bytes.now }
+{
+    bytes.iter().all(|byte| is_printed(*byte))
+}
+
+// whether a text of the data sheet can be compared
+fn is_comparable(bytes: &[u8]) -> bool
+    ensures { result ≡ is_comparable bytes.now }
+{
+    bytes.len() <= KEPT && (all_printed(bytes) && is_first(byte_of(bytes, 0)))
+}
+
+fn begins_with(bytes: &[u8], shown: &[u8]) -> bool
+    ensures { result ≡ begins_with bytes.now shown.now }
+{
+    bytes.len() <= shown.len() && &shown[..bytes.len()] == bytes
+}
+
+// Whether another text is shown. A data sheet has no blanks at either end, and a device may add
+// zeros; the number of bytes that are shown may be known exactly.
+fn is_other_text(exact: bool, bytes: &[u8], shown: &[u8]) -> bool
+    ensures { result ≡ is_other_text exact bytes.now shown.now }
+{
+    byte_of(shown, 0) != b' '
+        && (!begins_with(bytes, shown) || (exact && is_visible(byte_of(shown, bytes.len()))))
+}
+
+fn is_held_text(row: &EntryRow<'_>) -> bool
+    ensures { result ≡ is_held_text (row_view row.now) }
+{
+    matches!(row.access, Access::Constant) && !is_version(row.key)
+}
+
+// the difference of an upload of a text
+fn text_mismatch(row: &EntryRow<'_>, exact: bool, shown: &[u8]) -> Option<Mismatch>
+    ensures { result ≡ text_mismatch (row_view row.now) exact shown.now }
+{
+    match row.default {
+        Preset::Text(bytes)
+            if is_held_text(row) && is_comparable(bytes) && is_other_text(exact, bytes, shown) => {
+            Some(Mismatch::ConstText(row.key))
+        }
+        _ => None,
+    }
 }
 
 // A code that says that the entry can't be read at all. A sub-index may be missing where the number
@@ -210,12 +373,13 @@ fn written_mismatch(row: &EntryRow<'_>, bytes: &[u8]) -> Option<Mismatch>
 }
 
 // the difference of an upload that is done
-fn value_mismatch(node: u8, row: &EntryRow<'_>, indicated: bool, ended: &Ended) -> Option<Mismatch>
-    ensures { result ≡ value_mismatch node (row_view row.now) indicated ended.now }
+#[tactic(auto, unfolding(crate::specs::SheetValues::value_mismatch))]
+fn value_mismatch(node: u8, row: &EntryRow<'_>, exact: bool, ended: &Ended) -> Option<Mismatch>
+    ensures { result ≡ value_mismatch node (row_view row.now) exact ended.now }
 {
-    match ended.protocol {
-        Protocol::Expedited => upload_mismatch(node, row, indicated, ended.first.as_slice()),
-        _ => None,
+    match row.data_type.width() {
+        Some(width) => width_mismatch(node, row, exact, ended, width),
+        None => text_mismatch(row, exact, ended.first.as_slice()),
     }
 }
 
@@ -225,13 +389,13 @@ fn row_mismatch(
     node: u8,
     modular: bool,
     row: &EntryRow<'_>,
-    indicated: bool,
+    exact: bool,
     ended: &Ended,
 ) -> Option<Mismatch>
-    ensures { result ≡ row_mismatch node modular (row_view row.now) indicated ended.now }
+    ensures { result ≡ row_mismatch node modular (row_view row.now) exact ended.now }
 {
     match (ended.direction, ended.ending) {
-        (Direction::Upload, Ending::Done { crc: _ }) => value_mismatch(node, row, indicated, ended),
+        (Direction::Upload, Ending::Done { crc: _ }) => value_mismatch(node, row, exact, ended),
         (Direction::Download, Ending::Done { crc: _ }) => {
             written_mismatch(row, ended.first.as_slice())
         }
@@ -247,19 +411,19 @@ fn row_mismatch(
 }
 
 /// The difference of the end of a transfer of the device with a node-ID, by its data sheet, whose
-/// entries are in increasing key. `modular`: modules decide which entries it has. `indicated`: an
-/// upload has the number of its bytes.
+/// entries are in increasing key. `modular`: modules decide which entries it has. `exact`: an
+/// upload shows how many of its bytes count.
 #[tactic(auto, unfolding(crate::specs::SheetValues::mismatch_at))]
 pub fn mismatch_at(
     node: u8,
     modular: bool,
     rows: &[EntryRow<'_>],
-    indicated: bool,
+    exact: bool,
     ended: &Ended,
 ) -> Option<Mismatch>
     requires { AllPairs (λ e f. is_key_before e.key f.key ≡ true) rows.now }
-    ensures { result ≡ mismatch_at node modular (map row_view rows.now) indicated ended.now }
+    ensures { result ≡ mismatch_at node modular (map row_view rows.now) exact ended.now }
 {
     let row = row_at(rows, ended.key)?;
-    row_mismatch(node, modular, row, indicated, ended)
+    row_mismatch(node, modular, row, exact, ended)
 }

@@ -311,10 +311,10 @@ Compares a recorded device with what CiA 301 prescribes for its data sheet, and
 prints what differs. Without --node the device has the node-ID of the sheet, a
 device configuration file (DCF). `-` as TRACE is standard input. Times may
 deviate by --tolerance plus --drift; --answer and --boot limit the wait for an
-answer or a boot-up. An entry that --held names, an integer of up to four bytes
-as 2001:00, has to show the number that was written to it last. --choices lists
-what the device chose where CiA 301 leaves a choice, --learned at the end the
-numbers that expedited SDO transfers showed.
+answer or a boot-up. An entry that --held names, an integer as 2001:00, has to
+show the number that was written to it last. --choices lists what the device
+chose where CiA 301 leaves a choice, --learned at the end the numbers that SDO
+transfers showed.
 
   conode compare sensor.eds drive.log --node 5
   conode compare sensor.eds drive.log --node 5 --held 2001:00,2010:00
