@@ -146,5 +146,11 @@ silence_of limits started nmt dialogue None micros = None
 silence_of limits started nmt dialogue (Some asked) micros =
     if could_answer limits started nmt dialogue asked then late_after limits asked micros else None
 
-unfoldable pub silence_finding : Limits → ℕ → Nmt → Dialogue → ℕ → Option Finding
-silence_finding limits started nmt dialogue micros = silence_of limits started nmt dialogue dialogue.asked micros
+-- A heartbeat, or an answer of node guarding, that shows stopped: the device may have stopped by
+-- itself, at a failure (1029h), before it was asked, and needn't have answered.
+abbrev pub shows_stopped : ℕ → Bool
+shows_stopped byte = byte % 128 == 4
+
+unfoldable pub silence_finding : Limits → ℕ → Nmt → Dialogue → ℕ → ℕ → Option Finding
+silence_finding limits started nmt dialogue micros byte =
+    if shows_stopped byte then None else silence_of limits started nmt dialogue dialogue.asked micros

@@ -173,18 +173,18 @@ heartbeat_findings subject progress answer micros byte =
     (control_finding subject progress.started progress.heartbeats.guarded progress.nmt micros byte)
     (control_judged subject progress micros)
 
-abbrev pub silence_at : Subject → Progress → ℕ → Option Finding
-silence_at subject progress micros = silence_finding subject.limits progress.started progress.nmt progress.dialogue micros
+abbrev pub silence_at : Subject → Progress → ℕ → ℕ → Option Finding
+silence_at subject progress micros byte = silence_finding subject.limits progress.started progress.nmt progress.dialogue micros byte
 
 unfoldable pub control_findings : Subject → Progress → ℕ → ℕ → Findings
-control_findings subject progress micros byte = heartbeat_findings subject progress (silence_at subject progress micros) micros byte
+control_findings subject progress micros byte = heartbeat_findings subject progress (silence_at subject progress micros byte) micros byte
 
 unfoldable pub after_control : Subject → Progress → ℕ → ℕ → Progress
 after_control subject progress micros byte = record progress {
   nmt = states.after_control subject.limits progress.started progress.nmt micros byte;
   heartbeats = after_byte progress.heartbeats progress.free micros byte;
   pdos = if byte == 5 then progress.pdos else tpdos.commanded progress.pdos;
-  dialogue = if is_some (silence_at subject progress micros) then given_up progress.dialogue micros else progress.dialogue;
+  dialogue = if is_some (silence_at subject progress micros byte) then given_up progress.dialogue micros else progress.dialogue;
   remark = early_remark subject.limits progress.entries.period progress.heartbeats micros byte;
 }
 

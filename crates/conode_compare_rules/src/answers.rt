@@ -226,7 +226,8 @@ pub(crate) fn answer_finding(
 }
 
 /// The difference of a heartbeat while a request isn't answered in time: the device lives, and
-/// could have answered since it was asked.
+/// could have answered since it was asked. Not where the heartbeat shows stopped: the device may
+/// have stopped by itself (1029h) before it was asked.
 #[tactic(auto, unfolding(crate::specs::Answers::silence_finding))]
 pub(crate) fn silence_finding(
     limits: &Limits,
@@ -234,10 +235,14 @@ pub(crate) fn silence_finding(
     nmt: &Nmt,
     dialogue: &Dialogue,
     micros: u64,
+    byte: u8,
 ) -> Option<Finding>
     ensures { result
-        ≡ silence_finding limits.now started nmt.now dialogue.now micros }
+        ≡ silence_finding limits.now started nmt.now dialogue.now micros byte }
 {
+    if byte % 128 == 4 {
+        return None;
+    }
     let asked = dialogue.asked?;
     if !matches!(nmt.state, NmtState::PreOperational | NmtState::Operational) {
         return None;

@@ -302,7 +302,14 @@ impl Progress {
         ensures progress { self.new ≡ after_control subject.now self.old micros byte }
     {
         let limits = &subject.limits;
-        let answer = silence_finding(limits, self.started, &self.nmt, &self.dialogue, micros);
+        let answer = silence_finding(
+            limits,
+            self.started,
+            &self.nmt,
+            &self.dialogue,
+            micros,
+            byte,
+        );
         let findings = self.heartbeat_findings(subject, answer, micros, byte);
         self.remark = self
             .heartbeats
