@@ -41,10 +41,10 @@ pub record IsNodeOf (node : ℕ) (settings : Settings) (sheet : SheetContent) (m
       → Stands (node_constants (plan_for node settings sheet) greatest settings.time) made []
 
 -- a node is held with this entry table and these changes, and nothing happened to it
-pub record IsHeld (made : Node) (table : List EntryContent) (changes : List ℕ) (held : Held) : Type 0 where
+pub record IsHeld (made : Node) (table : List EntryContent) (bits : List ℕ) (held : Held) : Type 0 where
   pub node : held.node ≡ made
   pub entries : held.entries ≡ table
-  pub changes : boxed_slice_items held.changes ≡ changes
+  pub changes : boxed_slice_items held.changes ≡ bits
   pub events : held.events ≡ no_events
 
 -- this device was built from this sheet; it has the entry table of the sheet, with these original
