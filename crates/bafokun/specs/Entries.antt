@@ -6,7 +6,7 @@ use Rattle.co_value.specs.Types.{code_of}
 use Rattle.co_profile.specs.declared.access.Access.{Access}
 use Rattle.co_profile.specs.declared.access.Access.TheVariants.{Ro, Wo, Rw, Rwr, Rww, Constant}
 use Rattle.co_dict.specs.Rows.{Contents}
-use Rattle.co_dict_table.specs.Entries.{EntryContent, entry_at, number_of}
+use Rattle.co_dict_table.specs.Entries.{EntryContent, entry_at}
 use Rattle.bafokun.specs.declared.entries.Entry.{Entry}
 use Rattle.bafokun.specs.declared.entries.Named.{Named}
 use Rattle.bafokun.specs.declared.entries.Named.TheVariants as named

@@ -1,4 +1,3 @@
-use Rattle.std.proofs.Common.{◌∷◌}
 use Rattle.co_node_model.specs.Inputs.{Framed}
 use Rattle.bafokun.proofs.Added.{framed}
 use Rattle.bafokun.proofs.StateKept.{state_kept}

@@ -1,8 +1,5 @@
-use Rattle.std.proofs.Common.{◌∙◌, ap}
-use Rattle.std.specs.Prelude.{ℕ, List}
+use Rattle.std.proofs.Common.{◌∙◌}
 use Rattle.co_node_model.specs.Inputs.{Framed}
-use Rattle.co_node_device.specs.declared.seen.Seen.{Seen}
-use Rattle.bafokun.specs.Changes.{with_reset}
 use Rattle.bafokun.proofs.held.Held.take_frame.Goals as goal
 
 pub returns-then-id-eq0-clause-events : goal.returns-then-id-eq0-clause-events
