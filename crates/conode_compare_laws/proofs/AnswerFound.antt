@@ -26,7 +26,7 @@ use Rattle.conode_compare_rules.specs.declared.limits.Limits.{Limits}
 use Rattle.conode_compare_rules.specs.declared.limits.Subject.{Subject}
 use Rattle.conode_compare_rules.specs.declared.nmt.Commanded.{Commanded}
 use Rattle.conode_compare_rules.specs.declared.nmt.Nmt.{Nmt}
-use Rattle.conode_compare_rules.specs.Answers.{answer_finding, answers_in, breach_finding, ended_finding, finding_of, held_finding, is_abort, is_indicated, known_answer, late_after, late_answer, overdue_answer, refuses_other, shows_stopped, silence_finding, silence_of, stopped_finding, stopped_with, value_finding, what_finding}
+use Rattle.conode_compare_rules.specs.Answers.{answer_finding, answers_in, breach_finding, ended_finding, finding_of, held_finding, is_abort, is_exact, known_answer, late_after, late_answer, overdue_answer, refuses_other, shows_stopped, silence_finding, silence_of, stopped_finding, stopped_with, value_finding, what_finding}
 use Rattle.conode_compare_rules.specs.EmergencyRules.{is_stopped}
 use Rattle.conode_compare_rules.specs.States.{is_settled}
 use Rattle.conode_compare_laws.specs.AnswerFindings.{of_answers}
@@ -49,11 +49,11 @@ no_value : (m : Option Mismatch) → of_answers (value_finding m) ≡ []
 no_value None = refl
 no_value (Some m) = refl
 
-no_end : (subject : Subject) (rows : List Row) (frame : FrameContent) (ended : Option Ended) → of_answers (ended_finding subject rows frame ended) ≡ []
+pub no_end : (subject : Subject) (rows : List Row) (frame : FrameContent) (ended : Option Ended) → of_answers (ended_finding subject rows frame ended) ≡ []
 no_end subject rows frame None = refl
 no_end subject rows frame (Some e) = by (refuses_other frame e)
   where
-    by : (b : Bool) → of_answers (if b then None else value_finding (mismatch_at subject.node subject.facts.modular rows (is_indicated frame) e)) ≡ []
+    by : (b : Bool) → of_answers (if b then None else value_finding (mismatch_at subject.node subject.facts.modular rows (is_exact e.protocol frame) e)) ≡ []
     by true = refl
     by false = no_value _
 
@@ -61,7 +61,7 @@ no_held : (m : Option HeldMismatch) → of_answers (option_map (λ m. Held m) m)
 no_held None = refl
 no_held (Some m) = refl
 
-held_none : (subject : Subject) (written : Written) (x : Exchange) → of_answers (held_finding subject written x) ≡ []
+pub held_none : (subject : Subject) (written : Written) (x : Exchange) → of_answers (held_finding subject written x) ≡ []
 unfolding held_finding
 held_none subject written x = no_held (held_mismatch subject.held.entries.items written x.certain x.heard.ended)
 

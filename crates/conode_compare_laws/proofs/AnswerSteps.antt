@@ -29,7 +29,7 @@ use Rattle.conode_compare_rules.specs.declared.limits.Subject.{Subject}
 use Rattle.conode_compare_rules.specs.declared.nmt.Commanded.{Commanded}
 use Rattle.conode_compare_rules.specs.declared.nmt.Nmt.{Nmt}
 use Rattle.conode_compare_rules.specs.declared.progress.Progress.{Progress}
-use Rattle.conode_compare_rules.specs.Answers.{answer_finding, breach_finding, confirmed_finding, held_finding, silence_finding, stopped_finding}
+use Rattle.conode_compare_rules.specs.Answers.{answer_finding, breach_finding, confirmed_finding, ended_finding, held_finding, silence_finding, stopped_finding}
 use Rattle.conode_compare_rules.specs.FrameKinds.{command_to, data_kind}
 use Rattle.conode_compare_rules.specs.Heartbeats.{is_gap}
 use Rattle.conode_compare_rules.specs.Progresses as progresses
@@ -69,7 +69,7 @@ use Rattle.conode_compare_rules.specs.States.{after_other, shows_state}
 use Rattle.conode_compare_rules.specs.Verdicts.{found}
 use Rattle.conode_compare_laws.specs.AnswerFindings.{answer_differences, of_answers}
 use Rattle.conode_compare_laws.proofs.AnswerTurns.{Sound}
-use Rattle.conode_compare_laws.proofs.AnswerFound.{commanded_since, never_past, none_awaited, silent}
+use Rattle.conode_compare_laws.proofs.AnswerFound.{commanded_since, held_none, never_past, no_end, none_awaited, none_confirmed, only_or, silent}
 use Rattle.conode_compare_laws.proofs.Runs.{AllRun}
 use Rattle.conode_compare_laws.proofs.Shown.{Stage, boots, runs, stage_after}
 
@@ -335,24 +335,25 @@ life_quiet Idle subject rows p micros node.Stopped h = record { none = life_none
 
 -- ---- a frame of the client
 
-breach_none : (b : Option Breach) → answer_differences (Sdo Client (record { id = 0; bytes = [] })) (confirmed_findings (breach_finding b)) ≡ []
+confirmed_none : (frame : FrameContent) (o : Option Finding) → of_answers o ≡ [] → answer_differences (Sdo Client frame) (confirmed_findings o) ≡ []
 unfolding found
-breach_none None = refl
-breach_none (Some b) = refl
+confirmed_none frame None h = refl
+confirmed_none frame (Some finding) h = h
 
 client_none : (subject : Subject) (rows : List Row) (p : Progress) (micros : ℕ) (frame : FrameContent) → answer_differences (Sdo Client frame) (findings_in subject rows p micros (Sdo Client frame)) ≡ []
-unfolding request_findings confirmed_finding found
-client_none subject rows p micros frame = by x.certain
+unfolding request_findings confirmed_finding
+client_none subject rows p micros frame = by (exchange_at subject p micros Client frame).certain
   where
     x : Exchange
     x = exchange_at subject p micros Client frame
 
-    breach : (b : Option Breach) → answer_differences (Sdo Client frame) (confirmed_findings (breach_finding b)) ≡ []
-    breach None = refl
-    breach (Some b) = refl
-
-    by : (certain : Bool) → answer_differences (Sdo Client frame) (confirmed_findings (if certain then breach_finding (exchange_at subject p micros Client frame).breach else None)) ≡ []
-    by true = breach (exchange_at subject p micros Client frame).breach
+    by : (certain : Bool) → answer_differences (Sdo Client frame) (confirmed_findings (if certain then option_or (breach_finding (exchange_at subject p micros Client frame).breach) (option_or (ended_finding subject rows frame (exchange_at subject p micros Client frame).heard.ended) (held_finding subject p.written (exchange_at subject p micros Client frame))) else None)) ≡ []
+    by true =
+        confirmed_none frame _
+        (only_or (breach_finding x.breach) (option_or (ended_finding subject rows frame x.heard.ended) (held_finding subject p.written x))
+        (none_confirmed x.breach)
+        (only_or (ended_finding subject rows frame x.heard.ended) (held_finding subject p.written x)
+        (no_end subject rows frame x.heard.ended) (held_none subject p.written x)))
     by false = refl
 
 -- after which this holds of what is known of the channel

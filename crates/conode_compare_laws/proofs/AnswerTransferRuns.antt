@@ -50,7 +50,7 @@ use Rattle.conode_compare_rules.specs.declared.limits.Limits.{Limits}
 use Rattle.conode_compare_rules.specs.declared.limits.Subject.{Subject}
 use Rattle.conode_compare_rules.specs.declared.nmt.Nmt.{Nmt}
 use Rattle.conode_compare_rules.specs.declared.progress.Progress.{Progress}
-use Rattle.conode_compare_rules.specs.Answers.{answer_finding, breach_finding, confirmed_finding, ended_finding, finding_of, held_finding, is_abort, is_indicated, known_answer, late_answer, overdue_answer, refuses_other, stopped_finding, stopped_with, value_finding, what_finding}
+use Rattle.conode_compare_rules.specs.Answers.{answer_finding, breach_finding, confirmed_finding, ended_finding, finding_of, held_finding, is_abort, is_exact, known_answer, late_answer, overdue_answer, refuses_other, stopped_finding, stopped_with, value_finding, what_finding}
 use Rattle.conode_compare_rules.specs.EmergencyRules.{is_stopped}
 use Rattle.conode_compare_rules.specs.FrameKinds.{data_kind}
 use Rattle.conode_compare_rules.specs.Progresses.{after_frame, answer_findings, answer_noted, begun, channel_heard, confirmed_findings, exchange_at, exchange_noted, findings_at, findings_in, late_noted, progress_with, request_findings}
@@ -81,7 +81,7 @@ no_end : (subject : Subject) (rows : List Row) (frame : FrameContent) (ended : O
 no_end subject rows frame None = refl
 no_end subject rows frame (Some e) = by (refuses_other frame e)
   where
-    by : (b : Bool) → of_transfers (if b then None else value_finding (mismatch_at subject.node subject.facts.modular rows (is_indicated frame) e)) ≡ []
+    by : (b : Bool) → of_transfers (if b then None else value_finding (mismatch_at subject.node subject.facts.modular rows (is_exact e.protocol frame) e)) ≡ []
     by true = refl
     by false = no_value _
 
@@ -282,8 +282,16 @@ client_none : (key : Key) (subject : Subject) (rows : List Row) (p : Progress) (
 unfolding request_findings confirmed_finding exchange_at
 client_none key subject rows p micros frame s = by (exchange_in subject.limits.answer p.started p.dialogue micros Client frame).certain
   where
-    by : (certain : Bool) → transfer_differences (Sdo Client frame) (confirmed_findings (if certain then breach_finding (exchange_in subject.limits.answer p.started p.dialogue micros Client frame).breach else None)) ≡ []
-    by true = confirmed_none frame _ (client_breach_none key subject.limits.answer p.started p.dialogue micros frame s)
+    x : Exchange
+    x = exchange_in subject.limits.answer p.started p.dialogue micros Client frame
+
+    by : (certain : Bool) → transfer_differences (Sdo Client frame) (confirmed_findings (if certain then option_or (breach_finding (exchange_in subject.limits.answer p.started p.dialogue micros Client frame).breach) (option_or (ended_finding subject rows frame (exchange_in subject.limits.answer p.started p.dialogue micros Client frame).heard.ended) (held_finding subject p.written (exchange_in subject.limits.answer p.started p.dialogue micros Client frame))) else None)) ≡ []
+    by true =
+        confirmed_none frame _
+        (only_or (breach_finding x.breach) (option_or (ended_finding subject rows frame x.heard.ended) (held_finding subject p.written x))
+        (client_breach_none key subject.limits.answer p.started p.dialogue micros frame s)
+        (only_or (ended_finding subject rows frame x.heard.ended) (held_finding subject p.written x)
+        (no_end subject rows frame x.heard.ended) (held_none subject p.written x)))
     by false = refl
 
 -- ---- frames one after another
