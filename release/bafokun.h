@@ -39,9 +39,9 @@
 extern "C" {
 #endif
 
-#define BAFOKUN_VERSION "0.15.0"
+#define BAFOKUN_VERSION "0.16.0"
 #define BAFOKUN_VERSION_MAJOR 0
-#define BAFOKUN_VERSION_MINOR 15
+#define BAFOKUN_VERSION_MINOR 16
 #define BAFOKUN_VERSION_PATCH 0
 
 /* No input gives more frames: an array of so many has room for all. */
@@ -273,18 +273,20 @@ size_t bafokun_entry_name(bafokun_node *node, size_t number, char *text, size_t 
 bool bafokun_find(bafokun_node *node, uint16_t index, uint8_t sub_index, size_t *number);
 
 /*
- * Gets the first entry, starting with number from, whose bytes differ from those that the program
- * knows: those that its last bafokun_write set, or those at the last result of this call for the
- * entry. After the build the program knows none. Returns whether there is such an entry. If so, its
- * number is put into number, and the program knows its bytes then; if not, nothing is written.
+ * Gets the first entry, starting with number from, that an SDO download, an RPDO or a reset has set
+ * since the last result of this call for the entry, or since the build: also to the bytes that it
+ * had, and however often. Returns whether there is one. If so, its number is put into number, and it
+ * isn't found again until it is set again; if not, nothing is written.
  *
  *     for (number = 0; bafokun_next_changed(&node, number, &number); number++)
  *         ...
  *
- * At first this loop visits each entry that has bytes. Later it visits once each entry whose bytes
- * SDO clients, RPDOs, a reset or an error have changed since its last visit, whatever was set in
- * between. An entry that was set to the bytes that it had isn't among them. So a program that uses
- * an entry as a command sets it back, by bafokun_write, when the command is done.
+ * After each frame, or once a cycle, this loop visits once each entry that was set since then, by
+ * increasing number. A download sets its entry when it is complete and accepted. An RPDO sets the
+ * entries that it maps when its data take effect: at once or at a SYNC, and none of them if a value
+ * is outside its limits. Reset node sets all entries, reset communication those from 1000h to 1FFFh.
+ * After the build none is set. What the program itself writes is not found, nor what an error sets
+ * (1001h, 1003h); an entry that was set before the program wrote it is.
  */
 bool bafokun_next_changed(bafokun_node *node, size_t from, size_t *number);
 
