@@ -212,9 +212,9 @@ module _ (is : Deviation → Bool) (R : ℕ → Sent → List ℕ → Type 0) (s
   of_own sheet pdo id (inl unknown) on = absurd (let off : is_id pdo.parameters.id id ≡ false = ap (λ parameters. is_id parameters.id id) unknown in cc)
   of_own sheet pdo id (inr same) on = (same, sym (ap (λ parameters. is_id parameters.id id) same) ∙ on)
 
-  without_id : (s : Option Sent) (R2 : Sent → Type 0) (B : Type 0) → IfSome s (λ x. R2 x × B) → IfSome s R2
-  without_id None R2 B h = tt
-  without_id (Some s) R2 B h = h.0
+  without_id : (s : Option Sent) (Says : Sent → Type 0) (B : Type 0) → IfSome s (λ x. Says x × B) → IfSome s Says
+  without_id None Says B h = tt
+  without_id (Some s) Says B h = h.0
 
   one_fine : (p : Progress) (has_sync : Bool) (sheet pdo : Tpdo) (number n : ℕ) (later : List ℕ) → IsNewest micros p → IsOwn sheet number n → IsOf sheet pdo → IsTimed R node micros (ids number) (ages (n ∷ later) number) pdo
       → is_id pdo.parameters.id (frame n).id ≡ true → is_of is (deviation_at (moment_at subject p micros) has_sync pdo (length_of (frame n))) ≡ false

@@ -1,7 +1,6 @@
 -- What is a difference and what isn't, on both sides of each edge, computed from the definitions.
-use Rattle.std.proofs.Common.{◌≡◌, ℕ, Bool, true, false, List, [], ◌∷◌, map, Option, Some, None, refl}
+use Rattle.std.proofs.Common.{◌≡◌, ℕ, Bool, true, false, List, [], ◌∷◌, map, Some, None, refl}
 use Rattle.std.specs.Prelude.{pos}
-use Rattle.co_frame.specs.FrameContent.{FrameContent}
 use Rattle.co_frame.specs.SdoRequests.{request_row_in}
 use Rattle.co_frame.specs.declared.nmt.NmtService.TheVariants.{Start, Stop, ResetNode}
 use Rattle.co_profile.specs.declared.access.Access.{Access}
@@ -17,27 +16,18 @@ use Rattle.conode_explain_transfers.specs.declared.ended.Ending.TheVariants.{Don
 use Rattle.conode_explain_transfers.specs.declared.kinds.Direction.{Direction}
 use Rattle.conode_explain_transfers.specs.declared.kinds.Direction.TheVariants.{Download, Upload}
 use Rattle.conode_explain_transfers.specs.declared.kinds.Protocol.{Protocol}
-use Rattle.conode_explain_transfers.specs.declared.kinds.Protocol.TheVariants.{Expedited, Segmented, Block}
+use Rattle.conode_explain_transfers.specs.declared.kinds.Protocol.TheVariants.{Expedited, Segmented}
 use Rattle.conode_explain_transfers.specs.declared.kinds.Side.{Side}
 use Rattle.conode_explain_transfers.specs.declared.kinds.Side.TheVariants.{Client, Server}
-use Rattle.conode_explain_transfers.specs.declared.kinds.What.TheVariants.{Part}
-use Rattle.conode_compare_transfers.specs.declared.breach.Breach.TheVariants.{Toggle}
-use Rattle.conode_compare_transfers.specs.declared.dialogue.Exchange.{Exchange}
 use Rattle.conode_compare_rules.specs.declared.entries.Entries.{Entries}
-use Rattle.conode_compare_values.specs.declared.mismatch.Mismatch.TheVariants.{ValueConst, ValueLength}
-use Rattle.conode_compare_values.specs.SheetValues.{mismatch_at, row_mismatch, value_mismatch}
-use Rattle.conode_compare_held.specs.HeldNumbers.{held_mismatch, nothing_written}
-use Rattle.conode_compare_rules.specs.declared.finding.Finding.{Finding}
-use Rattle.conode_compare_rules.specs.declared.finding.Finding.TheVariants.{BootMissing, SecondBootUp, NoState, WrongState, HeartbeatLate, EmergencyStopped, EmergencyRegister, EmergencyInhibit, AnswerStopped, Transfer, Value}
+use Rattle.conode_compare_rules.specs.declared.finding.Finding.TheVariants.{BootMissing, SecondBootUp, NoState, WrongState, HeartbeatLate, EmergencyStopped, EmergencyRegister, EmergencyInhibit}
 use Rattle.conode_compare_rules.specs.declared.finding.Remark.TheVariants.{Restarted, EarlyHeartbeat}
 use Rattle.conode_compare_rules.specs.declared.finding.NmtState.{NmtState}
 use Rattle.conode_compare_rules.specs.declared.finding.NmtState.TheVariants.{Unknown, Initialising, PreOperational, Operational, Stopped}
 use Rattle.conode_compare_rules.specs.declared.heartbeats.Heartbeats.{Heartbeats}
 use Rattle.conode_compare_rules.specs.declared.kind.FrameKind.TheVariants.{Command, CommandToAll, Other}
 use Rattle.conode_compare_rules.specs.declared.limits.Limits.{Limits}
-use Rattle.conode_compare_rules.specs.declared.limits.Subject.{Subject}
 use Rattle.conode_compare_rules.specs.declared.nmt.Nmt.{Nmt}
-use Rattle.conode_compare_rules.specs.Answers.{confirmed_finding, held_finding, is_exact, stopped_finding}
 use Rattle.conode_compare_transfers.specs.Dialogues.{dialogue_heard, is_certain, nothing_asked}
 use Rattle.conode_compare_transfers.specs.NewestFrames.{newest_after, newest_with}
 use Rattle.conode_compare_rules.specs.EmergencyRules.{emergency_finding, inhibit_finding}
@@ -48,7 +38,7 @@ use Rattle.conode_compare_rules.specs.Progresses.{free_at, still_awaited}
 use Rattle.conode_compare_rules.specs.States.{either_state, after_boot_up, after_command, after_other, awaits_boot_up, boot_finding, is_settled, nothing_commanded, restart_remark, second_boot_up, state_finding}
 
 -- 10 ms, 1 %, 1 s and 10 s
-abbrev limits : Limits
+abbrev pub limits : Limits
 limits = record { tolerance = 10; drift = 1; answer = 1000; boot = 10000 }
 
 -- ---- heartbeats
@@ -359,7 +349,7 @@ to_it = refl
 to_another : command_kind 5 (record { id = 0; bytes = 2 ∷ 6 ∷ [] }) ≡ Other
 to_another = refl
 
-abbrev key : ℕ → ℕ → Key
+abbrev pub key : ℕ → ℕ → Key
 key index sub = record { index = index; sub = sub }
 
 -- ---- EMCY
@@ -471,7 +461,7 @@ other_transfer = refl
 
 -- ---- what a data sheet says
 
-abbrev row : ℕ → ℕ → DataType → Access → Default → Row
+abbrev pub row : ℕ → ℕ → DataType → Access → Default → Row
 row index sub data_type access default = record {
   key = record { index = index; sub = sub };
   data_type = data_type;
@@ -529,102 +519,6 @@ either_same = refl
 
 either_other : map (either_state PreOperational) (Operational ∷ Stopped ∷ []) ≡ Unknown ∷ Unknown ∷ []
 either_other = refl
-
--- ---- answers while stopped
-
-abbrev stopped_at : ℕ → Nmt
-stopped_at micros = record {
-  state = Stopped;
-  commanded = Some (record { service = Stop; micros = micros });
-  reset = None;
-  several = false;
-  booted = None;
-}
-
-abbrev answered_in : Bool → Exchange
-answered_in certain = record {
-  heard = record { what = Part; of = None; ended = None };
-  asked = Some (record { key = key 0x1000 0; micros = 110001; writes = false; switches = false });
-  owed = true;
-  certain = certain;
-  breach = Some (Toggle (key 0x1000 0));
-}
-
-answered_stopped : stopped_finding limits 0 (stopped_at 100000) (answered_in true) ≡ Some (AnswerStopped (key 0x1000 0))
-unfolding stopped_finding is_settled
-answered_stopped = refl
-
--- requested within the tolerance after the command
-requested_just_now : stopped_finding limits 0 (stopped_at 100001) (answered_in true) ≡ None
-unfolding stopped_finding is_settled
-requested_just_now = refl
-
--- a request that came before may be answered
-perhaps_earlier : stopped_finding limits 0 (stopped_at 100000) (answered_in false) ≡ None
-unfolding stopped_finding is_settled
-perhaps_earlier = refl
-
-answered_operational : stopped_finding limits 0 (record (stopped_at 100000) { state = Operational }) (answered_in true) ≡ None
-unfolding stopped_finding is_settled
-answered_operational = refl
-
--- ---- by the client's confirmation
-
-abbrev device : Subject
-device = record { node = 5; limits = limits; facts = facts_of [] 5 false; held = record { entries = record { items = [] } } }
-
--- end SDO block upload, ccs = 5, cs = 1
-abbrev confirmation : FrameContent
-confirmation = record { id = 0x605; bytes = 0xA1 ∷ 0 ∷ 0 ∷ 0 ∷ 0 ∷ 0 ∷ 0 ∷ 0 ∷ [] }
-
--- a block upload of 1000:00, which is 191h in the sheet
-abbrev uploaded_in_blocks : ℕ → List ℕ → Exchange
-uploaded_in_blocks count bytes = record {
-  heard = record {
-    what = Part;
-    of = Some (key 0x1000 0);
-    ended = Some (record {
-      key = key 0x1000 0;
-      direction = Upload;
-      protocol = Block;
-      bytes = count;
-      first = record { items = bytes };
-      frames = 7;
-      begun = 1;
-      newest = 2;
-      end = 3;
-      ending = Done true;
-    });
-  };
-  asked = None;
-  owed = false;
-  certain = true;
-  breach = None;
-}
-
-abbrev confirmed_value : ℕ → List ℕ → Option Finding
-confirmed_value count bytes = confirmed_finding device (row 0x1000 0 Unsigned32 Constant (number (pos 0x191)) ∷ []) nothing_written (uploaded_in_blocks count bytes) confirmation
-
-confirmed_values : confirmed_value 4 (0x91 ∷ 1 ∷ 0 ∷ 0 ∷ []) ∷ confirmed_value 4 (0x92 ∷ 1 ∷ 0 ∷ 0 ∷ []) ∷ confirmed_value 5 (0x91 ∷ 1 ∷ 0 ∷ 0 ∷ 0 ∷ []) ∷ []
-    ≡ None ∷ Some (Value (ValueConst (key 0x1000 0) 0x192 0x191)) ∷ Some (Value (ValueLength (key 0x1000 0) 5 4)) ∷ []
-unfolding confirmed_finding held_finding held_mismatch value_mismatch row_mismatch mismatch_at facts_of
-confirmed_values = refl
-
--- a last segment with n = 0 and 1; expedited with s = 0 and 1; in blocks
-abbrev exact_by : Protocol → ℕ → Bool
-exact_by protocol first = is_exact protocol (record { id = 0x585; bytes = first ∷ 0 ∷ 0 ∷ 0 ∷ 0 ∷ 0 ∷ 0 ∷ 0 ∷ [] })
-
-exact_ends : exact_by Segmented 0x11 ∷ exact_by Segmented 0x13 ∷ exact_by Segmented 0x0F ∷ exact_by Expedited 0x42 ∷ exact_by Expedited 0x4F ∷ exact_by Block 0xA1 ∷ []
-    ≡ false ∷ true ∷ true ∷ false ∷ true ∷ true ∷ []
-exact_ends = refl
-
-confirmed : confirmed_finding device [] nothing_written (answered_in true) confirmation ≡ Some (Transfer (Toggle (key 0x1000 0)))
-unfolding confirmed_finding
-confirmed = refl
-
-confirmed_in_doubt : confirmed_finding device [] nothing_written (answered_in false) confirmation ≡ None
-unfolding confirmed_finding
-confirmed_in_doubt = refl
 
 -- ---- a TPDO that may have the identifier of EMCY
 

@@ -1,2 +1,3 @@
+mod AnswerExamples
 mod Examples
 mod SilenceExamples
