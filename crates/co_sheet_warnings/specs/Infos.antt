@@ -32,7 +32,7 @@ use Rattle.co_sheet_text.specs.declared.section_kind.SectionKind.TheVariants.{Ob
 use Rattle.co_sheet_text.specs.Numerals.{unsigned_number}
 use Rattle.co_sheet_text.specs.Sections.{TextSection}
 use Rattle.co_sheet_text.specs.Text.{same_name}
-use Rattle.co_sheet.specs.Entries.{sub_indices, is_other_than_zero}
+use Rattle.co_sheet.specs.Entries.{Entry, is_other_than_zero}
 use Rattle.co_sheet_warnings.specs.declared.keys.Topic.{Topic}
 use Rattle.co_sheet_warnings.specs.declared.keys.Topic.TheVariants.{FileInfo, DeviceInfo}
 use Rattle.co_sheet_warnings.specs.declared.known_key.KnownKey.{KnownKey}
@@ -40,7 +40,6 @@ use Rattle.co_sheet_warnings.specs.declared.known_key.KnownKey.TheVariants as ke
 use Rattle.co_sheet_warnings.specs.Communication.{number_at_sub}
 use Rattle.co_sheet_warnings.specs.Keys.{WrittenKey, topic_of}
 use Rattle.co_sheet_warnings.specs.KnownKeys.{has_text}
-use Rattle.co_sheet_warnings.specs.ReadTexts.{ReadText}
 use Rattle.co_sheet_warnings.specs.SubIndices.{is_within}
 
 -- the first key of this name in a section of FileInfo, or of DeviceInfo
@@ -81,9 +80,10 @@ abbrev pub info_line : Topic → List TextSection → ℕ
 info_line info sections =
     option_map_or (λ s. s.line) (find (λ s. is_info info (topic_of s.name)) sections) 0
 
-abbrev pub missing_keys : Topic → ReadText → List KnownKey → List ℕ
-missing_keys info t required =
-    if lacks_any info t.keys required then info_line info t.sections ∷ [] else []
+abbrev pub missing_keys :
+    Topic → List WrittenKey → List TextSection → List KnownKey → List ℕ
+missing_keys info keys sections required =
+    if lacks_any info keys required then info_line info sections ∷ [] else []
 
 -- ---- numbers of DeviceInfo
 
@@ -94,8 +94,8 @@ key_number k = result_ok (unsigned_number k.value)
 abbrev pub other_than : ℕ → WrittenKey → List ℕ
 other_than n k = option_map_or (λ m. if m == n then [] else k.line ∷ []) (key_number k) []
 
-abbrev pub other_number_at : ReadText → KnownKey → ℕ → List ℕ
-other_number_at t known n = option_map_or (other_than n) (key_at DeviceInfo t.keys known) []
+abbrev pub other_number_at : List WrittenKey → KnownKey → ℕ → List ℕ
+other_number_at keys known n = option_map_or (other_than n) (key_at DeviceInfo keys known) []
 
 -- the number of objects in a range of indices
 abbrev pub is_object_within : ℕ → ℕ → SectionKind → Bool
@@ -110,21 +110,22 @@ abbrev pub has_compact_pdos : List WrittenKey → Bool
 has_compact_pdos keys =
     is_other_than_zero (option_and_then key_number (key_at DeviceInfo keys key.CompactPdo))
 
-abbrev pub pdo_counts : ReadText → List ℕ
-pdo_counts t =
-    if has_compact_pdos t.keys then []
-    else other_number_at t key.NrOfRxPdo (object_count 0x1400 0x15FF t.sections)
-    ++ other_number_at t key.NrOfTxPdo (object_count 0x1800 0x19FF t.sections)
+abbrev pub pdo_counts : List WrittenKey → List TextSection → List ℕ
+pdo_counts keys sections =
+    if has_compact_pdos keys then []
+    else other_number_at keys key.NrOfRxPdo (object_count 0x1400 0x15FF sections)
+    ++ other_number_at keys key.NrOfTxPdo (object_count 0x1800 0x19FF sections)
 
--- a number that isn't the initial one of that sub-index of the identity object
-abbrev pub identity_number : ReadText → KnownKey → ℕ → List ℕ
-identity_number t known sub =
-    option_map_or (other_number_at t known) (number_at_sub sub (sub_indices t.sections 0x1018)) []
+-- a number that isn't the initial one of that sub-index of the identity object, by its entries
+abbrev pub identity_number : List WrittenKey → List Entry → KnownKey → ℕ → List ℕ
+identity_number keys entries known sub =
+    option_map_or (other_number_at keys known) (number_at_sub sub entries) []
 
-abbrev pub identity_numbers : ReadText → List ℕ
-identity_numbers t =
-    identity_number t key.VendorNumber 1 ++ identity_number t key.ProductNumber 2
-    ++ identity_number t key.RevisionNumber 3
+abbrev pub identity_numbers : List WrittenKey → List Entry → List ℕ
+identity_numbers keys entries =
+    identity_number keys entries key.VendorNumber 1
+    ++ identity_number keys entries key.ProductNumber 2
+    ++ identity_number keys entries key.RevisionNumber 3
 
 -- ---- dates and times of FileInfo
 
@@ -167,8 +168,8 @@ other_format is_format keys known =
     option_map_or (λ k. if is_format k.value then [] else k.line ∷ [])
     (key_at FileInfo keys known) []
 
-abbrev pub date_formats : ReadText → List ℕ
-date_formats t =
-    other_format is_time t.keys key.CreationTime ++ other_format is_date t.keys key.CreationDate
-    ++ other_format is_time t.keys key.ModificationTime
-    ++ other_format is_date t.keys key.ModificationDate
+abbrev pub date_formats : List WrittenKey → List ℕ
+date_formats keys =
+    other_format is_time keys key.CreationTime ++ other_format is_date keys key.CreationDate
+    ++ other_format is_time keys key.ModificationTime
+    ++ other_format is_date keys key.ModificationDate

@@ -51,6 +51,7 @@ use Rattle.co_sheet_warnings.specs.declared.warning.WarningKind.TheVariants.{
 }
 use Rattle.co_sheet_warnings.specs.declared.warning.Warning.{Warning}
 use Rattle.co_sheet_text.specs.Sections.{TextSection}
+use Rattle.co_sheet.specs.Entries.{sub_indices}
 use Rattle.co_sheet_warnings.specs.ReadTexts.{ReadText, read_text}
 use Rattle.co_sheet_warnings.specs.SubIndices.{sub_number, sub_index_0, missing_name}
 use Rattle.co_sheet_warnings.specs.Lists.{wrong_lists, list_orders, unlisted, no_error_control}
@@ -92,17 +93,18 @@ unfoldable pub places_of : ReadText → WarningKind → List ℕ
 places_of t WrongList = wrong_lists t.sections
 places_of t ListOrder = list_orders t.sections
 places_of t NoErrorControl = no_error_control t.sections
-places_of t FileInfoKeys = missing_keys FileInfo t file_keys
-places_of t DeviceInfoKeys = missing_keys DeviceInfo t device_keys
-places_of t PdoCount = pdo_counts t
-places_of t IdentityNumber = identity_numbers t
+places_of t FileInfoKeys = missing_keys FileInfo t.keys t.sections file_keys
+places_of t DeviceInfoKeys = missing_keys DeviceInfo t.keys t.sections device_keys
+places_of t PdoCount = pdo_counts t.keys t.sections
+places_of t IdentityNumber =
+    identity_numbers t.keys (sub_indices t.sections 0x1018)
 places_of t SharedCobId = shared_cob_ids t.node t.sections
 places_of t LongLine = long_lines t.lines
 places_of t Utf8 = utf8 t
 places_of t NotAscii = not_ascii t
 places_of t EqualNames = equal_names t.sections
 places_of t UnknownKey = unknown_key t.keys
-places_of t DateFormat = date_formats t
+places_of t DateFormat = date_formats t.keys
 places_of t LineEnds = mixed_line_ends t.text
 places_of t kind = flat_map (places_in t kind) t.sections
 

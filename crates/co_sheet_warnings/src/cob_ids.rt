@@ -36,11 +36,12 @@ pub(crate) fn fixed_cob_id(section: &TextSection) -> Option<usize>
     if !has_default_cob_id(section.kind) {
         return None;
     }
-    let given = section.property(b"DefaultValue")?;
-    if given.number()? < DISABLED {
-        Some(given.line)
-    } else {
-        None
+    let Some(given) = section.property(b"DefaultValue") else {
+        return None;
+    };
+    match given.number() {
+        Some(word) if word < DISABLED => Some(given.line),
+        _ => None,
     }
 }
 
@@ -59,10 +60,8 @@ fn is_node_id_last(value: &[u8]) -> bool
 pub(crate) fn node_id_place(section: &TextSection) -> Option<usize>
     ensures { option_to_list result ≡ node_id_place (section_view section.now) }
 {
-    let given = section.property(b"DefaultValue")?;
-    if is_node_id_last(given.value) {
-        Some(given.line)
-    } else {
-        None
+    match section.property(b"DefaultValue") {
+        Some(given) if is_node_id_last(given.value) => Some(given.line),
+        _ => None,
     }
 }

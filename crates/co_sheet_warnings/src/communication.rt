@@ -56,14 +56,17 @@ pub(crate) fn inhibit_time(text: &ReadText, section: &TextSection) -> Option<usi
             if key.sub != 3 || !is_within(0x1800, 0x19FF, key.index) {
                 return None;
             }
-            if !is_synchronous(number_at_sub(text.parts(key.index), 2)?) {
+            let Some(transmission) = number_at_sub(text.parts(key.index), 2) else {
                 return None;
-            }
-            let given = value_in(section)?;
-            if is_some_time(given.number()?) {
-                Some(given.line)
-            } else {
-                None
+            };
+            let Some(given) = value_in(section) else {
+                return None;
+            };
+            match given.number() {
+                Some(time) if is_synchronous(transmission) && is_some_time(time) => {
+                    Some(given.line)
+                }
+                _ => None,
             }
         }
         _ => None,
@@ -91,20 +94,21 @@ fn consumes(node: u64, word: u64) -> bool
 }
 
 /// The line of a word of 1016h for the device's own node.
-pub(crate) fn own_heartbeat(text: &ReadText, section: &TextSection) -> Option<usize>
+pub(crate) fn own_heartbeat(node: Option<u8>, section: &TextSection) -> Option<usize>
     ensures { option_to_list result
-        ≡ own_heartbeat text.now.node (section_view section.now) section.now.kind }
+        ≡ own_heartbeat node (section_view section.now) section.now.kind }
 {
-    match (text.node, section.kind) {
+    match (node, section.kind) {
         (Some(node), SectionKind::SubIndex(key)) => {
             if key.index != 0x1016 || key.sub == 0 {
                 return None;
             }
-            let given = value_in(section)?;
-            if consumes(u64::from(node), given.number()?) {
-                Some(given.line)
-            } else {
-                None
+            let Some(given) = value_in(section) else {
+                return None;
+            };
+            match given.number() {
+                Some(word) if consumes(u64::from(node), word) => Some(given.line),
+                _ => None,
             }
         }
         _ => None,
@@ -147,11 +151,14 @@ pub(crate) fn heartbeat_twice(text: &ReadText, section: &TextSection) -> Option<
             if key.index != 0x1016 {
                 return None;
             }
-            let given = value_in(section)?;
-            if is_consumed_twice(text.parts(key.index), key.sub, given.number()?) {
-                Some(given.line)
-            } else {
-                None
+            let Some(given) = value_in(section) else {
+                return None;
+            };
+            match given.number() {
+                Some(word) if is_consumed_twice(text.parts(key.index), key.sub, word) => {
+                    Some(given.line)
+                }
+                _ => None,
             }
         }
         _ => None,

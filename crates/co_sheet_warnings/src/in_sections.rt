@@ -25,7 +25,7 @@ fn place_in(text: &ReadText, kind: WarningKind, section: &TextSection) -> Option
         WarningKind::FixedCobId => fixed_cob_id(section),
         WarningKind::NodeIdPlace => node_id_place(section),
         WarningKind::InhibitTime => inhibit_time(text, section),
-        WarningKind::OwnHeartbeat => own_heartbeat(text, section),
+        WarningKind::OwnHeartbeat => own_heartbeat(text.node, section),
         WarningKind::HeartbeatTwice => heartbeat_twice(text, section),
         WarningKind::MissingName => missing_name(section),
         _ => None,

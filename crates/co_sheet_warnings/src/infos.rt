@@ -2,6 +2,7 @@
 
 ghost use Rattle.std.specs.Prelude.{◌≡◌, map, flat_map, option_map, option_to_list};
 ghost use Rattle.std.specs.Option.{option_copied};
+ghost use Rattle.co_sheet.specs.SectionViews.{entry_view};
 ghost use Rattle.co_sheet_text.specs.Views.{section_view};
 ghost use Rattle.co_sheet_warnings.specs.Infos.{
   date_formats,
@@ -27,8 +28,8 @@ ghost use Rattle.co_sheet_warnings.specs.private.Views.{is_written, key_view};
 use crate::communication::number_at_sub;
 use crate::keys::{Topic, WrittenKey, topic_of};
 use crate::known_key::KnownKey;
-use crate::read_text::ReadText;
 use crate::sub_indices::is_within;
+use co_sheet::EntrySection;
 use co_sheet_text::{SectionKind, TextSection, same_name, unsigned_number};
 use co_text::{decimal_in, split_at_first};
 
@@ -111,13 +112,19 @@ fn lacks_any(info: Topic, keys: &[WrittenKey], required: &[KnownKey]) -> bool
 
 /// The line of FileInfo or of DeviceInfo, if it lacks a required key; 0 if there is no such
 /// section.
-pub(crate) fn missing_keys(info: Topic, text: &ReadText, required: &[KnownKey]) -> Option<usize>
-    ensures { option_to_list result ≡ missing_keys info text.now required.now }
+pub(crate) fn missing_keys(
+    info: Topic,
+    keys: &[WrittenKey],
+    sections: &[TextSection],
+    required: &[KnownKey],
+) -> Option<usize>
+    ensures { option_to_list result
+        ≡ missing_keys info (map key_view keys.now) (map section_view sections.now) required.now }
 {
-    if !lacks_any(info, text.keys, required) {
+    if !lacks_any(info, keys, required) {
         return None;
     }
-    for section in text.sections() {
+    for section in sections {
         if is_info(info, topic_of(section.name)) {
             return Some(section.line);
         }
@@ -126,14 +133,15 @@ pub(crate) fn missing_keys(info: Topic, text: &ReadText, required: &[KnownKey]) 
 }
 
 // the line of a key of DeviceInfo whose number isn't this one
-fn other_number_at(text: &ReadText, known: KnownKey, number: u64) -> Option<usize>
-    ensures { option_to_list result ≡ other_number_at text.now known number }
+fn other_number_at(keys: &[WrittenKey], known: KnownKey, number: u64) -> Option<usize>
+    ensures { option_to_list result ≡ other_number_at (map key_view keys.now) known number }
 {
-    let key = key_at(Topic::DeviceInfo, text.keys, known)?;
-    if unsigned_number(key.value).ok()? == number {
-        None
-    } else {
-        Some(key.line)
+    let Some(key) = key_at(Topic::DeviceInfo, keys, known) else {
+        return None;
+    };
+    match unsigned_number(key.value) {
+        Ok(given) if given != number => Some(key.line),
+        _ => None,
     }
 }
 
@@ -170,37 +178,50 @@ fn has_compact_pdos(keys: &[WrittenKey]) -> bool
 }
 
 /// The lines of NrOfRXPDO and NrOfTXPDO, where they aren't the numbers of PDOs.
-pub(crate) fn pdo_counts(text: &ReadText) -> [Option<usize>; 2]
-    ensures { flat_map option_to_list result ≡ pdo_counts text.now }
+pub(crate) fn pdo_counts(keys: &[WrittenKey], sections: &[TextSection]) -> [Option<usize>; 2]
+    ensures { flat_map option_to_list result
+        ≡ pdo_counts (map key_view keys.now) (map section_view sections.now) }
 {
-    if has_compact_pdos(text.keys) {
+    if has_compact_pdos(keys) {
         return [None, None];
     }
-    let receive = object_count(0x1400, 0x15FF, text.sections());
-    let transmit = object_count(0x1800, 0x19FF, text.sections());
+    let receive = object_count(0x1400, 0x15FF, sections);
+    let transmit = object_count(0x1800, 0x19FF, sections);
     [
-        other_number_at(text, KnownKey::NrOfRxPdo, receive as u64),
-        other_number_at(text, KnownKey::NrOfTxPdo, transmit as u64),
+        other_number_at(keys, KnownKey::NrOfRxPdo, receive as u64),
+        other_number_at(keys, KnownKey::NrOfTxPdo, transmit as u64),
     ]
 }
 
 // the line of a number that isn't the initial one of that sub-index of the identity object
-fn identity_number(text: &ReadText, known: KnownKey, sub: u8) -> Option<usize>
-    ensures { option_to_list result ≡ identity_number text.now known sub }
+fn identity_number(
+    keys: &[WrittenKey],
+    parts: &[EntrySection],
+    known: KnownKey,
+    sub: u8,
+) -> Option<usize>
+    ensures { option_to_list result
+        ≡ identity_number (map key_view keys.now) (map entry_view parts.now) known sub }
 {
-    let number = number_at_sub(text.parts(0x1018), sub)?;
-    other_number_at(text, known, number)
+    match number_at_sub(parts, sub) {
+        Some(number) => other_number_at(keys, known, number),
+        None => None,
+    }
 }
 
 /// The lines of VendorNumber, ProductNumber and RevisionNumber, where they aren't those of the
-/// identity object.
-pub(crate) fn identity_numbers(text: &ReadText) -> [Option<usize>; 3]
-    ensures { flat_map option_to_list result ≡ identity_numbers text.now }
+/// identity object, which has these entries.
+pub(crate) fn identity_numbers(
+    keys: &[WrittenKey],
+    parts: &[EntrySection],
+) -> [Option<usize>; 3]
+    ensures { flat_map option_to_list result
+        ≡ identity_numbers (map key_view keys.now) (map entry_view parts.now) }
 {
     [
-        identity_number(text, KnownKey::VendorNumber, 1),
-        identity_number(text, KnownKey::ProductNumber, 2),
-        identity_number(text, KnownKey::RevisionNumber, 3),
+        identity_number(keys, parts, KnownKey::VendorNumber, 1),
+        identity_number(keys, parts, KnownKey::ProductNumber, 2),
+        identity_number(keys, parts, KnownKey::RevisionNumber, 3),
     ]
 }
 
@@ -265,22 +286,20 @@ fn other_format(keys: &[WrittenKey], format: Format, known: KnownKey) -> Option<
     ensures { option_to_list result
         ≡ other_format (is_written format) (map key_view keys.now) known }
 {
-    let key = key_at(Topic::FileInfo, keys, known)?;
-    if is_written(format, key.value) {
-        None
-    } else {
-        Some(key.line)
+    match key_at(Topic::FileInfo, keys, known) {
+        Some(key) if !is_written(format, key.value) => Some(key.line),
+        _ => None,
     }
 }
 
 /// The lines of dates and times of FileInfo in another format than mm-dd-yyyy and hh:mmAM.
-pub(crate) fn date_formats(text: &ReadText) -> [Option<usize>; 4]
-    ensures { flat_map option_to_list result ≡ date_formats text.now }
+pub(crate) fn date_formats(keys: &[WrittenKey]) -> [Option<usize>; 4]
+    ensures { flat_map option_to_list result ≡ date_formats (map key_view keys.now) }
 {
     [
-        other_format(text.keys, Format::Time, KnownKey::CreationTime),
-        other_format(text.keys, Format::Date, KnownKey::CreationDate),
-        other_format(text.keys, Format::Time, KnownKey::ModificationTime),
-        other_format(text.keys, Format::Date, KnownKey::ModificationDate),
+        other_format(keys, Format::Time, KnownKey::CreationTime),
+        other_format(keys, Format::Date, KnownKey::CreationDate),
+        other_format(keys, Format::Time, KnownKey::ModificationTime),
+        other_format(keys, Format::Date, KnownKey::ModificationDate),
     ]
 }

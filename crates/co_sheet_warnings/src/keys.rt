@@ -75,7 +75,9 @@ fn key_on<'a>(topic: Topic, line: usize, text: &'a [u8]) -> Option<WrittenKey<'a
     if let [b';' | b'[', ..] = text {
         return None;
     }
-    let (name, value) = split_at_first(text, b'=')?;
+    let Some((name, value)) = split_at_first(text, b'=') else {
+        return None;
+    };
     let name = trim(name);
     let value = trim(value);
     if name.is_empty() || value.is_empty() {

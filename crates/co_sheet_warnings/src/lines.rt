@@ -92,11 +92,9 @@ pub(crate) fn other_bytes(text: &ReadText, in_utf8: bool) -> Option<usize>
     ensures utf8 { in_utf8 ≡ true → option_to_list result ≡ utf8 text.now }
     ensures other { in_utf8 ≡ false → option_to_list result ≡ not_ascii text.now }
 {
-    let line = text.other?;
-    if is_utf8(text.bytes) == in_utf8 {
-        Some(line)
-    } else {
-        None
+    match text.other {
+        Some(line) if is_utf8(text.bytes) == in_utf8 => Some(line),
+        _ => None,
     }
 }
 

@@ -15,9 +15,14 @@ pub(crate) fn own_node(node: Option<u8>, sections: &[TextSection]) -> Option<u8>
     if let Some(node_id) = node {
         return Some(node_id);
     }
-    let section = section_at(sections, SectionKind::DeviceCommissioning)?;
-    match section.property(b"NodeID")?.number()? {
-        number @ 1..=127 => Some(number as u8),
+    let Some(section) = section_at(sections, SectionKind::DeviceCommissioning) else {
+        return None;
+    };
+    let Some(given) = section.property(b"NodeID") else {
+        return None;
+    };
+    match given.number() {
+        Some(number @ 1..=127) => Some(number as u8),
         _ => None,
     }
 }

@@ -45,8 +45,10 @@ fn enabled_cob_id(node: u8, value: &[u8]) -> Option<u64>
             Some(number as u64)
         }
         Ok(Preset::NodeId(addend)) => {
-            let word = addend.checked_add(u64::from(node))?;
-            if word < DISABLED { Some(word) } else { None }
+            match addend.checked_add(u64::from(node)) {
+                Some(word) if word < DISABLED => Some(word),
+                _ => None,
+            }
         }
         _ => None,
     }
@@ -80,8 +82,13 @@ fn identifier_in<'a>(node: u8, section: &TextSection<'_, 'a>) -> Option<PlacedNa
     if !has_cob_id(section.kind) {
         return None;
     }
-    let given = value_in(section)?;
-    let scope = enabled_cob_id(node, given.value)? % (1 << 30);
+    let Some(given) = value_in(section) else {
+        return None;
+    };
+    let Some(word) = enabled_cob_id(node, given.value) else {
+        return None;
+    };
+    let scope = word % (1 << 30);
     if scope == 0 {
         return None;
     }
@@ -111,14 +118,16 @@ fn placed_in<'a>(once: Once, section: &TextSection<'_, 'a>) -> Option<PlacedName
         SectionKind::SubIndex(key) => u64::from(key.index),
         _ => return None,
     };
-    let given = section.property(b"ParameterName")?;
-    Some(PlacedName {
-        name: ScopedName {
-            scope,
-            text: given.value,
-        },
-        line: given.line,
-    })
+    match section.property(b"ParameterName") {
+        Some(given) => Some(PlacedName {
+            name: ScopedName {
+                scope,
+                text: given.value,
+            },
+            line: given.line,
+        }),
+        None => None,
+    }
 }
 
 // whether a name equals an earlier one; else it is added to these

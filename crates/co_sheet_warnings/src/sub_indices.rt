@@ -35,7 +35,9 @@ pub(crate) fn sub_number(text: &ReadText, section: &TextSection) -> Option<usize
 {
     match section.kind {
         SectionKind::Object(index) => {
-            let given = section.property(b"SubNumber")?;
+            let Some(given) = section.property(b"SubNumber") else {
+                return None;
+            };
             if given.number() == Some(text.parts(index).len() as u64) {
                 None
             } else {
@@ -88,7 +90,10 @@ pub(crate) fn value_in<'a>(section: &TextSection<'_, 'a>) -> Option<Property<'a>
 pub(crate) fn value_number(entry: &EntrySection) -> Option<u64>
     ensures { result ≡ value_number (entry_view entry.now) }
 {
-    value_in(entry.section)?.number()
+    match value_in(entry.section) {
+        Some(given) => given.number(),
+        None => None,
+    }
 }
 
 // an entry that nobody writes
@@ -132,8 +137,12 @@ pub(crate) fn sub_index_0(text: &ReadText, section: &TextSection) -> Option<usiz
             if key.sub != 0 || !is_highest_by_rule(key.index) || !is_constant(section) {
                 return None;
             }
-            let given = value_in(section)?;
-            let number = given.number()?;
+            let Some(given) = value_in(section) else {
+                return None;
+            };
+            let Some(number) = given.number() else {
+                return None;
+            };
             if number > 0xFF || number == u64::from(highest_of(text.parts(key.index))) {
                 None
             } else {

@@ -2,6 +2,7 @@
 use Rattle.std.specs.Prelude.{ℕ, nat_le, Bool, ◌&&◌, ◌||◌, if◌then◌else◌, List, length, take, codes, Option, Some, None}
 use Rattle.std.specs.List.{list_any}
 use Rattle.co_sheet_text.specs.Text.{same_name, trim}
+use Rattle.co_sheet_warnings.specs.Lines.{text_lines}
 use Rattle.conode_lint.specs.declared.mark.OtherFormat.{OtherFormat}
 use Rattle.conode_lint.specs.declared.mark.OtherFormat.TheVariants.{Xml, EtherNetIp}
 
@@ -21,3 +22,7 @@ other_format lines =
     else if has_line lines (codes "[Device]") && has_line lines (codes "VendCode")
     then Some EtherNetIp
     else None
+
+-- the format of a text, if it is another one
+abbrev pub text_format : List ℕ → Option OtherFormat
+text_format text = other_format (text_lines text)

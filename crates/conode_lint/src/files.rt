@@ -108,11 +108,14 @@ impl Session {
     ) -> Result<(), CmdFault> {
         match sheets_in(rt, path) {
             Ok(sheets) => {
-                for sheet in &sheets {
+                for sheet in &sheets.paths {
                     let path = sheet.as_str();
                     self.take_read(rt.alloc(), path, file_text(rt, path), options, out, err)?;
                 }
-                Ok(())
+                if sheets.are_all {
+                    return Ok(());
+                }
+                self.take_fault(rt.alloc(), path, CmdFault::Read, err)
             }
             Err(fault) => self.take_fault(rt.alloc(), path, fault, err),
         }

@@ -37,30 +37,52 @@ fn add_path(alloc: Global, paths: &mut Vec<String>, path: &str) -> Result<(), Al
     Ok(())
 }
 
-// adds the paths of a folder's data sheets
-fn add_sheets<R: Files + AllocGlobal + Clone + Drop>(
+// adds the path of a file with the name of a data sheet
+fn add_sheet<R: Files + AllocGlobal>(
     rt: &R,
     paths: &mut Vec<String>,
-    folder: &str,
-) -> Result<(), CmdFault> {
-    let entries = fs::read_dir(rt, folder).map_err(fault_of)?;
-    for entry in entries {
-        let entry = entry.map_err(fault_of)?;
-        if is_sheet_name(entry.file_name()) {
-            add_path(rt.alloc(), paths, entry.path().to_string_lossy())?;
-        }
+    name: &str,
+    path: &str,
+) -> Result<(), AllocError> {
+    if is_sheet_name(name) && !is_folder(rt, path) {
+        return add_path(rt.alloc(), paths, path);
     }
     Ok(())
 }
 
-/// The paths of a folder's data sheets, in the order of their bytes. `Read` if the folder can't be
-/// read, `Memory` if memory ran out.
+// adds the paths of a folder's data sheets; false if a name isn't UTF-8
+fn add_sheets<R: Files + AllocGlobal + Clone + Drop>(
+    rt: &R,
+    paths: &mut Vec<String>,
+    folder: &str,
+) -> Result<bool, CmdFault> {
+    let mut are_named = true;
+    for entry in fs::read_dir(rt, folder).map_err(fault_of)? {
+        match entry {
+            Ok(entry) => add_sheet(rt, paths, entry.file_name(), entry.path().to_string_lossy())?,
+            Err(error) if error.kind() == io::ErrorKind::InvalidFilename => are_named = false,
+            Err(error) => return Err(fault_of(error)),
+        }
+    }
+    Ok(are_named)
+}
+
+/// The data sheets of a folder.
+#[derive(Drop)]
+pub(crate) struct Sheets {
+    /// Their paths, in the order of their bytes.
+    pub(crate) paths: Vec<String>,
+    /// False if a name in the folder isn't UTF-8: that file isn't among them.
+    pub(crate) are_all: bool,
+}
+
+/// The data sheets of a folder. `Read` if the folder can't be read, `Memory` if memory ran out.
 pub(crate) fn sheets_in<R: Files + AllocGlobal + Clone + Drop>(
     rt: &R,
     folder: &str,
-) -> Result<Vec<String>, CmdFault> {
+) -> Result<Sheets, CmdFault> {
     let mut paths = Vec::new(rt.alloc());
-    add_sheets(rt, &mut paths, folder)?;
+    let are_all = add_sheets(rt, &mut paths, folder)?;
     paths.sort_unstable();
-    Ok(paths)
+    Ok(Sheets { paths, are_all })
 }

@@ -6,7 +6,7 @@ ghost use Rattle.conode_lint.specs.FormatWords.{format_fix, format_meaning, form
 use crate::mark::OtherFormat;
 
 /// What it is, in one line.
-pub(crate) fn format_meaning(format: OtherFormat) -> &'static str
+pub fn format_meaning(format: OtherFormat) -> &'static str
     ensures { result.now ≡ format_meaning format }
 {
     match format {

@@ -21,7 +21,10 @@ mod rules;
 mod words;
 
 pub use files::{LintOptions, lint_files};
+pub use format_words::format_meaning;
 pub use laws::linted_texts;
 pub use linted_text::{Linted, lint_text};
+pub use mark::OtherFormat;
 pub use marks::Checks;
+pub use other_format::text_format;
 pub use report::{Counts, Form, Report};

@@ -1,10 +1,12 @@
 //! Texts of another format.
 
-ghost use Rattle.std.specs.Prelude.{◌≡◌, map};
-ghost use Rattle.conode_lint.specs.Formats.{begins_with, has_line, other_format};
+ghost use Rattle.std.specs.Prelude.{◌≡◌, map, IfOk};
+ghost use Rattle.conode_lint.specs.Formats.{begins_with, has_line, other_format, text_format};
 
 use crate::mark::OtherFormat;
 use co_sheet_text::{same_name, trim};
+use co_sheet_warnings::text_lines;
+use std::alloc::{AllocError, Global};
 
 // whether a line begins with a word, in any case of letters
 fn begins_with(word: &[u8], line: &[u8]) -> bool
@@ -37,4 +39,12 @@ pub(crate) fn other_format(lines: &[&[u8]]) -> Option<OtherFormat>
     } else {
         None
     }
+}
+
+/// The format of a text, if it is another than that of data sheets (CiA 306). `Err`: out of memory.
+pub fn text_format(alloc: Global, text: &[u8]) -> Result<Option<OtherFormat>, AllocError>
+    ensures { IfOk result (λ format. format ≡ text_format text.now) }
+{
+    let lines = text_lines(alloc, text)?;
+    Ok(other_format(lines.as_slice()))
 }

@@ -70,12 +70,17 @@ tool_end =
     end_array ∷ end_object ∷ end_object
     ∷ (text_member (codes "columnKind") (codes "unicodeCodePoints") ++ array_begin (codes "results"))
 
+-- the schema and the version of SARIF, before the runs
+unfoldable pub log_begin : List Token
+log_begin =
+    begin_object
+    ∷ (text_member (codes "$schema") (codes "https://json.schemastore.org/sarif-2.1.0.json")
+    ++ text_member (codes "version") (codes "2.1.0") ++ array_begin (codes "runs"))
+
 -- what comes before the results, and what after them
 unfoldable pub log_head : List ℕ → List Rule → List Token
 log_head version rules =
-    begin_object
-    ∷ (text_member (codes "version") (codes "2.1.0") ++ array_begin (codes "runs") ++ tool_begin version
-    ++ flat_map rule_tokens rules ++ tool_end)
+    log_begin ++ tool_begin version ++ flat_map rule_tokens rules ++ tool_end
 
 abbrev pub log_end : List Token
 log_end = end_array ∷ end_object ∷ end_array ∷ end_object ∷ []

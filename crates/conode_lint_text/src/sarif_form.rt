@@ -6,11 +6,13 @@ ghost use Rattle.std.specs.List.{flat_map};
 ghost use Rattle.conode_lint_text.specs.Findings.{column_of, help_of, message_of};
 ghost use Rattle.conode_lint_text.specs.JsonForm.{utf8_of};
 ghost use Rattle.conode_lint_text.specs.SarifForm.{
+  log_begin,
   log_end,
   log_head,
   region_members,
   result_tokens,
   rule_tokens,
+  tool_begin,
 };
 
 use crate::characters::utf8_of;
@@ -20,6 +22,9 @@ use crate::parts::{Part, put_parts};
 use crate::words::{help_of, message_of};
 use json::Writer;
 use std::alloc::{AllocError, Global};
+
+/// The JSON schema of SARIF 2.1.0.
+const SCHEMA: &str = "https://json.schemastore.org/sarif-2.1.0.json";
 
 #[tactic(auto, unfolding(crate::specs::SarifForm::rule_tokens, crate::specs::SarifForm::level_member))]
 fn put_rule_members<'p>(
@@ -172,21 +177,17 @@ pub fn put_results(
     Ok(())
 }
 
-/// Writes what comes before the results: the tool with its rules.
-#[tactic(auto, unfolding(crate::specs::SarifForm::log_head, crate::specs::SarifForm::tool_begin, crate::specs::SarifForm::tool_end))]
-pub fn put_log_head(
-    alloc: Global,
-    writer: &mut Writer,
-    version: &str,
-    rules: &[Rule<'_>],
-) -> Result<(), AllocError>
+// the tool before its rules, after the schema and the version of SARIF
+#[tactic(auto, unfolding(crate::specs::SarifForm::log_begin, crate::specs::SarifForm::tool_begin))]
+fn put_tool_begin(writer: &mut Writer, version: &str) -> Result<(), AllocError>
     ensures { OnOk result
-        (writer.new.tokens ≡ writer.old.tokens ++ log_head version.now rules.now) }
+        (writer.new.tokens ≡ writer.old.tokens ++ (log_begin ++ tool_begin version.now)) }
 {
     put_parts(
         writer,
         &[
             Part::BeginObject,
+            Part::Text("$schema", SCHEMA),
             Part::Text("version", "2.1.0"),
             Part::Array("runs"),
             Part::BeginObject,
@@ -196,7 +197,21 @@ pub fn put_log_head(
             Part::Text("version", version),
             Part::Array("rules"),
         ],
-    )?;
+    )
+}
+
+/// Writes what comes before the results: the tool with its rules.
+#[tactic(auto, unfolding(crate::specs::SarifForm::log_head, crate::specs::SarifForm::tool_end))]
+pub fn put_log_head(
+    alloc: Global,
+    writer: &mut Writer,
+    version: &str,
+    rules: &[Rule<'_>],
+) -> Result<(), AllocError>
+    ensures { OnOk result
+        (writer.new.tokens ≡ writer.old.tokens ++ log_head version.now rules.now) }
+{
+    put_tool_begin(writer, version)?;
     put_rules(alloc, writer, rules)?;
     put_parts(
         writer,

@@ -6,8 +6,6 @@ use Rattle.json.specs.Token.{Token, begin_object, end_object, end_array}
 use Rattle.json.specs.Print.{print}
 use Rattle.co_value.specs.declared.key.Key.{Key}
 use Rattle.co_value.specs.declared.data_type.DataType.{DataType}
-use Rattle.co_sheet_rows.specs.declared.fault.SheetFault.{SheetFault}
-use Rattle.co_sheet_rows.specs.FaultTexts.{fault_text}
 use Rattle.co_sheet_text.specs.declared.section_kind.SectionKind.{SectionKind}
 use Rattle.co_sheet_text.specs.declared.section_kind.SectionKind.TheVariants.{Object, SubIndex}
 use Rattle.co_sheet_text.specs.Sections.{Property, TextSection, property_at, section_at}
@@ -205,14 +203,14 @@ document_tokens node sections =
     ++ chapter_member Entries node sections ++ chapter_member Pdos node sections
     ++ chapter_member Services node sections ++ end_object ∷ [])
 
--- the document as a text, and that of a text that can't be shown
+-- the document as a text, and that of a text that isn't shown, with the reason in words
 unfoldable pub json_document : Option ℕ → List TextSection → List ℕ
 json_document node sections = print (document_tokens node sections) ++ 10 ∷ []
 
-unfoldable pub fault_tokens : SheetFault → List Token
-fault_tokens fault =
+unfoldable pub reason_tokens : List ℕ → List Token
+reason_tokens words =
     begin_object
-    ∷ (number_member (codes "version") (pos 1) ++ text_member (codes "fault") (fault_text fault) ++ end_object ∷ [])
+    ∷ (number_member (codes "version") (pos 1) ++ text_member (codes "fault") words ++ end_object ∷ [])
 
-unfoldable pub json_fault : SheetFault → List ℕ
-json_fault fault = print (fault_tokens fault) ++ 10 ∷ []
+unfoldable pub json_reason : List ℕ → List ℕ
+json_reason words = print (reason_tokens words) ++ 10 ∷ []

@@ -8,16 +8,15 @@ ghost use Rattle.conode_show.specs.JsonForm.{
   chapter_name,
   chapter_tokens,
   document_tokens,
-  fault_tokens,
   json_document,
-  json_fault,
+  json_reason,
+  reason_tokens,
 };
 
 use crate::json_entries::put_section;
 use crate::json_pdos::put_pdo;
 use crate::json_services::put_service;
 use crate::parts::{Part, put_parts};
-use co_sheet_rows::SheetFault;
 use co_sheet_text::TextSection;
 use conode_json::JsonWriter;
 use conode_show_text::Chapter;
@@ -73,7 +72,10 @@ fn put_chapter<'p>(
 fn node_number(node: Option<u8>) -> Option<i128>
     ensures { result ≡ option_map pos node }
 {
-    Some(i128::from(node?))
+    match node {
+        Some(node_id) => Some(i128::from(node_id)),
+        None => None,
+    }
 }
 
 #[tactic(auto, unfolding(crate::specs::JsonForm::document_tokens))]
@@ -116,23 +118,22 @@ pub(crate) fn json_document(
     writer.into_text()
 }
 
-#[tactic(auto, unfolding(crate::specs::JsonForm::fault_tokens))]
-fn put_fault(alloc: Global, writer: &mut JsonWriter, fault: SheetFault) -> Result<(), AllocError>
-    ensures { OnOk result (writer.new ≡ writer.old ++ fault_tokens fault) }
+#[tactic(auto, unfolding(crate::specs::JsonForm::reason_tokens))]
+fn put_reason(alloc: Global, writer: &mut JsonWriter, words: &str) -> Result<(), AllocError>
+    ensures { OnOk result (writer.new ≡ writer.old ++ reason_tokens words.now) }
 {
-    let text = fault.text();
     writer.begin_object()?;
     writer.put_number(alloc, "version", 1)?;
-    writer.put_text("fault", text.as_str())?;
+    writer.put_text("fault", words)?;
     writer.end_object()
 }
 
-/// Why a text can't be shown, as a JSON document. `Err`: out of memory.
-#[tactic(auto, unfolding(crate::specs::JsonForm::json_fault))]
-pub(crate) fn json_fault(alloc: Global, fault: SheetFault) -> Result<Vec<u8>, AllocError>
-    ensures { IfOk result (λ text. text.items ≡ json_fault fault) }
+/// Why a text isn't shown, as a JSON document. `Err`: out of memory.
+#[tactic(auto, unfolding(crate::specs::JsonForm::json_reason))]
+pub(crate) fn json_reason(alloc: Global, words: &str) -> Result<Vec<u8>, AllocError>
+    ensures { IfOk result (λ text. text.items ≡ json_reason words.now) }
 {
     let mut writer = JsonWriter::new(alloc);
-    put_fault(alloc, &mut writer, fault)?;
+    put_reason(alloc, &mut writer, words)?;
     writer.into_text()
 }

@@ -57,11 +57,9 @@ pub(crate) enum Part<'p> {
 pub(crate) fn word_number(node: Option<u8>, section: &TextSection<'_, '_>) -> Option<i128>
     ensures { result ≡ word_number node (section_view section.now) }
 {
-    let word = section_word(node, section)?;
-    if word.relative {
-        None
-    } else {
-        Some(i128::from(word.number))
+    match section_word(node, section) {
+        Some(word) if !word.relative => Some(i128::from(word.number)),
+        _ => None,
     }
 }
 

@@ -1,6 +1,7 @@
 //! The file of a data sheet, shown.
 
-ghost use Rattle.std.specs.Prelude.{◌≡◌, ◌⊎◌, ◌≤◌, length, map, not, IfOk, IfErr, OnOk, Err};
+ghost use Rattle.std.specs.Prelude.{◌≡◌, ◌⊎◌, ◌≤◌, [], ◌∷◌, ◌++◌, length, map, is_none, None, IfOk, IfErr, OnOk, Err};
+ghost use Rattle.std.specs.Option.{option_copied};
 ghost use Rattle.std.specs.Io.KnownBytes.{Appends, Keeps};
 ghost use Rattle.std.specs.Process.{exit_status};
 ghost use Rattle.co_sheet_text.specs.Views.{section_view};
@@ -9,16 +10,26 @@ ghost use Rattle.co_sheet_text.specs.LinesAtFault.{sections_read};
 ghost use Rattle.co_sheet_text.specs.Text.{lines_of};
 ghost use Rattle.conode_show_text.specs.Document.{ordered};
 ghost use Rattle.conode_show.specs.Retyped.{retyped_view};
-ghost use Rattle.conode_show.specs.Shown.{document_in, document_of, fault_in, fault_line, is_too_large, sections_of, shown};
+ghost use Rattle.conode_show.specs.Shown.{
+  document_in,
+  document_of,
+  has_object,
+  is_of_object,
+  large_reason,
+  reason,
+  reason_in,
+  sections_of,
+  shown,
+};
 
 use crate::form::Form;
-use crate::json_form::{json_document, json_fault};
+use crate::json_form::{json_document, json_reason};
 use crate::retyped::{Retyped, all_retyped, sections_in as retyped_sections};
 use co_sheet::GREATEST_SIZE;
 use co_sheet_changes::Originals;
-use co_sheet_rows::{FaultKind, SheetFault};
-use co_sheet_text::{ParsedText, TextSection, all_sections_in};
+use co_sheet_text::{ParsedText, SectionKind, TextSection, all_sections_in};
 use conode_io::{CmdFault, file_text, flushed, hand_over, no_text, out_of_memory, stopped};
+use conode_lint::{OtherFormat, format_meaning, text_format};
 use conode_show_text::{document, node_for, order};
 use std::alloc::{AllocError, Global};
 use std::io::Write;
@@ -70,8 +81,8 @@ fn retyped_in<'a>(
     all_retyped(alloc, &originals, given.as_slice())
 }
 
-// the document of a text's sections
-fn document_of(
+// the document of a parsed text's sections
+fn document_parsed(
     alloc: Global,
     form: Form,
     node: Option<u8>,
@@ -88,48 +99,125 @@ fn document_of(
     ordered_document(alloc, form, node, sections.as_mut_slice())
 }
 
-#[tactic(auto, unfolding(crate::specs::Shown::fault_line))]
-fn fault_line(alloc: Global, fault: SheetFault) -> Result<Vec<u8>, AllocError>
-    ensures { IfOk result (λ text. text.items ≡ fault_line fault) }
+// the document of a text's sections
+fn document_of(
+    alloc: Global,
+    form: Form,
+    node: Option<u8>,
+    text: &[u8],
+) -> Result<Vec<u8>, AllocError>
+    requires { length text.now ≤ 1048576 }
+    ensures { IfOk result (λ made. made.items ≡ document_of form node (sections_of text.now)) }
+{
+    let (parsed, _faults) = all_sections_in(alloc, text)?;
+    document_parsed(alloc, form, node, text, &parsed)
+}
+
+fn is_of_object(kind: SectionKind) -> bool
+    ensures { result ≡ is_of_object kind }
+{
+    matches!(kind, SectionKind::Object(_) | SectionKind::SubIndex(_))
+}
+
+fn has_object_among(sections: &[TextSection]) -> bool
+    ensures { result ≡ has_object (map section_view sections.now) }
+{
+    for section in sections {
+        if is_of_object(section.kind) {
+            return true;
+        }
+    }
+    false
+}
+
+fn has_object_in(alloc: Global, parsed: &ParsedText) -> Result<bool, AllocError>
+    ensures { IfOk result (λ has. has ≡ has_object parsed.now) }
+{
+    let sections = parsed.sections(alloc)?;
+    Ok(has_object_among(sections.as_slice()))
+}
+
+// whether a section of a text is that of an object or a sub-index
+fn has_object(alloc: Global, text: &[u8]) -> Result<bool, AllocError>
+    requires { length text.now ≤ 1048576 }
+    ensures { IfOk result (λ has. has ≡ has_object (sections_read (lines_of text.now))) }
+{
+    let (parsed, _faults) = all_sections_in(alloc, text)?;
+    has_object_in(alloc, &parsed)
+}
+
+// why a text that is too large isn't shown
+fn large_reason(format: Option<OtherFormat>) -> &'static str
+    ensures { result.now ≡ large_reason format }
+{
+    match format {
+        Some(format) => format_meaning(format),
+        None => "fault 1 TooLarge line 0",
+    }
+}
+
+// why a text isn't shown: it is too large, or of another format and has no object
+#[tactic(auto, unfolding(crate::specs::Shown::reason))]
+fn reason(alloc: Global, text: &[u8]) -> Result<Option<&'static str>, AllocError>
+    ensures reason { IfOk result (λ made. option_copied made ≡ reason text.now) }
+    ensures small { IfOk result (λ made.
+        option_copied made ≡ None → length text.now ≤ 1048576) }
+{
+    let format = text_format(alloc, text)?;
+    if text.len() > GREATEST_SIZE {
+        return Ok(Some(large_reason(format)));
+    }
+    let Some(format) = format else {
+        return Ok(None);
+    };
+    if has_object(alloc, text)? {
+        Ok(None)
+    } else {
+        Ok(Some(format_meaning(format)))
+    }
+}
+
+// the line of a reason
+fn reason_line(alloc: Global, words: &str) -> Result<Vec<u8>, AllocError>
+    ensures { IfOk result (λ text. text.items ≡ words.now ++ 10 ∷ []) }
 {
     let mut text = Vec::new(alloc);
-    text.extend_from_slice(fault.text().as_str().as_bytes())?;
+    text.extend_from_slice(words.as_bytes())?;
     text.push(b'\n')?;
     Ok(text)
 }
 
-// why a text can't be shown
-fn fault_in(alloc: Global, form: Form, fault: SheetFault) -> Result<Vec<u8>, AllocError>
-    ensures { IfOk result (λ text. text.items ≡ fault_in form fault) }
+fn reason_in(alloc: Global, form: Form, words: &str) -> Result<Vec<u8>, AllocError>
+    ensures { IfOk result (λ text. text.items ≡ reason_in form words.now) }
 {
     match form {
-        Form::Lines(_) => fault_line(alloc, fault),
-        Form::Json => json_fault(alloc, fault),
+        Form::Lines(_) => reason_line(alloc, words),
+        Form::Json => json_reason(alloc, words),
     }
 }
 
-// the fault of a text that is too large to be read
-const TOO_LARGE: SheetFault = SheetFault {
-    kind: FaultKind::TooLarge,
-    line: 0,
-};
-
-// what is written of a text
+// what is written of a text, and whether its dictionary is shown
 #[tactic(auto, unfolding(crate::specs::Shown::shown))]
-fn shown(alloc: Global, form: Form, node: Option<u8>, text: &[u8]) -> Result<Vec<u8>, AllocError>
-    ensures { IfOk result (λ document. document.items ≡ shown form node text.now) }
+fn shown(
+    alloc: Global,
+    form: Form,
+    node: Option<u8>,
+    text: &[u8],
+) -> Result<(Vec<u8>, bool), AllocError>
+    ensures text { IfOk result (λ made. made.0.items ≡ shown form node text.now) }
+    ensures readable { IfOk result (λ made. made.1 ≡ is_none (reason text.now)) }
 {
-    if text.len() > GREATEST_SIZE {
-        return fault_in(alloc, form, TOO_LARGE);
+    match reason(alloc, text)? {
+        Some(words) => Ok((reason_in(alloc, form, words)?, false)),
+        None => Ok((document_of(alloc, form, node, text)?, true)),
     }
-    let (parsed, _faults) = all_sections_in(alloc, text)?;
-    document_of(alloc, form, node, text, &parsed)
 }
 
 /// Shows the object dictionary of a data sheet (CiA 306): its entries by index and sub-index, then
 /// its PDOs and the other services of the communication profile in words. A faulty line is left
-/// out, and the others are shown. A text of more than 1,048,576 bytes isn't read; that fault is
-/// written instead, in JSON as a document. Returns whether the dictionary is shown.
+/// out, and the others are shown. A text of more than 1,048,576 bytes isn't read, and one of another
+/// format without an object isn't shown; the reason is written instead, in JSON as a document.
+/// Returns whether the dictionary is shown.
 ///
 /// All is written at once. `Memory`: memory ran out, and nothing has been written. `Write`: the
 /// writer failed, and at most a part has been written.
@@ -140,7 +228,7 @@ pub fn show<W: Write>(
     node: Option<u8>,
     writer: &mut W,
 ) -> Result<bool, CmdFault>
-    ensures readable { IfOk result (λ is_shown. is_shown ≡ not (is_too_large text.now)) }
+    ensures readable { IfOk result (λ is_shown. is_shown ≡ is_none (reason text.now)) }
     ensures text { OnOk result (Appends (W.contents writer.old) (W.contents writer.new)
         (shown form node text.now)) }
     ensures write { result ≡ Err CmdFault.Write →
@@ -150,9 +238,9 @@ pub fn show<W: Write>(
         Keeps (W.contents writer.old) (W.contents writer.new) }
     ensures err { IfErr result (λ fault. (fault ≡ CmdFault.Write) ⊎ (fault ≡ CmdFault.Memory)) }
 {
-    let document = shown(alloc, form, node, text)?;
+    let (document, is_shown) = shown(alloc, form, node, text)?;
     hand_over(document.as_slice(), writer)?;
-    Ok(text.len() <= GREATEST_SIZE)
+    Ok(is_shown)
 }
 
 // the status of what was shown; if not all of it could be written, `out` has why, or `err`

@@ -83,7 +83,10 @@ pub fn entry_section<'s, 'a>(
 pub fn section_word(node: Option<u8>, section: &TextSection<'_, '_>) -> Option<Word>
     ensures { result ≡ section_word node (section_view section.now) }
 {
-    word_of(node, value_of(section)?.value)
+    match value_of(section) {
+        Some(given) => word_of(node, given.value),
+        None => None,
+    }
 }
 
 // the name of the entry that a word of a mapping names

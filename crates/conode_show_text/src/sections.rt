@@ -13,9 +13,14 @@ use co_sheet_text::{SectionKind, TextSection};
 fn own_node(sections: &[TextSection]) -> Option<u8>
     ensures { result ≡ node_id_in (map section_view sections.now) }
 {
-    let section = section_at(sections, SectionKind::DeviceCommissioning)?;
-    match section.property(b"NodeID")?.number()? {
-        number @ 1..=127 => Some(number as u8),
+    let Some(section) = section_at(sections, SectionKind::DeviceCommissioning) else {
+        return None;
+    };
+    let Some(given) = section.property(b"NodeID") else {
+        return None;
+    };
+    match given.number() {
+        Some(number @ 1..=127) => Some(number as u8),
         _ => None,
     }
 }

@@ -55,7 +55,10 @@ fn numeric_value(data_type: DataType, text: &[u8]) -> Preset<'static>
 fn sum_of(node: Option<u8>, addend: u64) -> Option<u64>
     ensures { result ≡ option_and_then (λ id. if_small (addend + id)) node }
 {
-    addend.checked_add(u64::from(node?))
+    match node {
+        Some(node_id) => addend.checked_add(u64::from(node_id)),
+        None => None,
+    }
 }
 
 #[tactic(auto, unfolding(crate::specs::Values::sum_text, crate::specs::Numbers::hex_text))]
@@ -112,10 +115,10 @@ fn push_unnumbered(text: &mut String, data_type: DataType, value: &[u8]) -> Resu
 fn number_for(node: Option<u8>, value: Preset<'static>) -> Option<i128>
     ensures { result ≡ number_for node (default_view value.entry) }
 {
-    match value {
-        Preset::Number(number) => Some(number),
-        Preset::NodeId(addend) => Some(i128::from(addend) + i128::from(node?)),
-        Preset::Absent | Preset::Text(_) | Preset::Pairs(_) => None,
+    match (value, node) {
+        (Preset::Number(number), _) => Some(number),
+        (Preset::NodeId(addend), Some(node_id)) => Some(i128::from(addend) + i128::from(node_id)),
+        _ => None,
     }
 }
 
@@ -123,16 +126,22 @@ fn number_for(node: Option<u8>, value: Preset<'static>) -> Option<i128>
 pub fn value_number(node: Option<u8>, data_type: Option<DataType>, value: &[u8]) -> Option<i128>
     ensures { result ≡ value_number node data_type value.now }
 {
-    let data_type = data_type?;
-    data_type.width()?;
-    number_for(node, numeric_value(data_type, value))
+    match data_type {
+        Some(data_type) if data_type.width().is_some() => {
+            number_for(node, numeric_value(data_type, value))
+        }
+        _ => None,
+    }
 }
 
 /// The data type of a section, if its code is a supported one.
 pub fn type_of(section: &TextSection<'_, '_>) -> Option<DataType>
     ensures { result ≡ type_of (section_view section.now) }
 {
-    data_type_with(section.number_at(b"DataType")?)
+    match section.number_at(b"DataType") {
+        Some(code) => data_type_with(code),
+        None => None,
+    }
 }
 
 // the value of a property, nothing if there is none
@@ -184,9 +193,9 @@ pub(crate) fn push_default(
 pub fn limit_number(data_type: Option<DataType>, value: &[u8]) -> Option<i128>
     ensures { result ≡ limit_number data_type value.now }
 {
-    match signed_numeral(value) {
-        Ok(numeral) => Some(numeral.value_at(data_type?)),
-        Err(_) => None,
+    match (signed_numeral(value), data_type) {
+        (Ok(numeral), Some(data_type)) => Some(numeral.value_at(data_type)),
+        _ => None,
     }
 }
 

@@ -14,5 +14,5 @@ loop-section-preserved c =
     let is_it = λ (s : TextSection). is_info info (topic_of s.name) in
     search-turn (λ sections. info_line info (map section_view sections)) (λ section. is_it (section_view section)) (λ x b y. cond b x.line y)
     (λ x l. made-first (λ (o : Option TextSection). option_map_or (λ s. s.line) o 0) (is_it (section_view x)) (section_view x) (find is_it (map section_view l))) (λ x y. refl)
-    c.sections-section-items.result.now c.loop-section.section-index _ _ c.loop-section-test.true
+    c.args.sections.now c.loop-section.section-index _ _ c.loop-section-test.true
     (ap (is_info info) (sym c.topic_of.ensures) ∙ sym c.is_info.ensures ∙ c.if-is_info.false) c.loop-section.invariant

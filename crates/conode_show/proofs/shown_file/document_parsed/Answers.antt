@@ -5,7 +5,7 @@ use Rattle.co_sheet_text.specs.Views.{section_view}
 use Rattle.conode_show_text.specs.Document.{node_for, ordered}
 use Rattle.conode_show.specs.Retyped.{retyped_view}
 use Rattle.conode_show.specs.Shown.{document_in, sections_of}
-use Rattle.conode_show.proofs.shown_file.document_of.Goals as goal
+use Rattle.conode_show.proofs.shown_file.document_parsed.Goals as goal
 
 pub returns : goal.returns
 returns c =
