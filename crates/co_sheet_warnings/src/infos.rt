@@ -211,10 +211,7 @@ fn identity_number(
 
 /// The lines of VendorNumber, ProductNumber and RevisionNumber, where they aren't those of the
 /// identity object, which has these entries.
-pub(crate) fn identity_numbers(
-    keys: &[WrittenKey],
-    parts: &[EntrySection],
-) -> [Option<usize>; 3]
+pub(crate) fn identity_numbers(keys: &[WrittenKey], parts: &[EntrySection]) -> [Option<usize>; 3]
     ensures { flat_map option_to_list result
         ≡ identity_numbers (map key_view keys.now) (map entry_view parts.now) }
 {

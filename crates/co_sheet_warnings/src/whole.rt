@@ -37,8 +37,18 @@ fn place_of(text: &ReadText, kind: WarningKind) -> Option<usize>
     ensures { has_one_place kind ≡ true → option_to_list result ≡ places_of text.now kind }
 {
     match kind {
-        WarningKind::FileInfoKeys => missing_keys(Topic::FileInfo, text.keys, text.sections(), &FILE_KEYS),
-        WarningKind::DeviceInfoKeys => missing_keys(Topic::DeviceInfo, text.keys, text.sections(), &DEVICE_KEYS),
+        WarningKind::FileInfoKeys => missing_keys(
+            Topic::FileInfo,
+            text.keys,
+            text.sections(),
+            &FILE_KEYS,
+        ),
+        WarningKind::DeviceInfoKeys => missing_keys(
+            Topic::DeviceInfo,
+            text.keys,
+            text.sections(),
+            &DEVICE_KEYS,
+        ),
         WarningKind::NoErrorControl => no_error_control(text),
         WarningKind::Utf8 => other_bytes(text, true),
         WarningKind::NotAscii => other_bytes(text, false),
@@ -68,7 +78,10 @@ pub(crate) fn add_places_of(
         | WarningKind::UnknownKey
         | WarningKind::LineEnds => add_one(places, place_of(text, kind)),
         WarningKind::PdoCount => add_each(places, &pdo_counts(text.keys, sections)),
-        WarningKind::IdentityNumber => add_each(places, &identity_numbers(text.keys, text.parts(0x1018))),
+        WarningKind::IdentityNumber => add_each(
+            places,
+            &identity_numbers(text.keys, text.parts(0x1018)),
+        ),
         WarningKind::DateFormat => add_each(places, &date_formats(text.keys)),
         WarningKind::WrongList => add_places_of_lists(alloc, places, ListCheck::Objects, sections),
         WarningKind::ListOrder => add_places_of_lists(alloc, places, ListCheck::Order, sections),
