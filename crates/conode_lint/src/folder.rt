@@ -2,6 +2,7 @@
 
 use conode_io::CmdFault;
 use std::alloc::{AllocError, Global};
+use std::fs::DirEntry;
 use std::rt::Files;
 use std::{fs, io};
 
@@ -50,6 +51,22 @@ fn add_sheet<R: Files + AllocGlobal>(
     Ok(())
 }
 
+// adds the path of an entry that is a data sheet; false if its name isn't UTF-8
+fn add_entry<R: Files + AllocGlobal + Drop>(
+    rt: &R,
+    paths: &mut Vec<String>,
+    entry: io::Result<DirEntry<R>>,
+) -> Result<bool, CmdFault> {
+    match entry {
+        Ok(entry) => {
+            add_sheet(rt, paths, entry.file_name(), entry.path().to_string_lossy())?;
+            Ok(true)
+        }
+        Err(error) if error.kind() == io::ErrorKind::InvalidFilename => Ok(false),
+        Err(error) => Err(fault_of(error)),
+    }
+}
+
 // adds the paths of a folder's data sheets; false if a name isn't UTF-8
 fn add_sheets<R: Files + AllocGlobal + Clone + Drop>(
     rt: &R,
@@ -58,10 +75,8 @@ fn add_sheets<R: Files + AllocGlobal + Clone + Drop>(
 ) -> Result<bool, CmdFault> {
     let mut are_named = true;
     for entry in fs::read_dir(rt, folder).map_err(fault_of)? {
-        match entry {
-            Ok(entry) => add_sheet(rt, paths, entry.file_name(), entry.path().to_string_lossy())?,
-            Err(error) if error.kind() == io::ErrorKind::InvalidFilename => are_named = false,
-            Err(error) => return Err(fault_of(error)),
+        if !add_entry(rt, paths, entry)? {
+            are_named = false;
         }
     }
     Ok(are_named)

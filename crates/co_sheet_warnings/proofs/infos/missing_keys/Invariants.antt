@@ -5,4 +5,4 @@ use Rattle.co_sheet_warnings.proofs.infos.missing_keys.Given as goal
 
 -- what the rest has is what all have
 abbrev pub invariant-loop-section : goal.invariant-loop-section
-invariant-loop-section l = info_line l.info (map section_view (drop l.section-index l.section-items)) ≡ info_line l.info (map section_view l.section-items)
+invariant-loop-section l = info_line l.info (map section_view (drop l.section-index l.sections)) ≡ info_line l.info (map section_view l.sections)
