@@ -84,13 +84,16 @@ has_object sections = list_any (λ s. is_of_object s.kind) sections
 abbrev pub large_reason : Option OtherFormat → List ℕ
 large_reason format = option_map_or format_meaning format (fault_text (fault_at 0 TooLarge))
 
+-- why a text of another format isn't shown, if it has no object
+abbrev pub unless_object : List TextSection → OtherFormat → Option (List ℕ)
+unless_object sections format =
+    if has_object sections then None else Some (format_meaning format)
+
 -- why a text isn't shown: it is too large, or of another format and has no object
 unfoldable pub reason : List ℕ → Option (List ℕ)
 reason text =
     if is_too_large text then Some (large_reason (text_format text))
-    else option_and_then
-    (λ format. if has_object (sections_read (lines_of text)) then None else Some (format_meaning format))
-    (text_format text)
+    else option_and_then (unless_object (sections_read (lines_of text))) (text_format text)
 
 -- the document of a text's sections, or why it isn't shown
 unfoldable pub shown : Form → Option ℕ → List ℕ → List ℕ

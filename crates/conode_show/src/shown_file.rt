@@ -1,6 +1,21 @@
 //! The file of a data sheet, shown.
 
-ghost use Rattle.std.specs.Prelude.{◌≡◌, ◌⊎◌, ◌≤◌, [], ◌∷◌, ◌++◌, length, map, is_none, None, IfOk, IfErr, OnOk, Err};
+ghost use Rattle.std.specs.Prelude.{
+  ◌≡◌,
+  ◌⊎◌,
+  ◌≤◌,
+  [],
+  ◌∷◌,
+  ◌++◌,
+  length,
+  map,
+  is_none,
+  None,
+  IfOk,
+  IfErr,
+  OnOk,
+  Err,
+};
 ghost use Rattle.std.specs.Option.{option_copied};
 ghost use Rattle.std.specs.Io.KnownBytes.{Appends, Keeps};
 ghost use Rattle.std.specs.Process.{exit_status};
@@ -215,9 +230,9 @@ fn shown(
 
 /// Shows the object dictionary of a data sheet (CiA 306): its entries by index and sub-index, then
 /// its PDOs and the other services of the communication profile in words. A faulty line is left
-/// out, and the others are shown. A text of more than 1,048,576 bytes isn't read, and one of another
-/// format without an object isn't shown; the reason is written instead, in JSON as a document.
-/// Returns whether the dictionary is shown.
+/// out, and the others are shown. A text of more than 1,048,576 bytes isn't read, and one of
+/// another format without an object isn't shown; the reason is written instead, in JSON as a
+/// document. Returns whether the dictionary is shown.
 ///
 /// All is written at once. `Memory`: memory ran out, and nothing has been written. `Write`: the
 /// writer failed, and at most a part has been written.
