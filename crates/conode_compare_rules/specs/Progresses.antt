@@ -81,9 +81,9 @@ free_at (Some newest) free micros = if follows_closely newest micros then free e
 abbrev pub pdos_with_quiet : Limits → Progress → ℕ → Pdos
 pdos_with_quiet limits progress micros = if was_quiet limits progress micros then tpdos.interrupted progress.pdos else progress.pdos
 
--- an answer that may take long is awaited all the same
+-- an answer that may take long is awaited all the same, and a sub-block may still be open
 abbrev pub still_awaited : Dialogue → ℕ → Dialogue
-still_awaited dialogue micros = record nothing_asked { slow = (interrupted dialogue micros).slow }
+still_awaited dialogue micros = record nothing_asked { slow = (interrupted dialogue micros).slow; sub_block = (interrupted dialogue micros).sub_block }
 
 -- then nothing is known; where it was quiet, no request is
 unfoldable pub begun : Subject → Progress → ℕ → Progress
@@ -144,7 +144,7 @@ booted subject progress micros = record progress {
   heartbeats = record progress.heartbeats { since = Some micros; sent = Some progress.free };
   entries = subject.facts.booted;
   emergency = None;
-  dialogue = record (interrupted progress.dialogue micros) { slow = nothing_left };
+  dialogue = record (interrupted progress.dialogue micros) { slow = nothing_left; sub_block = false };
   pdos = subject.facts.pdos;
   written = nothing_written;
   remark = restart_remark progress.nmt micros;
