@@ -131,16 +131,16 @@ opens_sub_block first = (first / 32 == 5) && not (first % 4 == 1)
 -- A frame of the server: one of these, of another transfer than the open one; or an abort, which may
 -- answer an earlier request. With any other the server shows that it awaits no segment.
 abbrev pub server_sub_block : Bool → What → ℕ → Bool → Bool
-server_sub_block leaves what first open = if first / 32 == 4 then open || leaves else opens_sub_block first && not (continues what)
+server_sub_block leaves what first awaits = if first / 32 == 4 then awaits || leaves else opens_sub_block first && not (continues what)
 
 -- a sub-block may be open that isn't followed, after a frame by which a block download is left, or not
 abbrev pub sub_block_after : Side → Bool → What → ℕ → Bool → Bool
-sub_block_after Client leaves what first open = open || leaves
-sub_block_after Server leaves what first open = server_sub_block leaves what first open
+sub_block_after Client leaves what first awaits = awaits || leaves
+sub_block_after Server leaves what first awaits = server_sub_block leaves what first awaits
 
 -- then a request may be a segment, which isn't answered
 abbrev pub may_be_segment : Bool → What → Bool
-may_be_segment open what = open && is_initiate what
+may_be_segment awaits what = awaits && is_initiate what
 
 -- ---- requests that may take long
 
@@ -266,8 +266,8 @@ exchange_in answer started dialogue micros side frame = record {
 }
 
 abbrev pub doubted_after : Bool → Side → Heard → FrameContent → Option ℕ → ℕ → Option ℕ
-doubted_after open side heard frame doubted micros =
-    if leaves_request_open side heard frame || may_be_segment open heard.what then Some micros else doubted
+doubted_after awaits side heard frame doubted micros =
+    if leaves_request_open side heard frame || may_be_segment awaits heard.what then Some micros else doubted
 
 -- A transfer isn't judged whose initiate request comes while an earlier request may still be answered.
 abbrev pub newest_heard : Bool → Side → What → FrameContent → Option Newest → Option Newest

@@ -342,21 +342,21 @@ fn opens_sub_block(first: u8) -> bool
 
 // whether a sub-block may be open that isn't followed, after a frame by which a block download is
 // left, or not
-fn sub_block_after(side: Side, leaves: bool, what: What, first: u8, open: bool) -> bool
-    ensures { result ≡ sub_block_after side leaves what first open }
+fn sub_block_after(side: Side, leaves: bool, what: What, first: u8, awaits: bool) -> bool
+    ensures { result ≡ sub_block_after side leaves what first awaits }
 {
     match side {
-        Side::Client => open || leaves,
-        Side::Server if first / 32 == 4 => open || leaves,
+        Side::Client => awaits || leaves,
+        Side::Server if first / 32 == 4 => awaits || leaves,
         Side::Server => opens_sub_block(first) && !continues(what),
     }
 }
 
 // whether a request may be a segment of such a sub-block
-fn may_be_segment(open: bool, what: What) -> bool
-    ensures { result ≡ may_be_segment open what }
+fn may_be_segment(awaits: bool, what: What) -> bool
+    ensures { result ≡ may_be_segment awaits what }
 {
-    open && is_initiate(what)
+    awaits && is_initiate(what)
 }
 
 // whether after a frame an earlier request may still be answered
