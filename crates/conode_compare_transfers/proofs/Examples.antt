@@ -1,6 +1,5 @@
 -- What a transfer is otherwise than prescribed and what it isn't, on both sides of each edge, computed from the definitions.
 use Rattle.std.proofs.Common.{◌≡◌, ℕ, List, [], ◌∷◌, true, false, map, Option, Some, None, refl}
-use Rattle.std.specs.Prelude.{option_map}
 use Rattle.co_frame.specs.FrameContent.{FrameContent}
 use Rattle.co_frame.specs.SdoRequests.{request_row_in}
 use Rattle.co_frame.specs.SdoResponses.{response_row_in}
@@ -550,8 +549,12 @@ numbers_written = refl
 sub_block_answers : map opens_sub_block (0x9F ∷ 0xA0 ∷ 0xA1 ∷ 0xA2 ∷ 0xA4 ∷ 0xA5 ∷ 0xC0 ∷ []) ≡ false ∷ true ∷ false ∷ true ∷ true ∷ false ∷ false ∷ []
 sub_block_answers = refl
 
+abbrev with_protocol : Protocol → Direction → Option Ended → Option Ended
+with_protocol protocol direction None = None
+with_protocol protocol direction (Some ended) = Some (record ended { protocol = protocol; direction = direction })
+
 abbrev block_left : Protocol → Direction → Ending → Option Ended
-block_left protocol direction ending = option_map (λ e. record e { protocol = protocol; direction = direction }) (left_by 0x2000 ending)
+block_left protocol direction ending = with_protocol protocol direction (left_by 0x2000 ending)
 
 -- by another request, and by an abort of another entry; not by one of its own
 block_is_left : map (λ ending. leaves_block false (block_left Block Download ending)) (Unanswered ∷ Again ∷ Interrupted ∷ Aborted Client (record { 0 = 0x05040000 }) ∷ Aborted Server (record { 0 = 0x08000000 }) ∷ [])

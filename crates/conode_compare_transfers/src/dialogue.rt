@@ -370,6 +370,24 @@ fn leaves_request_open(side: Side, heard: &Heard, frame: &Frame) -> bool
     odd || ends_in_doubt(&heard.ended, frame)
 }
 
+// the stamp of the newest frame by which an earlier request may still be answered
+fn doubted_after(
+    awaits: bool,
+    side: Side,
+    heard: &Heard,
+    frame: &Frame,
+    doubted: Option<u64>,
+    micros: u64,
+) -> Option<u64>
+    ensures { result ≡ doubted_after awaits side heard.now frame.now doubted micros }
+{
+    if leaves_request_open(side, heard, frame) || may_be_segment(awaits, heard.what) {
+        Some(micros)
+    } else {
+        doubted
+    }
+}
+
 // whether no earlier request can be answered at a stamp
 #[tactic(auto, unfolding(crate::specs::Dialogues::is_certain))]
 fn is_certain(answer: u32, started: u64, slow: Left, doubted: Option<u64>, micros: u64) -> bool
@@ -476,9 +494,8 @@ impl Dialogue {
         let leaves = leaves_slow(other, self.newest, &heard.ended);
         self.slow = self.slow.after_answer(late, turns).after(leaves, micros);
         self.asked = asked_after(heard.what, micros, frame);
-        if leaves_request_open(side, &heard, frame) || may_be_segment(self.sub_block, heard.what) {
-            self.doubted = Some(micros);
-        }
+        self.doubted =
+            doubted_after(self.sub_block, side, &heard, frame, self.doubted, micros);
         let left = leaves_block(other, &heard.ended);
         self.sub_block = sub_block_after(side, left, heard.what, byte_at(frame, 0), self.sub_block);
         let judged = self.is_certain(answer, started, micros);
