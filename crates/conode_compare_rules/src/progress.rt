@@ -532,7 +532,7 @@ impl Progress {
             }
             FrameKind::Guarding => self.heartbeats.guarded = true,
             FrameKind::Fault => self.take_fault(micros),
-            FrameKind::Other => {}
+            FrameKind::Other => self.written.forget_mapped(&subject.held),
         }
         Findings::none()
     }
