@@ -3,12 +3,12 @@ use Rattle.std.proofs.Common.{◌≡◌, ℕ, List, [], ◌∷◌, Some, None, r
 use Rattle.std.specs.Fmt.{digits}
 use Rattle.std.specs.Prelude.{codes, false}
 use Rattle.co_sheet_rows.specs.declared.fault.FaultKind.{FaultKind}
-use Rattle.co_sheet_rows.specs.declared.fault.FaultKind.TheVariants.{BadNumber, BadType, BadAccess, BadDefault, BadList, MissingKey, MissingSub0}
+use Rattle.co_sheet_rows.specs.declared.fault.FaultKind.TheVariants.{BadNumber, BadType, BadAccess, BadDefault, BadList, MissingKey, MissingMandatory, MissingSub0}
 use Rattle.co_sheet_rows.specs.declared.fault.SheetFault.{SheetFault}
 use Rattle.co_sheet_text.specs.Text.{Line}
 use Rattle.co_sheet_changes.specs.Pieces.{assigned}
-use Rattle.co_sheet_mend.specs.declared.repair.Repair.TheVariants.{Emptied, Bytes, ReadWrite, Completed}
-use Rattle.co_sheet_mend.specs.Repairs.{line_as, list_text, mended_lines, repair_at, repair_for}
+use Rattle.co_sheet_mend.specs.declared.repair.Repair.TheVariants.{Emptied, Typed, ReadWrite, Completed}
+use Rattle.co_sheet_mend.specs.Repairs.{line_as, list_text, mended_lines, repair_at, repair_for, sub0_text, type_code}
 
 abbrev line : ℕ → List ℕ → Line
 line number bytes = record { number = number; bytes = bytes }
@@ -22,7 +22,7 @@ at_its_line : map (repair_at (fault 5 BadNumber ∷ [])) (4 ∷ 5 ∷ 6 ∷ []) 
 unfolding repair_at repair_for
 at_its_line = refl
 
-nothing_helps : repair_at (fault 5 MissingSub0 ∷ []) 5 ≡ None
+nothing_helps : repair_at (fault 5 MissingMandatory ∷ []) 5 ≡ None
 unfolding repair_at repair_for
 nothing_helps = refl
 
@@ -33,55 +33,81 @@ first_of_two = refl
 
 -- ---- what a line becomes
 
-as_it_is : line_as None (line 1 (codes "LowLimit=5")) [] ≡ codes "LowLimit=5\n"
+as_it_is : line_as None None (line 1 (codes "LowLimit=5")) [] ≡ codes "LowLimit=5\n"
 unfolding line_as
 as_it_is = refl
 
-emptied_value : line_as (Some Emptied) (line 1 (codes "DefaultValue=0x6G")) [] ≡ codes "\n"
+emptied_value : line_as (Some Emptied) None (line 1 (codes "DefaultValue=0x6G")) [] ≡ codes "\n"
 unfolding line_as
 emptied_value = refl
 
 -- a section line, and one that isn't closed
-emptied_section : line_as (Some Emptied) (line 1 (codes "[2000]")) [] ≡ codes "[]\n"
+emptied_section : line_as (Some Emptied) None (line 1 (codes "[2000]")) [] ≡ codes "[]\n"
 unfolding line_as
 emptied_section = refl
 
-emptied_open_section : line_as (Some Emptied) (line 1 (codes " [2000")) [] ≡ codes "[]\n"
+emptied_open_section : line_as (Some Emptied) None (line 1 (codes " [2000")) [] ≡ codes "[]\n"
 unfolding line_as
 emptied_open_section = refl
 
-bytes_of_type : line_as (Some Bytes) (line 1 (codes "datatype = 0x0099")) [] ≡ codes "DataType=0x000F\n"
-unfolding line_as assigned
+bytes_of_type : line_as (Some Typed) None (line 1 (codes "datatype = 0x0099")) [] ≡ codes "DataType=15\n"
+unfolding line_as type_code assigned digits
 bytes_of_type = refl
 
+-- the type that CiA 301 fixes: 1017:00 is an UNSIGNED16, and 1A00:01 an UNSIGNED32; of 1017:01 none
+fixed_type : line_as (Some Typed) (Some (record { index = 0x1017; sub = 0 })) (line 1 (codes "DataType=5")) [] ≡ codes "DataType=6\n"
+unfolding line_as type_code assigned digits
+fixed_type = refl
+
+mapped_type : line_as (Some Typed) (Some (record { index = 0x1A00; sub = 1 })) (line 1 (codes "DataType=5")) [] ≡ codes "DataType=7\n"
+unfolding line_as type_code assigned digits
+mapped_type = refl
+
+no_fixed_type : line_as (Some Typed) (Some (record { index = 0x1017; sub = 1 })) (line 1 (codes "DataType=5")) [] ≡ codes "DataType=15\n"
+unfolding line_as type_code assigned digits
+no_fixed_type = refl
+
 -- of an object type nothing
-no_object_type : line_as (Some Bytes) (line 1 (codes "ObjectType=0x99")) [] ≡ codes "\n"
+no_object_type : line_as (Some Typed) None (line 1 (codes "ObjectType=0x99")) [] ≡ codes "\n"
 unfolding line_as assigned
 no_object_type = refl
 
-read_write : line_as (Some ReadWrite) (line 1 (codes "AccessType=all")) [] ≡ codes "AccessType=rw\n"
+read_write : line_as (Some ReadWrite) None (line 1 (codes "AccessType=all")) [] ≡ codes "AccessType=rw\n"
 unfolding line_as assigned
 read_write = refl
 
 -- what the section lacks, up to the next section line
-completed : line_as (Some Completed) (line 1 (codes "[2000]")) (line 2 (codes "ParameterName=A") ∷ line 3 (codes "[2001]") ∷ line 4 (codes "DataType=5") ∷ [])
-    ≡ codes "[2000]\nDataType=0x000F\nAccessType=rw\n"
-unfolding line_as assigned
+completed : line_as (Some Completed) None (line 1 (codes "[2000]")) (line 2 (codes "ParameterName=A") ∷ line 3 (codes "[2001]") ∷ line 4 (codes "DataType=5") ∷ [])
+    ≡ codes "[2000]\nDataType=15\nAccessType=rw\n"
+unfolding line_as type_code assigned digits
 completed = refl
 
-completed_access : line_as (Some Completed) (line 1 (codes "[2000]")) (line 2 (codes "DataType=5") ∷ []) ≡ codes "[2000]\nAccessType=rw\n"
+completed_access : line_as (Some Completed) None (line 1 (codes "[2000]")) (line 2 (codes "DataType=5") ∷ []) ≡ codes "[2000]\nAccessType=rw\n"
 unfolding line_as assigned
 completed_access = refl
 
 -- ---- lines one after another
 
-three_lines : mended_lines (repair_at (fault 1 MissingKey ∷ fault 3 BadAccess ∷ [])) false (line 1 (codes "[2000]") ∷ line 2 (codes "ParameterName=A") ∷ line 3 (codes "AccessType=all") ∷ [])
-    ≡ codes "[2000]\nDataType=0x000F\nParameterName=A\nAccessType=rw\n"
-unfolding repair_at repair_for line_as assigned
+three_lines : mended_lines (repair_at (fault 1 MissingKey ∷ fault 3 BadAccess ∷ [])) false None (line 1 (codes "[2000]") ∷ line 2 (codes "ParameterName=A") ∷ line 3 (codes "AccessType=all") ∷ [])
+    ≡ codes "[2000]\nDataType=15\nParameterName=A\nAccessType=rw\n"
+unfolding repair_at repair_for line_as type_code assigned digits
 three_lines = refl
 
+-- each line is of the entry of the last section line before it
+typed_lines : mended_lines (repair_at (fault 2 BadType ∷ fault 4 BadType ∷ fault 6 BadType ∷ [])) false None
+    (line 1 (codes "[1017]") ∷ line 2 (codes "DataType=9") ∷ line 3 (codes "[1A00sub1]") ∷ line 4 (codes "DataType=9") ∷ line 5 (codes "[Comments]") ∷ line 6 (codes "DataType=9") ∷ [])
+    ≡ codes "[1017]\nDataType=6\n[1A00sub1]\nDataType=7\n[Comments]\nDataType=15\n"
+unfolding repair_at repair_for line_as type_code assigned digits
+typed_lines = refl
+
+-- sub-index 0 before its object
+with_sub0 : mended_lines (repair_at (fault 1 MissingSub0 ∷ [])) false None (line 1 (codes "[2000]") ∷ line 2 (codes "ObjectType=9") ∷ [])
+    ≡ codes "[2000sub0]\nDataType=5\nAccessType=ro\n[2000]\nObjectType=9\n"
+unfolding repair_at repair_for line_as sub0_text
+with_sub0 = refl
+
 -- a list that counts one object too many, and whose places aren't those from 1 on
-counted_anew : mended_lines (repair_at (fault 1 BadList ∷ [])) false
+counted_anew : mended_lines (repair_at (fault 1 BadList ∷ [])) false None
     (line 1 (codes "[OptionalObjects]") ∷ line 2 (codes "SupportedObjects=3") ∷ line 3 (codes "01 = 0x1008") ∷ line 4 (codes "4=0x1017") ∷ line 5 (codes "[1008]") ∷ line 6 (codes "1=2") ∷ [])
     ≡ codes "[OptionalObjects]\nSupportedObjects=2\n1=0x1008\n2=0x1017\n\n\n\n[1008]\n1=2\n"
 unfolding repair_at repair_for line_as list_text assigned digits

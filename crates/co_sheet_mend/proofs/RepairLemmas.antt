@@ -8,10 +8,11 @@ use Rattle.std.proofs.lemmas.Bool.Decides.{nat_tests}
 use Rattle.std.proofs.lemmas.List.Folds.{Any-from_list_any, list_any-from_Any}
 use Rattle.co_text.proofs.Tests.{by_test}
 use Rattle.co_sheet_rows.specs.declared.fault.SheetFault.{SheetFault}
+use Rattle.co_value.specs.declared.key.Key.{Key}
 use Rattle.co_sheet_text.specs.Text.{Line}
 use Rattle.co_sheet_mend.specs.declared.repair.Repair.{Repair}
-use Rattle.co_sheet_mend.specs.declared.repair.Repair.TheVariants.{Emptied, Bytes, ReadWrite, Completed, Counted}
-use Rattle.co_sheet_mend.specs.Repairs.{asks_for, first_asked, has_repair, is_counted, mended_lines, rank, repair_at, repair_here, same_repair, stronger}
+use Rattle.co_sheet_mend.specs.declared.repair.Repair.TheVariants.{Emptied, Typed, ReadWrite, Completed, Counted, Numbered}
+use Rattle.co_sheet_mend.specs.Repairs.{asks_for, first_asked, has_repair, is_counted, key_at, mended_lines, rank, repair_at, repair_here, same_repair, stronger}
 
 pub stronger-none : (a : Option Repair) → stronger a None ≡ a
 stronger-none None = refl
@@ -32,52 +33,64 @@ stronger-assoc (Some x) (Some y) (Some z) =
 
 -- ---- one fault more
 
-asked : (r : Repair) (a b c d e : Bool)
-    → first_asked (same_repair Emptied r || a) (same_repair Bytes r || b) (same_repair ReadWrite r || c) (same_repair Completed r || d) (same_repair Counted r || e)
-    ≡ stronger (Some r) (first_asked a b c d e)
-asked Emptied true b c d e = refl
-asked Emptied false true c d e = refl
-asked Emptied false false true d e = refl
-asked Emptied false false false true e = refl
-asked Emptied false false false false true = refl
-asked Emptied false false false false false = refl
-asked Bytes true b c d e = refl
-asked Bytes false true c d e = refl
-asked Bytes false false true d e = refl
-asked Bytes false false false true e = refl
-asked Bytes false false false false true = refl
-asked Bytes false false false false false = refl
-asked ReadWrite true b c d e = refl
-asked ReadWrite false true c d e = refl
-asked ReadWrite false false true d e = refl
-asked ReadWrite false false false true e = refl
-asked ReadWrite false false false false true = refl
-asked ReadWrite false false false false false = refl
-asked Completed true b c d e = refl
-asked Completed false true c d e = refl
-asked Completed false false true d e = refl
-asked Completed false false false true e = refl
-asked Completed false false false false true = refl
-asked Completed false false false false false = refl
-asked Counted true b c d e = refl
-asked Counted false true c d e = refl
-asked Counted false false true d e = refl
-asked Counted false false false true e = refl
-asked Counted false false false false true = refl
-asked Counted false false false false false = refl
+asked : (r : Repair) (a b c d e f : Bool)
+    → first_asked (same_repair Emptied r || a) (same_repair Typed r || b) (same_repair ReadWrite r || c) (same_repair Completed r || d) (same_repair Counted r || e) (same_repair Numbered r || f)
+    ≡ stronger (Some r) (first_asked a b c d e f)
+asked Emptied true b c d e f = refl
+asked Emptied false true c d e f = refl
+asked Emptied false false true d e f = refl
+asked Emptied false false false true e f = refl
+asked Emptied false false false false true f = refl
+asked Emptied false false false false false true = refl
+asked Emptied false false false false false false = refl
+asked Typed true b c d e f = refl
+asked Typed false true c d e f = refl
+asked Typed false false true d e f = refl
+asked Typed false false false true e f = refl
+asked Typed false false false false true f = refl
+asked Typed false false false false false true = refl
+asked Typed false false false false false false = refl
+asked ReadWrite true b c d e f = refl
+asked ReadWrite false true c d e f = refl
+asked ReadWrite false false true d e f = refl
+asked ReadWrite false false false true e f = refl
+asked ReadWrite false false false false true f = refl
+asked ReadWrite false false false false false true = refl
+asked ReadWrite false false false false false false = refl
+asked Completed true b c d e f = refl
+asked Completed false true c d e f = refl
+asked Completed false false true d e f = refl
+asked Completed false false false true e f = refl
+asked Completed false false false false true f = refl
+asked Completed false false false false false true = refl
+asked Completed false false false false false false = refl
+asked Counted true b c d e f = refl
+asked Counted false true c d e f = refl
+asked Counted false false true d e f = refl
+asked Counted false false false true e f = refl
+asked Counted false false false false true f = refl
+asked Counted false false false false false true = refl
+asked Counted false false false false false false = refl
+asked Numbered true b c d e f = refl
+asked Numbered false true c d e f = refl
+asked Numbered false false true d e f = refl
+asked Numbered false false false true e f = refl
+asked Numbered false false false false true f = refl
+asked Numbered false false false false false true = refl
+asked Numbered false false false false false false = refl
 
-asked_here : (here : Option Repair) (a b c d e : Bool)
-    → first_asked (option_map_or (same_repair Emptied) here false || a) (option_map_or (same_repair Bytes) here false || b) (option_map_or (same_repair ReadWrite) here false || c) (option_map_or (same_repair Completed) here false || d) (option_map_or (same_repair Counted) here false || e)
-    ≡ stronger here (first_asked a b c d e)
-asked_here None a b c d e = refl
-asked_here (Some r) a b c d e = asked r a b c d e
+asked_here : (here : Option Repair) (a b c d e f : Bool)
+    → first_asked (option_map_or (same_repair Emptied) here false || a) (option_map_or (same_repair Typed) here false || b) (option_map_or (same_repair ReadWrite) here false || c) (option_map_or (same_repair Completed) here false || d) (option_map_or (same_repair Counted) here false || e) (option_map_or (same_repair Numbered) here false || f)
+    ≡ stronger here (first_asked a b c d e f)
+asked_here None a b c d e f = refl
+asked_here (Some r) a b c d e f = asked r a b c d e f
 
 pub repair_at-first : (fault : SheetFault) (faults : List SheetFault) (line : ℕ)
     → repair_at (fault ∷ faults) line ≡ stronger (repair_here line fault) (repair_at faults line)
 unfolding repair_at
 repair_at-first fault faults line =
-    asked_here (repair_here line fault) (has_repair faults line Emptied) (has_repair faults line Bytes) (has_repair faults line ReadWrite)
-    (has_repair faults line Completed) (has_repair faults line Counted)
+    asked_here (repair_here line fault) (has_repair faults line Emptied) (has_repair faults line Typed) (has_repair faults line ReadWrite)
+    (has_repair faults line Completed) (has_repair faults line Counted) (has_repair faults line Numbered)
 
 -- the repairs so far and those of the rest, with one fault more
 pub repair-turn : (before after : Option Repair) (faults : List SheetFault) (i : ℕ) (d : SheetFault) (line : ℕ) → i < length faults
@@ -115,16 +128,17 @@ pub same_repairs : (xs ys : List SheetFault) → ((f : SheetFault) → Contains 
 unfolding repair_at
 same_repairs xs ys into back line =
     let a : has_repair xs line Emptied ≡ has_repair ys line Emptied = same_members (asks_for Emptied line) xs ys into back in
-    let b : has_repair xs line Bytes ≡ has_repair ys line Bytes = same_members (asks_for Bytes line) xs ys into back in
+    let b : has_repair xs line Typed ≡ has_repair ys line Typed = same_members (asks_for Typed line) xs ys into back in
     let c : has_repair xs line ReadWrite ≡ has_repair ys line ReadWrite = same_members (asks_for ReadWrite line) xs ys into back in
     let d : has_repair xs line Completed ≡ has_repair ys line Completed = same_members (asks_for Completed line) xs ys into back in
     let e : has_repair xs line Counted ≡ has_repair ys line Counted = same_members (asks_for Counted line) xs ys into back in
+    let f : has_repair xs line Numbered ≡ has_repair ys line Numbered = same_members (asks_for Numbered line) xs ys into back in
     cc
 
 -- ---- lines by the same repairs
 
 module _ (f g : ℕ → Option Repair) (same : (line : ℕ) → f line ≡ g line) where
-  pub same_lines : (counted : Bool) (lines : List Line) → mended_lines f counted lines ≡ mended_lines g counted lines
-  same_lines counted [] = refl
-  same_lines counted (line ∷ more) =
-      rw (same line.number, same_lines true more, same_lines (is_counted (g line.number)) more) refl
+  pub same_lines : (counted : Bool) (key : Option Key) (lines : List Line) → mended_lines f counted key lines ≡ mended_lines g counted key lines
+  same_lines counted key [] = refl
+  same_lines counted key (line ∷ more) =
+      rw (same line.number, same_lines true key more, same_lines (is_counted (g line.number)) (key_at key line) more) refl

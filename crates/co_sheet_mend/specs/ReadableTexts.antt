@@ -12,7 +12,7 @@ use Rattle.indexmap.specs.IndexMap.{get}
 
 -- a text without what is at fault in it
 abbrev pub mended : List ℕ → List ℕ
-mended text = mended_lines (repair_at (faults_of text)) false (lines_of text)
+mended text = mended_lines (repair_at (faults_of text)) false None (lines_of text)
 
 abbrev pub is_accepted : List ℕ → Bool
 is_accepted text = is_none (first_fault text)

@@ -1,17 +1,24 @@
 -- What comes in place of the lines at fault of a data sheet's text (CiA 306).
-use Rattle.std.specs.Prelude.{ℕ, suc, ◌==◌, nat_le, Bool, true, false, not, ◌&&◌, if◌then◌else◌, List, [], ◌∷◌, ◌++◌, codes, decimal, length, Option, Some, None, is_some, option_and_then}
+use Rattle.std.specs.Prelude.{ℕ, suc, ◌==◌, nat_le, Bool, true, false, not, ◌&&◌, if◌then◌else◌, List, [], ◌∷◌, ◌++◌, codes, decimal, length, Option, Some, None, is_some, option_and_then, unwrap_or}
 use Rattle.std.specs.List.{filter_map, list_any}
 use Rattle.std.specs.Option.{option_map_or}
 use Rattle.co_sheet_rows.specs.declared.fault.FaultKind.{FaultKind}
 use Rattle.co_sheet_rows.specs.declared.fault.FaultKind.TheVariants as kind
 use Rattle.co_sheet_rows.specs.declared.fault.SheetFault.{SheetFault}
+use Rattle.co_value.specs.declared.data_type.DataType.TheVariants.{Domain}
+use Rattle.co_value.specs.declared.key.Key.{Key}
+use Rattle.co_value.specs.Types.{code_of}
+use Rattle.co_profile.specs.FixedTypes.{fixed_type_of}
+use Rattle.co_sheet_text.specs.declared.section_kind.SectionKind.{SectionKind}
+use Rattle.co_sheet_text.specs.declared.section_kind.SectionKind.TheVariants.{Object, SubIndex}
+use Rattle.co_sheet_text.specs.Names.{kind_of}
 use Rattle.co_sheet_text.specs.LinesAtFault.{emptied}
 use Rattle.co_sheet_text.specs.LinesRead.{all_digits}
 use Rattle.co_sheet_text.specs.Text.{Line, same_name}
 use Rattle.co_sheet_changes.specs.Groups.{before_sections, property_in, section_in}
 use Rattle.co_sheet_changes.specs.Pieces.{assigned}
 use Rattle.co_sheet_mend.specs.declared.repair.Repair.{Repair}
-use Rattle.co_sheet_mend.specs.declared.repair.Repair.TheVariants.{Emptied, Bytes, ReadWrite, Completed, Counted}
+use Rattle.co_sheet_mend.specs.declared.repair.Repair.TheVariants.{Emptied, Typed, ReadWrite, Completed, Counted, Numbered}
 
 -- by the kind of the fault
 unfoldable pub repair_for : FaultKind → Option Repair
@@ -25,11 +32,12 @@ repair_for kind.BadNumber = Some Emptied
 repair_for kind.AmbiguousNumber = Some Emptied
 repair_for kind.BadLimits = Some Emptied
 repair_for kind.BadDefault = Some Emptied
-repair_for kind.BadType = Some Bytes
-repair_for kind.LeftOutType = Some Bytes
+repair_for kind.BadType = Some Typed
+repair_for kind.LeftOutType = Some Typed
 repair_for kind.BadAccess = Some ReadWrite
 repair_for kind.MissingKey = Some Completed
 repair_for kind.BadList = Some Counted
+repair_for kind.MissingSub0 = Some Numbered
 repair_for other = None
 
 -- ---- of a line
@@ -37,10 +45,11 @@ repair_for other = None
 -- which of two repairs of a line comes: that with the smaller number
 abbrev pub rank : Repair → ℕ
 rank Emptied = 0
-rank Bytes = 1
+rank Typed = 1
 rank ReadWrite = 2
 rank Completed = 3
 rank Counted = 4
+rank Numbered = 5
 
 abbrev pub stronger : Option Repair → Option Repair → Option Repair
 stronger None other = other
@@ -61,17 +70,18 @@ asks_for repair line fault = option_map_or (same_repair repair) (repair_here lin
 abbrev pub has_repair : List SheetFault → ℕ → Repair → Bool
 has_repair faults line repair = list_any (asks_for repair line) faults
 
-abbrev pub first_asked : Bool → Bool → Bool → Bool → Bool → Option Repair
-first_asked empties bytes writes completes counts =
+abbrev pub first_asked : Bool → Bool → Bool → Bool → Bool → Bool → Option Repair
+first_asked empties types writes completes counts numbers =
     if empties then Some Emptied
-    else (if bytes then Some Bytes
-    else (if writes then Some ReadWrite else (if completes then Some Completed else (if counts then Some Counted else None))))
+    else (if types then Some Typed
+    else (if writes then Some ReadWrite
+    else (if completes then Some Completed else (if counts then Some Counted else (if numbers then Some Numbered else None)))))
 
 -- of several the first of these, whatever the order of the faults
 unfoldable pub repair_at : List SheetFault → ℕ → Option Repair
 repair_at faults line =
-    first_asked (has_repair faults line Emptied) (has_repair faults line Bytes) (has_repair faults line ReadWrite)
-    (has_repair faults line Completed) (has_repair faults line Counted)
+    first_asked (has_repair faults line Emptied) (has_repair faults line Typed) (has_repair faults line ReadWrite)
+    (has_repair faults line Completed) (has_repair faults line Counted) (has_repair faults line Numbered)
 
 -- a line gives a property of a name
 abbrev pub gives : List ℕ → Line → Bool
@@ -88,9 +98,27 @@ ended bytes = bytes ++ 10 ∷ []
 abbrev pub lacking : List ℕ → List ℕ → List Line → List ℕ
 lacking name value lines = if gives_any name lines then [] else assigned name value
 
--- DOMAIN (CiA 301, table 44)
-abbrev pub bytes_type : List ℕ
-bytes_type = assigned (codes "DataType") (codes "0x000F")
+-- ---- of an entry
+
+-- the entry that a section is about; none where it is another section
+abbrev pub key_in : SectionKind → Option Key
+key_in (Object index) = Some (record { index = index; sub = 0 })
+key_in (SubIndex key) = Some key
+key_in other = None
+
+-- and that a line is about, where the line before it is about this one
+abbrev pub key_at : Option Key → Line → Option Key
+key_at before line = option_map_or (λ name. key_in (kind_of name)) (section_in line) before
+
+-- the type of its values: the one that CiA 301 fixes, else DOMAIN, whose values are bytes
+unfoldable pub type_code : Option Key → ℕ
+type_code key = code_of (unwrap_or (option_and_then fixed_type_of key) Domain)
+
+abbrev pub typed : Option Key → List ℕ
+typed key = assigned (codes "DataType") (decimal (type_code key))
+
+abbrev pub lacking_type : Option Key → List Line → List ℕ
+lacking_type key lines = if gives_any (codes "DataType") lines then [] else typed key
 
 -- ---- of an object list (CiA 306, lists of objects)
 
@@ -113,20 +141,27 @@ list_text lines =
 
 -- ---- what a line becomes, which these lines follow
 
-abbrev pub typed_as_bytes : Line → List ℕ
-typed_as_bytes line = if gives (codes "DataType") line then bytes_type else ended (emptied line).bytes
+abbrev pub retyped : Option Key → Line → List ℕ
+retyped key line = if gives (codes "DataType") line then typed key else ended (emptied line).bytes
 
-abbrev pub completed : Line → List Line → List ℕ
-completed line more =
-    ended line.bytes ++ lacking (codes "DataType") (codes "0x000F") more ++ lacking (codes "AccessType") (codes "rw") more
+abbrev pub completed : Option Key → Line → List Line → List ℕ
+completed key line more = ended line.bytes ++ lacking_type key more ++ lacking (codes "AccessType") (codes "rw") more
 
-unfoldable pub line_as : Option Repair → Line → List Line → List ℕ
-line_as None line more = ended line.bytes
-line_as (Some Emptied) line more = ended (emptied line).bytes
-line_as (Some Bytes) line more = typed_as_bytes line
-line_as (Some ReadWrite) line more = assigned (codes "AccessType") (codes "rw")
-line_as (Some Completed) line more = completed line more
-line_as (Some Counted) line more = ended line.bytes ++ list_text more
+-- a section of sub-index 0, which is an UNSIGNED8 (CiA 301, 7.4.7), before that of the object
+unfoldable pub sub0_text : List ℕ → List ℕ
+sub0_text name = codes "[" ++ name ++ codes "sub0]\nDataType=5\nAccessType=ro\n"
+
+abbrev pub numbered : Line → List ℕ
+numbered line = option_map_or sub0_text (section_in line) [] ++ ended line.bytes
+
+unfoldable pub line_as : Option Repair → Option Key → Line → List Line → List ℕ
+line_as None key line more = ended line.bytes
+line_as (Some Emptied) key line more = ended (emptied line).bytes
+line_as (Some Typed) key line more = retyped key line
+line_as (Some ReadWrite) key line more = assigned (codes "AccessType") (codes "rw")
+line_as (Some Completed) key line more = completed key line more
+line_as (Some Counted) key line more = ended line.bytes ++ list_text more
+line_as (Some Numbered) key line more = numbered line
 
 -- ---- of a text
 
@@ -134,9 +169,10 @@ line_as (Some Counted) line more = ended line.bytes ++ list_text more
 abbrev pub is_counted : Option Repair → Bool
 is_counted repair = option_map_or (same_repair Counted) repair false
 
--- lines by the repair that each line number has
-abbrev pub mended_lines : (ℕ → Option Repair) → Bool → List Line → List ℕ
-mended_lines repairs counted [] = []
-mended_lines repairs counted (line ∷ more) =
-    if counted && not (is_some (section_in line)) then ended [] ++ mended_lines repairs true more
-    else line_as (repairs line.number) line more ++ mended_lines repairs (is_counted (repairs line.number)) more
+-- lines by the repair that each line number has, where the line before is about this entry
+abbrev pub mended_lines : (ℕ → Option Repair) → Bool → Option Key → List Line → List ℕ
+mended_lines repairs counted key [] = []
+mended_lines repairs counted key (line ∷ more) =
+    if counted && not (is_some (section_in line)) then ended [] ++ mended_lines repairs true key more
+    else line_as (repairs line.number) (key_at key line) line more
+    ++ mended_lines repairs (is_counted (repairs line.number)) (key_at key line) more

@@ -9,26 +9,33 @@ ghost use Rattle.co_sheet_mend.specs.Repairs.{
   ended,
   gives,
   gives_any,
+  key_at,
+  key_in,
   lacking,
+  lacking_type,
   line_as,
   list_text,
+  numbered,
   numbered_from,
   objects_named,
   place_value,
-  typed_as_bytes,
+  retyped,
+  sub0_text,
+  type_code,
+  typed,
 };
 ghost use Rattle.co_sheet_text.specs.LinesAtFault.{emptied};
 
 use crate::repair::Repair;
+use co_profile::fixed_type;
 use co_sheet_changes::{Line, before_sections, push_number};
-use co_sheet_text::{all_digits, same_name, trim};
+use co_sheet_text::{SectionKind, all_digits, same_name, trim};
+use co_value::{DataType, Key};
 use std::alloc::{AllocError, Global};
 
 const DATA_TYPE: &[u8] = b"DataType";
 
 const ACCESS_TYPE: &[u8] = b"AccessType";
-/// DOMAIN, whose values are bytes.
-const BYTES: &[u8] = b"0x000F";
 
 const READ_WRITE: &[u8] = b"rw";
 
@@ -171,23 +178,107 @@ fn emptied(line: &Line<'_>) -> &'static [u8]
     }
 }
 
-fn push_bytes(made: &mut Vec<u8>, line: &Line<'_>) -> Result<(), AllocError>
+// the entry that a section is about
+fn key_in(kind: SectionKind) -> Option<Key>
+    ensures { result ≡ key_in kind }
+{
+    match kind {
+        SectionKind::Object(index) => Some(Key { index, sub: 0 }),
+        SectionKind::SubIndex(key) => Some(key),
+        _ => None,
+    }
+}
+
+/// The entry that a line is about, where the line before it is about this one.
+pub(crate) fn key_at(before: Option<Key>, line: &Line<'_>) -> Option<Key>
+    ensures { result ≡ key_at before (line_view line.now) }
+{
+    match line.section() {
+        Some(name) => key_in(SectionKind::of_name(name)),
+        None => before,
+    }
+}
+
+// the code of the type that an entry at fault gets
+#[tactic(auto, unfolding(crate::specs::Repairs::type_code))]
+fn type_code(key: Option<Key>) -> u16
+    ensures { result ≡ type_code key }
+{
+    let fixed = match key {
+        Some(key) => fixed_type(key),
+        None => None,
+    };
+    fixed.unwrap_or(DataType::Domain).code()
+}
+
+fn push_type(alloc: Global, made: &mut Vec<u8>, key: Option<Key>) -> Result<(), AllocError>
+    ensures { OnOk result (made.new.items ≡ made.old.items ++ typed key) }
+{
+    push_count(alloc, made, DATA_TYPE, u64::from(type_code(key)))
+}
+
+fn push_retyped(
+    alloc: Global,
+    made: &mut Vec<u8>,
+    key: Option<Key>,
+    line: &Line<'_>,
+) -> Result<(), AllocError>
     ensures { OnOk result (made.new.items
-        ≡ made.old.items ++ typed_as_bytes (line_view line.now)) }
+        ≡ made.old.items ++ retyped key (line_view line.now)) }
 {
     if gives(line, DATA_TYPE) {
-        return push_assigned(made, DATA_TYPE, BYTES);
+        return push_type(alloc, made, key);
     }
     push_ended(made, emptied(line))
 }
 
-fn push_completed(made: &mut Vec<u8>, line: &Line<'_>, more: &[Line<'_>]) -> Result<(), AllocError>
+fn push_lacking_type(
+    alloc: Global,
+    made: &mut Vec<u8>,
+    key: Option<Key>,
+    lines: &[Line<'_>],
+) -> Result<(), AllocError>
     ensures { OnOk result (made.new.items
-        ≡ made.old.items ++ completed (line_view line.now) (map line_view more.now)) }
+        ≡ made.old.items ++ lacking_type key (map line_view lines.now)) }
+{
+    if gives_any(lines, DATA_TYPE) {
+        return Ok(());
+    }
+    push_type(alloc, made, key)
+}
+
+fn push_completed(
+    alloc: Global,
+    made: &mut Vec<u8>,
+    key: Option<Key>,
+    line: &Line<'_>,
+    more: &[Line<'_>],
+) -> Result<(), AllocError>
+    ensures { OnOk result (made.new.items
+        ≡ made.old.items ++ completed key (line_view line.now) (map line_view more.now)) }
 {
     push_ended(made, line.bytes)?;
-    push_lacking(made, DATA_TYPE, BYTES, more)?;
+    push_lacking_type(alloc, made, key, more)?;
     push_lacking(made, ACCESS_TYPE, READ_WRITE, more)
+}
+
+#[tactic(auto, unfolding(crate::specs::Repairs::sub0_text))]
+fn push_sub0(made: &mut Vec<u8>, name: &[u8]) -> Result<(), AllocError>
+    ensures { OnOk result (made.new.items ≡ made.old.items ++ sub0_text name.now) }
+{
+    made.extend_from_slice(b"[")?;
+    made.extend_from_slice(name)?;
+    made.extend_from_slice(b"sub0]\nDataType=5\nAccessType=ro\n")
+}
+
+// a section line after a section of its sub-index 0
+fn push_numbered_line(made: &mut Vec<u8>, line: &Line<'_>) -> Result<(), AllocError>
+    ensures { OnOk result (made.new.items ≡ made.old.items ++ numbered (line_view line.now)) }
+{
+    if let Some(name) = line.section() {
+        push_sub0(made, name)?;
+    }
+    push_ended(made, line.bytes)
 }
 
 fn push_counted(
@@ -203,24 +294,27 @@ fn push_counted(
     push_list(alloc, made, more)
 }
 
-/// Appends what a line becomes, which these lines follow. `Err`: out of memory.
+/// Appends what a line becomes that is about this entry, and which these lines follow. `Err`: out of
+/// memory.
 #[tactic(auto, unfolding(crate::specs::Repairs::line_as))]
 pub(crate) fn push_line(
     alloc: Global,
     made: &mut Vec<u8>,
     repair: Option<Repair>,
+    key: Option<Key>,
     line: &Line<'_>,
     more: &[Line<'_>],
 ) -> Result<(), AllocError>
     ensures { OnOk result (made.new.items
-        ≡ made.old.items ++ line_as repair (line_view line.now) (map line_view more.now)) }
+        ≡ made.old.items ++ line_as repair key (line_view line.now) (map line_view more.now)) }
 {
     match repair {
         None => push_ended(made, line.bytes),
         Some(Repair::Emptied) => push_ended(made, emptied(line)),
-        Some(Repair::Bytes) => push_bytes(made, line),
+        Some(Repair::Typed) => push_retyped(alloc, made, key, line),
         Some(Repair::ReadWrite) => push_assigned(made, ACCESS_TYPE, READ_WRITE),
-        Some(Repair::Completed) => push_completed(made, line, more),
+        Some(Repair::Completed) => push_completed(alloc, made, key, line, more),
         Some(Repair::Counted) => push_counted(alloc, made, line, more),
+        Some(Repair::Numbered) => push_numbered_line(made, line),
     }
 }

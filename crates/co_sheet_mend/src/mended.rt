@@ -1,11 +1,11 @@
 //! A text without what is at fault in it.
 
-ghost use Rattle.std.specs.Prelude.{◌≡◌, ◌≤◌, ◌++◌, false, length, map, IfOk, OnOk};
+ghost use Rattle.std.specs.Prelude.{◌≡◌, ◌≤◌, ◌++◌, None, false, length, map, IfOk, OnOk};
 ghost use Rattle.co_sheet_changes.specs.Views.{line_view};
 ghost use Rattle.co_sheet_mend.specs.Repairs.{is_counted, mended_lines};
 ghost use Rattle.co_sheet_mend.specs.ReadableTexts.{mended, repair_in};
 
-use crate::lines::{push_ended, push_line};
+use crate::lines::{key_at, push_ended, push_line};
 use crate::repair::Repair;
 use crate::repairs::Repairs;
 use co_sheet_changes::{Line, lines_in};
@@ -25,16 +25,18 @@ fn push_lines(
     lines: &[Line<'_>],
 ) -> Result<(), AllocError>
     ensures { OnOk result (made.new.items ≡ made.old.items
-        ++ mended_lines (repair_in repairs.now) false (map line_view lines.now)) }
+        ++ mended_lines (repair_in repairs.now) false None (map line_view lines.now)) }
 {
     let mut rest = lines;
     let mut counted = false;
+    let mut key = None;
     while let [line, more @ ..] = rest {
         if counted && line.section().is_none() {
             push_ended(made, b"")?;
         } else {
             let repair = repairs.at(line.number);
-            push_line(alloc, made, repair, line, more)?;
+            key = key_at(key, line);
+            push_line(alloc, made, repair, key, line, more)?;
             counted = is_counted(repair);
         }
         rest = more;

@@ -10,8 +10,9 @@ use co_sheet_faults::FaultKind;
 pub enum Repair {
     /// Nothing, and of a section line one that begins a section which nothing reads.
     Emptied,
-    /// Of a data type DOMAIN, whose values are bytes; nothing of another property.
-    Bytes,
+    /// Of a data type the one that CiA 301 fixes for the entry, else DOMAIN, whose values are bytes;
+    /// nothing of another property.
+    Typed,
     /// An entry that is read and written.
     ReadWrite,
     /// The section line, and after it a data type and an access type, those that the section lacks.
@@ -19,6 +20,8 @@ pub enum Repair {
     /// Of the section line of an object list: that line, and the objects that the list names, counted
     /// and numbered from 1.
     Counted,
+    /// Of the section line of an ARRAY or a RECORD: a section of sub-index 0, and that line.
+    Numbered,
 }
 
 impl Repair {
@@ -28,10 +31,11 @@ impl Repair {
     {
         match self {
             Repair::Emptied => 0,
-            Repair::Bytes => 1,
+            Repair::Typed => 1,
             Repair::ReadWrite => 2,
             Repair::Completed => 3,
             Repair::Counted => 4,
+            Repair::Numbered => 5,
         }
     }
 }
@@ -48,8 +52,8 @@ pub(crate) fn stronger(one: Option<Repair>, other: Option<Repair>) -> Option<Rep
     }
 }
 
-/// What comes in place of a line with a fault of this kind; `None`: nothing helps, as where an
-/// ARRAY has no sub-index 0.
+/// What comes in place of a line with a fault of this kind; `None`: nothing helps, as where a
+/// mandatory object isn't listed.
 #[tactic(auto, unfolding(crate::specs::Repairs::repair_for))]
 pub(crate) fn repair_for(kind: FaultKind) -> Option<Repair>
     ensures { result ≡ repair_for kind }
@@ -65,12 +69,12 @@ pub(crate) fn repair_for(kind: FaultKind) -> Option<Repair>
         | FaultKind::ListedTwice
         | FaultKind::BadLimits
         | FaultKind::BadDefault => Some(Repair::Emptied),
-        FaultKind::BadType | FaultKind::LeftOutType => Some(Repair::Bytes),
+        FaultKind::BadType | FaultKind::LeftOutType => Some(Repair::Typed),
         FaultKind::BadAccess => Some(Repair::ReadWrite),
         FaultKind::MissingKey => Some(Repair::Completed),
         FaultKind::BadList => Some(Repair::Counted),
+        FaultKind::MissingSub0 => Some(Repair::Numbered),
         FaultKind::TooLarge
-        | FaultKind::MissingSub0
         | FaultKind::CompactForm
         | FaultKind::MissingMandatory
         | FaultKind::Memory => None,

@@ -1,4 +1,4 @@
-use Rattle.std.proofs.Common.{◌≡◌, ◌++◌, ℕ, List, ap, ◌∙◌, false, map}
+use Rattle.std.proofs.Common.{◌≡◌, ◌++◌, ℕ, List, None, ap, ◌∙◌, false, map}
 use Rattle.std.proofs.lemmas.Result.{IfOk-equal}
 use Rattle.co_sheet_changes.specs.Views.{line_view}
 use Rattle.co_sheet_faults.specs.AllFaults.{faults_of}
@@ -14,6 +14,6 @@ returns c =
     let text = c.args.text.now in
     let repairs = repair_in c.in_ok-repairs.repairs in
     let lines : map line_view c.as_slice.result.now ≡ lines_of text = rw c.as_slice.ensures.value c.in_ok-lines.ensures in
-    let by_text : mended_lines repairs false (map line_view c.as_slice.result.now) ≡ mended text =
-    ap (mended_lines repairs false) lines ∙ same_lines repairs (repair_at (faults_of text)) c.in_ok-repairs.ensures false (lines_of text) in
+    let by_text : mended_lines repairs false None (map line_view c.as_slice.result.now) ≡ mended text =
+    ap (mended_lines repairs false None) lines ∙ same_lines repairs (repair_at (faults_of text)) c.in_ok-repairs.ensures false None (lines_of text) in
     IfOk-equal c.push_lines.result _ _ _ c.push_lines.ensures (ap (λ (b : List ℕ). made ++ b) by_text)
