@@ -7,13 +7,13 @@ use lib.Utf8.{encode}
 use Rattle.co_text.specs.Printed.{digits_text}
 use Rattle.conode_lint_text.specs.Characters.{characters_of}
 use Rattle.conode_json.specs.Escapes.{escaped_character}
-use Rattle.conode_json.specs.Pieces.{seconds_text}
+use Rattle.conode_json.specs.Filled.{seconds_text}
 use Rattle.conode_compare_text.specs.FindingTexts.{finding_line, finding_text, millis_text, numbered, timed_number}
 use Rattle.conode_compare_text.specs.Tallies.{no_frames}
 use Rattle.conode_compare_report.specs.declared.kind.Kind.TheVariants.{HeartbeatLate}
 use Rattle.conode_compare_report.specs.Reports.{nothing_kept}
 use Rattle.conode_compare_report.specs.declared.outcome.Outcome.TheVariants.{NoFrame, SeveralInterfaces}
-use Rattle.conode_compare_json.specs.JunitCases.{differences_word, failed_markup, failure_begin, is_of_kind, line_markup, lines_markup, outcome_case, passed_markup}
+use Rattle.conode_compare_json.specs.JunitCases.{differences_word, failed_markup, failure_begin, is_of_kind, line_markup, lines_markup, no_frame_case, outcome_case, passed_markup}
 use Rattle.conode_compare_json.specs.JunitDocument.{junit_document, numbers_of, span_of, suite_begin}
 use Rattle.conode_compare_json.proofs.Reported.{about, late, report}
 
@@ -57,7 +57,7 @@ span_back = refl
 -- ---- a comparison that couldn't be made
 
 no_frame : outcome_case 5 NoFrame ≡ codes "<testcase classname=\"conode.compare\" name=\"compared\"><error type=\"not-compared\" message=\"no frame of node 5\"/></testcase>\n"
-unfolding outcome_case digits
+unfolding outcome_case no_frame_case digits
 no_frame = refl
 
 several_interfaces : outcome_case 5 SeveralInterfaces ≡ codes "<testcase classname=\"conode.compare\" name=\"compared\"><error type=\"not-compared\" message=\"several interfaces: name one with --interface\"/></testcase>\n"

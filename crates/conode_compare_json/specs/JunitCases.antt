@@ -33,7 +33,7 @@ differences_word count = if count == 1 then codes " difference: " else codes " d
 unfoldable pub failure_begin : List ℕ → ℕ → List ℕ → List ℕ → List ℕ
 failure_begin kind found word rule = concat (
     codes "<testcase classname=\"conode.compare\" name=\"" ∷ kind ∷ codes "\"><failure type=\"" ∷ kind
-    ∷ codes "\" message=\"" ∷ decimal found ∷ (word ++ escaped rule) ∷ codes "\">" ∷ [])
+    ∷ codes "\" message=\"" ∷ decimal found ∷ word ∷ escaped rule ∷ codes "\">" ∷ [])
 
 unfoldable pub failed_markup : List ℕ → Counted → List Noted → List ℕ
 failed_markup recording counted noted =
@@ -56,13 +56,17 @@ abbrev pub case_markup : List ℕ → List Noted → Counted → List ℕ
 case_markup recording noted counted =
     if nat_lt 0 counted.found then failed_markup recording counted noted else passed_markup counted
 
+-- the test case of a recording without a frame of the node
+unfoldable pub no_frame_case : ℕ → List ℕ
+no_frame_case node =
+    codes "<testcase classname=\"conode.compare\" name=\"compared\"><error type=\"not-compared\" message=\"no frame of node "
+    ++ decimal node ++ codes "\"/></testcase>\n"
+
 -- one more test case, with an error, if nothing could be compared
 unfoldable pub outcome_case : ℕ → Outcome → List ℕ
 outcome_case node NoDifference = []
 outcome_case node Differences = []
-outcome_case node NoFrame =
-    codes "<testcase classname=\"conode.compare\" name=\"compared\"><error type=\"not-compared\" message=\"no frame of node "
-    ++ decimal node ++ codes "\"/></testcase>\n"
+outcome_case node NoFrame = no_frame_case node
 outcome_case node SeveralInterfaces =
     codes "<testcase classname=\"conode.compare\" name=\"compared\">"
     ++ codes "<error type=\"not-compared\" message=\"several interfaces: name one with --interface\"/></testcase>\n"

@@ -6,7 +6,7 @@ use Rattle.conode_compare_report.specs.Abouts.{Described}
 use Rattle.conode_compare_report.specs.declared.kind.Counted.{Counted}
 use Rattle.conode_compare_report.specs.Views.{Kept}
 use Rattle.conode_json.specs.Escapes.{escaped}
-use Rattle.conode_json.specs.Pieces.{seconds_text}
+use Rattle.conode_json.specs.Filled.{seconds_text}
 use Rattle.conode_compare_report.specs.declared.outcome.Outcome.{Outcome}
 use Rattle.conode_compare_report.specs.declared.outcome.Outcome.TheVariants.{NoDifference, Differences, NoFrame, SeveralInterfaces}
 use Rattle.conode_compare_json.specs.declared.junit.Numbers.{Numbers}

@@ -10,18 +10,18 @@ ghost use Rattle.conode_compare_json.specs.JunitCases.{
   case_markup,
   differences_word,
   failed_markup,
-  failure_begin,
   is_of_kind,
   line_markup,
   lines_markup,
   more_markup,
+  no_frame_case,
   outcome_case,
   passed_markup,
 };
 
 use conode_compare_report::{About, Counted, Kind, Noted, Outcome, Report};
 use conode_compare_text::set_finding_line;
-use conode_json::{Piece, push_pieces};
+use conode_json::{Value, push_escaped, push_filled};
 use std::alloc::{AllocError, Global};
 
 /// How many differences of a kind have a line.
@@ -70,7 +70,7 @@ fn push_line(
         noted.value_type,
         noted.finding,
     )?;
-    push_pieces(alloc, text, &[Piece::Text("", line.as_bytes())])
+    push_escaped(alloc, text, line.as_bytes())
 }
 
 fn push_lines(
@@ -95,11 +95,7 @@ fn push_more(alloc: Global, text: &mut String, count: u64) -> Result<(), AllocEr
     if count == 0 {
         return Ok(());
     }
-    push_pieces(
-        alloc,
-        text,
-        &[Piece::Number("and ", count), Piece::Markup(" more\n")],
-    )
+    push_filled(alloc, text, "and % more\n", &[Value::Number(count)])
 }
 
 // the first lines of these differences of a kind, of which so many were found
@@ -144,34 +140,8 @@ fn differences_word(count: u64) -> &'static str
     }
 }
 
-// the beginning of a test case that failed
-#[tactic(auto, unfolding(crate::specs::JunitCases::failure_begin))]
-fn push_failure<'t>(
-    alloc: Global,
-    text: &mut String,
-    kind: &'t str,
-    found: u64,
-    word: &'t str,
-    rule: &'t [u8],
-) -> Result<(), AllocError>
-    ensures { OnOk result (string_bytes text.new
-        ≡ string_bytes text.old ++ failure_begin kind.now found word.now rule.now) }
-{
-    push_pieces(
-        alloc,
-        text,
-        &[
-            Piece::Words("<testcase classname=\"conode.compare\" name=\"", kind),
-            Piece::Words("\"><failure type=\"", kind),
-            Piece::Number("\" message=\"", found),
-            Piece::Text(word, rule),
-            Piece::Markup("\">"),
-        ],
-    )
-}
-
 // a test case that failed
-#[tactic(auto, unfolding(crate::specs::JunitCases::failed_markup))]
+#[tactic(auto, unfolding(crate::specs::JunitCases::failed_markup, crate::specs::JunitCases::failure_begin))]
 fn push_failed(
     alloc: Global,
     text: &mut String,
@@ -182,10 +152,19 @@ fn push_failed(
     ensures { OnOk result (string_bytes text.new
         ≡ string_bytes text.old ++ failed_markup recording.now counted report.now.noted) }
 {
-    let kind = counted.kind;
-    let word = differences_word(counted.found);
-    let rule = kind.rule().as_bytes();
-    push_failure(alloc, text, kind.name(), counted.found, word, rule)?;
+    let kind = counted.kind.name();
+    push_filled(
+        alloc,
+        text,
+        "<testcase classname=\"conode.compare\" name=\"%\"><failure type=\"%\" message=\"%%%\">",
+        &[
+            Value::Words(kind),
+            Value::Words(kind),
+            Value::Number(counted.found),
+            Value::Words(differences_word(counted.found)),
+            Value::Name(counted.kind.rule()),
+        ],
+    )?;
     push_own_lines(alloc, text, recording, counted, report)?;
     push_words(text, "</failure></testcase>\n")
 }
@@ -207,15 +186,13 @@ fn push_passed(alloc: Global, text: &mut String, counted: Counted) -> Result<(),
     ensures { OnOk result
         (string_bytes text.new ≡ string_bytes text.old ++ passed_markup counted) }
 {
-    push_pieces(
+    push_filled(
         alloc,
         text,
+        "<testcase classname=\"conode.compare\" name=\"%%",
         &[
-            Piece::Words(
-                "<testcase classname=\"conode.compare\" name=\"",
-                counted.kind.name(),
-            ),
-            Piece::Markup(case_end(counted.occasions)),
+            Value::Words(counted.kind.name()),
+            Value::Words(case_end(counted.occasions)),
         ],
     )
 }
@@ -238,6 +215,20 @@ pub(crate) fn push_case(
     }
 }
 
+// the test case of a recording without a frame of the node
+#[tactic(auto, unfolding(crate::specs::JunitCases::no_frame_case))]
+fn push_no_frame(alloc: Global, text: &mut String, node: u8) -> Result<(), AllocError>
+    ensures { OnOk result (string_bytes text.new ≡ string_bytes text.old ++ no_frame_case node) }
+{
+    push_filled(
+        alloc,
+        text,
+        "<testcase classname=\"conode.compare\" name=\"compared\">\
+        <error type=\"not-compared\" message=\"no frame of node %\"/></testcase>\n",
+        &[Value::Number(node as u64)],
+    )
+}
+
 /// The test case of a comparison that couldn't be made; nothing if it was.
 #[tactic(auto, unfolding(crate::specs::JunitCases::outcome_case))]
 pub(crate) fn push_outcome(
@@ -250,18 +241,7 @@ pub(crate) fn push_outcome(
 {
     match Outcome::of(about) {
         Outcome::NoDifference | Outcome::Differences => Ok(()),
-        Outcome::NoFrame => push_pieces(
-            alloc,
-            text,
-            &[
-                Piece::Number(
-                    "<testcase classname=\"conode.compare\" name=\"compared\">\
-                    <error type=\"not-compared\" message=\"no frame of node ",
-                    u64::from(about.node),
-                ),
-                Piece::Markup("\"/></testcase>\n"),
-            ],
-        ),
+        Outcome::NoFrame => push_no_frame(alloc, text, about.node),
         Outcome::SeveralInterfaces => text.push_str(
             "<testcase classname=\"conode.compare\" name=\"compared\">\
             <error type=\"not-compared\" message=\"several interfaces: name one with \

@@ -17,7 +17,7 @@ ghost use Rattle.conode_compare_json.specs.JunitDocument.{
 
 use crate::cases::{push_case, push_outcome, push_words};
 use conode_compare_report::{About, Counted, Outcome, Report};
-use conode_json::{Piece, push_pieces};
+use conode_json::{Value, push_filled};
 use std::alloc::{AllocError, Global};
 
 /// The document up to the name of its test cases.
@@ -110,30 +110,25 @@ fn begin_suite(
     ensures { OnOk result (string_bytes text.new
         ≡ string_bytes text.old ++ suite_begin (about_view about.now) numbers micros) }
 {
-    push_pieces(
+    push_filled(
         alloc,
         text,
+        "%%\" tests=\"%\" failures=\"%\" errors=\"%\" skipped=\"%\" time=\"%\">\n<properties>\n\
+        <property name=\"version\" value=\"%\"/>\n<property name=\"sheet\" value=\"%\"/>\n\
+        <property name=\"recording\" value=\"%\"/>\n<property name=\"node\" value=\"%\"/>\n\
+        </properties>\n",
         &[
-            Piece::Text(OPENING, about.recording.as_bytes()),
-            Piece::Number("\" tests=\"", numbers.tests),
-            Piece::Number("\" failures=\"", numbers.failures),
-            Piece::Number("\" errors=\"", numbers.errors),
-            Piece::Number("\" skipped=\"", numbers.skipped),
-            Piece::Seconds("\" time=\"", micros),
-            Piece::Text(
-                "\">\n<properties>\n<property name=\"version\" value=\"",
-                about.version.as_bytes(),
-            ),
-            Piece::Text(
-                "\"/>\n<property name=\"sheet\" value=\"",
-                about.sheet.as_bytes(),
-            ),
-            Piece::Text(
-                "\"/>\n<property name=\"recording\" value=\"",
-                about.recording.as_bytes(),
-            ),
-            Piece::Number("\"/>\n<property name=\"node\" value=\"", about.node as u64),
-            Piece::Markup("\"/>\n</properties>\n"),
+            Value::Words(OPENING),
+            Value::Name(about.recording),
+            Value::Number(numbers.tests),
+            Value::Number(numbers.failures),
+            Value::Number(numbers.errors),
+            Value::Number(numbers.skipped),
+            Value::Seconds(micros),
+            Value::Name(about.version),
+            Value::Name(about.sheet),
+            Value::Name(about.recording),
+            Value::Number(about.node as u64),
         ],
     )
 }

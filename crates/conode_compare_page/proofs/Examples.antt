@@ -1,7 +1,7 @@
 -- The parts of the page, evaluated.
 use Rattle.std.proofs.Common.{◌≡◌, ℕ, List, [], ◌∷◌, ◌++◌, true, false, None, Some, refl, codes, map}
 use Rattle.std.specs.Fmt.{digits}
-use Rattle.std.specs.List.{flat_map}
+use Rattle.std.specs.List.{concat, flat_map}
 use Rattle.std.specs.Str.{chars, is_utf8}
 use Rattle.co_text.specs.Printed.{digits_text}
 use Rattle.co_value.specs.declared.data_type.DataType.TheVariants.{Unsigned32}
@@ -17,7 +17,8 @@ use Rattle.conode_compare_text.specs.FindingTexts.{finding_text, millis_text, ti
 use Rattle.conode_explain_values.specs.declared.value_type.ValueType.TheVariants.{Plain}
 use Rattle.conode_lint_text.specs.Characters.{characters_of}
 use Rattle.conode_json.specs.Escapes.{escaped_character}
-use Rattle.conode_json.specs.Pieces.{seconds_text}
+use Rattle.conode_json.specs.Filled.{code_digits, seconds_text}
+use Rattle.conode_compare_report.specs.declared.outcome.Outcome.{Outcome}
 use Rattle.conode_compare_report.specs.declared.outcome.Outcome.TheVariants.{NoDifference, Differences, NoFrame, SeveralInterfaces}
 use Rattle.conode_compare_page.specs.declared.states.Shown.TheVariants.{Nothing, Initialising, PreOperational, Operational, Stopped, Several}
 use Rattle.conode_compare_page.specs.declared.coverage.Listed.TheVariants.{TransmissionTypes, AbortCodes}
@@ -26,11 +27,14 @@ use Rattle.conode_compare_page.specs.declared.coverage.TheConstants.{NO_TYPES, T
 use Rattle.conode_compare_page.specs.Coverage.{count_or, entry_end, found_begin, is_listed, item_begin, numbers_text, row_begin, state_item, transferred_count}
 use Rattle.conode_compare_page.specs.Device.{any_row, identity_row, recorded_row}
 use Rattle.conode_compare_page.specs.Differences.{context_line, list_end, said}
-use Rattle.conode_compare_page.specs.Head.{headline}
+use Rattle.conode_compare_page.specs.Head.{headline_number, headline_words}
 use Rattle.conode_compare_page.specs.Indexed.{indexed}
 use Rattle.conode_compare_page.specs.Picture.{across, areas, axis_text, count_in, difference_mark, is_quiet, mark_text, next_shown, outline, quarter_of, shown_of, span_of, state_area, top_of}
 
 -- ---- the verdict
+
+abbrev headline : Outcome → ℕ → List ℕ
+headline outcome count = headline_number outcome count ++ headline_words outcome count
 
 headlines : headline NoDifference 0 ∷ headline Differences 1 ∷ headline Differences 2 ∷ headline NoFrame 0 ∷ headline SeveralInterfaces 3 ∷ []
     ≡ codes "No difference" ∷ codes "1 difference" ∷ codes "2 differences" ∷ codes "Not compared" ∷ codes "Not compared" ∷ []
@@ -39,9 +43,9 @@ headlines = refl
 
 -- ---- the device
 
-identity_values : identity_row (codes "A") None ∷ identity_row (codes "A") (Some 0xF1A2) ∷ []
+identity_values : concat (identity_row (codes "A") None) ∷ concat (identity_row (codes "A") (Some 0xF1A2)) ∷ []
     ≡ codes "<dt>A</dt><dd>not in the data sheet</dd>\n" ∷ codes "<dt>A</dt><dd>0000F1A2h</dd>\n" ∷ []
-unfolding digits_text
+unfolding code_digits digits_text
 identity_values = refl
 
 texts : any_row (codes "A") None ∷ any_row (codes "A") (Some (codes "c<0")) ∷ [] ≡ [] ∷ codes "<dt>A</dt><dd>c&lt;0</dd>\n" ∷ []
@@ -49,7 +53,7 @@ unfolding escaped_character characters_of is_utf8 chars lib.Utf8.encode
 texts = refl
 
 recorded : recorded_row (codes "A") None ∷ recorded_row (codes "A") (Some 0x1E240) ∷ [] ≡ [] ∷ codes "<dt>A, as recorded</dt><dd>0001E240h</dd>\n" ∷ []
-unfolding digits_text
+unfolding code_digits digits_text
 recorded = refl
 
 -- ---- differences
@@ -195,9 +199,8 @@ one_has_none = refl
 lists : is_listed true read ∷ is_listed true no_transfer ∷ is_listed false read ∷ is_listed false no_transfer ∷ [] ≡ true ∷ false ∷ false ∷ true ∷ []
 lists = refl
 
-states_seen : state_item (codes "stopped") true ∷ state_item (codes "stopped") false ∷ []
+states_seen : concat (state_item (codes "stopped") true) ∷ concat (state_item (codes "stopped") false) ∷ []
     ≡ codes "<li>stopped<b>seen</b></li>\n" ∷ codes "<li class=\"not\">stopped<b>not seen</b></li>\n" ∷ []
-unfolding state_item
 states_seen = refl
 
 types : numbers_text TransmissionTypes TYPES.now NO_TYPES.now [] ∷ numbers_text TransmissionTypes TYPES.now NO_TYPES.now (record { number = 254; count = 3 } ∷ []) ∷ []
@@ -206,5 +209,5 @@ unfolding numbers_text digits
 types = refl
 
 aborts : numbers_text AbortCodes [] [] (record { number = 0x06020000; count = 2 } ∷ []) ≡ codes "<li><code>06020000h</code><b>2</b></li>\n</ul>\n"
-unfolding numbers_text digits_text digits
+unfolding numbers_text code_digits digits_text digits
 aborts = refl

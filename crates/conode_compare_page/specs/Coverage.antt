@@ -2,7 +2,6 @@
 use Rattle.std.specs.Prelude.{ℕ, ◌==◌, Bool, true, false, not, ◌||◌, if◌then◌else◌, List, [], ◌∷◌, ◌++◌, filter, length, codes, decimal, Option, Some, None}
 use Rattle.std.specs.List.{concat, flat_map, slice_get}
 use Rattle.std.specs.Option.{option_map_or}
-use Rattle.co_text.specs.Printed.{digits_text}
 use Rattle.co_value.specs.KeyTexts.{key_text}
 use Rattle.co_sheet.specs.Content.{Row}
 use Rattle.conode_compare_report.specs.Abouts.{Described}
@@ -16,6 +15,7 @@ use Rattle.conode_compare_report.specs.declared.service.Served.{Served}
 use Rattle.conode_compare_report.specs.Kinds.{kind_name, kind_rule}
 use Rattle.conode_compare_report.specs.Services.{service_name}
 use Rattle.conode_json.specs.Escapes.{escaped}
+use Rattle.conode_json.specs.Filled.{code_digits}
 use Rattle.conode_compare_page.specs.declared.coverage.Listed.{Listed}
 use Rattle.conode_compare_page.specs.declared.coverage.Listed.TheVariants.{TransmissionTypes, AbortCodes}
 use Rattle.conode_compare_page.specs.declared.coverage.TheConstants.{TYPES, NO_TYPES, ABORTS, NO_ABORTS}
@@ -44,9 +44,9 @@ found_begin found =
 -- the row of a kind: how often it could have shown, and how often it did
 unfoldable pub kind_row : Counted → List ℕ
 kind_row counted = concat (
-    (row_begin counted.occasions ++ kind_name counted.kind) ∷ codes "</td><td>" ∷ kind_rule counted.kind
+    row_begin counted.occasions ∷ kind_name counted.kind ∷ codes "</td><td>" ∷ kind_rule counted.kind
     ∷ codes "</td><td class=\"n\" data-is=\"Occasions\">" ∷ count_or (codes "none") counted.occasions
-    ∷ (found_begin counted.found ++ decimal counted.found) ∷ codes "</td></tr>\n" ∷ [])
+    ∷ found_begin counted.found ∷ decimal counted.found ∷ codes "</td></tr>\n" ∷ [])
 
 unfoldable pub kinds_table : List Counted → List ℕ
 kinds_table kinds = OPENING.now ++ flat_map kind_row kinds ++ codes "</tbody>\n</table>\n"
@@ -111,29 +111,35 @@ entries_text rows entries =
 
 unfoldable pub service_item : Served → List ℕ
 service_item served = concat (
-    (item_begin served.count ++ service_name served.service) ∷ codes "<b>" ∷ count_or (codes "not seen") served.count
+    item_begin served.count ∷ service_name served.service ∷ codes "<b>" ∷ count_or (codes "not seen") served.count
     ∷ codes "</b></li>\n" ∷ [])
 
 unfoldable pub services_text : List Served → List ℕ
 services_text services = codes "<h3>Services</h3>\n<ul>\n" ++ flat_map service_item services ++ codes "</ul>\n"
 
-unfoldable pub state_item : List ℕ → Bool → List ℕ
-state_item name seen = concat (
-    ((if seen then codes "<li>" else codes "<li class=\"not\">") ++ name)
-    ∷ (if seen then codes "<b>seen</b></li>\n" else codes "<b>not seen</b></li>\n") ∷ [])
+-- the item of a state, before its name and after it
+abbrev pub state_begin : Bool → List ℕ
+state_begin seen = if seen then codes "<li>" else codes "<li class=\"not\">"
+
+abbrev pub state_end : Bool → List ℕ
+state_end seen = if seen then codes "<b>seen</b></li>\n" else codes "<b>not seen</b></li>\n"
+
+-- its parts
+abbrev pub state_item : List ℕ → Bool → List (List ℕ)
+state_item name seen = state_begin seen ∷ name ∷ state_end seen ∷ []
 
 unfoldable pub states_text : States → List ℕ
-states_text states =
-    codes "<h3>NMT states</h3>\n<ul>\n" ++ state_item (codes "initialising") states.initialising
+states_text states = concat (
+    codes "<h3>NMT states</h3>\n<ul>\n" ∷ state_item (codes "initialising") states.initialising
     ++ state_item (codes "pre-operational") states.pre_operational ++ state_item (codes "operational") states.operational
-    ++ state_item (codes "stopped") states.stopped ++ codes "</ul>\n"
+    ++ state_item (codes "stopped") states.stopped ++ codes "</ul>\n" ∷ [])
 
 -- a transmission type with its TPDOs, an abort code with its transfers
 abbrev pub numbered_item : Listed → Numbered → List ℕ
 numbered_item TransmissionTypes numbered = concat (
     codes "<li>type " ∷ decimal numbered.number ∷ codes "<b>" ∷ decimal numbered.count ∷ codes "</b></li>\n" ∷ [])
 numbered_item AbortCodes numbered = concat (
-    codes "<li><code>" ∷ digits_text 16 8 numbered.number ∷ codes "h</code><b>" ∷ decimal numbered.count ∷ codes "</b></li>\n" ∷ [])
+    codes "<li><code>" ∷ code_digits numbered.number ∷ codes "</code><b>" ∷ decimal numbered.count ∷ codes "</b></li>\n" ∷ [])
 
 -- a list under its head; of no number other words
 unfoldable pub numbers_text : Listed → List ℕ → List ℕ → List Numbered → List ℕ

@@ -7,7 +7,7 @@ use Rattle.conode_compare_report.specs.Views.{Kept}
 use Rattle.conode_compare_report.specs.Contexts.{KeptLine, around}
 use Rattle.conode_compare_report.specs.Kinds.{kind_name, kind_of, kind_rule}
 use Rattle.conode_json.specs.Escapes.{escaped}
-use Rattle.conode_json.specs.Pieces.{seconds_text}
+use Rattle.conode_json.specs.Filled.{seconds_text}
 use Rattle.conode_compare_page.specs.declared.differences.TheConstants.{NONE, OPENING}
 use Rattle.conode_compare_page.specs.Indexed.{indexed}
 
@@ -22,7 +22,7 @@ said noted = after_name (kind_name (kind_of noted.finding)) (finding_text noted.
 -- a line of the recording with its number, marked if it is that of the difference
 unfoldable pub context_line : ℕ → KeptLine → List ℕ
 context_line number line = concat (
-    ((if line.number == number then codes "<mark>" else []) ++ decimal line.number) ∷ codes ": " ∷ escaped line.bytes
+    (if line.number == number then codes "<mark>" else []) ∷ decimal line.number ∷ codes ": " ∷ escaped line.bytes
     ∷ (if line.number == number then codes "\n</mark>" else codes "\n") ∷ [])
 
 -- the row of a difference, up to the lines around it: its line, its time since the first frame, which came at this begin, its

@@ -1,13 +1,13 @@
 -- The bus over time, in lanes: a picture (SVG) for each, all in the same scale, one unit a span of time.
 use Rattle.std.specs.Prelude.{ℕ, ◌+◌, ◌-◌, ◌*◌, ◌/◌, ◌^◌, ◌==◌, nat_le, min, Bool, ◌&&◌, ◌||◌, if◌then◌else◌, List, [], ◌∷◌, ◌++◌, length, codes, decimal}
-use Rattle.std.specs.List.{concat}
+use Rattle.std.specs.List.{concat, flat_map}
 use Rattle.conode_compare_report.specs.declared.lanes.Bin.{Bin}
 use Rattle.conode_compare_report.specs.Spans.{LanesView}
 use Rattle.conode_compare_report.specs.declared.lanes.States.{States}
 use Rattle.conode_compare_report.specs.declared.noted.Noted.{Noted}
 use Rattle.conode_compare_report.specs.Views.{Kept}
 use Rattle.conode_compare_report.specs.Kinds.{kind_name, kind_of}
-use Rattle.conode_json.specs.Pieces.{seconds_text}
+use Rattle.conode_json.specs.Filled.{seconds_text}
 use Rattle.conode_compare_report.specs.declared.lanes.Lane.{Lane}
 use Rattle.conode_compare_report.specs.declared.lanes.Lane.TheVariants.{Heartbeats, Emergencies, Transfers, Tpdos, Rpdos}
 use Rattle.conode_compare_page.specs.declared.states.Shown.{Shown}
@@ -104,16 +104,16 @@ state_class PreOperational = codes "pre-operational"
 state_class Operational = codes "operational"
 state_class Several = codes "several"
 
--- the spans in one state
-unfoldable pub state_area : Shown → ℕ → ℕ → List ℕ
-state_area shown from to = concat (
-    codes "<rect class=\"" ∷ state_class shown ∷ codes "\" x=\"" ∷ decimal from ∷ codes "\" y=\"" ∷ decimal (state_top shown)
-    ∷ codes "\" width=\"" ∷ decimal (to - from) ∷ codes "\" height=\"100\"><title>" ∷ state_class shown
-    ∷ codes "</title></rect>\n" ∷ [])
+-- the spans in one state, of this class, with this top, so many from this one on
+unfoldable pub state_area : List ℕ → ℕ → ℕ → ℕ → List ℕ
+state_area class top from width = concat (
+    codes "<rect class=\"" ∷ class ∷ codes "\" x=\"" ∷ decimal from ∷ codes "\" y=\"" ∷ decimal top
+    ∷ codes "\" width=\"" ∷ decimal width ∷ codes "\" height=\"100\"><title>" ∷ class ∷ codes "</title></rect>\n" ∷ [])
 
 -- nothing, if the state isn't known
 abbrev pub any_area : Shown → ℕ → ℕ → List ℕ
-any_area shown from to = if state_top shown == 100 then [] else state_area shown from to
+any_area shown from to =
+    if state_top shown == 100 then [] else state_area (state_class shown) (state_top shown) from (to - from)
 
 -- the areas of spans, from this one on, where the state before it began there
 abbrev pub areas : Shown → ℕ → ℕ → List Bin → List ℕ
@@ -172,10 +172,8 @@ axis_text quarter = concat (
 abbrev pub quarter_of : LanesView → ℕ
 quarter_of lanes = min (length lanes.bins * lanes.width) (2 ^ 64 - 1) / 4
 
-unfoldable pub frame_lanes : List Bin → List ℕ
-frame_lanes bins =
-    frames_lane bins Heartbeats ++ frames_lane bins Emergencies ++ frames_lane bins Transfers
-    ++ frames_lane bins Tpdos ++ frames_lane bins Rpdos
+abbrev pub frame_lanes : List Bin → List ℕ
+frame_lanes bins = flat_map (frames_lane bins) (Heartbeats ∷ Emergencies ∷ Transfers ∷ Tpdos ∷ Rpdos ∷ [])
 
 unfoldable pub lanes_picture : LanesView → List Noted → List ℕ
 lanes_picture lanes noted =

@@ -9,7 +9,8 @@ ghost use Rattle.conode_compare_page.specs.Coverage.{
   seen_text,
   service_item,
   services_text,
-  state_item,
+  state_begin,
+  state_end,
   states_text,
   tested,
 };
@@ -18,7 +19,7 @@ use crate::entries::push_entries;
 use crate::kinds::push_kinds;
 use crate::words::either;
 use conode_compare_report::{About, Coverage, Numbered, Report, Served, States};
-use conode_json::{Piece, push_pieces};
+use conode_json::{Value, push_filled};
 use std::alloc::{AllocError, Global};
 
 /// What a list of numbers has.
@@ -42,16 +43,14 @@ fn push_service(alloc: Global, text: &mut String, served: &Served) -> Result<(),
     ensures { OnOk result
         (string_bytes text.new ≡ string_bytes text.old ++ service_item served.now) }
 {
-    push_pieces(
+    push_filled(
         alloc,
         text,
+        "%%<b>%</b></li>\n",
         &[
-            Piece::Words(
-                either(served.count == 0, "<li class=\"not\">", "<li>"),
-                served.service.name(),
-            ),
-            Piece::Count("<b>", served.count, "not seen"),
-            Piece::Markup("</b></li>\n"),
+            Value::Words(either(served.count == 0, "<li class=\"not\">", "<li>")),
+            Value::Words(served.service.name()),
+            Value::Count(served.count, "not seen"),
         ],
     )
 }
@@ -68,31 +67,37 @@ fn push_services(alloc: Global, text: &mut String, services: &[Served]) -> Resul
     text.push_str("</ul>\n")
 }
 
-#[tactic(auto, unfolding(crate::specs::Coverage::state_item))]
-fn push_state(alloc: Global, text: &mut String, name: &str, seen: bool) -> Result<(), AllocError>
-    ensures { OnOk result
-        (string_bytes text.new ≡ string_bytes text.old ++ state_item name.now seen) }
+fn state_begin(seen: bool) -> &'static str
+    ensures { result.now ≡ state_begin seen }
 {
-    push_pieces(
-        alloc,
-        text,
-        &[
-            Piece::Words(either(seen, "<li>", "<li class=\"not\">"), name),
-            Piece::Markup(either(seen, "<b>seen</b></li>\n", "<b>not seen</b></li>\n")),
-        ],
-    )
+    either(seen, "<li>", "<li class=\"not\">")
+}
+
+fn state_end(seen: bool) -> &'static str
+    ensures { result.now ≡ state_end seen }
+{
+    either(seen, "<b>seen</b></li>\n", "<b>not seen</b></li>\n")
 }
 
 #[tactic(auto, unfolding(crate::specs::Coverage::states_text))]
 fn push_states(alloc: Global, text: &mut String, states: States) -> Result<(), AllocError>
     ensures { OnOk result (string_bytes text.new ≡ string_bytes text.old ++ states_text states) }
 {
-    text.push_str("<h3>NMT states</h3>\n<ul>\n")?;
-    push_state(alloc, text, "initialising", states.initialising)?;
-    push_state(alloc, text, "pre-operational", states.pre_operational)?;
-    push_state(alloc, text, "operational", states.operational)?;
-    push_state(alloc, text, "stopped", states.stopped)?;
-    text.push_str("</ul>\n")
+    push_filled(
+        alloc,
+        text,
+        "<h3>NMT states</h3>\n<ul>\n%initialising%%pre-operational%%operational%%stopped%</ul>\n",
+        &[
+            Value::Words(state_begin(states.initialising)),
+            Value::Words(state_end(states.initialising)),
+            Value::Words(state_begin(states.pre_operational)),
+            Value::Words(state_end(states.pre_operational)),
+            Value::Words(state_begin(states.operational)),
+            Value::Words(state_end(states.operational)),
+            Value::Words(state_begin(states.stopped)),
+            Value::Words(state_end(states.stopped)),
+        ],
+    )
 }
 
 fn push_numbered(
@@ -105,22 +110,22 @@ fn push_numbered(
         (string_bytes text.new ≡ string_bytes text.old ++ numbered_item listed numbered.now) }
 {
     match listed {
-        Listed::TransmissionTypes => push_pieces(
+        Listed::TransmissionTypes => push_filled(
             alloc,
             text,
+            "<li>type %<b>%</b></li>\n",
             &[
-                Piece::Number("<li>type ", numbered.number as u64),
-                Piece::Number("<b>", numbered.count),
-                Piece::Markup("</b></li>\n"),
+                Value::Number(numbered.number as u64),
+                Value::Number(numbered.count),
             ],
         ),
-        Listed::AbortCodes => push_pieces(
+        Listed::AbortCodes => push_filled(
             alloc,
             text,
+            "<li><code>%</code><b>%</b></li>\n",
             &[
-                Piece::Code("<li><code>", numbered.number),
-                Piece::Number("h</code><b>", numbered.count),
-                Piece::Markup("</b></li>\n"),
+                Value::Code(Some(numbered.number as u64), ""),
+                Value::Number(numbered.count),
             ],
         ),
     }

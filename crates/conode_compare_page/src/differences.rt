@@ -19,7 +19,7 @@ ghost use Rattle.conode_compare_page.specs.Differences.{
 use crate::words::either;
 use conode_compare_report::{ContextLine, Kind, Noted, Report};
 use conode_compare_text::push_finding;
-use conode_json::{Piece, push_pieces};
+use conode_json::{Value, push_filled};
 use std::alloc::{AllocError, Global};
 
 /// The section up to the rows of its table.
@@ -52,13 +52,15 @@ fn push_context_line(
         (string_bytes text.new ≡ string_bytes text.old ++ context_line number line.now) }
 {
     let marked = line.number == number;
-    push_pieces(
+    push_filled(
         alloc,
         text,
+        "%%: %%",
         &[
-            Piece::Number(either(marked, "<mark>", ""), line.number),
-            Piece::Text(": ", line.bytes.as_slice()),
-            Piece::Markup(either(marked, "\n</mark>", "\n")),
+            Value::Words(either(marked, "<mark>", "")),
+            Value::Number(line.number),
+            Value::Text(line.bytes.as_slice()),
+            Value::Words(either(marked, "\n</mark>", "\n")),
         ],
     )
 }
@@ -91,20 +93,19 @@ fn push_cells(
         ≡ string_bytes text.old ++ row_cells begin at noted.now said.now) }
 {
     let kind = Kind::of(noted.finding);
-    push_pieces(
+    push_filled(
         alloc,
         text,
+        "<tbody class=\"one\" id=\"d%\">\n<tr><td class=\"n\" data-is=\"Line\">%</td>\
+        <td class=\"n\" data-is=\"Seconds\">%</td><td><span class=\"found\">%</span> %</td>\
+        <td data-is=\"Prescribed:\">%</td></tr>\n<tr class=\"around\"><td colspan=\"4\"><pre>",
         &[
-            Piece::Number("<tbody class=\"one\" id=\"d", at as u64),
-            Piece::Number("\">\n<tr><td class=\"n\" data-is=\"Line\">", noted.line),
-            Piece::Seconds(
-                "</td><td class=\"n\" data-is=\"Seconds\">",
-                noted.micros.saturating_sub(begin),
-            ),
-            Piece::Words("</td><td><span class=\"found\">", kind.name()),
-            Piece::Text("</span> ", said),
-            Piece::Words("</td><td data-is=\"Prescribed:\">", kind.rule()),
-            Piece::Markup("</td></tr>\n<tr class=\"around\"><td colspan=\"4\"><pre>"),
+            Value::Number(at as u64),
+            Value::Number(noted.line),
+            Value::Seconds(noted.micros.saturating_sub(begin)),
+            Value::Words(kind.name()),
+            Value::Text(said),
+            Value::Words(kind.rule()),
         ],
     )
 }
@@ -149,13 +150,11 @@ fn push_end(alloc: Global, text: &mut String, unlisted: u64) -> Result<(), Alloc
     if unlisted == 0 {
         return text.push_str("</table>\n</section>\n");
     }
-    push_pieces(
+    push_filled(
         alloc,
         text,
-        &[
-            Piece::Number("</table>\n<p>", unlisted),
-            Piece::Markup(" more came after these, and aren't listed.</p>\n</section>\n"),
-        ],
+        "</table>\n<p>% more came after these, and aren't listed.</p>\n</section>\n",
+        &[Value::Number(unlisted)],
     )
 }
 

@@ -7,9 +7,11 @@ ghost use Rattle.conode_compare_page.specs.Page.{page};
 use crate::coverage::push_coverage;
 use crate::device::{push_device, push_foot};
 use crate::differences::push_differences;
-use crate::head::push_head;
+use crate::head::{
+    difference_count, headline_number, headline_words, outcome_class, push_head, reason,
+};
 use crate::picture::push_picture;
-use conode_compare_report::{About, Report};
+use conode_compare_report::{About, Outcome, Report};
 use std::alloc::{AllocError, Global};
 
 // the sections of the page, one after another. `Err`: out of memory; a part may be there
@@ -23,7 +25,17 @@ fn push_page(
     ensures { OnOk result (string_bytes text.new
         ≡ string_bytes text.old ++ page (about_view about.now) report.now) }
 {
-    push_head(alloc, text, about, report)?;
+    let outcome = Outcome::of(about);
+    let count = difference_count(report);
+    push_head(
+        alloc,
+        text,
+        about,
+        headline_number(outcome, count),
+        headline_words(outcome, count),
+        outcome_class(outcome),
+        reason(outcome),
+    )?;
     push_device(alloc, text, about, report)?;
     push_differences(alloc, text, report)?;
     push_picture(alloc, text, report)?;

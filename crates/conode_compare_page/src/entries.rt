@@ -18,7 +18,7 @@ ghost use Rattle.conode_compare_page.specs.Coverage.{
 
 use co_sheet::EntryRow;
 use conode_compare_report::Covered;
-use conode_json::{Piece, push_pieces};
+use conode_json::{Value, push_filled};
 use std::alloc::{AllocError, Global};
 
 // the end of an entry's item: which transfers came, in words
@@ -106,13 +106,14 @@ fn push_entry(
         Some(name) => name,
         None => &[],
     };
-    push_pieces(
+    push_filled(
         alloc,
         text,
+        "<li><code>%</code>%%",
         &[
-            Piece::Key("<li><code>", row.key),
-            Piece::Text("</code>", name),
-            Piece::Markup(entry_end(covered)),
+            Value::Key(row.key),
+            Value::Text(name),
+            Value::Words(entry_end(covered)),
         ],
     )
 }
@@ -162,17 +163,11 @@ fn begin_entries(
     ensures { OnOk result (string_bytes text.new
         ≡ string_bytes text.old ++ entries_begin transferred all) }
 {
-    push_pieces(
+    push_filled(
         alloc,
         text,
-        &[
-            Piece::Number(
-                "<h3>Entries that were transferred by SDO: ",
-                transferred as u64,
-            ),
-            Piece::Number(" of ", all as u64),
-            Piece::Markup("</h3>\n<ul>\n"),
-        ],
+        "<h3>Entries that were transferred by SDO: % of %</h3>\n<ul>\n",
+        &[Value::Number(transferred as u64), Value::Number(all as u64)],
     )
 }
 

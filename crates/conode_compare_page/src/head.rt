@@ -3,20 +3,20 @@
 
 ghost use Rattle.std.specs.Prelude.{◌≡◌, ◌++◌, OnOk, string_bytes};
 ghost use Rattle.conode_compare_report.specs.Abouts.{about_view};
+ghost use Rattle.conode_json.specs.Filled.{value_text};
 ghost use Rattle.conode_compare_page.specs.Head.{
-  compared,
   difference_count,
   head,
-  headline,
+  headline_number,
+  headline_words,
   outcome_class,
   reason,
-  title_end,
 };
 
 use crate::style::STYLE;
 use crate::words::either;
 use conode_compare_report::{About, Outcome, Report};
-use conode_json::{Piece, push_pieces};
+use conode_json::{Value, push_filled};
 use std::alloc::{AllocError, Global};
 
 /// The page up to its title.
@@ -27,37 +27,36 @@ const OPENING: &str = "<!DOCTYPE html>\n\
     <meta name=\"viewport\" content=\"width=device-width, initial-scale=1\"/>\n\
     <title>";
 
-fn difference_count(report: &Report) -> u64
+/// How many differences there are, listed or not.
+pub(crate) fn difference_count(report: &Report) -> u64
     ensures { result ≡ difference_count report.now }
 {
     (report.noted.len() as u64).saturating_add(report.unlisted)
 }
 
-// how the comparison ended, with so many differences
-fn push_headline(
-    alloc: Global,
-    text: &mut String,
-    outcome: Outcome,
-    count: u64,
-) -> Result<(), AllocError>
-    ensures { OnOk result
-        (string_bytes text.new ≡ string_bytes text.old ++ headline outcome count) }
+/// The number at the beginning of the headline.
+pub(crate) fn headline_number(outcome: Outcome, count: u64) -> Value<'static>
+    ensures { value_text result ≡ headline_number outcome count }
 {
     match outcome {
-        Outcome::NoDifference => text.push_str("No difference"),
-        Outcome::Differences => push_pieces(
-            alloc,
-            text,
-            &[
-                Piece::Number("", count),
-                Piece::Markup(either(count == 1, " difference", " differences")),
-            ],
-        ),
-        Outcome::NoFrame | Outcome::SeveralInterfaces => text.push_str("Not compared"),
+        Outcome::Differences => Value::Number(count),
+        _ => Value::Words(""),
     }
 }
 
-fn outcome_class(outcome: Outcome) -> &'static str
+/// The headline without it.
+pub(crate) fn headline_words(outcome: Outcome, count: u64) -> &'static str
+    ensures { result.now ≡ headline_words outcome count }
+{
+    match outcome {
+        Outcome::NoDifference => "No difference",
+        Outcome::Differences => either(count == 1, " difference", " differences"),
+        Outcome::NoFrame | Outcome::SeveralInterfaces => "Not compared",
+    }
+}
+
+/// The class of its colour.
+pub(crate) fn outcome_class(outcome: Outcome) -> &'static str
     ensures { result.now ≡ outcome_class outcome }
 {
     match outcome {
@@ -67,8 +66,8 @@ fn outcome_class(outcome: Outcome) -> &'static str
     }
 }
 
-// why nothing was compared, if so
-fn reason(outcome: Outcome) -> &'static str
+/// Why nothing was compared, if so.
+pub(crate) fn reason(outcome: Outcome) -> &'static str
     ensures { result.now ≡ reason outcome }
 {
     match outcome {
@@ -80,88 +79,45 @@ fn reason(outcome: Outcome) -> &'static str
     }
 }
 
-// from the recording's name in the title to the headline in the body
-#[tactic(auto, unfolding(crate::specs::Head::title_end))]
-fn end_title(
-    alloc: Global,
-    text: &mut String,
-    recording: &str,
-    outcome: Outcome,
-) -> Result<(), AllocError>
-    ensures { OnOk result
-        (string_bytes text.new ≡ string_bytes text.old ++ title_end recording.now outcome) }
-{
-    push_pieces(
-        alloc,
-        text,
-        &[
-            Piece::Text(": ", recording.as_bytes()),
-            Piece::Words("</title>\n<style>\n", STYLE),
-            Piece::Words(
-                "</style>\n</head>\n<body>\n<header class=\"",
-                outcome_class(outcome),
-            ),
-            Piece::Markup("\">\n<h1>"),
-        ],
-    )
-}
-
-// what was compared with what, why nothing was, and how many frames of the device have which
-// verdict
-#[tactic(auto, unfolding(crate::specs::Head::compared))]
-fn push_compared(
-    alloc: Global,
-    text: &mut String,
-    about: &About<'_, '_>,
-    outcome: Outcome,
-) -> Result<(), AllocError>
-    ensures { OnOk result (string_bytes text.new
-        ≡ string_bytes text.old ++ compared (about_view about.now) outcome) }
-{
-    push_pieces(
-        alloc,
-        text,
-        &[
-            Piece::Number("</h1>\n<p>Node ", about.node as u64),
-            Piece::Text(" in <code>", about.recording.as_bytes()),
-            Piece::Text(
-                "</code>, against its data sheet <code>",
-                about.sheet.as_bytes(),
-            ),
-            Piece::Words("</code> and CiA 301</p>\n", reason(outcome)),
-            Piece::Number(
-                "<dl class=\"counts\">\n<div><dt>frames as prescribed</dt><dd>",
-                about.tally.prescribed,
-            ),
-            Piece::Number(
-                "</dd></div>\n<div><dt>with a difference</dt><dd>",
-                about.tally.different,
-            ),
-            Piece::Number(
-                "</dd></div>\n<div><dt>unjudged</dt><dd>",
-                about.tally.unjudged,
-            ),
-            Piece::Markup("</dd></div>\n</dl>\n</header>\n"),
-        ],
-    )
-}
-
-/// Appends what comes before the page's body, and how the comparison ended, of what.
+/// Appends what comes before the page's body, and how the comparison ended, of what: the headline,
+/// the class of its colour, and why nothing was compared.
 #[tactic(auto, unfolding(crate::specs::Head::head))]
 pub(crate) fn push_head(
     alloc: Global,
     text: &mut String,
     about: &About<'_, '_>,
-    report: &Report,
+    number: Value<'static>,
+    words: &'static str,
+    class: &'static str,
+    why: &'static str,
 ) -> Result<(), AllocError>
-    ensures { OnOk result (string_bytes text.new
-        ≡ string_bytes text.old ++ head (about_view about.now) report.now) }
+    ensures { OnOk result (string_bytes text.new ≡ string_bytes text.old
+        ++ head (about_view about.now) (value_text number.entry) words.now class.now why.now) }
 {
-    let outcome = Outcome::of(about);
-    let count = difference_count(report);
-    text.push_str(OPENING)?;
-    push_headline(alloc, text, outcome, count)?;
-    end_title(alloc, text, about.recording, outcome)?;
-    push_headline(alloc, text, outcome, count)?;
-    push_compared(alloc, text, about, outcome)
+    push_filled(
+        alloc,
+        text,
+        "%%%: %</title>\n<style>\n%</style>\n</head>\n<body>\n<header class=\"%\">\n<h1>%%</h1>\n\
+        <p>Node % in <code>%</code>, against its data sheet <code>%</code> and CiA 301</p>\n%\
+        <dl class=\"counts\">\n<div><dt>frames as prescribed</dt><dd>%</dd></div>\n\
+        <div><dt>with a difference</dt><dd>%</dd></div>\n\
+        <div><dt>unjudged</dt><dd>%</dd></div>\n</dl>\n</header>\n",
+        &[
+            Value::Words(OPENING),
+            number,
+            Value::Words(words),
+            Value::Name(about.recording),
+            Value::Words(STYLE),
+            Value::Words(class),
+            number,
+            Value::Words(words),
+            Value::Number(about.node as u64),
+            Value::Name(about.recording),
+            Value::Name(about.sheet),
+            Value::Words(why),
+            Value::Number(about.tally.prescribed),
+            Value::Number(about.tally.different),
+            Value::Number(about.tally.unjudged),
+        ],
+    )
 }

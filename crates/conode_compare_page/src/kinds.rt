@@ -6,7 +6,7 @@ ghost use Rattle.conode_compare_page.specs.Coverage.{kind_row, kinds_table};
 
 use crate::words::either;
 use conode_compare_report::Counted;
-use conode_json::{Piece, push_pieces};
+use conode_json::{Value, push_filled};
 use std::alloc::{AllocError, Global};
 
 /// The section up to the rows of its table.
@@ -25,29 +25,21 @@ fn push_kind(alloc: Global, text: &mut String, counted: &Counted) -> Result<(), 
     ensures { OnOk result
         (string_bytes text.new ≡ string_bytes text.old ++ kind_row counted.now) }
 {
-    push_pieces(
+    push_filled(
         alloc,
         text,
+        "%%</td><td>%</td><td class=\"n\" data-is=\"Occasions\">%%%</td></tr>\n",
         &[
-            Piece::Words(
-                either(counted.occasions == 0, "<tr class=\"not\"><td>", "<tr><td>"),
-                counted.kind.name(),
-            ),
-            Piece::Words("</td><td>", counted.kind.rule()),
-            Piece::Count(
-                "</td><td class=\"n\" data-is=\"Occasions\">",
-                counted.occasions,
-                "none",
-            ),
-            Piece::Number(
-                either(
-                    counted.found == 0,
-                    "</td><td class=\"n\" data-is=\"Found\">",
-                    "</td><td class=\"n found\" data-is=\"Found\">",
-                ),
-                counted.found,
-            ),
-            Piece::Markup("</td></tr>\n"),
+            Value::Words(either(counted.occasions == 0, "<tr class=\"not\"><td>", "<tr><td>")),
+            Value::Words(counted.kind.name()),
+            Value::Words(counted.kind.rule()),
+            Value::Count(counted.occasions, "none"),
+            Value::Words(either(
+                counted.found == 0,
+                "</td><td class=\"n\" data-is=\"Found\">",
+                "</td><td class=\"n found\" data-is=\"Found\">",
+            )),
+            Value::Number(counted.found),
         ],
     )
 }

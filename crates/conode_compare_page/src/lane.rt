@@ -13,7 +13,7 @@ ghost use Rattle.conode_compare_page.specs.Picture.{
 };
 
 use conode_compare_report::{Bin, Lane};
-use conode_json::{Piece, push_pieces};
+use conode_json::{Value, push_filled};
 use std::alloc::{AllocError, Global};
 
 /// The beginning of an outline, and what ends it and its lane.
@@ -74,16 +74,15 @@ pub(crate) fn begin_lane<'t>(
     ensures { OnOk result (string_bytes text.new
         ≡ string_bytes text.old ++ lane_begin name.now spans within.now) }
 {
-    push_pieces(
+    push_filled(
         alloc,
         text,
+        "<div class=\"lane\"><span>%</span><svg xmlns=\"http://www.w3.org/2000/svg\" \
+        viewBox=\"0 0 % 100\" preserveAspectRatio=\"none\">%",
         &[
-            Piece::Words("<div class=\"lane\"><span>", name),
-            Piece::Number(
-                "</span><svg xmlns=\"http://www.w3.org/2000/svg\" viewBox=\"0 0 ",
-                spans as u64,
-            ),
-            Piece::Words(" 100\" preserveAspectRatio=\"none\">", within),
+            Value::Words(name),
+            Value::Number(spans as u64),
+            Value::Words(within),
         ],
     )
 }
@@ -100,13 +99,11 @@ fn push_step(
     if top == before {
         return Ok(());
     }
-    push_pieces(
+    push_filled(
         alloc,
         text,
-        &[
-            Piece::Number("H", at as u64),
-            Piece::Number("V", top as u64),
-        ],
+        "H%V%",
+        &[Value::Number(at as u64), Value::Number(top as u64)],
     )
 }
 
@@ -125,13 +122,11 @@ fn push_outline(
         push_step(alloc, text, at, before, top)?;
         before = top;
     }
-    push_pieces(
+    push_filled(
         alloc,
         text,
-        &[
-            Piece::Number("H", bins.len() as u64),
-            Piece::Markup(OUTLINE_END),
-        ],
+        "H%%",
+        &[Value::Number(bins.len() as u64), Value::Words(OUTLINE_END)],
     )
 }
 

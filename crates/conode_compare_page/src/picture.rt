@@ -2,6 +2,7 @@
 //! may be there.
 
 ghost use Rattle.std.specs.Prelude.{◌≡◌, ◌++◌, ◌-◌, ◌*◌, ◌≤◌, ◌^◌, OnOk, string_bytes};
+ghost use Rattle.std.specs.List.{flat_map};
 ghost use Rattle.conode_compare_page.specs.Indexed.{indexed};
 ghost use Rattle.conode_compare_page.specs.Picture.{
   across,
@@ -10,7 +11,7 @@ ghost use Rattle.conode_compare_page.specs.Picture.{
   axis_text,
   difference_mark,
   differences_lane,
-  frame_lanes,
+  frames_lane,
   lanes_picture,
   mark_text,
   marks_text,
@@ -22,7 +23,7 @@ ghost use Rattle.conode_compare_page.specs.Picture.{
 use crate::lane::{begin_lane, push_frames};
 use crate::states::push_states;
 use conode_compare_report::{Bin, Kind, Lane, Lanes, Noted, Report};
-use conode_json::{Piece, push_pieces};
+use conode_json::{Value, push_filled};
 use std::alloc::{AllocError, Global};
 
 /// The end of the times, the colours of the states, and the end of the section.
@@ -39,6 +40,15 @@ const LEGEND: &str = " s</span></div>\n\
 /// The beginning of the lines across the lanes: each lane shows them by their name.
 const ACROSS: &str = "<defs><path id=\"across\" class=\"across\" d=\"";
 
+/// The lanes of frames, in the order of the picture.
+const LANES: [Lane; 5] = [
+    Lane::Heartbeats,
+    Lane::Emergencies,
+    Lane::Transfers,
+    Lane::Tpdos,
+    Lane::Rpdos,
+];
+
 // a line across the lanes, if a span has differences
 fn push_across(alloc: Global, text: &mut String, at: usize, bin: &Bin) -> Result<(), AllocError>
     ensures { OnOk result (string_bytes text.new ≡ string_bytes text.old ++ across at bin.now) }
@@ -46,11 +56,7 @@ fn push_across(alloc: Global, text: &mut String, at: usize, bin: &Bin) -> Result
     if bin.differences == 0 {
         return Ok(());
     }
-    push_pieces(
-        alloc,
-        text,
-        &[Piece::Number("M", at as u64), Piece::Markup(".5 0v100")],
-    )
+    push_filled(alloc, text, "M%.5 0v100", &[Value::Number(at as u64)])
 }
 
 fn push_all_across(alloc: Global, text: &mut String, bins: &[Bin]) -> Result<(), AllocError>
@@ -95,16 +101,17 @@ fn push_mark_text(
     ensures { OnOk result (string_bytes text.new
         ≡ string_bytes text.old ++ mark_text at span since noted.now) }
 {
-    push_pieces(
+    push_filled(
         alloc,
         text,
+        "<a href=\"#d%\"><path class=\"hit\" d=\"M%.5 0v100\"><title>line %, % s: %</title>\
+        </path></a>\n",
         &[
-            Piece::Number("<a href=\"#d", at as u64),
-            Piece::Number("\"><path class=\"hit\" d=\"M", span),
-            Piece::Number(".5 0v100\"><title>line ", noted.line),
-            Piece::Seconds(", ", since),
-            Piece::Words(" s: ", Kind::of(noted.finding).name()),
-            Piece::Markup("</title></path></a>\n"),
+            Value::Number(at as u64),
+            Value::Number(span),
+            Value::Number(noted.line),
+            Value::Seconds(since),
+            Value::Words(Kind::of(noted.finding).name()),
         ],
     )
 }
@@ -169,30 +176,35 @@ fn push_axis(alloc: Global, text: &mut String, quarter: u64) -> Result<(), Alloc
     requires { quarter * 4 ≤ 2 ^ 64 - 1 }
     ensures { OnOk result (string_bytes text.new ≡ string_bytes text.old ++ axis_text quarter) }
 {
-    push_pieces(
+    push_filled(
         alloc,
         text,
+        "<div class=\"axis\"><span>% s</span><span>% s</span><span>% s</span><span>% s</span>\
+        <span>%%",
         &[
-            Piece::Seconds("<div class=\"axis\"><span>", 0),
-            Piece::Seconds(" s</span><span>", quarter),
-            Piece::Seconds(" s</span><span>", quarter * 2),
-            Piece::Seconds(" s</span><span>", quarter * 3),
-            Piece::Seconds(" s</span><span>", quarter * 4),
-            Piece::Markup(LEGEND),
+            Value::Seconds(0),
+            Value::Seconds(quarter),
+            Value::Seconds(quarter * 2),
+            Value::Seconds(quarter * 3),
+            Value::Seconds(quarter * 4),
+            Value::Words(LEGEND),
         ],
     )
 }
 
-#[tactic(auto, unfolding(crate::specs::Picture::frame_lanes))]
-fn push_frame_lanes(alloc: Global, text: &mut String, bins: &[Bin]) -> Result<(), AllocError>
-    ensures { OnOk result
-        (string_bytes text.new ≡ string_bytes text.old ++ frame_lanes bins.now) }
+fn push_frame_lanes(
+    alloc: Global,
+    text: &mut String,
+    bins: &[Bin],
+    lanes: &[Lane],
+) -> Result<(), AllocError>
+    ensures { OnOk result (string_bytes text.new
+        ≡ string_bytes text.old ++ flat_map (frames_lane bins.now) lanes.now) }
 {
-    push_frames(alloc, text, bins, Lane::Heartbeats)?;
-    push_frames(alloc, text, bins, Lane::Emergencies)?;
-    push_frames(alloc, text, bins, Lane::Transfers)?;
-    push_frames(alloc, text, bins, Lane::Tpdos)?;
-    push_frames(alloc, text, bins, Lane::Rpdos)
+    for lane in lanes {
+        push_frames(alloc, text, bins, *lane)?;
+    }
+    Ok(())
 }
 
 #[tactic(auto, unfolding(crate::specs::Picture::lanes_picture))]
@@ -208,7 +220,7 @@ fn push_lanes(
     let bins = lanes.bins.as_slice();
     push_differences_lane(alloc, text, bins, lanes, noted)?;
     push_states(alloc, text, bins)?;
-    push_frame_lanes(alloc, text, bins)?;
+    push_frame_lanes(alloc, text, bins, &LANES)?;
     push_axis(alloc, text, quarter_of(lanes))
 }
 

@@ -16,7 +16,7 @@ ghost use Rattle.conode_compare_page.specs.Picture.{
 
 use crate::lane::begin_lane;
 use conode_compare_report::{Bin, States};
-use conode_json::{Piece, push_pieces};
+use conode_json::{Value, push_filled};
 use std::alloc::{AllocError, Global};
 
 /// What a span shows of the states.
@@ -109,28 +109,29 @@ fn state_class(shown: Shown) -> &'static str
     }
 }
 
+// an area of a class, with its top, from a span on, so many spans wide
 #[tactic(auto, unfolding(crate::specs::Picture::state_area))]
 fn push_area(
     alloc: Global,
     text: &mut String,
-    shown: Shown,
+    class: &'static str,
+    top: u8,
     from: usize,
-    to: usize,
+    width: usize,
 ) -> Result<(), AllocError>
     ensures { OnOk result (string_bytes text.new
-        ≡ string_bytes text.old ++ state_area shown from to) }
+        ≡ string_bytes text.old ++ state_area class.now top from width) }
 {
-    let class = state_class(shown);
-    push_pieces(
+    push_filled(
         alloc,
         text,
+        "<rect class=\"%\" x=\"%\" y=\"%\" width=\"%\" height=\"100\"><title>%</title></rect>\n",
         &[
-            Piece::Words("<rect class=\"", class),
-            Piece::Number("\" x=\"", from as u64),
-            Piece::Number("\" y=\"", state_top(shown) as u64),
-            Piece::Number("\" width=\"", to.saturating_sub(from) as u64),
-            Piece::Words("\" height=\"100\"><title>", class),
-            Piece::Markup("</title></rect>\n"),
+            Value::Words(class),
+            Value::Number(from as u64),
+            Value::Number(top as u64),
+            Value::Number(width as u64),
+            Value::Words(class),
         ],
     )
 }
@@ -145,11 +146,18 @@ fn push_any_area(
     ensures { OnOk result (string_bytes text.new
         ≡ string_bytes text.old ++ any_area shown from to) }
 {
-    if state_top(shown) == 100 {
-        Ok(())
-    } else {
-        push_area(alloc, text, shown, from, to)
+    let top = state_top(shown);
+    if top == 100 {
+        return Ok(());
     }
+    push_area(
+        alloc,
+        text,
+        state_class(shown),
+        top,
+        from,
+        to.saturating_sub(from),
+    )
 }
 
 fn push_areas(alloc: Global, text: &mut String, bins: &[Bin]) -> Result<(), AllocError>

@@ -98,6 +98,12 @@ since_before : stamp_text Delta (times 0 1000000 1000412) ≡ codes "+0.000412"
 unfolding stamp_text gap_text difference_text time_text digits_text digits times
 since_before = refl
 
+-- of a log without stamps
+no_gap : gap_text (times 0 0 0) ∷ gap_text (times 0 0 1) ∷ gap_text (times 0 1 0) ∷ []
+    ≡ codes "        -" ∷ codes "+0.000001" ∷ codes "-0.000001" ∷ []
+unfolding gap_text difference_text time_text digits_text digits times
+no_gap = refl
+
 gap_back : gap_text (times 0 1000400 1000388) ≡ codes "-0.000012"
 unfolding gap_text difference_text time_text digits_text digits times
 gap_back = refl

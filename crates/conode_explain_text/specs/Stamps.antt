@@ -1,5 +1,5 @@
 -- Stamps and times, in microseconds.
-use Rattle.std.specs.Prelude.{ℕ, ◌-◌, ◌/◌, ◌%◌, nat_le, nat_lt, if◌then◌else◌, List, ◌++◌, length, codes, decimal, replicate}
+use Rattle.std.specs.Prelude.{ℕ, ◌-◌, ◌/◌, ◌%◌, ◌==◌, ◌&&◌, Bool, nat_le, nat_lt, if◌then◌else◌, List, ◌++◌, length, codes, decimal, replicate}
 use Rattle.co_text.specs.Printed.{digits_text, printed_digit}
 use Rattle.conode_explain_text.specs.declared.dates.Date.{Date}
 use Rattle.conode_explain_text.specs.declared.so_far.Times.{Times}
@@ -29,9 +29,14 @@ unfoldable pub difference_text : List ℕ → ℕ → ℕ → ℕ → List ℕ
 difference_text plus width from to =
     if nat_le from to then plus ++ time_text width (to - from) else codes "-" ++ time_text width (from - to)
 
--- the time since the frame before
+-- whether the time since the frame before isn't known: a log without stamps has each frame at 0
+abbrev pub lacks_gap : Times → Bool
+lacks_gap times = (times.before == 0) && (times.now == 0)
+
+-- the time since the frame before; a hyphen where it isn't known
 unfoldable pub gap_text : Times → List ℕ
-gap_text times = difference_text (codes "+") 1 times.before times.now
+gap_text times =
+    if lacks_gap times then codes "        -" else difference_text (codes "+") 1 times.before times.now
 
 -- two digits
 abbrev pub two_digits : ℕ → List ℕ

@@ -10,6 +10,7 @@ ghost use Rattle.conode_explain_text.specs.Stamps.{
   time_text,
   difference_text,
   gap_text,
+  lacks_gap,
   two_digits,
   date_text,
   time_of_day_text,
@@ -199,11 +200,22 @@ pub(crate) fn push_stamp(text: &mut String, form: StampForm, times: Times) -> Re
     }
 }
 
-/// Appends the time since the frame before, with its sign; that of the first frame is 0.
+// whether the time since the frame before isn't known: a log without stamps has each frame at 0
+fn lacks_gap(times: Times) -> bool
+    ensures { result ≡ lacks_gap times }
+{
+    times.before == 0 && times.now == 0
+}
+
+/// Appends the time since the frame before, with its sign, or a hyphen where it isn't known; that of
+/// the first frame is 0.
 #[tactic(auto, unfolding(crate::specs::Stamps::gap_text))]
 pub(crate) fn push_gap(text: &mut String, times: Times) -> Result<(), AllocError>
     ensures { OnOk result (string_bytes text.new ≡ string_bytes text.old ++ gap_text times) }
 {
+    if lacks_gap(times) {
+        return text.push_str("        -");
+    }
     push_difference(text, '+', 1, times.before, times.now)
 }
 
@@ -235,7 +247,7 @@ pub(crate) fn add_gap(line: &mut Vec<u8>, text: &mut String, times: Times) -> Re
     ensures { OnOk result (line.new.items ≡ line.old.items ++ codes "  " ++ gap_text times) }
 {
     // those of most frames
-    if times.before <= times.now && times.now - times.before < 10_000_000 {
+    if !lacks_gap(times) && times.before <= times.now && times.now - times.before < 10_000_000 {
         let micros = (times.now - times.before) as u32;
         return line.extend_from_slice(gap_piece(micros).as_slice());
     }

@@ -1,4 +1,5 @@
 pub mod Appending
 pub mod EscapeLaws
+mod FilledLaws
 mod JsonExamples
 mod MarkupExamples

@@ -1,14 +1,14 @@
 -- What is escaped, evaluated, on both sides of each edge.
-use Rattle.std.proofs.Common.{◌≡◌, ℕ, List, Bor, true, false, [], ◌∷◌, refl}
+use Rattle.std.proofs.Common.{◌≡◌, ℕ, List, Bor, Some, None, true, false, [], ◌∷◌, refl}
 use Rattle.std.specs.Prelude.{codes}
 use Rattle.std.specs.Fmt.{digits}
 use Rattle.std.specs.List.{flat_map}
 use Rattle.std.specs.Str.{chars, is_utf8}
 use Rattle.co_text.specs.Printed.{digits_text}
 use Rattle.conode_lint_text.specs.Characters.{characters_of, windows_1252}
-use Rattle.conode_json.specs.declared.pieces.Piece.TheVariants.{Markup, Number, Count, Seconds, Key, Code}
+use Rattle.conode_json.specs.declared.filled.Value.TheVariants.{AnyCode, AnyText, Words, Number, Count, Seconds, Key, Code}
 use Rattle.conode_json.specs.Escapes.{escaped, escaped_character, is_character_data, is_plain}
-use Rattle.conode_json.specs.Pieces.{piece_markup, seconds_text}
+use Rattle.conode_json.specs.Filled.{code_digits, filled, seconds_text}
 
 -- an element of markup in a name
 a_tag : escaped (codes "<b>'&\"") ≡ codes "&lt;b&gt;&#39;&amp;&quot;"
@@ -65,7 +65,7 @@ tags_and_quotes = refl
 control_bytes : is_plain 9 ∷ is_plain 10 ∷ is_plain 11 ∷ is_plain 31 ∷ is_plain 32 ∷ [] ≡ false ∷ true ∷ false ∷ false ∷ true ∷ []
 control_bytes = refl
 
--- ---- pieces
+-- ---- values in markup
 
 seconds : seconds_text 12345678 ≡ codes "12.345678"
 unfolding seconds_text digits_text digits
@@ -75,16 +75,32 @@ less_than_a_second : seconds_text 1000 ≡ codes "0.001000"
 unfolding seconds_text digits_text digits
 less_than_a_second = refl
 
-abbrev markup : List ℕ → Bor (List ℕ)
-markup text = record { ref_ptr = (0, 0); now = text }
+abbrev words : List ℕ → Bor (List ℕ)
+words text = record { ref_ptr = (0, 0); now = text }
 
-in_row : flat_map piece_markup (Markup (markup (codes "<i>")) ∷ Number (markup (codes "</i>")) 5 ∷ Seconds (markup (codes " ")) 1 ∷ Key (markup (codes ",")) (record { index = 0x1018; sub = 1 }) ∷ Code (markup []) 0x06020000 ∷ [])
-    ≡ codes "<i></i>5 0.000001,1018:0106020000"
+-- each percent sign is a place
+in_row : filled (codes "<i></i>% %,%%h%") (Number 5 ∷ Seconds 1 ∷ Key (record { index = 0x1018; sub = 1 }) ∷ Words (words (codes "%")) ∷ Words (words (codes "<b>")) ∷ [])
+    ≡ codes "<i></i>5 0.000001,1018:01%h<b>"
 unfolding seconds_text digits_text digits
 in_row = refl
 
+-- more places than values, and fewer
+places : filled (codes "a%b%c") (Number 5 ∷ []) ∷ filled (codes "a") (Number 5 ∷ []) ∷ filled [] (Number 5 ∷ []) ∷ [] ≡ codes "a5bc" ∷ codes "a" ∷ [] ∷ []
+unfolding digits
+places = refl
+
 -- a count, and words for 0
-counts : flat_map piece_markup (Count (markup (codes "<b>")) 12 (markup (codes "none")) ∷ Count (markup (codes "<b>")) 0 (markup (codes "none")) ∷ [])
-    ≡ codes "<b>12<b>none"
+counts : filled (codes "%,%") (Count 12 (words (codes "none")) ∷ Count 0 (words (codes "none")) ∷ []) ≡ codes "12,none"
 unfolding digits
 counts = refl
+
+-- the lowest 32 bits, and words for none
+numbers : filled (codes "%,%,%,%,%") (Code (Some 0x06020000) (words []) ∷ Code (Some 0x1F0000001) (words []) ∷ Code None (words (codes "none")) ∷ AnyCode (words (codes "<i>")) (Some 1) (words (codes "</i>")) ∷ AnyCode (words (codes "<i>")) None (words (codes "</i>")) ∷ [])
+    ≡ codes "06020000h,F0000001h,none,<i>00000001h</i>,"
+unfolding code_digits digits_text
+numbers = refl
+
+any_texts : filled (codes "%%") (AnyText (words (codes "<i>")) (Some (words (codes "<"))) (words (codes "</i>")) ∷ AnyText (words (codes "<i>")) None (words (codes "</i>")) ∷ [])
+    ≡ codes "<i>&lt;</i>"
+unfolding escaped_character characters_of is_utf8 chars lib.Utf8.encode
+any_texts = refl

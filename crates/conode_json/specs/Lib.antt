@@ -1,3 +1,3 @@
 pub mod Escapes
 pub mod Members
-pub mod Pieces
+pub mod Filled
