@@ -41,6 +41,8 @@ pub mod AnswerOnly
 pub mod AnswerDataFrames
 pub mod AnswerDataExchange
 pub mod AnswerDataInputs
+pub mod AnswerToggles
+pub mod AnswerToggleRuns
 mod AnswerExamples
 mod Examples
 pub mod TpdoOthers

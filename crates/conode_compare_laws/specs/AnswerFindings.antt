@@ -48,3 +48,14 @@ of_data finding = []
 abbrev pub data_differences : FrameKind → Findings → List Finding
 data_differences (Sdo side frame) found = of_data found.frame
 data_differences kind found = []
+
+-- ---- of its toggle bits
+
+-- `answer-toggle`
+abbrev pub of_toggles : Option Finding → List Finding
+of_toggles (Some (Transfer (Toggle key))) = Transfer (Toggle key) ∷ []
+of_toggles finding = []
+
+abbrev pub toggle_differences : FrameKind → Findings → List Finding
+toggle_differences (Sdo side frame) found = of_toggles found.frame
+toggle_differences kind found = []

@@ -10,6 +10,7 @@ ghost use Rattle.conode_compare_rules.specs.declared.limits.Subject.{Subject};
 ghost use Rattle.conode_compare_laws.specs.AnswerFindings.{
   answer_differences,
   data_differences,
+  toggle_differences,
   transfer_differences,
 };
 ghost use Rattle.conode_compare_laws.specs.AnswerEntries.{AllAreHeld};
@@ -163,4 +164,35 @@ pub fn built_no_data_differences()
     begins_aside();
     begins_other();
     no_data_differences();
+}
+
+/// The recording of a device, over whatever inputs with whatever stamps, has no `answer-toggle`: no
+/// answer has the toggle bit of the one before, whatever transfers there are, in segments and in
+/// blocks (CiA 301, 7.2.4.3). Conditions: `compare` has the device's node-ID; no other node sends on
+/// the identifier of the answers (`AreElsewhere`); and the COB-IDs with which the device is built
+/// are apart from its default channel, from NMT and from its error control (`BeginsApart`,
+/// `BeginsAside`, `BeginsOther`). This is a law: a call of it changes nothing.
+pub fn no_toggle_differences()
+    ensures { (k : Constants) (subject : Subject) (rows : List Row) (inputs : List Stamped) →
+        subject.node ≡ k.description.node →
+        AreElsewhere (0x580 + k.description.node) inputs → BeginsApart k → BeginsAside k →
+        BeginsOther k →
+        differences_in toggle_differences subject rows (recording k inputs) ≡ [] }
+{
+    sends_other();
+    stays_apart();
+}
+
+/// So has the recording of each device that is built from a data sheet: `no_toggle_differences` of
+/// it. This is a law: a call of it changes nothing.
+pub fn built_no_toggle_differences()
+    ensures { (plan : Plan) (k : Constants) (subject : Subject) (rows : List Row)
+        (inputs : List Stamped) → IsBuilt plan k → subject.node ≡ k.description.node →
+        AreElsewhere (0x580 + k.description.node) inputs →
+        differences_in toggle_differences subject rows (recording k inputs) ≡ [] }
+{
+    begins_apart();
+    begins_aside();
+    begins_other();
+    no_toggle_differences();
 }
