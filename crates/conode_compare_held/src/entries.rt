@@ -35,7 +35,7 @@ pub struct HeldEntry {
 
 // what the room of those that aren't named is filled with
 impl Default for HeldEntry {
-    ghost use Rattle.std.specs.Prelude.{◌≡◌};
+    ghost use Rattle.std.specs.Prelude.{◌≡◌, false};
 
     ghost is_default = { λ entry. entry ≡ record { key = record { index = 0; sub = 0 }; width = 0; mappable = false } };
 
