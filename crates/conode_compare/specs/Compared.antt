@@ -27,7 +27,7 @@ use Rattle.conode_compare_values.specs.declared.mismatch.Mismatch.TheVariants.{V
 use Rattle.conode_compare_rules.specs.declared.limits.Subject.{Subject}
 use Rattle.conode_compare_rules.specs.declared.verdict.Findings.{Findings}
 use Rattle.conode_compare_notes.specs.declared.warning.Warning.{Warning}
-use Rattle.conode_compare_notes.specs.declared.warning.Warning.TheVariants.{Restarted, Stored, Changed, ChangedBytes, SteppedBack, OtherRevision, OtherText, OddCode}
+use Rattle.conode_compare_notes.specs.declared.warning.Warning.TheVariants.{Restarted, Stored, Changed, ChangedBytes, SteppedBack, OtherRevision, OtherText, OddCode, OtherError}
 use Rattle.conode_compare_rules.specs.declared.kind.FrameKind.{FrameKind}
 use Rattle.conode_compare_rules.specs.declared.progress.Progress.{Progress}
 use Rattle.conode_compare_rules.specs.FrameKinds.{kind_of}
@@ -88,6 +88,7 @@ warned_type c (SteppedBack micros) = Plain Unsigned32
 warned_type c (ChangedBytes key) = Plain Unsigned32
 warned_type c (OtherText key) = Plain Unsigned32
 warned_type c (OddCode code register) = Plain Unsigned32
+warned_type c (OtherError shown signalled) = Plain Unsigned32
 
 abbrev pub warning_lines : Comparison → ℕ → Option Warning → List (List ℕ)
 warning_lines c number None = []

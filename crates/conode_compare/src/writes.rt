@@ -129,7 +129,8 @@ fn warned_type(settings: &Settings<'_, '_>, warning: Warning) -> ValueType
         | Warning::SteppedBack(_)
         | Warning::ChangedBytes(_)
         | Warning::OtherText(_)
-        | Warning::OddCode(_, _) => ValueType::Plain(DataType::Unsigned32),
+        | Warning::OddCode(_, _)
+        | Warning::OtherError(_, _) => ValueType::Plain(DataType::Unsigned32),
     }
 }
 

@@ -1,6 +1,6 @@
 -- Which entries are held, what is known of them and where an upload differs, on both sides of each edge, computed from the
 -- definitions.
-use Rattle.std.proofs.Common.{◌≡◌, ℕ, Bool, true, false, List, [], ◌∷◌, Option, Some, None, refl}
+use Rattle.std.proofs.Common.{◌≡◌, ℕ, Bool, true, false, List, [], ◌∷◌, map, Option, Some, None, refl}
 use Rattle.co_profile.specs.declared.access.Access.TheVariants.{Rw}
 use Rattle.co_sheet.specs.Content.{Row}
 use Rattle.co_sheet.specs.Limits.{absent}
@@ -19,7 +19,7 @@ use Rattle.conode_explain_transfers.specs.declared.kinds.Protocol.TheVariants.{E
 use Rattle.conode_compare_held.specs.declared.entries.HeldEntry.{HeldEntry}
 use Rattle.conode_compare_held.specs.declared.written.Written.{Written}
 use Rattle.conode_compare_held.specs.HeldWords.{held_in, held_of, words_in}
-use Rattle.conode_compare_held.specs.HeldNumbers.{held_mismatch, nothing_written, number_at, written_heard}
+use Rattle.conode_compare_held.specs.HeldNumbers.{held_mismatch, is_restricted, nothing_written, number_at, unmapped, unmapped_from, with_process, written_heard}
 
 -- ---- what is held
 
@@ -40,10 +40,10 @@ abbrev rows : List Row
 rows = row 0x2000 0 Unsigned16 ∷ row 0x2001 0 Boolean ∷ row 0x2002 0 Unsigned40 ∷ row 0x2003 0 VisibleString ∷ row 0x2004 0x0A Integer32 ∷ []
 
 abbrev word : HeldEntry
-word = record { key = record { index = 0x2000; sub = 0 }; width = 2 }
+word = record { key = record { index = 0x2000; sub = 0 }; width = 2; mappable = false }
 
 abbrev long : HeldEntry
-long = record { key = record { index = 0x2004; sub = 0x0A }; width = 4 }
+long = record { key = record { index = 0x2004; sub = 0x0A }; width = 4; mappable = false }
 
 -- "2000:00"
 one_key : held_in rows (50 ∷ 48 ∷ 48 ∷ 48 ∷ 58 ∷ 48 ∷ 48 ∷ []) ≡ Some (word ∷ [])
@@ -77,7 +77,7 @@ one_bit : held_in rows (50 ∷ 48 ∷ 48 ∷ 49 ∷ 58 ∷ 48 ∷ 48 ∷ []) ≡
 unfolding held_of words_in key_in
 one_bit = refl
 
-five_bytes : held_in rows (50 ∷ 48 ∷ 48 ∷ 50 ∷ 58 ∷ 48 ∷ 48 ∷ []) ≡ Some (record { key = record { index = 0x2002; sub = 0 }; width = 5 } ∷ [])
+five_bytes : held_in rows (50 ∷ 48 ∷ 48 ∷ 50 ∷ 58 ∷ 48 ∷ 48 ∷ []) ≡ Some (record { key = record { index = 0x2002; sub = 0 }; width = 5; mappable = false } ∷ [])
 unfolding held_of words_in key_in
 five_bytes = refl
 
@@ -163,7 +163,7 @@ too_long = refl
 
 -- eight bytes
 abbrev eight : HeldEntry
-eight = record { key = record { index = 0x2006; sub = 0 }; width = 8 }
+eight = record { key = record { index = 0x2006; sub = 0 }; width = 8; mappable = false }
 
 eight_bytes : held_mismatch (eight ∷ []) (written_heard (eight ∷ []) nothing_written true (transfer Download Segmented (Done false) eight.key (1 ∷ 0 ∷ 0 ∷ 0 ∷ 0 ∷ 0 ∷ 0 ∷ 2 ∷ [])) None)
     true (transfer Upload Segmented (Done false) eight.key (1 ∷ 0 ∷ 0 ∷ 0 ∷ 0 ∷ 0 ∷ 0 ∷ 3 ∷ [])) ≡ Some (record { key = eight.key; shown = 0x0300000000000001; written = 0x0200000000000001 })
@@ -238,3 +238,42 @@ restores = refl
 loads : number_at (written_heard held wrote true None (asks true 0x1F51 1)) (Some 1) ≡ None
 unfolding written_heard nothing_written
 loads = refl
+
+-- ---- PDOs
+
+-- whether a PDO may have an entry, as the data sheet says
+mapped_key : held_in (record (row 0x2000 0 Unsigned16) { mappable = true } ∷ []) (50 ∷ 48 ∷ 48 ∷ 48 ∷ 58 ∷ 48 ∷ 48 ∷ []) ≡ Some (record word { mappable = true } ∷ [])
+unfolding held_of words_in key_in
+mapped_key = refl
+
+-- the identifiers that a PDO or a SYNC may have
+restricted : map is_restricted (0 ∷ 0x7F ∷ 0x80 ∷ 0x100 ∷ 0x101 ∷ 0x180 ∷ 0x181 ∷ 0x580 ∷ 0x581 ∷ 0x5FF ∷ 0x600 ∷ 0x601 ∷ 0x67F ∷ 0x680 ∷ 0x6DF ∷ 0x6E0 ∷ 0x701 ∷ 0x7FF ∷ [])
+    ≡ true ∷ true ∷ false ∷ false ∷ true ∷ true ∷ false ∷ false ∷ true ∷ true ∷ false ∷ true ∷ true ∷ false ∷ false ∷ true ∷ true ∷ true ∷ []
+restricted = refl
+
+-- the first may be in a PDO, the second may not
+abbrev both : List HeldEntry
+both = record long { mappable = true } ∷ word ∷ []
+
+abbrev both_written : Written
+both_written = written_heard both wrote true (expedited Download long.key (4 ∷ 0 ∷ 0 ∷ 0 ∷ [])) None
+
+abbrev numbers_in : Written → List (Option ℕ)
+numbers_in written = number_at written (Some 0) ∷ number_at written (Some 1) ∷ []
+
+before_rpdo : numbers_in both_written ≡ Some 4 ∷ Some 0x102 ∷ []
+unfolding written_heard nothing_written
+before_rpdo = refl
+
+after_rpdo : numbers_in (with_process both both_written 0x205) ≡ None ∷ Some 0x102 ∷ []
+unfolding written_heard nothing_written unmapped_from
+after_rpdo = refl
+
+-- a heartbeat of another node writes nothing
+after_heartbeat : numbers_in (with_process both both_written 0x701) ≡ Some 4 ∷ Some 0x102 ∷ []
+unfolding written_heard nothing_written
+after_heartbeat = refl
+
+all_mapped : numbers_in (unmapped (record long { mappable = true } ∷ record word { mappable = true } ∷ []) both_written) ≡ None ∷ None ∷ []
+unfolding written_heard nothing_written unmapped_from
+all_mapped = refl

@@ -1,5 +1,5 @@
 -- What was written to the entries that are held, and where an upload shows another number.
-use Rattle.std.specs.Prelude.{ℕ, ◌==◌, Bool, true, false, ◌&&◌, if◌then◌else◌, List, length, replicate, slice_index_or, slice_set, Option, Some, None, is_some, option_and_then}
+use Rattle.std.specs.Prelude.{ℕ, ◌+◌, ◌==◌, nat_le, Bool, true, false, ◌&&◌, ◌||◌, if◌then◌else◌, List, [], ◌∷◌, length, replicate, slice_index_or, slice_set, Option, Some, None, is_some, option_and_then}
 use Rattle.co_value.specs.declared.key.Key.{Key}
 use Rattle.conode_explain_transfers.specs.declared.ended.Ended.{Ended}
 use Rattle.conode_explain_transfers.specs.declared.ended.Ending.{Ending}
@@ -110,3 +110,26 @@ with_request entries written (Some asked) = if asked.writes then after_request e
 
 unfoldable pub written_heard : List HeldEntry → Written → Bool → Option Ended → Option Asked → Written
 written_heard entries written certain ended asked = with_request entries (with_end entries written certain ended) asked
+
+-- ---- PDOs
+
+-- CAN-IDs that CiA 301 restricts (7.3.5): neither a PDO nor a SYNC has one
+abbrev pub is_restricted : ℕ → Bool
+is_restricted id =
+    nat_le id 0x7F
+    || ((nat_le 0x101 id && nat_le id 0x180)
+    || ((nat_le 0x581 id && nat_le id 0x5FF) || ((nat_le 0x601 id && nat_le id 0x67F) || nat_le 0x6E0 id)))
+
+-- what entries have that a PDO may have is unknown, from the one at a place on
+unfoldable pub unmapped_from : ℕ → List HeldEntry → Written → Written
+unmapped_from place [] written = written
+unmapped_from place (entry ∷ more) written =
+    unmapped_from (place + 1) more (if entry.mappable then with_number written (Some place) None else written)
+
+abbrev pub unmapped : List HeldEntry → Written → Written
+unmapped entries written = unmapped_from 0 entries written
+
+-- A data frame came that is none of the device. An RPDO writes what is mapped into it; with a SYNC an
+-- earlier one may take effect.
+abbrev pub with_process : List HeldEntry → Written → ℕ → Written
+with_process entries written id = if is_restricted id then written else unmapped entries written

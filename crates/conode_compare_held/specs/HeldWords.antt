@@ -23,7 +23,7 @@ held_width other = width_of other
 -- the entry of a key, where the data sheet has such an integer
 abbrev pub held_at : List Row → Key → Option HeldEntry
 held_at rows key =
-    option_and_then (λ row. option_map (λ width. record { key = key; width = width }) (held_width row.data_type)) (row_at rows key)
+    option_and_then (λ row. option_map (λ width. record { key = key; width = width; mappable = row.mappable }) (held_width row.data_type)) (row_at rows key)
 
 -- of a key that is held, its entry, and its place among them
 abbrev pub entry_of : List HeldEntry → Key → Option HeldEntry

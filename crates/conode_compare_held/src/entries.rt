@@ -29,18 +29,21 @@ pub struct HeldEntry {
     pub key: Key,
     /// How many bytes its values have, 1 to 8.
     pub width: usize,
+    /// Whether a PDO may have it.
+    pub mappable: bool,
 }
 
 // what the room of those that aren't named is filled with
 impl Default for HeldEntry {
-    ghost use Rattle.std.specs.Prelude.{◌≡◌};
+    ghost use Rattle.std.specs.Prelude.{◌≡◌, false};
 
-    ghost is_default = { λ entry. entry ≡ record { key = record { index = 0; sub = 0 }; width = 0 } };
+    ghost is_default = { λ entry. entry ≡ record { key = record { index = 0; sub = 0 }; width = 0; mappable = false } };
 
     fn default() -> HeldEntry {
         HeldEntry {
             key: Key { index: 0, sub: 0 },
             width: 0,
+            mappable: false,
         }
     }
 }
@@ -81,7 +84,11 @@ fn held_at(rows: &[EntryRow<'_>], key: Key) -> Option<HeldEntry>
 {
     let row = row_at(rows, key)?;
     let width = held_width(row.data_type)?;
-    Some(HeldEntry { key, width })
+    Some(HeldEntry {
+        key,
+        width,
+        mappable: row.mappable,
+    })
 }
 
 // the entry that a word names

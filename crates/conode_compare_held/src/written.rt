@@ -9,12 +9,15 @@ ghost use Rattle.conode_compare_held.specs.HeldNumbers.{
   held_mismatch,
   is_done,
   is_kept,
+  is_restricted,
   nothing_written,
   number_at,
   number_written,
+  unmapped,
   upload_mismatch,
   uploaded,
   with_number,
+  with_process,
   written_heard,
 };
 
@@ -83,6 +86,17 @@ fn uploaded(held: &HeldEntries, certain: bool, ended: &Ended) -> Option<u64>
     }
     let entry = held.entry(ended.key)?;
     shown_number(entry.width, ended.first.as_slice())
+}
+
+// whether CiA 301 restricts a CAN-ID (7.3.5): neither a PDO nor a SYNC has one of these
+fn is_restricted(id: u16) -> bool
+    ensures { result ≡ is_restricted id }
+{
+    id <= 0x7F
+        || (0x101 <= id && id <= 0x180)
+        || (0x581 <= id && id <= 0x5FF)
+        || (0x601 <= id && id <= 0x67F)
+        || 0x6E0 <= id
 }
 
 /// What differs, where both numbers are known and aren't the same.
@@ -201,6 +215,28 @@ impl Written {
             self.set(held.place(key), None);
         } else {
             *self = Written::nothing();
+        }
+    }
+
+    /// What is known of the entries that a PDO may have is unknown.
+    #[tactic(auto, unfolding(crate::specs::HeldNumbers::unmapped_from))]
+    pub fn forget_mapped(&mut self, held: &HeldEntries)
+        ensures { self.new ≡ unmapped held.now.entries.items self.old }
+    {
+        for (place, entry) in held.entries.as_slice().iter().enumerate() {
+            if entry.mappable {
+                self.set(Some(place), None);
+            }
+        }
+    }
+
+    /// A data frame with an identifier came that is none of the device: an RPDO writes what is mapped
+    /// into it, and with a SYNC an earlier one may take effect.
+    pub fn take_process(&mut self, held: &HeldEntries, id: u16)
+        ensures { self.new ≡ with_process held.now.entries.items self.old id }
+    {
+        if !is_restricted(id) {
+            self.forget_mapped(held);
         }
     }
 

@@ -126,9 +126,9 @@ module _ (P : Option Transfer → Type 0) (none : P None) where
   unfolding after_emergency
   emergency_has p micros h = h
 
-  process_has : (subject : Subject) (p : Progress) (micros id : ℕ) → Has p → Has (after_process subject p micros id)
+  process_has : (subject : Subject) (p : Progress) (micros id length : ℕ) → Has p → Has (after_process subject p micros id length)
   unfolding after_process
-  process_has subject p micros id h = h
+  process_has subject p micros id length h = h
 
   fault_has : (p : Progress) (micros : ℕ) → Has (after_fault p micros)
   unfolding after_fault with_gap
@@ -142,7 +142,7 @@ module _ (P : Option Transfer → Type 0) (none : P None) where
   kind_has subject p micros (Sdo side frame) off h = absurd (false≢true (sym off))
   kind_has subject p micros (Command service) off h = command_has p service false micros h
   kind_has subject p micros (CommandToAll service) off h = command_has p service subject.facts.starts_itself micros h
-  kind_has subject p micros (Process id length) off h = process_has subject p micros id h
+  kind_has subject p micros (Process id length) off h = process_has subject p micros id length h
   kind_has subject p micros (Polled id) off h = h
   kind_has subject p micros Guarding off h = h
   kind_has subject p micros Fault off h = fault_has p micros

@@ -1,6 +1,7 @@
 -- What is a warning, and what is learned, on both sides of each edge, computed from the definitions.
 use Rattle.std.proofs.Common.{◌≡◌, ℕ, ◌+◌, Bool, true, false, List, [], ◌∷◌, length, map, Option, Some, None, refl}
 use Rattle.std.specs.Prelude.{pos, option_map}
+use Rattle.co_frame.specs.FrameContent.{FrameContent}
 use Rattle.co_frame.specs.declared.nmt.NmtService.TheVariants.{Start, ResetNode}
 use Rattle.co_profile.specs.declared.access.Access.{Access}
 use Rattle.co_profile.specs.declared.access.Access.TheVariants.{Ro, Rw, Wo}
@@ -18,8 +19,9 @@ use Rattle.conode_explain_transfers.specs.declared.kinds.Protocol.{Protocol}
 use Rattle.conode_explain_transfers.specs.declared.kinds.Protocol.TheVariants.{Expedited, Segmented, Block, Undecided}
 use Rattle.conode_explain_transfers.specs.declared.kinds.Side.TheVariants.{Client, Server}
 use Rattle.conode_explain_transfers.specs.declared.kinds.What.{What}
-use Rattle.conode_explain_transfers.specs.declared.kinds.What.TheVariants.{Part, Stray, Unexpected}
+use Rattle.conode_explain_transfers.specs.declared.kinds.What.TheVariants.{Initiate, Part, Stray, Unexpected}
 use Rattle.conode_compare_transfers.specs.declared.dialogue.Exchange.{Exchange}
+use Rattle.conode_compare_rules.specs.declared.entries.Entries.{Entries}
 use Rattle.conode_compare_rules.specs.declared.kind.FrameKind.{FrameKind}
 use Rattle.conode_compare_rules.specs.declared.limits.Subject.{Subject}
 use Rattle.conode_compare_rules.specs.EntriesInForce.{facts_of}
@@ -27,15 +29,18 @@ use Rattle.conode_compare_rules.specs.declared.finding.Remark.TheVariants.{Early
 use Rattle.conode_compare_rules.specs.declared.kind.FrameKind.TheVariants.{Command, Control, Sdo, Other}
 use Rattle.conode_compare_notes.specs.declared.contents.Content.{Content}
 use Rattle.conode_compare_notes.specs.declared.contents.Content.TheVariants.{Number, Bytes}
+use Rattle.conode_compare_notes.specs.declared.history.ErrorCode.{ErrorCode}
+use Rattle.conode_compare_notes.specs.declared.history.Errors.{Errors}
 use Rattle.conode_compare_notes.specs.declared.learned.Shown.{Shown}
 use Rattle.conode_compare_notes.specs.declared.warning.Warning.{Warning}
-use Rattle.conode_compare_notes.specs.declared.warning.Warning.TheVariants.{Changed, ChangedBytes, OddCode, OtherRevision, OtherText, Restarted, SteppedBack, Stored}
+use Rattle.conode_compare_notes.specs.declared.warning.Warning.TheVariants.{Changed, ChangedBytes, OddCode, OtherError, OtherRevision, OtherText, Restarted, SteppedBack, Stored}
 use Rattle.conode_compare_notes.specs.declared.watched.Watched.{Watched}
 use Rattle.conode_compare_notes.specs.declared.writes.Wrote.{Wrote}
 use Rattle.conode_compare_notes.specs.Contents.{checksum_from, content_warning, is_exact, mixed, shown_content, written_content}
+use Rattle.conode_compare_notes.specs.Histories.{changes_errors, errors_asked, errors_ended, is_newest_error, is_restart, late_warning, nothing_signalled, shown_by, shows_error, signalled_by}
 use Rattle.conode_compare_notes.specs.LearnedValues.{learned_with, number_of, shown_in}
 use Rattle.conode_compare_notes.specs.Versions.{code_warning, has_class, has_text, version_warning}
-use Rattle.conode_compare_notes.specs.Warnings.{after_end, after_other, after_request, ended_warning, is_setting, remark_warning, stepped_back}
+use Rattle.conode_compare_notes.specs.Warnings.{after_end, after_other, after_request, ended_warning, is_setting, nothing_watched, remark_warning, stepped_back}
 
 abbrev key : Key
 key = record { index = 0x2000; sub = 1 }
@@ -172,7 +177,7 @@ subject = record {
   node = 5;
   limits = record { tolerance = 10; drift = 1; answer = 1000; boot = 10000 };
   facts = record (facts_of [] 5 false) { stores = true };
-  held = record { entries = record { items = record { key = entry_key 1 0; width = 2 } ∷ [] } };
+  held = record { entries = record { items = record { key = entry_key 1 0; width = 2; mappable = false } ∷ [] } };
 }
 
 -- 1017:00 (7 in the sheet), 2000:00 (read only), 2000:01, 2001:00, 2002:00 (in a PDO)
@@ -188,7 +193,7 @@ abbrev number_at : ℕ → ℕ → Option ℕ → Wrote
 number_at index sub n = record { key = record { index = index; sub = sub }; content = option_map (λ x. Number x) n }
 
 abbrev booted_up : List Wrote → Watched
-booted_up writes = record { fresh = true; writes = writes }
+booted_up writes = record { fresh = true; writes = writes; errors = nothing_signalled }
 
 abbrev warned : List Wrote → ℕ → ℕ → List ℕ → Option Warning
 warned writes index sub bytes = ended_warning subject kept (booted_up writes) true (done index sub Upload bytes)
@@ -197,7 +202,7 @@ warned writes index sub bytes = ended_warning subject kept (booted_up writes) tr
 stored : map (warned [] 0x1017 0) ((8 ∷ 0 ∷ []) ∷ (7 ∷ 0 ∷ []) ∷ []) ≡ Some (Stored (record { index = 0x1017; sub = 0 }) 8 7) ∷ None ∷ []
 stored = refl
 
-not_after_boot_up : ended_warning subject kept (record { fresh = false; writes = [] }) true (done 0x1017 0 Upload (8 ∷ 0 ∷ [])) ≡ None
+not_after_boot_up : ended_warning subject kept nothing_watched true (done 0x1017 0 Upload (8 ∷ 0 ∷ [])) ≡ None
 not_after_boot_up = refl
 
 -- not of one that was asked to be written, nor of an entry of the manufacturer
@@ -288,14 +293,14 @@ requested_first = refl
 not_in_the_sheet_requested : after_request kept (booted_up []) (entry_key 0 9) ≡ booted_up []
 not_in_the_sheet_requested = refl
 
-restored : after_request kept (booted_up (number_at 0x2000 1 (Some 8) ∷ [])) (record { index = 0x1011; sub = 1 }) ≡ record { fresh = false; writes = [] }
+restored : after_request kept (booted_up (number_at 0x2000 1 (Some 8) ∷ [])) (record { index = 0x1011; sub = 1 }) ≡ nothing_watched
 restored = refl
 
 -- a boot-up and a reset
 after_boot_up : after_other subject (booted_up (number_at 0x2000 1 (Some 8) ∷ [])) (Control 0) ≡ booted_up []
 after_boot_up = refl
 
-after_reset : after_other subject (booted_up (number_at 0x2000 1 (Some 8) ∷ [])) (Command ResetNode) ≡ record { fresh = false; writes = [] }
+after_reset : after_other subject (booted_up (number_at 0x2000 1 (Some 8) ∷ [])) (Command ResetNode) ≡ nothing_watched
 after_reset = refl
 
 after_start : after_other subject (booted_up []) (Command Start) ≡ booted_up []
@@ -357,3 +362,73 @@ classes = refl
 
 odd_codes : code_warning true 0xA123 1 ∷ code_warning true 0x8130 1 ∷ code_warning false 0xA123 1 ∷ [] ≡ Some (OddCode 0xA123 1) ∷ None ∷ None ∷ []
 odd_codes = refl
+
+-- ---- the newest error
+
+abbrev code_at : ℕ → ℕ → ErrorCode
+code_at code micros = record { code = code; micros = micros }
+
+-- 00xxh, error reset, is no error; and a frame that isn't known to be an EMCY
+signals : map (λ code. (signalled_by true code (Some 7)).signalled) (0 ∷ 0xFF ∷ 0x100 ∷ 0x8130 ∷ []) ≡ None ∷ None ∷ Some (code_at 0x100 7) ∷ Some (code_at 0x8130 7) ∷ []
+signals = refl
+
+no_signal : signalled_by false 0x8130 (Some 7) ∷ signalled_by true 0x8130 None ∷ [] ≡ nothing_signalled ∷ nothing_signalled ∷ []
+no_signal = refl
+
+abbrev error_entries : Bool → Option ℕ → Entries
+error_entries emergencies inhibit = record { period = None; emergencies = emergencies; inhibit = inhibit; inhibit_shown = None }
+
+abbrev history_read : ℕ → ℕ → List ℕ → Ended
+history_read sub begun bytes = record (done 0x1003 sub Upload bytes) { begun = begun; end = begun + 1000 }
+
+-- after EMCY 8130h
+abbrev shown_error : Entries → ℕ → List ℕ → Option ErrorCode
+shown_error entries begun bytes = shown_by subject.limits entries (code_at 0x8130 1000000) (history_read 1 begun bytes)
+
+-- 0201_8210h, 0909_8130h; and no four bytes
+other_errors : map (shown_error (error_entries true (Some 0)) 1010001) ((0x10 ∷ 0x82 ∷ 1 ∷ 2 ∷ []) ∷ (0x30 ∷ 0x81 ∷ 9 ∷ 9 ∷ []) ∷ (0x10 ∷ 0x82 ∷ []) ∷ []) ≡ Some (code_at 0x8210 1011001) ∷ None ∷ None ∷ []
+other_errors = refl
+
+-- requested within the tolerance; an EMCY may wait; the inhibit time isn't known; the frame may not have been an EMCY
+not_later : shown_error (error_entries true (Some 0)) 1010000 (0x10 ∷ 0x82 ∷ 1 ∷ 2 ∷ []) ∷ map (λ entries. shown_error entries 1010001 (0x10 ∷ 0x82 ∷ 1 ∷ 2 ∷ [])) (error_entries true (Some 1) ∷ error_entries true None ∷ error_entries false (Some 0) ∷ [])
+    ≡ None ∷ None ∷ None ∷ None ∷ []
+not_later = refl
+
+newest_errors : map is_newest_error (record { index = 0x1003; sub = 0 } ∷ record { index = 0x1003; sub = 1 } ∷ record { index = 0x1003; sub = 2 } ∷ record { index = 0x1001; sub = 1 } ∷ []) ≡ false ∷ true ∷ false ∷ false ∷ []
+newest_errors = refl
+
+-- in doubt; refused; a download
+error_uploads : shows_error true (history_read 1 1 []) ∷ shows_error false (history_read 1 1 []) ∷ shows_error true (record (history_read 1 1 []) { ending = Irregular }) ∷ shows_error true (done 0x1003 1 Download []) ∷ []
+    ≡ true ∷ false ∷ false ∷ false ∷ []
+error_uploads = refl
+
+abbrev with_signal : Option ErrorCode → Errors
+with_signal shown = record { signalled = Some (code_at 0x8130 1000000); shown = shown }
+
+-- the newest upload counts
+read_again : map (λ bytes. errors_ended subject.limits (error_entries true (Some 0)) (with_signal (Some (code_at 0x8210 1))) true (Some (history_read 1 2000000 bytes))) ((0x30 ∷ 0x81 ∷ 0 ∷ 0 ∷ []) ∷ (0x20 ∷ 0x82 ∷ 0 ∷ 0 ∷ []) ∷ [])
+    ≡ with_signal None ∷ with_signal (Some (code_at 0x8220 2001000)) ∷ []
+read_again = refl
+
+nothing_to_compare : errors_ended subject.limits (error_entries true (Some 0)) nothing_signalled true (Some (history_read 1 2000000 (0x30 ∷ 0x81 ∷ 0 ∷ 0 ∷ []))) ≡ nothing_signalled
+nothing_to_compare = refl
+
+-- by a heartbeat later than an answer may take
+histories : map (λ micros. late_warning subject.limits (Some (code_at 0x8130 1)) (Some (code_at 0x8210 7)) (Some micros)) (1000007 ∷ 1000008 ∷ []) ≡ None ∷ Some (OtherError 0x8210 0x8130) ∷ []
+histories = refl
+
+-- what may delete the history, or change EMCY
+changers : map (λ index. changes_errors (record { index = index; sub = 0 })) (0x1002 ∷ 0x1003 ∷ 0x1015 ∷ 0x1016 ∷ 0x1F50 ∷ 0x2000 ∷ []) ≡ false ∷ true ∷ true ∷ false ∷ true ∷ false ∷ []
+changers = refl
+
+abbrev request_of : ℕ → FrameContent
+request_of first = record { id = 0x605; bytes = first ∷ 3 ∷ 0x10 ∷ 0 ∷ 0 ∷ 0 ∷ 0 ∷ 0 ∷ [] }
+
+-- 0 is written to 1003:00; it is read; a segment; an answer
+deleted : errors_asked Client Initiate (request_of 0x2F) (with_signal None) ∷ errors_asked Client Initiate (request_of 0x40) (with_signal None) ∷ errors_asked Client Part (request_of 0x2F) (with_signal None)
+    ∷ errors_asked Server Initiate (request_of 0x2F) (with_signal None) ∷ [] ≡ nothing_signalled ∷ with_signal None ∷ with_signal None ∷ with_signal None ∷ []
+deleted = refl
+
+-- a boot-up, stopped, answers of node guarding that say so; operational, pre-operational
+restarts : map is_restart (0 ∷ 4 ∷ 0x84 ∷ 5 ∷ 0x7F ∷ 0xFF ∷ []) ≡ true ∷ true ∷ true ∷ false ∷ false ∷ false ∷ []
+restarts = refl

@@ -1,4 +1,5 @@
 pub mod Contents
+pub mod Histories
 pub mod LearnedValues
 pub mod Versions
 pub mod Warnings

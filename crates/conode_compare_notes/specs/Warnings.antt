@@ -1,5 +1,6 @@
 -- What a user may want to know of a device, though it is no difference: that it restarted by itself,
--- that it may have stored values, that a value changed after it was written; and what `Versions` has.
+-- that it may have stored values, that a value changed after it was written; and what `Versions` and
+-- `Histories` have.
 use Rattle.std.specs.Prelude.{ℕ, ◌-◌, ◌==◌, nat_le, nat_lt, Bool, true, false, not, ◌&&◌, ◌||◌, if◌then◌else◌, List, [], Option, Some, None, is_some, option_and_then}
 use Rattle.std.specs.Option.{option_map_or, option_or}
 use Rattle.co_frame.specs.FrameContent.{FrameContent}
@@ -35,6 +36,7 @@ use Rattle.conode_compare_notes.specs.declared.warning.Warning.TheVariants.{Rest
 use Rattle.conode_compare_notes.specs.declared.watched.Watched.{Watched}
 use Rattle.conode_compare_notes.specs.declared.writes.Wrote.{Wrote}
 use Rattle.conode_compare_notes.specs.Contents.{content_warning, shown_content, written_content}
+use Rattle.conode_compare_notes.specs.Histories.{error_warning, errors_with, nothing_signalled}
 use Rattle.conode_compare_notes.specs.Versions.{code_warning, version_warning}
 use Rattle.conode_compare_notes.specs.WrittenContents.{content_of, with_content}
 
@@ -124,7 +126,7 @@ is_stored warning = false
 
 -- the first value that it may have stored is warned of
 abbrev pub after_end : Subject → List Row → Watched → Bool → Ended → Watched
-after_end subject rows watched certain ended = record {
+after_end subject rows watched certain ended = record watched {
   fresh = watched.fresh && not (is_stored (ended_warning subject rows watched certain ended));
   writes = writes_of rows watched.writes certain ended.direction ended;
 }
@@ -137,7 +139,7 @@ with_end subject rows watched certain (Some ended) = after_end subject rows watc
 
 -- nothing is known of what was written
 abbrev pub nothing_watched : Watched
-nothing_watched = record { fresh = false; writes = [] }
+nothing_watched = record { fresh = false; writes = []; errors = nothing_signalled }
 
 -- A download is requested: what its entry has is unknown until it ends. A write that restores
 -- parameters, or loads a program, may change any entry.
@@ -162,7 +164,7 @@ watched_before watched progress = if is_begun progress then nothing_watched else
 
 -- after a boot-up all entries have the data sheet's values, or stored ones
 abbrev pub booted : Subject → Watched
-booted subject = record { fresh = subject.facts.stores; writes = [] }
+booted subject = record nothing_watched { fresh = subject.facts.stores }
 
 -- by another frame than one of the SDO channel; a reset ends what is known
 abbrev pub after_other : Subject → Watched → FrameKind → Watched
@@ -187,7 +189,9 @@ watched_at subject rows watched kind exchange = after_other subject watched kind
 
 -- after a frame, by what the recording shows with it
 unfoldable pub watched_with : Subject → List Row → Watched → FrameKind → Progress → Watched
-watched_with subject rows watched kind progress = watched_at subject rows (watched_before watched progress) kind progress.exchange
+watched_with subject rows watched kind progress =
+    let before = watched_before watched progress in
+    record (watched_at subject rows before kind progress.exchange) { errors = errors_with subject.limits before.errors kind progress }
 
 -- ---- the warning of a frame
 
@@ -214,9 +218,13 @@ exchange_warning subject rows watched exchange =
 abbrev pub heard_warning : Subject → List Row → Watched → Option Exchange → Option Warning
 heard_warning subject rows watched exchange = option_and_then (exchange_warning subject rows watched) exchange
 
+abbrev pub frame_warning : Subject → List Row → Watched → FrameKind → Progress → Option Warning
+frame_warning subject rows watched (Sdo side frame) progress = heard_warning subject rows watched progress.exchange
+frame_warning subject rows watched kind progress = other_warning progress.entries.emergencies kind progress.remark
+
 abbrev pub warning_in : Subject → List Row → Watched → FrameKind → Progress → Option Warning
-warning_in subject rows watched (Sdo side frame) progress = heard_warning subject rows watched progress.exchange
-warning_in subject rows watched kind progress = other_warning progress.entries.emergencies kind progress.remark
+warning_in subject rows watched kind progress =
+    option_or (frame_warning subject rows watched kind progress) (error_warning subject.limits watched.errors kind progress.newest)
 
 -- by what the recording shows with it
 unfoldable pub warning_at : Subject → List Row → Watched → FrameKind → Progress → Option Warning

@@ -3,6 +3,7 @@
 #![tactic(auto)]
 
 mod contents;
+mod history;
 mod learned;
 mod versions;
 mod warning;
@@ -10,6 +11,7 @@ mod watched;
 mod writes;
 
 pub use contents::Content;
+pub use history::{ErrorCode, Errors};
 pub use learned::{Learned, Shown};
 pub use warning::Warning;
 pub use watched::{Watched, stepped_back};

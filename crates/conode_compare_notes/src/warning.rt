@@ -24,4 +24,7 @@ pub enum Warning {
     OtherText(Key),
     /// `emcy-code`: the code of an EMCY has no class; with its error register.
     OddCode(u16, u8),
+    /// `emcy-history`: an upload of 1003:01 showed the first error code, and the last EMCY had the
+    /// second.
+    OtherError(u16, u16),
 }

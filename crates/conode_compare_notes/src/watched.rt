@@ -15,6 +15,7 @@ ghost use Rattle.conode_compare_notes.specs.Warnings.{
   ended_warning,
   exchange_warning,
   exchanged,
+  frame_warning,
   is_kept,
   is_plain,
   is_setting,
@@ -28,11 +29,13 @@ ghost use Rattle.conode_compare_notes.specs.Warnings.{
   stored_warning,
   upload_warning,
   warning_at,
+  watched_at,
   watched_with,
   writes_of,
 };
 
 use crate::contents::{Content, content_warning, shown_content, written_content};
+use crate::history::Errors;
 use crate::versions::{code_warning, version_warning};
 use crate::warning::Warning;
 use crate::writes::Writes;
@@ -57,6 +60,8 @@ pub struct Watched {
     pub fresh: bool,
     /// What clients asked to write since.
     pub writes: Writes,
+    /// The last error that was signalled, and what 1003:01 showed since.
+    pub errors: Errors,
 }
 
 // Whether the entries of an object are settings of the communication profile, which a client alone
@@ -182,6 +187,7 @@ impl Watched {
         Watched {
             fresh: false,
             writes: Writes::new(alloc),
+            errors: Errors::none(),
         }
     }
 
@@ -191,6 +197,7 @@ impl Watched {
     {
         self.fresh = false;
         self.writes.clear();
+        self.errors = Errors::none();
     }
 
     // by what an upload shows of an entry
@@ -350,6 +357,32 @@ impl Watched {
         }
     }
 
+    // A frame, once what isn't known any more is forgotten.
+    fn take_kind(
+        &mut self,
+        subject: &Subject,
+        rows: &[EntryRow<'_>],
+        kind: &FrameKind,
+        progress: &Progress,
+    ) -> Result<Option<Warning>, AllocError>
+        requires { AllPairs (λ e f. is_key_before e.key f.key ≡ true) rows.now }
+        ensures warning { IfOk result (λ warning. warning ≡ frame_warning
+            subject.now (map row_view rows.now) self.old kind.now progress.now) }
+        ensures next { OnOk result (self.new ≡ watched_at
+            subject.now (map row_view rows.now) self.old kind.now progress.now.exchange) }
+    {
+        match (kind, &progress.exchange) {
+            (FrameKind::Sdo(side, frame), Some(exchange)) => {
+                self.take_exchange(subject, rows, *side, frame, exchange)
+            }
+            (FrameKind::Sdo(_, _), None) => Ok(None),
+            _ => {
+                self.take_other(subject, kind);
+                Ok(other_warning(kind, progress))
+            }
+        }
+    }
+
     /// Takes a frame by what it is to the device, and what the recording shows with it. Returns what
     /// a user may want to know of the device; `rows` are the data sheet's entries, in increasing
     /// key. On an `Err` memory ran out.
@@ -370,15 +403,9 @@ impl Watched {
         if progress.is_begun() {
             self.forget();
         }
-        match (kind, &progress.exchange) {
-            (FrameKind::Sdo(side, frame), Some(exchange)) => {
-                self.take_exchange(subject, rows, *side, frame, exchange)
-            }
-            (FrameKind::Sdo(_, _), None) => Ok(None),
-            _ => {
-                self.take_other(subject, kind);
-                Ok(other_warning(kind, progress))
-            }
-        }
+        let errors = self.errors;
+        let noted = self.take_kind(subject, rows, kind, progress)?;
+        self.errors = errors.after(&subject.limits, kind, progress);
+        Ok(noted.or(errors.warning(&subject.limits, kind, progress.newest)))
     }
 }

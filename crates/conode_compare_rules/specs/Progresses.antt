@@ -30,7 +30,7 @@ use Rattle.conode_compare_rules.specs.declared.kind.FrameKind.TheVariants.{Comma
 use Rattle.conode_compare_rules.specs.declared.verdict.Findings.{Findings}
 use Rattle.conode_compare_rules.specs.Answers.{answer_finding, confirmed_finding, held_finding, silence_finding, stopped_finding}
 use Rattle.conode_compare_transfers.specs.Dialogues.{dialogue_heard, given_up, interrupted, nothing_asked, nothing_left, exchange_in}
-use Rattle.conode_compare_held.specs.HeldNumbers.{is_kept, nothing_written, written_heard}
+use Rattle.conode_compare_held.specs.HeldNumbers.{is_kept, nothing_written, unmapped, with_process, written_heard}
 use Rattle.conode_compare_rules.specs.EmergencyRules.{emergency_finding, length_finding}
 use Rattle.conode_compare_rules.specs.EntriesInForce.{asked_to_write, ended_entries, reset_entries, shares_id, with_sharing}
 use Rattle.conode_compare_rules.specs.Heartbeats.{after_byte, after_transfer, early_remark, follows_closely, late_finding, no_heartbeat, is_gap}
@@ -81,9 +81,9 @@ free_at (Some newest) free micros = if follows_closely newest micros then free e
 abbrev pub pdos_with_quiet : Limits → Progress → ℕ → Pdos
 pdos_with_quiet limits progress micros = if was_quiet limits progress micros then tpdos.interrupted progress.pdos else progress.pdos
 
--- an answer that may take long is awaited all the same
+-- an answer that may take long is awaited all the same, and a sub-block may still be open
 abbrev pub still_awaited : Dialogue → ℕ → Dialogue
-still_awaited dialogue micros = record nothing_asked { slow = (interrupted dialogue micros).slow }
+still_awaited dialogue micros = record nothing_asked { slow = (interrupted dialogue micros).slow; sub_block = (interrupted dialogue micros).sub_block }
 
 -- then nothing is known; where it was quiet, no request is
 unfoldable pub begun : Subject → Progress → ℕ → Progress
@@ -144,7 +144,7 @@ booted subject progress micros = record progress {
   heartbeats = record progress.heartbeats { since = Some micros; sent = Some progress.free };
   entries = subject.facts.booted;
   emergency = None;
-  dialogue = record (interrupted progress.dialogue micros) { slow = nothing_left };
+  dialogue = record (interrupted progress.dialogue micros) { slow = nothing_left; sub_block = false };
   pdos = subject.facts.pdos;
   written = nothing_written;
   remark = restart_remark progress.nmt micros;
@@ -339,8 +339,18 @@ unfoldable pub process_findings : Subject → Progress → ℕ → ℕ → ℕ �
 process_findings subject progress micros id length =
     sighting_findings (tpdos.sighting (moment_at subject progress micros) progress.pdos id length)
 
-unfoldable pub after_process : Subject → Progress → ℕ → ℕ → Progress
-after_process subject progress micros id = record progress { pdos = tpdos.framed progress.pdos (moment_at subject progress micros) id }
+abbrev pub sighted : Subject → Progress → ℕ → ℕ → ℕ → Option Sighting
+sighted subject progress micros id length = tpdos.sighting (moment_at subject progress micros) progress.pdos id length
+
+-- what an RPDO may have written is unknown; a TPDO of the device writes nothing
+abbrev pub with_rpdo : Subject → Written → Bool → ℕ → Written
+with_rpdo subject written own id = if own then written else with_process subject.held.entries.items written id
+
+unfoldable pub after_process : Subject → Progress → ℕ → ℕ → ℕ → Progress
+after_process subject progress micros id length = record progress {
+  pdos = tpdos.framed progress.pdos (moment_at subject progress micros) id;
+  written = with_rpdo subject progress.written (is_some (sighted subject progress micros id length)) id;
+}
 
 abbrev pub after_poll : Progress → ℕ → Progress
 after_poll progress id = record progress { pdos = tpdos.polled progress.pdos id }
@@ -370,11 +380,11 @@ after_frame subject progress micros (Sdo Server frame) = after_answer subject pr
 after_frame subject progress micros (Sdo Client frame) = after_sdo subject progress micros Client frame
 after_frame subject progress micros (Command service) = after_command progress service false micros
 after_frame subject progress micros (CommandToAll service) = after_command progress service subject.facts.starts_itself micros
-after_frame subject progress micros (Process id length) = after_process subject progress micros id
+after_frame subject progress micros (Process id length) = after_process subject progress micros id length
 after_frame subject progress micros (Polled id) = after_poll progress id
 after_frame subject progress micros Guarding = after_guarding progress
 after_frame subject progress micros Fault = after_fault progress micros
-after_frame subject progress micros Other = progress
+after_frame subject progress micros Other = record progress { written = unmapped subject.held.entries.items progress.written }
 
 -- what is found at a frame, after what the recording shows before it
 unfoldable pub findings_at : Subject → List Row → Progress → ℕ → FrameKind → Findings

@@ -55,6 +55,7 @@ impl Progress {
     }
 
     /// A data frame that is none of the others comes: a SYNC, or a PDO. Returns what is found at it.
+    /// What an RPDO may have written to the entries that are held is unknown then.
     #[tactic(auto, unfolding(crate::specs::Progresses::process_findings, crate::specs::Progresses::after_process))]
     pub(crate) fn take_process(
         &mut self,
@@ -64,11 +65,14 @@ impl Progress {
         length: u8,
     ) -> Findings
         ensures findings { result ≡ process_findings subject.now self.old micros id length }
-        ensures progress { self.new ≡ after_process subject.now self.old micros id }
+        ensures progress { self.new ≡ after_process subject.now self.old micros id length }
     {
         let moment = self.moment_at(subject, micros);
         let sighting = self.pdos.sighting(&moment, id, length);
         self.pdos.frame(&moment, id);
+        if sighting.is_none() {
+            self.written.take_process(&subject.held, id);
+        }
         sighting_findings(sighting)
     }
 }

@@ -174,7 +174,8 @@ impl Progress {
     }
 
     // A frame comes. Where the recording begins anew, nothing is known, but that an answer which
-    // may take long is awaited; where it was quiet, no request is known.
+    // may take long is awaited, and that a sub-block may be open; where it was quiet, no request is
+    // known.
     #[tactic(auto, unfolding(crate::specs::Progresses::begun))]
     fn begin(&mut self, subject: &Subject, micros: u64)
         ensures { self.new ≡ begun subject.now self.old micros }
@@ -182,9 +183,11 @@ impl Progress {
         if self.begins_anew(&subject.limits, micros) {
             self.dialogue.interrupt(micros);
             let slow = self.dialogue.slow;
+            let sub_block = self.dialogue.sub_block;
             *self = Progress::new(subject);
             self.started = micros;
             self.dialogue.slow = slow;
+            self.dialogue.sub_block = sub_block;
         } else if self.was_quiet(&subject.limits, micros) {
             self.dialogue.interrupt(micros);
             self.pdos.interrupt();
@@ -249,6 +252,7 @@ impl Progress {
             .after_control(&subject.limits, self.started, micros, 0);
         self.break_off(micros);
         self.dialogue.slow = Left::new();
+        self.dialogue.sub_block = false;
         self.entries = subject.facts.booted;
         self.pdos = subject.facts.pdos;
         self.heartbeats.since = Some(micros);
@@ -528,7 +532,7 @@ impl Progress {
             }
             FrameKind::Guarding => self.heartbeats.guarded = true,
             FrameKind::Fault => self.take_fault(micros),
-            FrameKind::Other => {}
+            FrameKind::Other => self.written.forget_mapped(&subject.held),
         }
         Findings::none()
     }

@@ -15,12 +15,12 @@ use Rattle.conode_compare_rules.specs.declared.finding.Finding.TheVariants.{Boot
 use Rattle.conode_compare_rules.specs.declared.finding.NmtState.TheVariants.{PreOperational, Operational}
 use Rattle.conode_compare_choices.specs.declared.choice.Choice.TheVariants.{Segments, NoSize, ShortSegment, NoCrc, BlockSize, Switched, Code, Timeout, Heartbeat, Phase, NoEmergency, OtherEmergency}
 use Rattle.conode_compare_choices.specs.declared.length_error.LengthError.TheVariants.{ShortRpdo, LongRpdo, OddSync}
-use Rattle.conode_compare_notes.specs.declared.warning.Warning.TheVariants.{Changed, ChangedBytes, OddCode, OtherRevision, OtherText, Restarted, SteppedBack, Stored}
+use Rattle.conode_compare_notes.specs.declared.warning.Warning.TheVariants.{Changed, ChangedBytes, OddCode, OtherError, OtherRevision, OtherText, Restarted, SteppedBack, Stored}
 use Rattle.conode_compare_text.specs.ChoiceTexts.{choice_line, choice_text, choices_summary}
 use Rattle.conode_compare_text.specs.FindingTexts.{coded, eight_digits, finding_line, finding_text, hexadecimal, keyed, keyed_code, keyed_codes, keyed_number, keyed_numbers, keyed_time, keyed_values, millis_text, mismatch_text, named, numbered, numbered_time, numbered_times, pdo_text, shown_value, three_numbers, timed, timed_number, transfer_text, two_codes, two_times}
 use Rattle.conode_compare_text.specs.LearnedTexts.{learned_line, other_text, typed_text}
 use Rattle.conode_compare_text.specs.Tallies.{summary, tally_text}
-use Rattle.conode_compare_text.specs.WarningTexts.{warning_line, warning_text}
+use Rattle.conode_compare_text.specs.WarningTexts.{pair_of_codes, warning_line, warning_text}
 
 abbrev key : Key
 key = record { index = 0x1018; sub = 1 }
@@ -269,6 +269,10 @@ another_text = refl
 odd_code : warning_text plain (OddCode 0xA123 1) ≡ codes "warning: emcy-code: code A123h with error register 01h, of a class that CiA 301 doesn't have"
 unfolding warning_text two_codes digits_text
 odd_code = refl
+
+other_error : warning_text plain (OtherError 0x8210 0x8130) ≡ codes "warning: emcy-history: 1003:01 has code 8210h, the last EMCY 8130h"
+unfolding warning_text pair_of_codes digits_text
+other_error = refl
 
 -- ---- learned values
 

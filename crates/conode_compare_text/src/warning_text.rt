@@ -1,12 +1,33 @@
 //! The line of a warning.
 
 ghost use Rattle.std.specs.Prelude.{◌≡◌, ◌++◌, OnOk, string_bytes};
-ghost use Rattle.conode_compare_text.specs.WarningTexts.{warning_line, warning_text};
+ghost use Rattle.conode_compare_text.specs.WarningTexts.{pair_of_codes, warning_line, warning_text};
 
 use crate::parts::{push_codes, push_key, push_key_values, push_number, push_time, push_words};
+use co_text::push_u16;
 use conode_compare_notes::Warning;
 use conode_explain_values::ValueType;
 use std::alloc::AllocError;
+
+// two error codes between words
+#[tactic(auto, unfolding(crate::specs::WarningTexts::pair_of_codes))]
+fn push_pair(
+    text: &mut String,
+    front: &str,
+    code: u16,
+    middle: &str,
+    other: u16,
+    end: &str,
+) -> Result<(), AllocError>
+    ensures { OnOk result (string_bytes text.new
+        ≡ string_bytes text.old ++ pair_of_codes front.now code middle.now other end.now) }
+{
+    push_words(text, front)?;
+    push_u16(text, code)?;
+    push_words(text, middle)?;
+    push_u16(text, other)?;
+    push_words(text, end)
+}
 
 // the name of the kind, and what was seen
 #[tactic(auto, unfolding(crate::specs::WarningTexts::warning_text))]
@@ -78,6 +99,14 @@ fn push_warning(
             "h with error register ",
             register,
             "h, of a class that CiA 301 doesn't have",
+        ),
+        Warning::OtherError(shown, signalled) => push_pair(
+            text,
+            "warning: emcy-history: 1003:01 has code ",
+            shown,
+            "h, the last EMCY ",
+            signalled,
+            "h",
         ),
     }
 }

@@ -10,7 +10,8 @@ use Rattle.conode_explain_transfers.specs.declared.ended.Ending.{Ending}
 use Rattle.conode_explain_transfers.specs.declared.ended.Ending.TheVariants.{Aborted, CrcDiffers, Done, Interrupted, Irregular, Repeated as Again, SizeDiffers, Unanswered}
 use Rattle.conode_explain_transfers.specs.declared.kinds.Direction.{Direction}
 use Rattle.conode_explain_transfers.specs.declared.kinds.Direction.TheVariants.{Download, Upload}
-use Rattle.conode_explain_transfers.specs.declared.kinds.Protocol.TheVariants.{Expedited, Segmented}
+use Rattle.conode_explain_transfers.specs.declared.kinds.Protocol.{Protocol}
+use Rattle.conode_explain_transfers.specs.declared.kinds.Protocol.TheVariants.{Block, Expedited, Segmented}
 use Rattle.conode_explain_transfers.specs.declared.kinds.Side.{Side}
 use Rattle.conode_explain_transfers.specs.declared.kinds.Side.TheVariants.{Client, Server}
 use Rattle.conode_explain_transfers.specs.declared.kinds.What.{What}
@@ -21,7 +22,7 @@ use Rattle.conode_compare_transfers.specs.declared.dialogue.Dialogue.{Dialogue}
 use Rattle.conode_compare_transfers.specs.declared.left.Left.{Left}
 use Rattle.conode_compare_transfers.specs.declared.newest.Newest.TheVariants.{Acknowledge, AllAcknowledged, Answer, Data, LastData, LaterAcknowledge, LaterData, Request}
 use Rattle.conode_compare_transfers.specs.Breaches.{breach_at, server_breach}
-use Rattle.conode_compare_transfers.specs.Dialogues.{dialogue_heard, exchange_in, is_certain, is_late_answer, is_timed, is_awaited, is_in_turn, leaves_slow, left_after, left_after_answer, may_switch, nothing_asked, nothing_left, owes, word_written}
+use Rattle.conode_compare_transfers.specs.Dialogues.{dialogue_heard, exchange_in, interrupted, is_certain, is_late_answer, is_timed, is_awaited, is_in_turn, leaves_block, leaves_slow, left_after, left_after_answer, may_be_segment, may_switch, nothing_asked, nothing_left, opens_sub_block, owes, sub_block_after, word_written}
 use Rattle.conode_compare_transfers.specs.NewestFrames.{newest_after, newest_with}
 
 abbrev key : Key
@@ -541,3 +542,91 @@ number_written first = word_written (record { id = 0x605; bytes = first ∷ 0 �
 -- of four bytes, with its size and without; of three; in segments; in blocks; an upload
 numbers_written : map number_written (0x23 ∷ 0x22 ∷ 0x27 ∷ 0x21 ∷ 0xC2 ∷ 0x40 ∷ []) ≡ Some 0x80000185 ∷ Some 0x80000185 ∷ None ∷ None ∷ None ∷ None ∷ []
 numbers_written = refl
+
+-- ---- sub-blocks that aren't followed
+
+-- the answer to the initiate request of a block download and the acknowledge of a sub-block, not the confirmation of its end
+sub_block_answers : map opens_sub_block (0x9F ∷ 0xA0 ∷ 0xA1 ∷ 0xA2 ∷ 0xA4 ∷ 0xA5 ∷ 0xC0 ∷ []) ≡ false ∷ true ∷ false ∷ true ∷ true ∷ false ∷ false ∷ []
+sub_block_answers = refl
+
+abbrev with_protocol : Protocol → Direction → Option Ended → Option Ended
+with_protocol protocol direction None = None
+with_protocol protocol direction (Some ended) = Some (record ended { protocol = protocol; direction = direction })
+
+abbrev block_left : Protocol → Direction → Ending → Option Ended
+block_left protocol direction ending = with_protocol protocol direction (left_by 0x2000 ending)
+
+-- by another request, and by an abort of another entry; not by one of its own
+block_is_left : map (λ ending. leaves_block false (block_left Block Download ending)) (Unanswered ∷ Again ∷ Interrupted ∷ Aborted Client (record { 0 = 0x05040000 }) ∷ Aborted Server (record { 0 = 0x08000000 }) ∷ [])
+    ≡ true ∷ true ∷ true ∷ false ∷ false ∷ []
+block_is_left = refl
+
+block_is_left_by_other : map (λ side. leaves_block true (block_left Block Download (Aborted side (record { 0 = 0x06020000 })))) (Client ∷ Server ∷ []) ≡ true ∷ true ∷ []
+block_is_left_by_other = refl
+
+no_block_left : leaves_block true (block_left Block Upload Unanswered) ∷ leaves_block true (block_left Segmented Download Unanswered) ∷ leaves_block true None ∷ [] ≡ false ∷ false ∷ false ∷ []
+no_block_left = refl
+
+-- the client leaves one, or not; what was open stays so
+left_by_client : map (sub_block_after Client true Initiate 0x40) (false ∷ true ∷ []) ∷ map (sub_block_after Client false Initiate 0x40) (false ∷ true ∷ []) ∷ []
+    ≡ (true ∷ true ∷ []) ∷ (false ∷ true ∷ []) ∷ []
+left_by_client = refl
+
+-- the device: an abort, and answers of a block download that isn't the open transfer, or is
+left_by_abort : map (sub_block_after Server true Part 0x80) (false ∷ true ∷ []) ∷ map (sub_block_after Server false Part 0x80) (false ∷ true ∷ []) ∷ []
+    ≡ (true ∷ true ∷ []) ∷ (false ∷ true ∷ []) ∷ []
+left_by_abort = refl
+
+opened_elsewhere : map (λ what. sub_block_after Server false what 0xA4 false) (Stray ∷ Overtaken ∷ Unexpected ∷ Part ∷ Segment 36 ∷ []) ≡ true ∷ true ∷ true ∷ false ∷ false ∷ []
+opened_elsewhere = refl
+
+-- with any other answer it shows that it awaits no segment
+is_out : map (λ first. sub_block_after Server true Stray first true) (0x43 ∷ 0x60 ∷ 0x7F ∷ 0x80 ∷ 0x9F ∷ 0xA1 ∷ 0xC0 ∷ []) ≡ false ∷ false ∷ false ∷ true ∷ true ∷ false ∷ false ∷ []
+is_out = refl
+
+may_be_one : may_be_segment true Initiate ∷ may_be_segment true Part ∷ may_be_segment false Initiate ∷ [] ≡ true ∷ false ∷ false ∷ []
+may_be_one = refl
+
+-- an upload of 1000:00, and at once a block download of 2000:01; the device refuses the first, and awaits segments
+abbrev overtaken_block : Dialogue
+overtaken_block = sent
+    (sent (sent (sent nothing_asked 2000000 Client (0x40 ∷ 0 ∷ 0x10 ∷ 0 ∷ 0 ∷ 0 ∷ 0 ∷ 0 ∷ [])) 2000200 Client (0xC4 ∷ 0 ∷ 0x20 ∷ 1 ∷ 0 ∷ 0 ∷ 0 ∷ 0 ∷ []))
+    2001000
+    Server
+    (0x80 ∷ 0 ∷ 0x10 ∷ 0 ∷ 0 ∷ 0 ∷ 2 ∷ 6 ∷ []))
+    2002000
+    Server
+    (0xA4 ∷ 0 ∷ 0x20 ∷ 1 ∷ 30 ∷ 0 ∷ 0 ∷ 0 ∷ [])
+
+is_overtaken : overtaken_block.sub_block ≡ true
+unfolding dialogue_heard is_certain newest_after newest_with request_row_in response_row_in
+is_overtaken = refl
+
+-- two seconds later it takes a request as a segment: no answer is owed to that
+abbrev taken_as_segment : Dialogue
+taken_as_segment = sent overtaken_block 4002000 Client (0x40 ∷ 0 ∷ 0x10 ∷ 0 ∷ 0 ∷ 0 ∷ 0 ∷ 0 ∷ [])
+
+in_doubt : taken_as_segment.doubted ≡ Some 4002000
+unfolding dialogue_heard is_certain newest_after newest_with request_row_in response_row_in
+in_doubt = refl
+
+not_owed_to_segment : owes 1000 0 taken_as_segment ≡ false
+unfolding dialogue_heard is_certain newest_after newest_with request_row_in response_row_in
+not_owed_to_segment = refl
+
+-- where it answers, it awaited none
+abbrev answered_after_all : Dialogue
+answered_after_all = sent taken_as_segment 4003000 Server (0x43 ∷ 0 ∷ 0x10 ∷ 0 ∷ 1 ∷ 0 ∷ 0 ∷ 0 ∷ [])
+
+owed_again : owes 1000 0 (sent answered_after_all 6003000 Client (0x40 ∷ 0 ∷ 0x10 ∷ 0 ∷ 0 ∷ 0 ∷ 0 ∷ 0 ∷ [])) ≡ true
+unfolding dialogue_heard is_certain newest_after newest_with request_row_in response_row_in
+owed_again = refl
+
+-- a pause: the open sub-block isn't followed any more
+abbrev begun_block : Dialogue
+begun_block = sent nothing_asked 2000000 Client (0xC4 ∷ 0 ∷ 0x20 ∷ 1 ∷ 0 ∷ 0 ∷ 0 ∷ 0 ∷ [])
+
+open_after_pause : begun_block.sub_block ∷ (interrupted begun_block 9000000).sub_block ∷ (interrupted asking 9000000).sub_block ∷ (interrupted overtaken_block 9000000).sub_block ∷ []
+    ≡ false ∷ true ∷ false ∷ true ∷ []
+unfolding dialogue_heard is_certain newest_after newest_with request_row_in response_row_in
+open_after_pause = refl

@@ -1,6 +1,6 @@
 -- The default SDO channel of a device (CiA 301, 7.2.4): which request a frame answers. The
 -- transfers in it are those of `followed`.
-use Rattle.std.specs.Prelude.{ℕ, ◌+◌, ◌-◌, ◌/◌, ◌==◌, nat_le, nat_lt, Bool, true, false, not, ◌&&◌, ◌||◌, if◌then◌else◌, [], ◌∷◌, Option, Some, None, is_some}
+use Rattle.std.specs.Prelude.{ℕ, ◌+◌, ◌-◌, ◌/◌, ◌%◌, ◌==◌, nat_le, nat_lt, Bool, true, false, not, ◌&&◌, ◌||◌, if◌then◌else◌, [], ◌∷◌, Option, Some, None, is_some}
 use Rattle.std.specs.Option.{option_map_or}
 use Rattle.co_frame.specs.FrameContent.{FrameContent}
 use Rattle.co_profile.specs.Indices.{store_parameters, restore_parameters}
@@ -11,6 +11,8 @@ use Rattle.conode_explain_transfers.specs.declared.channel.Heard.{Heard}
 use Rattle.conode_explain_transfers.specs.declared.ended.Ended.{Ended}
 use Rattle.conode_explain_transfers.specs.declared.ended.Ending.{Ending}
 use Rattle.conode_explain_transfers.specs.declared.ended.Ending.TheVariants.{Done, Aborted, Unanswered, Repeated, Interrupted}
+use Rattle.conode_explain_transfers.specs.declared.kinds.Direction.{Direction}
+use Rattle.conode_explain_transfers.specs.declared.kinds.Direction.TheVariants.{Download}
 use Rattle.conode_explain_transfers.specs.declared.kinds.Protocol.{Protocol}
 use Rattle.conode_explain_transfers.specs.declared.kinds.Protocol.TheVariants.{Block}
 use Rattle.conode_explain_transfers.specs.declared.kinds.Side.{Side}
@@ -33,7 +35,7 @@ abbrev pub nothing_left : Left
 nothing_left = record { count = 0; newest = 0 }
 
 abbrev pub nothing_asked : Dialogue
-nothing_asked = record { channel = nothing_heard; asked = None; doubted = None; slow = nothing_left; newest = None }
+nothing_asked = record { channel = nothing_heard; asked = None; doubted = None; slow = nothing_left; sub_block = false; newest = None }
 
 -- ---- initiate requests
 
@@ -100,6 +102,45 @@ is_odd Client what = not (is_initiate what || continues what)
 -- with none.
 abbrev pub leaves_request_open : Side → Heard → FrameContent → Bool
 leaves_request_open side heard frame = is_odd side heard.what || ends_in_doubt heard.ended frame
+
+-- ---- sub-blocks that aren't followed
+
+-- A server that awaits the segments of a block download takes each frame as one of them, a request
+-- too (CiA 301, 7.2.4.3.10). The open transfer isn't always that block download: an answer to an
+-- earlier request may have ended it, or its client left it.
+
+abbrev pub is_download : Direction → Bool
+is_download Download = true
+is_download other = false
+
+abbrev pub is_aborted : Ending → Bool
+is_aborted (Aborted side code) = true
+is_aborted other = false
+
+-- A block download was left, and the server may go on with it: not where an end aborted it by its
+-- multiplexer. `other`: the frame is of another entry.
+abbrev pub leaves_block : Bool → Option Ended → Bool
+leaves_block other ended =
+    option_map_or (λ e. (is_block e.protocol && is_download e.direction) && (other || not (is_aborted e.ending))) ended false
+
+-- By the first byte: the answer to the initiate request of a block download, scs = 5 and ss = 0, and
+-- the acknowledge of a sub-block, ss = 2. Segments are awaited then.
+abbrev pub opens_sub_block : ℕ → Bool
+opens_sub_block first = (first / 32 == 5) && not (first % 4 == 1)
+
+-- A frame of the server: one of these, of another transfer than the open one; or an abort, which may
+-- answer an earlier request. With any other the server shows that it awaits no segment.
+abbrev pub server_sub_block : Bool → What → ℕ → Bool → Bool
+server_sub_block leaves what first awaits = if first / 32 == 4 then awaits || leaves else opens_sub_block first && not (continues what)
+
+-- a sub-block may be open that isn't followed, after a frame by which a block download is left, or not
+abbrev pub sub_block_after : Side → Bool → What → ℕ → Bool → Bool
+sub_block_after Client leaves what first awaits = awaits || leaves
+sub_block_after Server leaves what first awaits = server_sub_block leaves what first awaits
+
+-- then a request may be a segment, which isn't answered
+abbrev pub may_be_segment : Bool → What → Bool
+may_be_segment awaits what = awaits && is_initiate what
 
 -- ---- requests that may take long
 
@@ -224,8 +265,9 @@ exchange_in answer started dialogue micros side frame = record {
   breach = breach_at dialogue.newest side (followed dialogue.channel micros side frame.bytes).says frame;
 }
 
-abbrev pub doubted_after : Side → Heard → FrameContent → Option ℕ → ℕ → Option ℕ
-doubted_after side heard frame doubted micros = if leaves_request_open side heard frame then Some micros else doubted
+abbrev pub doubted_after : Bool → Side → Heard → FrameContent → Option ℕ → ℕ → Option ℕ
+doubted_after awaits side heard frame doubted micros =
+    if leaves_request_open side heard frame || may_be_segment awaits heard.what then Some micros else doubted
 
 -- A transfer isn't judged whose initiate request comes while an earlier request may still be answered.
 abbrev pub newest_heard : Bool → Side → What → FrameContent → Option Newest → Option Newest
@@ -234,8 +276,9 @@ newest_heard certain side what frame newest = if is_initiate what && not certain
 unfoldable pub dialogue_heard : ℕ → ℕ → Dialogue → ℕ → Side → FrameContent → Dialogue
 dialogue_heard answer started dialogue micros side frame =
     let f = followed dialogue.channel micros side frame.bytes in
-    let doubted = doubted_after side f.says frame dialogue.doubted micros in
-    let leaves = leaves_slow (names_other f.says.ended frame) dialogue.newest f.says.ended in
+    let doubted = doubted_after dialogue.sub_block side f.says frame dialogue.doubted micros in
+    let other = names_other f.says.ended frame in
+    let leaves = leaves_slow other dialogue.newest f.says.ended in
     let turns = is_in_turn answer started dialogue side f.says.what frame in
     let slow = left_after leaves micros (left_after_answer (is_late_answer side f.says frame) turns dialogue.slow) in
     record {
@@ -243,6 +286,7 @@ dialogue_heard answer started dialogue micros side frame =
       asked = asked_after f.says.what micros frame;
       doubted = doubted;
       slow = slow;
+      sub_block = sub_block_after side (leaves_block other f.says.ended) f.says.what (byte_at frame 0) dialogue.sub_block;
       newest = newest_heard (is_certain answer started slow doubted micros) side f.says.what frame dialogue.newest;
     }
 
@@ -258,5 +302,6 @@ interrupted dialogue micros = record {
   asked = None;
   doubted = if is_some dialogue.channel.transfer then Some micros else dialogue.doubted;
   slow = left_after (leaves_slow false dialogue.newest (closed dialogue.channel.transfer micros Interrupted)) micros dialogue.slow;
+  sub_block = dialogue.sub_block || leaves_block false (closed dialogue.channel.transfer micros Interrupted);
   newest = None;
 }

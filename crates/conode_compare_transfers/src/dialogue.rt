@@ -22,16 +22,20 @@ ghost use Rattle.conode_compare_transfers.specs.Dialogues.{
   is_part,
   is_slow_answer,
   is_timed,
+  leaves_block,
   leaves_slow,
+  may_be_segment,
   may_switch,
   names_other,
   newest_heard,
   nothing_asked,
+  opens_sub_block,
   owes,
   owes_nothing,
   continues,
   exchange_in,
   has_key,
+  sub_block_after,
   word_written,
 };
 
@@ -42,7 +46,7 @@ use crate::times::is_past;
 use co_frame::Frame;
 use co_profile::{RESTORE_PARAMETERS, STORE_PARAMETERS};
 use co_value::{Key, unsigned_of};
-use conode_explain_transfers::{Channel, Ended, Ending, Heard, Protocol, Side, What};
+use conode_explain_transfers::{Channel, Direction, Ended, Ending, Heard, Protocol, Side, What};
 
 /// An initiate request that is not answered yet.
 #[derive(Clone, Copy)]
@@ -69,6 +73,9 @@ pub struct Dialogue {
     pub doubted: Option<u64>,
     /// The requests that may take long and were left before their answer.
     pub slow: Left,
+    /// Whether a sub-block of a block download may be open that isn't followed: the server takes a
+    /// request as one of its segments then.
+    pub sub_block: bool,
     /// Whose frame the newest one of the open transfer is, where each of its frames came in its
     /// turn.
     pub newest: Option<Newest>,
@@ -310,6 +317,48 @@ fn newest_heard(
     }
 }
 
+// Whether a block download was left, and the server may go on with it. `other`: the frame is of
+// another entry.
+fn leaves_block(other: bool, ended: &Option<Ended>) -> bool
+    ensures { result ≡ leaves_block other ended.now }
+{
+    match ended {
+        Some(ended) => {
+            matches!(
+                (ended.protocol, ended.direction),
+                (Protocol::Block, Direction::Download)
+            ) && (other || !matches!(ended.ending, Ending::Aborted { by: _, code: _ }))
+        }
+        None => false,
+    }
+}
+
+// whether segments of a block download are awaited after a frame of the server, by its first byte
+fn opens_sub_block(first: u8) -> bool
+    ensures { result ≡ opens_sub_block first }
+{
+    first / 32 == 5 && first % 4 != 1
+}
+
+// whether a sub-block may be open that isn't followed, after a frame by which a block download is
+// left, or not
+fn sub_block_after(side: Side, leaves: bool, what: What, first: u8, awaits: bool) -> bool
+    ensures { result ≡ sub_block_after side leaves what first awaits }
+{
+    match side {
+        Side::Client => awaits || leaves,
+        Side::Server if first / 32 == 4 => awaits || leaves,
+        Side::Server => opens_sub_block(first) && !continues(what),
+    }
+}
+
+// whether a request may be a segment of such a sub-block
+fn may_be_segment(awaits: bool, what: What) -> bool
+    ensures { result ≡ may_be_segment awaits what }
+{
+    awaits && is_initiate(what)
+}
+
 // whether after a frame an earlier request may still be answered
 fn leaves_request_open(side: Side, heard: &Heard, frame: &Frame) -> bool
     ensures { result ≡ leaves_request_open side heard.now frame.now }
@@ -319,6 +368,24 @@ fn leaves_request_open(side: Side, heard: &Heard, frame: &Frame) -> bool
         Side::Client => !(is_initiate(heard.what) || continues(heard.what)),
     };
     odd || ends_in_doubt(&heard.ended, frame)
+}
+
+// the stamp of the newest frame by which an earlier request may still be answered
+fn doubted_after(
+    awaits: bool,
+    side: Side,
+    heard: &Heard,
+    frame: &Frame,
+    doubted: Option<u64>,
+    micros: u64,
+) -> Option<u64>
+    ensures { result ≡ doubted_after awaits side heard.now frame.now doubted micros }
+{
+    if leaves_request_open(side, heard, frame) || may_be_segment(awaits, heard.what) {
+        Some(micros)
+    } else {
+        doubted
+    }
 }
 
 // whether no earlier request can be answered at a stamp
@@ -363,6 +430,7 @@ impl Dialogue {
             asked: None,
             doubted: None,
             slow: Left::new(),
+            sub_block: false,
             newest: None,
         }
     }
@@ -426,9 +494,10 @@ impl Dialogue {
         let leaves = leaves_slow(other, self.newest, &heard.ended);
         self.slow = self.slow.after_answer(late, turns).after(leaves, micros);
         self.asked = asked_after(heard.what, micros, frame);
-        if leaves_request_open(side, &heard, frame) {
-            self.doubted = Some(micros);
-        }
+        self.doubted =
+            doubted_after(self.sub_block, side, &heard, frame, self.doubted, micros);
+        let left = leaves_block(other, &heard.ended);
+        self.sub_block = sub_block_after(side, left, heard.what, byte_at(frame, 0), self.sub_block);
         let judged = self.is_certain(answer, started, micros);
         self.newest = newest_heard(judged, side, heard.what, frame, self.newest);
         Exchange {
@@ -460,6 +529,7 @@ impl Dialogue {
         }
         let leaves = leaves_slow(false, self.newest, &ended);
         self.slow = self.slow.after(leaves, micros);
+        self.sub_block = self.sub_block || leaves_block(false, &ended);
         self.asked = None;
         self.newest = None;
     }
