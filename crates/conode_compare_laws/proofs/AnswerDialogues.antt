@@ -1,6 +1,6 @@
 -- What compare has of the channel after a frame: the initiate request that is not answered, and what leaves a doubt.
 use Rattle.std.proofs.Common.{◌≡◌, ℕ, Bool, true, false, not, Option, Some, None, refl, sym, ap, ◌∙◌, ◌⊎◌, inl, inr, subst}
-use Rattle.std.specs.Prelude.{◌&&◌, if◌then◌else◌, is_some, IfSome}
+use Rattle.std.specs.Prelude.{◌&&◌, ◌||◌, if◌then◌else◌, is_some, IfSome}
 use Rattle.std.specs.Option.{option_map_or}
 use Rattle.std.proofs.lemmas.Bool.{false≢true}
 use Rattle.co_frame.specs.FrameContent.{FrameContent}
@@ -17,7 +17,7 @@ use Rattle.conode_explain_laws.proofs.Readings.{Begin, begun_with, follows_by, r
 use Rattle.conode_compare_transfers.specs.declared.dialogue.Asked.{Asked}
 use Rattle.conode_compare_transfers.specs.declared.dialogue.Dialogue.{Dialogue}
 use Rattle.conode_compare_transfers.specs.declared.left.Left.{Left}
-use Rattle.conode_compare_transfers.specs.Dialogues.{asked_after, dialogue_heard, exchange_in, is_awaited, is_certain, is_initiate, is_late_answer, leaves_request_open}
+use Rattle.conode_compare_transfers.specs.Dialogues.{asked_after, dialogue_heard, exchange_in, is_awaited, is_certain, is_initiate, is_late_answer, leaves_request_open, may_be_segment}
 use Rattle.conode_compare_transfers.specs.Times.{is_past}
 use Rattle.conode_compare_laws.proofs.AnswerTurns.{Lasts, Sound, is_turned}
 use Rattle.conode_compare_laws.proofs.AnswerFollowed.{GoesOn, GoesOpen, LastsOn, asks_in, client_open, client_reading, goes_on, leaves_is, next_is, no_begin, reads, server_goes, server_lasts, what_is}
@@ -34,9 +34,15 @@ module _ (answer started : ℕ) (d : Dialogue) (micros : ℕ) (side : Side) (fra
   asked_is = ap (λ w. asked_after w micros frame) (what_is d.channel micros side frame.bytes)
 
   pub doubted_is : (dialogue_heard answer started d micros side frame).doubted
-      ≡ (if leaves_request_open side (reads d.channel micros side frame.bytes).says frame then Some micros else d.doubted)
+      ≡ (if leaves_request_open side (reads d.channel micros side frame.bytes).says frame || may_be_segment d.sub_block (reads d.channel micros side frame.bytes).says.what then Some micros else d.doubted)
   unfolding dialogue_heard
-  doubted_is = ap (λ b. if b then Some micros else d.doubted) (leaves_is d.channel micros side frame)
+  doubted_is =
+      ap (λ b. if b || may_be_segment d.sub_block (followed d.channel micros side frame.bytes).says.what then Some micros else d.doubted) (leaves_is d.channel micros side frame)
+      ∙ ap (λ w. if leaves_request_open side (reads d.channel micros side frame.bytes).says frame || may_be_segment d.sub_block w then Some micros else d.doubted) (what_is d.channel micros side frame.bytes)
+
+  -- a request is left open
+  pub doubted_by : leaves_request_open side (reads d.channel micros side frame.bytes).says frame ≡ true → (dialogue_heard answer started d micros side frame).doubted ≡ Some micros
+  doubted_by leaves = doubted_is ∙ ap (λ b. if b || may_be_segment d.sub_block (reads d.channel micros side frame.bytes).says.what then Some micros else d.doubted) leaves
 
 none_asked : (w : What) (micros : ℕ) (frame : FrameContent) → is_initiate w ≡ false → asked_after w micros frame ≡ None
 none_asked what.Initiate micros frame h = absurd (false≢true (sym h))
@@ -110,7 +116,7 @@ open_after : (answer started : ℕ) (d : Dialogue) (micros : ℕ) (frame : Frame
     → ((dialogue_heard answer started d micros Server frame).doubted ≡ Some micros)
     ⊎ ((is_some (dialogue_heard answer started d micros Server frame).channel.transfer ≡ true) × IfSome (dialogue_heard answer started d micros Server frame).channel.transfer Lasts)
 open_after answer started d micros frame l = elim l.lasts [
-  | inl doubt ↦ inl (doubted_is answer started d micros Server frame ∙ ap (λ b. if b then Some micros else d.doubted) doubt)
+  | inl doubt ↦ inl (doubted_by answer started d micros Server frame doubt)
   | inr live ↦ inr (
     ap (λ (f : Following). is_some f.transfer) (channel_is answer started d micros Server frame) ∙ live,
     subst (λ (f : Following). IfSome f.transfer Lasts) (sym (channel_is answer started d micros Server frame)) l.upload,
@@ -124,7 +130,7 @@ sends_on answer started d micros frame h =
       sound = s.sound;
       asked = s.asked;
       live = elim h.live [
-        | inl doubt ↦ inl (doubted_is answer started d micros Server frame ∙ doubt_stays (leaves_request_open Server (reads d.channel micros Server frame.bytes).says frame) micros d.doubted doubt)
+        | inl doubt ↦ inl (doubted_is answer started d micros Server frame ∙ doubt_stays (leaves_request_open Server (reads d.channel micros Server frame.bytes).says frame || may_be_segment d.sub_block (reads d.channel micros Server frame.bytes).says.what) micros d.doubted doubt)
         | inr live ↦ by d.channel.transfer refl live.0 live.1
       ];
     }
@@ -157,7 +163,7 @@ later_heard answer started d micros frame s n =
     let o : GoesOpen (asks_in r) f frame = client_open d.channel.heard d.channel.transfer r micros frame s n in
     let channel : (dialogue_heard answer started d micros Client frame).channel ≡ f.next = channel_is answer started d micros Client frame ∙ ap (λ (x : Followed). x.next) same in
     let doubts : leaves_request_open Client f.says frame ≡ true → (dialogue_heard answer started d micros Client frame).doubted ≡ Some micros =
-    λ h. doubted_is answer started d micros Client frame ∙ ap (λ (x : Followed). if leaves_request_open Client x.says frame then Some micros else d.doubted) same ∙ ap (λ b. if b then Some micros else d.doubted) h in
+    λ h. doubted_by answer started d micros Client frame (ap (λ (x : Followed). leaves_request_open Client x.says frame) same ∙ h) in
     record {
       sound = subst (λ (x : Following). IfSome x.transfer Sound) (sym channel) g.sound;
       asked = asked_is answer started d micros Client frame ∙ ap (λ (x : Followed). asked_after x.says.what micros frame) same ∙ none_asked f.says.what micros frame g.what;

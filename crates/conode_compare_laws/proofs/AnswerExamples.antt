@@ -1,9 +1,8 @@
--- What compare finds of answers in recordings: where another sender answers too, and where a block download was begun before a pause.
+-- What compare finds of answers in recordings: where another sender answers too, and none where a block download was begun before a pause.
 use Rattle.std.proofs.Common.{◌≡◌, ℕ, true, false, List, [], ◌∷◌, Some, None, refl}
 use Rattle.co_frame.specs.SdoRequests.{request_row_in}
 use Rattle.co_frame.specs.SdoResponses.{response_row_in}
 use Rattle.co_profile.specs.declared.access.Access.TheVariants.{Rw}
-use Rattle.co_value.specs.declared.key.Key.{Key}
 use Rattle.co_node_model.specs.Inputs.{InputView, Ticked}
 use Rattle.co_node_model.proofs.ExampleNode.{device_with, frame, request, searches, u16}
 use Rattle.conode_compare_pdos.specs.Followed.{unknown_pdos}
@@ -14,7 +13,7 @@ use Rattle.conode_compare_transfers.specs.Dialogues.{dialogue_heard, exchange_in
 use Rattle.conode_compare_transfers.specs.NewestFrames.{newest_after, newest_with}
 use Rattle.conode_compare_rules.specs.declared.entries.Entries.{Entries}
 use Rattle.conode_compare_rules.specs.declared.finding.Finding.{Finding}
-use Rattle.conode_compare_rules.specs.declared.finding.Finding.TheVariants.{NoAnswer, Unasked}
+use Rattle.conode_compare_rules.specs.declared.finding.Finding.TheVariants.{Unasked}
 use Rattle.conode_compare_rules.specs.declared.limits.Subject.{Subject}
 use Rattle.conode_compare_rules.specs.Answers.{answer_finding, confirmed_finding, held_finding, silence_finding, stopped_finding, what_finding}
 use Rattle.conode_compare_rules.specs.EntriesInForce.{asked_to_write, shown_inhibit, shown_period}
@@ -40,9 +39,6 @@ subject = record {
   facts = record { before = sheet; booted = sheet; pdos = unknown_pdos; starts_itself = false; modular = false; stores = false };
   held = record { entries = record { items = [] } };
 }
-
-abbrev identity : Key
-identity = record { index = 0x1018; sub = 1 }
 
 abbrev answers_found : List Recorded → List Finding
 answers_found recorded = differences_in answer_differences subject [] recorded
@@ -70,10 +66,10 @@ paused_heard : pausing ≡ paused
 unfolding searches
 paused_heard = refl
 
-taken_for_request : answers_found paused ≡ NoAnswer identity 1100000 ∷ []
+in_place_of_segment : answers_found paused ≡ []
 unfolding findings_at progress_with begun booted found states.after_control after_boot_up after_other awaits_boot_up is_settled progresses.after_control control_findings heartbeat_findings silence_finding channel_heard exchange_at exchange_noted late_noted
     request_findings confirmed_finding answer_findings answer_finding stopped_finding held_finding what_finding held_mismatch dialogue_heard exchange_in is_certain newest_with newest_after breach_at shown_period shown_inhibit asked_to_write mismatch_at request_row_in response_row_in
-taken_for_request = refl
+in_place_of_segment = refl
 
 -- ---- a second answer is another device's
 

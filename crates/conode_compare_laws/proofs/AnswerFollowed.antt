@@ -146,7 +146,7 @@ segment_no_request block_size (Some segment) otherwise h = by _
     by true = refl
     by false = h
 
-server_no_request : (current : Option Transfer) (micros : ℕ) (bytes : List ℕ) → is_request (reading_of current Server micros bytes) ≡ false
+pub server_no_request : (current : Option Transfer) (micros : ℕ) (bytes : List ℕ) → is_request (reading_of current Server micros bytes) ≡ false
 server_no_request None micros bytes = response_no_request (response_in bytes)
 server_no_request (Some t) micros bytes = by (awaits_segment t Server) (is_abort_in_sub_block bytes)
   where

@@ -53,7 +53,7 @@ use Rattle.conode_compare_laws.specs.AnswerSenders.{is_block_upload_begin}
 use Rattle.conode_compare_laws.proofs.AnswerTurns.{Sound}
 use Rattle.conode_compare_laws.proofs.AnswerFollowed.{begins_sound, no_begin, reads, upload_read}
 use Rattle.conode_compare_laws.proofs.AnswerBreaches.{Fine, own_fit, refusal_fine, response_fine, segment_done_fine, segment_fine, unknown_fit}
-use Rattle.conode_compare_laws.proofs.AnswerDialogues.{InitiateHeard, channel_is, client_is, doubted_is, initiate_heard}
+use Rattle.conode_compare_laws.proofs.AnswerDialogues.{InitiateHeard, channel_is, client_is, doubted_by, initiate_heard}
 use Rattle.conode_compare_laws.proofs.AnswerOpened.{IsOf, asked_key, exchange_with, of_initiate, of_later}
 use Rattle.conode_compare_laws.proofs.AnswerTransfers.{Shape, StandsFor, StandsIn, later_stands, outside_sub_block, shape_goes}
 use Rattle.conode_compare_laws.proofs.AnswerTransferRuns.{HasShape, Quiet, client_quiet, doubt_runs, frame_runs, one_runs, sound_in}
@@ -88,7 +88,7 @@ later_next : (key : Key) (answer started : ℕ) (d : Dialogue) (micros : ℕ) (f
 later_next key answer started d micros frame s n =
     let same = client_is d micros frame (sound_in key d.channel.transfer s) in
     elim (later_stands key d.channel.heard d.channel.transfer (request_in frame.bytes) micros frame s n) [
-      | inl leaves ↦ inl (doubted_is answer started d micros Client frame ∙ ap (λ (x : Followed). if leaves_request_open Client x.says frame then Some micros else d.doubted) same ∙ ap (λ b. if b then Some micros else d.doubted) leaves)
+      | inl leaves ↦ inl (doubted_by answer started d micros Client frame (ap (λ (x : Followed). leaves_request_open Client x.says frame) same ∙ leaves))
       | inr stands ↦ inr (subst (λ (f : Following). StandsIn (request_in frame.bytes) f.transfer) (sym (channel_is answer started d micros Client frame ∙ ap (λ (x : Followed). x.next) same)) stands)
     ]
 

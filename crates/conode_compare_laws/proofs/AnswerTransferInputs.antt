@@ -53,6 +53,7 @@ use Rattle.conode_compare_rules.specs.declared.kind.FrameKind.{FrameKind}
 use Rattle.conode_compare_rules.specs.declared.kind.FrameKind.TheVariants.{Command, CommandToAll, Control, Emergency as Emcy, Fault, Guarding, OddControl, OddEmergency, Other, Polled, Process, Sdo}
 use Rattle.conode_compare_rules.specs.declared.limits.Subject.{Subject}
 use Rattle.conode_compare_rules.specs.declared.progress.Progress.{Progress}
+use Rattle.conode_compare_rules.specs.declared.verdict.Findings.{Findings}
 use Rattle.conode_compare_rules.specs.FrameKinds.{command_kind, command_to, control_kind, data_kind, emergency_kind, emergency_with, length_of}
 use Rattle.conode_compare_rules.specs.Progresses as progresses
 use Rattle.conode_compare_rules.specs.Progresses.{after_command, after_emergency, after_fault, after_frame, after_odd_control, after_process, before_recording, begins_anew, begun, booted, findings_in, silence_at, was_quiet, with_gap}
@@ -69,6 +70,7 @@ use Rattle.conode_compare_laws.proofs.AnswerFollowed.{begins_sound, reads}
 use Rattle.conode_compare_laws.proofs.AnswerBreaches.{Fine, own_fit, refusal_fine, stray_fine}
 use Rattle.conode_compare_laws.proofs.AnswerDevice.{Clean, IsAnother, IsNumbered, clean_at, expired_at, found_with, idle_stopped, no_exchange_of_event, none_at_event, none_at_frame, none_stopped, numbered, outside, timed_out}
 use Rattle.conode_compare_laws.proofs.AnswerDialogues.{InitiateHeard, initiate_heard}
+use Rattle.conode_compare_laws.proofs.AnswerOthers.{begun_has, is_sdo, life_run, others_run}
 use Rattle.conode_compare_laws.proofs.AnswerSteps.{begun_newest, some_map}
 use Rattle.conode_compare_laws.proofs.AnswerExchange.{answer_kind, request_kind, small_key}
 use Rattle.conode_compare_laws.proofs.AnswerCalm.{another_exchange, calm_exchange, clean_exchange}
@@ -78,132 +80,17 @@ use Rattle.conode_compare_laws.proofs.AnswerTransfers.{Shape, outside_sub_block}
 use Rattle.conode_compare_laws.proofs.AnswerTransferRuns.{HasShape, client_quiet, cons_runs, frame_runs, server_quiet, shape_after, sound_in}
 use Rattle.conode_compare_laws.proofs.AnswerTransferExchange.{HasTied, Tied, all_tied, exchange_runs, later_shape, map_runs}
 
--- ---- frames of other services: the transfer stays, or none is known to be open
+-- ---- frames of other services
 
-abbrev is_sdo : FrameKind → Bool
-is_sdo (Sdo side frame) = true
-is_sdo _ = false
-
-module _ (P : Option Transfer → Type 0) (none : P None) where
-  abbrev Has : Progress → Type 0
-  Has q = P q.dialogue.channel.transfer
-
-  either : (b : Bool) (x y : Progress) → Has x → Has y → Has (if b then x else y)
-  either true x y p q = p
-  either false x y p q = q
-
-  either_dialogue : (b : Bool) (x y : Dialogue) → P x.channel.transfer → P y.channel.transfer → P (if b then x else y).channel.transfer
-  either_dialogue true x y p q = p
-  either_dialogue false x y p q = q
-
-  begun_has : (subject : Subject) (p : Progress) (micros : ℕ) → Has p → Has (begun subject p micros)
-  unfolding begun
-  begun_has subject p micros h = either (begins_anew subject.limits p micros) _ _ none (either_dialogue (was_quiet subject.limits p micros) (interrupted p.dialogue micros) p.dialogue none h)
-
-  command_has : (p : Progress) (service : NmtService) (own : Bool) (micros : ℕ) → Has p → Has (after_command p service own micros)
-  unfolding after_command with_gap
-  command_has p Start own micros h = h
-  command_has p Stop own micros h = h
-  command_has p EnterPreOperational own micros h = h
-  command_has p ResetNode own micros h = none
-  command_has p ResetCommunication own micros h = none
-
-  boot_has : (subject : Subject) (p : Progress) (micros : ℕ) → Has (booted subject p micros)
-  unfolding booted
-  boot_has subject p micros = none
-
-  control_has : (subject : Subject) (p : Progress) (micros byte : ℕ) → Has p → Has (progresses.after_control subject p micros byte)
-  unfolding progresses.after_control
-  control_has subject p micros byte h = either_dialogue (is_some (silence_at subject p micros byte)) (given_up p.dialogue micros) p.dialogue h h
-
-  odd_has : (subject : Subject) (p : Progress) (micros : ℕ) → Has p → Has (after_odd_control subject p micros)
-  unfolding after_odd_control
-  odd_has subject p micros h = h
-
-  emergency_has : (p : Progress) (micros : ℕ) → Has p → Has (after_emergency p micros)
-  unfolding after_emergency
-  emergency_has p micros h = h
-
-  process_has : (subject : Subject) (p : Progress) (micros id : ℕ) → Has p → Has (after_process subject p micros id)
-  unfolding after_process
-  process_has subject p micros id h = h
-
-  fault_has : (p : Progress) (micros : ℕ) → Has (after_fault p micros)
-  unfolding after_fault with_gap
-  fault_has p micros = none
-
-  kind_has : (subject : Subject) (p : Progress) (micros : ℕ) (kind : FrameKind) → is_sdo kind ≡ false → Has p → Has (after_frame subject p micros kind)
-  kind_has subject p micros (Control byte) off h = either (byte == 0) _ _ (boot_has subject p micros) (control_has subject p micros byte h)
-  kind_has subject p micros (OddControl length) off h = odd_has subject p micros h
-  kind_has subject p micros (Emcy code register) off h = emergency_has p micros h
-  kind_has subject p micros (OddEmergency length) off h = emergency_has p micros h
-  kind_has subject p micros (Sdo side frame) off h = absurd (false≢true (sym off))
-  kind_has subject p micros (Command service) off h = command_has p service false micros h
-  kind_has subject p micros (CommandToAll service) off h = command_has p service subject.facts.starts_itself micros h
-  kind_has subject p micros (Process id length) off h = process_has subject p micros id h
-  kind_has subject p micros (Polled id) off h = h
-  kind_has subject p micros Guarding off h = h
-  kind_has subject p micros Fault off h = fault_has p micros
-  kind_has subject p micros Other off h = h
-
-  none_found : (subject : Subject) (rows : List Row) (p : Progress) (micros : ℕ) (kind : FrameKind) → is_sdo kind ≡ false → transfer_differences kind (findings_in subject rows p micros kind) ≡ []
-  none_found subject rows p micros (Sdo side frame) off = absurd (false≢true (sym off))
-  none_found subject rows p micros _ off = refl
-
-  kind_runs : (subject : Subject) (rows : List Row) (micros : ℕ) (p : Progress) (frame : FrameContent) (later : List FrameContent) (after : Progress → Type 0) → is_sdo (data_kind subject.node frame) ≡ false → Has p
-      → ((q : Progress) → Has q → AllRun transfer_differences subject rows micros q later after) → AllRun transfer_differences subject rows micros p (frame ∷ later) after
-  kind_runs subject rows micros p frame later after off h rest =
-      cons_runs subject rows micros p frame later (data_kind subject.node frame) Has after refl
-      (record { none = none_found subject rows (begun subject p micros) micros (data_kind subject.node frame) off; next = kind_has subject (begun subject p micros) micros (data_kind subject.node frame) off (begun_has subject p micros h) })
-      rest
-
--- ---- which frames these are
-
-command_other : (node : ℕ) (command : Option NmtCommand) → is_sdo (command_to node command) ≡ false
-command_other node None = refl
-command_other node (Some command) = by (command.node == 0) (command.node == node)
-  where
-    by : (all this : Bool) → is_sdo (if all then CommandToAll command.service else (if this then Command command.service else Other)) ≡ false
-    by true this = refl
-    by false true = refl
-    by false false = refl
-
-emergency_other : (length : ℕ) (o : Option Emergency) → is_sdo (emergency_with length o) ≡ false
-emergency_other length None = refl
-emergency_other length (Some emergency) = refl
-
-control_other : (frame : FrameContent) → is_sdo (control_kind frame) ≡ false
-control_other frame = by (length frame.bytes == 1)
-  where
-    by : (b : Bool) → is_sdo (if b then Control (slice_index frame.bytes 0) else OddControl (length_of frame)) ≡ false
-    by true = refl
-    by false = refl
-
-other_kind : (node : ℕ) (frame : FrameContent) → IsOther node frame.id → is_sdo (data_kind node frame) ≡ false
-other_kind node frame other = by (frame.id == 0) (frame.id == 0x80 + node) (frame.id == 0x580 + node) (frame.id == 0x600 + node) (frame.id == 0x700 + node) (ne_eqb frame.id (0x580 + node) other.0) (ne_eqb frame.id (0x600 + node) other.1)
-  where
-    by : (a b c d e : Bool) → c ≡ false → d ≡ false
-        → is_sdo (if a then command_kind node frame
-        else (if b then emergency_kind frame
-        else (if c then Sdo Server frame
-        else (if d then Sdo Client frame
-        else (if e then control_kind frame else Process frame.id (length_of frame)))))) ≡ false
-    by true b c d e p q = command_other node (nmt_command_in frame)
-    by false true c d e p q = emergency_other (length_of frame) (emergency_in frame.bytes)
-    by false false true d e p q = absurd (false≢true (sym p))
-    by false false false true e p q = absurd (false≢true (sym q))
-    by false false false false true p q = control_other frame
-    by false false false false false p q = refl
+no_transfer : (kind : FrameKind) (found : Findings) → is_sdo kind ≡ false → transfer_differences kind found ≡ []
+no_transfer (Sdo side frame) found off = absurd (false≢true (sym off))
+no_transfer _ found off = refl
 
 other_runs : (log : Log) (subject : Subject) (rows : List Row) (micros : ℕ) (frames : List FrameContent) (p : Progress) → AreOther subject.node frames → HasTied log p → AllRun transfer_differences subject rows micros p frames (HasTied log)
-other_runs log subject rows micros [] p other h = h
-other_runs log subject rows micros (frame ∷ later) p other h =
-    kind_runs (λ o. IfSome o (Tied log)) tt subject rows micros p frame later (HasTied log) (other_kind subject.node frame other.0) h (λ q g. other_runs log subject rows micros later q other.1 g)
+other_runs log subject rows micros frames p other h = others_run transfer_differences no_transfer (λ o. IfSome o (Tied log)) tt subject rows micros frames p other h
 
 life_runs : (log : Log) (subject : Subject) (rows : List Row) (micros : ℕ) (life : Option Heartbeat) (p : Progress) → HasTied log p → AllRun transfer_differences subject rows micros p (life_frames subject.node life) (HasTied log)
-life_runs log subject rows micros None p h = h
-life_runs log subject rows micros (Some life) p h =
-    kind_runs (λ o. IfSome o (Tied log)) tt subject rows micros p (record { id = 0x700 + subject.node; bytes = heartbeat_bytes life }) [] (HasTied log) (ap is_sdo (life_kind subject.node life)) h (λ q g. g)
+life_runs log subject rows micros life p h = life_run transfer_differences no_transfer (λ o. IfSome o (Tied log)) tt subject rows micros life p h
 
 -- ---- the channel's log at an input
 
@@ -311,7 +198,7 @@ abort_runs subject rows micros time log q over h =
         refusal_fine heard t (open_key (opened_after (Elapsed ∷ log))) timed_out_code micros (0x580 + subject.node) (outside_sub_block t.key t h.shape)
         (own_fit t (open_key (opened_after (Elapsed ∷ log))) timed_out_code (0x580 + subject.node) (subst (λ (x : Key). x.index < 65536) (sym is) h.shape.small) is)
 
-answers_other : (node id : ℕ) (answers : List Answer) → IsOther node id → AreOther node (frames_on id answers)
+pub answers_other : (node id : ℕ) (answers : List Answer) → IsOther node id → AreOther node (frames_on id answers)
 answers_other node id [] other = tt
 answers_other node id (answer ∷ later) other = (other, answers_other node id later other)
 
@@ -348,7 +235,7 @@ tick_runs k subject rows micros history all = runs_by (moment k history Ticked).
         (found_with (IsNumbered k.description.node) (λ c. is_time_over c.time (Elapsed ∷ channel_logs history c.number)) (channels k) all)
 
 -- the log after the answers to an input
-abbrev log_at : Constants → Inputs → InputView → Log
+abbrev pub log_at : Constants → Inputs → InputView → Log
 log_at k before input = logs_after (moment k (moments k before) input).exchange (channel_logs (moments k before)) 0
 
 no_frames : (event : Option ChannelEvent) (subject : Subject) (rows : List Row) (micros : ℕ) (q : Progress) (after : Progress → Type 0) → event ≡ None → after q → AllRun transfer_differences subject rows micros q (frames_at event) after
@@ -418,10 +305,10 @@ pub record Given (k : Constants) (before : Inputs) (input : InputView) : Type 0 
 same_eqb : (n : ℕ) → (n == n) ≡ true
 same_eqb n = grind (arith, nat_tests)
 
-not_equal : (a b : ℕ) → (a == b) ≡ false → a ≢ b
+pub not_equal : (a b : ℕ) → (a == b) ≡ false → a ≢ b
 not_equal a b off = λ e. absurd (false≢true (sym off ∙ ap (λ x. x == b) e ∙ same_eqb b))
 
-only_other : (node : ℕ) (frames : List FrameContent) → AllByRecursion (λ frame. IsAside node frame.id × IsOther node frame.id) frames → AreOther node frames
+pub only_other : (node : ℕ) (frames : List FrameContent) → AllByRecursion (λ frame. IsAside node frame.id × IsOther node frame.id) frames → AreOther node frames
 only_other node [] h = tt
 only_other node (frame ∷ later) h = (h.0.1, only_other node later h.1)
 
@@ -473,7 +360,7 @@ module _ (k : Constants) (subject : Subject) (rows : List Row) (micros : ℕ) (b
       by false false on e = by_ignored frame p g id (served_is k (moments k before) frame false e id g.sync on) (λ i. absurd (false≢true (sym (not_eight frame.bytes e) ∙ i))) h
       by false true on e = by_served frame p g id (served_is k (moments k before) frame true e id g.sync on) h
 
-  nmt_other : (frame : FrameContent) → (frame.id == 0) ≡ true → IsOther k.description.node frame.id
+  pub nmt_other : (frame : FrameContent) → (frame.id == 0) ≡ true → IsOther k.description.node frame.id
   nmt_other frame is = (λ e. absurd (false≢true (sym (far (0x580 + k.description.node) (omega arith) e) ∙ is)), λ e. absurd (false≢true (sym (far (0x600 + k.description.node) (omega arith) e) ∙ is)))
     where
       far : (n : ℕ) → 0 < n → frame.id ≡ n → (frame.id == 0) ≡ false

@@ -1,6 +1,6 @@
 -- Frames of a device without block transfers, one after another: nothing is found within the transfers of its default channel.
 use Rattle.std.proofs.Common.{◌≡◌, ℕ, ◌+◌, ◌-◌, Bool, true, false, List, [], ◌∷◌, Option, Some, None, refl, sym, ap, ◌∙◌, ◌⊎◌, inl, inr, subst}
-use Rattle.std.specs.Prelude.{◌&&◌, if◌then◌else◌, is_some, IfSome, option_map}
+use Rattle.std.specs.Prelude.{◌&&◌, ◌||◌, if◌then◌else◌, is_some, IfSome, option_map}
 use Rattle.std.specs.Option.{option_or}
 use Rattle.std.proofs.lemmas.Bool.{false≢true}
 use Rattle.co_value.specs.declared.key.Key.{Key}
@@ -40,7 +40,7 @@ use Rattle.conode_compare_transfers.specs.declared.dialogue.Dialogue.{Dialogue}
 use Rattle.conode_compare_transfers.specs.declared.dialogue.Exchange.{Exchange}
 use Rattle.conode_compare_transfers.specs.declared.newest.Newest.{Newest}
 use Rattle.conode_compare_transfers.specs.Breaches.{breach_at, breach_by, ending_breach}
-use Rattle.conode_compare_transfers.specs.Dialogues.{dialogue_heard, exchange_in, is_timed, leaves_request_open}
+use Rattle.conode_compare_transfers.specs.Dialogues.{dialogue_heard, exchange_in, is_timed, leaves_request_open, may_be_segment}
 use Rattle.conode_compare_transfers.specs.Times.{is_past}
 use Rattle.conode_compare_rules.specs.declared.finding.Finding.{Finding}
 use Rattle.conode_compare_rules.specs.declared.finding.Finding.TheVariants.{AnswerStopped, Held, NoAnswer, Unasked}
@@ -335,7 +335,7 @@ shape_after key answer started d micros frame s =
     (shape_goes key d.channel.heard d.channel.transfer _ micros Server frame.bytes s (server_no_begin d.channel.transfer micros frame.bytes))
 
 doubt_after : (answer started : ℕ) (d : Dialogue) (micros : ℕ) (frame : FrameContent) → d.doubted ≡ Some micros → (dialogue_heard answer started d micros Server frame).doubted ≡ Some micros
-doubt_after answer started d micros frame h = doubted_is answer started d micros Server frame ∙ by (leaves_request_open Server (reads d.channel micros Server frame.bytes).says frame)
+doubt_after answer started d micros frame h = doubted_is answer started d micros Server frame ∙ by (leaves_request_open Server (reads d.channel micros Server frame.bytes).says frame || may_be_segment d.sub_block (reads d.channel micros Server frame.bytes).says.what)
   where
     by : (b : Bool) → (if b then Some micros else d.doubted) ≡ Some micros
     by true = refl

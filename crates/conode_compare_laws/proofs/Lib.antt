@@ -32,7 +32,17 @@ pub mod AnswerBreaches
 pub mod AnswerTransfers
 pub mod AnswerTransferRuns
 pub mod AnswerTransferExchange
+pub mod AnswerOthers
 pub mod AnswerTransferInputs
+pub mod AnswerEnds
+pub mod AnswerWhole
+pub mod AnswerIgnored
+pub mod AnswerOnly
+pub mod AnswerDataFrames
+pub mod AnswerDataExchange
+pub mod AnswerDataInputs
+pub mod AnswerToggles
+pub mod AnswerToggleRuns
 mod AnswerExamples
 mod Examples
 pub mod TpdoOthers

@@ -2,7 +2,7 @@
 use Rattle.std.specs.Prelude.{List, [], ◌∷◌, ◌++◌, Option, Some}
 use Rattle.std.specs.Option.{option_to_list}
 use Rattle.conode_compare_rules.specs.declared.finding.Finding.{Finding}
-use Rattle.conode_compare_transfers.specs.declared.breach.Breach.TheVariants.{Toggle, Form, AbortKey, Crc}
+use Rattle.conode_compare_transfers.specs.declared.breach.Breach.TheVariants.{Toggle, Form, AbortKey, Size, Crc}
 use Rattle.conode_compare_rules.specs.declared.finding.Finding.TheVariants.{NoAnswer, Unasked, AnswerKey, AnswerForm, AnswerStopped, Transfer}
 use Rattle.conode_compare_rules.specs.declared.kind.FrameKind.{FrameKind}
 use Rattle.conode_compare_rules.specs.declared.kind.FrameKind.TheVariants.{Sdo}
@@ -36,3 +36,26 @@ of_transfers finding = []
 abbrev pub transfer_differences : FrameKind → Findings → List Finding
 transfer_differences (Sdo side frame) found = of_transfers found.frame
 transfer_differences kind found = []
+
+-- ---- of its data
+
+-- `answer-size`, `answer-crc`
+abbrev pub of_data : Option Finding → List Finding
+of_data (Some (Transfer (Size key indicated came))) = Transfer (Size key indicated came) ∷ []
+of_data (Some (Transfer (Crc key came computed))) = Transfer (Crc key came computed) ∷ []
+of_data finding = []
+
+abbrev pub data_differences : FrameKind → Findings → List Finding
+data_differences (Sdo side frame) found = of_data found.frame
+data_differences kind found = []
+
+-- ---- of its toggle bits
+
+-- `answer-toggle`
+abbrev pub of_toggles : Option Finding → List Finding
+of_toggles (Some (Transfer (Toggle key))) = Transfer (Toggle key) ∷ []
+of_toggles finding = []
+
+abbrev pub toggle_differences : FrameKind → Findings → List Finding
+toggle_differences (Sdo side frame) found = of_toggles found.frame
+toggle_differences kind found = []

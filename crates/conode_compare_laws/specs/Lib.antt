@@ -8,3 +8,4 @@ pub mod TpdoParameters
 pub mod TpdoSheets
 pub mod AnswerFindings
 pub mod AnswerSenders
+pub mod AnswerEntries

@@ -9,8 +9,11 @@ ghost use Rattle.co_node_model.specs.Moments.{Constants};
 ghost use Rattle.conode_compare_rules.specs.declared.limits.Subject.{Subject};
 ghost use Rattle.conode_compare_laws.specs.AnswerFindings.{
   answer_differences,
+  data_differences,
+  toggle_differences,
   transfer_differences,
 };
+ghost use Rattle.conode_compare_laws.specs.AnswerEntries.{AllAreHeld};
 ghost use Rattle.conode_compare_laws.specs.AnswerSenders.{
   AllSendOther,
   BeginNoBlockUploads,
@@ -125,4 +128,71 @@ pub fn built_no_transfer_differences()
     begins_aside();
     begins_other();
     no_transfer_differences();
+}
+
+/// The recording of a device, over whatever inputs with whatever stamps, has no transfer that ends
+/// with another number of bytes than the device named, or with another CRC: no `answer-size` and no
+/// `answer-crc`, expedited, in segments and in blocks (CiA 301, 7.2.4.3). Requests may come while
+/// the device is stopped, out of turn, with wrong toggle bits and numbers, and of any length;
+/// transfers may time out, and end when the recording begins anew; entries may be written while they
+/// are uploaded. Conditions: `compare` has the device's node-ID; frames have bytes (`HaveBytes`);
+/// the entries are those of a dictionary (`AllAreHeld`); no other node sends on the identifier of
+/// the answers (`AreElsewhere`); and the COB-IDs with which the device is built are apart from its
+/// default channel, from NMT and from its error control (`BeginsApart`, `BeginsAside`,
+/// `BeginsOther`). This is a law: a call of it changes nothing.
+pub fn no_data_differences()
+    ensures { (k : Constants) (subject : Subject) (rows : List Row) (inputs : List Stamped) →
+        subject.node ≡ k.description.node → HaveBytes inputs → AllAreHeld k [] inputs →
+        AreElsewhere (0x580 + k.description.node) inputs → BeginsApart k → BeginsAside k →
+        BeginsOther k →
+        differences_in data_differences subject rows (recording k inputs) ≡ [] }
+{
+    sends_other();
+    stays_apart();
+}
+
+/// So has the recording of each device that is built from a data sheet: `no_data_differences` of
+/// it. This is a law: a call of it changes nothing.
+pub fn built_no_data_differences()
+    ensures { (plan : Plan) (k : Constants) (subject : Subject) (rows : List Row)
+        (inputs : List Stamped) → IsBuilt plan k → subject.node ≡ k.description.node →
+        HaveBytes inputs → AllAreHeld k [] inputs →
+        AreElsewhere (0x580 + k.description.node) inputs →
+        differences_in data_differences subject rows (recording k inputs) ≡ [] }
+{
+    begins_apart();
+    begins_aside();
+    begins_other();
+    no_data_differences();
+}
+
+/// The recording of a device, over whatever inputs with whatever stamps, has no `answer-toggle`: no
+/// answer has the toggle bit of the one before, whatever transfers there are, in segments and in
+/// blocks (CiA 301, 7.2.4.3). Conditions: `compare` has the device's node-ID; no other node sends on
+/// the identifier of the answers (`AreElsewhere`); and the COB-IDs with which the device is built
+/// are apart from its default channel, from NMT and from its error control (`BeginsApart`,
+/// `BeginsAside`, `BeginsOther`). This is a law: a call of it changes nothing.
+pub fn no_toggle_differences()
+    ensures { (k : Constants) (subject : Subject) (rows : List Row) (inputs : List Stamped) →
+        subject.node ≡ k.description.node →
+        AreElsewhere (0x580 + k.description.node) inputs → BeginsApart k → BeginsAside k →
+        BeginsOther k →
+        differences_in toggle_differences subject rows (recording k inputs) ≡ [] }
+{
+    sends_other();
+    stays_apart();
+}
+
+/// So has the recording of each device that is built from a data sheet: `no_toggle_differences` of
+/// it. This is a law: a call of it changes nothing.
+pub fn built_no_toggle_differences()
+    ensures { (plan : Plan) (k : Constants) (subject : Subject) (rows : List Row)
+        (inputs : List Stamped) → IsBuilt plan k → subject.node ≡ k.description.node →
+        AreElsewhere (0x580 + k.description.node) inputs →
+        differences_in toggle_differences subject rows (recording k inputs) ≡ [] }
+{
+    begins_apart();
+    begins_aside();
+    begins_other();
+    no_toggle_differences();
 }

@@ -13,8 +13,9 @@ mod tpdo_built;
 mod tpdo_laws;
 
 pub use answer_laws::{
-    begins_other, built_no_answer_differences, built_no_transfer_differences,
-    no_answer_differences, no_transfer_differences, sends_other,
+    begins_other, built_no_answer_differences, built_no_data_differences,
+    built_no_toggle_differences, built_no_transfer_differences, no_answer_differences,
+    no_data_differences, no_toggle_differences, no_transfer_differences, sends_other,
 };
 pub use aside::sends_aside;
 pub use built_devices::{begins_aside, built_no_state_differences};

@@ -1,0 +1,208 @@
+-- Frames of other services and of other channels, for the laws about transfers: the transfer stays, or none is known to be open.
+use Rattle.std.proofs.Common.{◌≡◌, ℕ, ◌+◌, ◌<◌, ◌≢◌, Bool, true, false, List, [], ◌∷◌, ◌++◌, map, length, Option, Some, None, refl, sym, ap, ◌∙◌, inr, subst, arith}
+use Rattle.std.specs.Prelude.{◌==◌, ◌&&◌, if◌then◌else◌, is_some, IfSome, slice_index}
+use Rattle.std.specs.List.{AllByRecursion}
+use Rattle.std.proofs.lemmas.Bool.{eqb-true, false≢true, ne_eqb}
+use Rattle.std.proofs.lemmas.Bool.Decides.{nat_tests}
+use Rattle.co_value.specs.declared.key.Key.{Key}
+use Rattle.co_frame.specs.AbortCodes.{timed_out as timed_out_code}
+use Rattle.co_frame.specs.FrameContent.{FrameContent}
+use Rattle.co_frame.specs.Emergencies.{emergency_in}
+use Rattle.co_frame.specs.Heartbeats.{heartbeat_bytes}
+use Rattle.co_frame.specs.Nmt.{nmt_command_in}
+use Rattle.co_frame.specs.SdoRequests.{request_in}
+use Rattle.co_frame.specs.declared.emergency.Emergency.{Emergency}
+use Rattle.co_frame.specs.declared.heartbeat.Heartbeat.{Heartbeat}
+use Rattle.co_frame.specs.declared.heartbeat.Heartbeat.TheVariants.{BootUp}
+use Rattle.co_frame.specs.declared.nmt.NmtCommand.{NmtCommand}
+use Rattle.co_frame.specs.declared.nmt.NmtService.{NmtService}
+use Rattle.co_frame.specs.declared.nmt.NmtService.TheVariants.{Start, Stop, EnterPreOperational, ResetNode, ResetCommunication}
+use Rattle.co_frame.specs.declared.sdo_request.SdoRequest.{SdoRequest}
+use Rattle.co_frame.specs.declared.sdo_request.SdoRequest.TheVariants.{DownloadExpedited, DownloadInitiate, Upload as UploadInitiate, BlockUploadInitiate, BlockDownloadInitiate}
+use Rattle.co_frame.specs.declared.sdo_response.SdoResponse.TheVariants.{Abort as Refuse}
+use Rattle.co_sdo.specs.Channels.{ChannelSettings}
+use Rattle.co_sdo.specs.Events.{ChannelEvent, exchange_on, frames_at, logs_after, time_out_on}
+use Rattle.co_sdo.specs.Log.{Answer, Event, Log, Response as Replied, Ticked as Elapsed, TimedOut, Dropped, answer_bytes, frames_on}
+use Rattle.co_sdo.specs.Opened.{OpenTransfer, is_time_over, opened, opened_after}
+use Rattle.co_sdo.specs.OpenTransfers.{Since, and_event, is_initiate as initiates, open_since, open_transfer, since_initiate}
+use Rattle.co_sdo.specs.Replies.{open_key, time_out_reply}
+use Rattle.co_sdo_laws.proofs.Channel.{ended, tick_opens}
+use Rattle.co_node_laws.proofs.Channel.{default_channel}
+use Rattle.co_node_parts.specs.declared.nmt_state.NodeState.TheVariants as node
+use Rattle.co_node_parts.specs.NmtStates.{is_state}
+use Rattle.co_node_model.specs.Device.{contents_of, moment, moments, prescribed, state_of}
+use Rattle.co_node_model.specs.Emergencies.{emergency_frames}
+use Rattle.co_node_model.specs.Heartbeats.{boot_up, life_frames}
+use Rattle.co_node_model.specs.Inputs.{Applied, Framed, Inputs, InputView, Ticked}
+use Rattle.co_node_model.specs.Marks.{marked_tick}
+use Rattle.co_node_model.specs.Moments.{Constants, History, Moment, channels}
+use Rattle.co_node_model.specs.Sdo.{channel_logs, drops, with_channel_ticks, with_drop}
+use Rattle.co_node_model.specs.Sync.{is_sync_id}
+use Rattle.co_node_model.specs.Tpdos.{tpdo_frame}
+use Rattle.co_sheet.specs.Content.{Row}
+use Rattle.conode_explain_transfers.specs.declared.kinds.Side.TheVariants.{Client, Server}
+use Rattle.conode_explain_transfers.specs.declared.transfer.Transfer.{Transfer}
+use Rattle.conode_explain_laws.specs.Downloads.{is_block_begin}
+use Rattle.conode_explain_laws.proofs.Begins.{HasKey, has_key}
+use Rattle.conode_explain_laws.proofs.Views.{server_no_begin}
+use Rattle.conode_explain_transfers.specs.BlockTurns.{is_block}
+use Rattle.co_value.specs.Numbers.{AreBytes}
+use Rattle.conode_compare_transfers.specs.declared.dialogue.Dialogue.{Dialogue}
+use Rattle.conode_compare_transfers.specs.Dialogues.{dialogue_heard, given_up, interrupted}
+use Rattle.conode_compare_rules.specs.declared.kind.FrameKind.{FrameKind}
+use Rattle.conode_compare_rules.specs.declared.kind.FrameKind.TheVariants.{Command, CommandToAll, Control, Emergency as Emcy, Fault, Guarding, OddControl, OddEmergency, Other, Polled, Process, Sdo}
+use Rattle.conode_compare_rules.specs.declared.limits.Subject.{Subject}
+use Rattle.conode_compare_rules.specs.declared.finding.Finding.{Finding}
+use Rattle.conode_compare_rules.specs.declared.progress.Progress.{Progress}
+use Rattle.conode_compare_rules.specs.declared.verdict.Findings.{Findings}
+use Rattle.conode_compare_rules.specs.FrameKinds.{command_kind, command_to, control_kind, data_kind, emergency_kind, emergency_with, length_of}
+use Rattle.conode_compare_rules.specs.Progresses as progresses
+use Rattle.conode_compare_rules.specs.Progresses.{after_command, after_emergency, after_fault, after_frame, after_odd_control, after_process, begins_anew, begun, booted, findings_at, findings_in, progress_with, silence_at, was_quiet, with_gap}
+use Rattle.conode_compare_laws.specs.AnswerFindings.{transfer_differences}
+use Rattle.conode_compare_laws.specs.AnswerSenders.{AllSendOther, AreOther, BeginNoBlockUploads, BeginNoBlocks, BeginsNoBlockUpload, BeginsNoBlocks, HasBytes, HaveBytes, HaveOtherChannels, IsOther, SendsOther, is_block_upload_begin}
+use Rattle.conode_compare_laws.specs.Differences.{differences_from, differences_in}
+use Rattle.conode_compare_laws.specs.Identifiers.{AreElsewhere, IsAside, IsElsewhere}
+use Rattle.conode_compare_laws.specs.Recordings.{Stamped, frame_of, heard_from, recording}
+use Rattle.conode_compare_laws.proofs.Frames.{life_kind}
+use Rattle.conode_compare_laws.proofs.Heard.{of_device}
+use Rattle.conode_compare_laws.proofs.Runs.{AllRun, joined, then_none}
+use Rattle.conode_compare_laws.proofs.AnswerTurns.{Sound}
+use Rattle.conode_compare_laws.proofs.AnswerFollowed.{begins_sound, reads}
+use Rattle.conode_compare_laws.proofs.AnswerBreaches.{Fine, own_fit, refusal_fine, stray_fine}
+use Rattle.conode_compare_laws.proofs.AnswerDevice.{Clean, IsAnother, IsNumbered, clean_at, expired_at, found_with, idle_stopped, no_exchange_of_event, none_at_event, none_at_frame, none_stopped, numbered, outside, timed_out}
+use Rattle.conode_compare_laws.proofs.AnswerDialogues.{InitiateHeard, initiate_heard}
+use Rattle.conode_compare_laws.proofs.AnswerSteps.{begun_newest, some_map}
+use Rattle.conode_compare_laws.proofs.AnswerExchange.{answer_kind, request_kind, small_key}
+use Rattle.conode_compare_laws.proofs.AnswerCalm.{another_exchange, calm_exchange, clean_exchange}
+use Rattle.conode_compare_laws.proofs.AnswerInputs.{not_eight, not_zero, nmt_exchange, served_is, zero_is}
+use Rattle.conode_compare_laws.proofs.AnswerOpened.{IsOf, none_of}
+use Rattle.conode_compare_laws.proofs.AnswerTransfers.{Shape, outside_sub_block}
+use Rattle.conode_compare_laws.proofs.AnswerTransferRuns.{HasShape, client_quiet, cons_runs, frame_runs, server_quiet, shape_after, sound_in}
+use Rattle.conode_compare_laws.proofs.AnswerTransferExchange.{HasTied, Tied, all_tied, exchange_runs, later_shape, map_runs}
+
+-- ---- frames of other services: the transfer stays, or none is known to be open
+
+abbrev pub is_sdo : FrameKind → Bool
+is_sdo (Sdo side frame) = true
+is_sdo _ = false
+
+module _ (P : Option Transfer → Type 0) (none : P None) where
+  abbrev Has : Progress → Type 0
+  Has q = P q.dialogue.channel.transfer
+
+  either : (b : Bool) (x y : Progress) → Has x → Has y → Has (if b then x else y)
+  either true x y p q = p
+  either false x y p q = q
+
+  either_dialogue : (b : Bool) (x y : Dialogue) → P x.channel.transfer → P y.channel.transfer → P (if b then x else y).channel.transfer
+  either_dialogue true x y p q = p
+  either_dialogue false x y p q = q
+
+  pub begun_has : (subject : Subject) (p : Progress) (micros : ℕ) → Has p → Has (begun subject p micros)
+  unfolding begun
+  begun_has subject p micros h = either (begins_anew subject.limits p micros) _ _ none (either_dialogue (was_quiet subject.limits p micros) (interrupted p.dialogue micros) p.dialogue none h)
+
+  command_has : (p : Progress) (service : NmtService) (own : Bool) (micros : ℕ) → Has p → Has (after_command p service own micros)
+  unfolding after_command with_gap
+  command_has p Start own micros h = h
+  command_has p Stop own micros h = h
+  command_has p EnterPreOperational own micros h = h
+  command_has p ResetNode own micros h = none
+  command_has p ResetCommunication own micros h = none
+
+  boot_has : (subject : Subject) (p : Progress) (micros : ℕ) → Has (booted subject p micros)
+  unfolding booted
+  boot_has subject p micros = none
+
+  control_has : (subject : Subject) (p : Progress) (micros byte : ℕ) → Has p → Has (progresses.after_control subject p micros byte)
+  unfolding progresses.after_control
+  control_has subject p micros byte h = either_dialogue (is_some (silence_at subject p micros byte)) (given_up p.dialogue micros) p.dialogue h h
+
+  odd_has : (subject : Subject) (p : Progress) (micros : ℕ) → Has p → Has (after_odd_control subject p micros)
+  unfolding after_odd_control
+  odd_has subject p micros h = h
+
+  emergency_has : (p : Progress) (micros : ℕ) → Has p → Has (after_emergency p micros)
+  unfolding after_emergency
+  emergency_has p micros h = h
+
+  process_has : (subject : Subject) (p : Progress) (micros id length : ℕ) → Has p → Has (after_process subject p micros id length)
+  unfolding after_process
+  process_has subject p micros id length h = h
+
+  fault_has : (p : Progress) (micros : ℕ) → Has (after_fault p micros)
+  unfolding after_fault with_gap
+  fault_has p micros = none
+
+  kind_has : (subject : Subject) (p : Progress) (micros : ℕ) (kind : FrameKind) → is_sdo kind ≡ false → Has p → Has (after_frame subject p micros kind)
+  kind_has subject p micros (Control byte) off h = either (byte == 0) _ _ (boot_has subject p micros) (control_has subject p micros byte h)
+  kind_has subject p micros (OddControl length) off h = odd_has subject p micros h
+  kind_has subject p micros (Emcy code register) off h = emergency_has p micros h
+  kind_has subject p micros (OddEmergency length) off h = emergency_has p micros h
+  kind_has subject p micros (Sdo side frame) off h = absurd (false≢true (sym off))
+  kind_has subject p micros (Command service) off h = command_has p service false micros h
+  kind_has subject p micros (CommandToAll service) off h = command_has p service subject.facts.starts_itself micros h
+  kind_has subject p micros (Process id length) off h = process_has subject p micros id length h
+  kind_has subject p micros (Polled id) off h = h
+  kind_has subject p micros Guarding off h = h
+  kind_has subject p micros Fault off h = fault_has p micros
+  kind_has subject p micros Other off h = h
+
+-- ---- which frames these are
+
+command_other : (node : ℕ) (command : Option NmtCommand) → is_sdo (command_to node command) ≡ false
+command_other node None = refl
+command_other node (Some command) = by (command.node == 0) (command.node == node)
+  where
+    by : (all this : Bool) → is_sdo (if all then CommandToAll command.service else (if this then Command command.service else Other)) ≡ false
+    by true this = refl
+    by false true = refl
+    by false false = refl
+
+emergency_other : (length : ℕ) (o : Option Emergency) → is_sdo (emergency_with length o) ≡ false
+emergency_other length None = refl
+emergency_other length (Some emergency) = refl
+
+control_other : (frame : FrameContent) → is_sdo (control_kind frame) ≡ false
+control_other frame = by (length frame.bytes == 1)
+  where
+    by : (b : Bool) → is_sdo (if b then Control (slice_index frame.bytes 0) else OddControl (length_of frame)) ≡ false
+    by true = refl
+    by false = refl
+
+pub other_kind : (node : ℕ) (frame : FrameContent) → IsOther node frame.id → is_sdo (data_kind node frame) ≡ false
+other_kind node frame other = by (frame.id == 0) (frame.id == 0x80 + node) (frame.id == 0x580 + node) (frame.id == 0x600 + node) (frame.id == 0x700 + node) (ne_eqb frame.id (0x580 + node) other.0) (ne_eqb frame.id (0x600 + node) other.1)
+  where
+    by : (a b c d e : Bool) → c ≡ false → d ≡ false
+        → is_sdo (if a then command_kind node frame
+        else (if b then emergency_kind frame
+        else (if c then Sdo Server frame
+        else (if d then Sdo Client frame
+        else (if e then control_kind frame else Process frame.id (length_of frame)))))) ≡ false
+    by true b c d e p q = command_other node (nmt_command_in frame)
+    by false true c d e p q = emergency_other (length_of frame) (emergency_in frame.bytes)
+    by false false true d e p q = absurd (false≢true (sym p))
+    by false false false true e p q = absurd (false≢true (sym q))
+    by false false false false true p q = control_other frame
+    by false false false false false p q = refl
+
+-- ---- one after another
+
+module _ (these : FrameKind → Findings → List Finding) (quiet : (kind : FrameKind) (found : Findings) → is_sdo kind ≡ false → these kind found ≡ []) (P : Option Transfer → Type 0) (none : P None) where
+  kind_runs : (subject : Subject) (rows : List Row) (micros : ℕ) (p : Progress) (frame : FrameContent) (later : List FrameContent) (after : Progress → Type 0) → is_sdo (data_kind subject.node frame) ≡ false → P p.dialogue.channel.transfer
+      → ((q : Progress) → P q.dialogue.channel.transfer → AllRun these subject rows micros q later after) → AllRun these subject rows micros p (frame ∷ later) after
+  unfolding findings_at progress_with
+  kind_runs subject rows micros p frame later after off h rest = (
+    quiet (data_kind subject.node frame) (findings_in subject rows (begun subject p micros) micros (data_kind subject.node frame)) off,
+    rest (after_frame subject (begun subject p micros) micros (data_kind subject.node frame)) (kind_has P none subject (begun subject p micros) micros (data_kind subject.node frame) off (begun_has P none subject p micros h)),
+  )
+
+  pub others_run : (subject : Subject) (rows : List Row) (micros : ℕ) (frames : List FrameContent) (p : Progress) → AreOther subject.node frames → P p.dialogue.channel.transfer → AllRun these subject rows micros p frames (λ q. P q.dialogue.channel.transfer)
+  others_run subject rows micros [] p other h = h
+  others_run subject rows micros (frame ∷ later) p other h =
+      kind_runs subject rows micros p frame later (λ q. P q.dialogue.channel.transfer) (other_kind subject.node frame other.0) h (λ q g. others_run subject rows micros later q other.1 g)
+
+  pub life_run : (subject : Subject) (rows : List Row) (micros : ℕ) (life : Option Heartbeat) (p : Progress) → P p.dialogue.channel.transfer → AllRun these subject rows micros p (life_frames subject.node life) (λ q. P q.dialogue.channel.transfer)
+  life_run subject rows micros None p h = h
+  life_run subject rows micros (Some life) p h =
+      kind_runs subject rows micros p (record { id = 0x700 + subject.node; bytes = heartbeat_bytes life }) [] (λ q. P q.dialogue.channel.transfer) (ap is_sdo (life_kind subject.node life)) h (λ q g. g)
