@@ -6,6 +6,5 @@ pub mod NodeExamples
 pub mod ServiceLemmas
 pub mod SheetExamples
 pub mod TellingLemmas
-pub mod ToneExamples
 pub mod WriteLemmas
 pub mod WriteSets

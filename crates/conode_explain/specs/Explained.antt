@@ -1,7 +1,7 @@
 -- What a log is explained as: the lines of its frames that are asked for, in order, each with that
 -- of the transfer that ended with it, and at the end those of the transfers that are open. A bad
 -- line has none here, and is counted.
-use Rattle.std.specs.Prelude.{ℕ, ◌+◌, ◌==◌, Bool, false, min, nat_lt, ◌&&◌, ◌||◌, if◌then◌else◌, List, [], ◌∷◌, ◌++◌, length, Option, Some, None}
+use Rattle.std.specs.Prelude.{ℕ, ◌+◌, ◌-◌, ◌==◌, Bool, false, min, nat_lt, ◌&&◌, ◌||◌, if◌then◌else◌, List, [], ◌∷◌, ◌++◌, length, Option, Some, None}
 use Rattle.std.specs.List.{flat_map}
 use Rattle.std.specs.Str.Lines.{lines}
 use Rattle.co_stream.specs.Founds.{is_closed}
@@ -15,11 +15,17 @@ use Rattle.conode_record.specs.declared.fields.Identifier.TheVariants.{Base}
 use Rattle.conode_record.specs.declared.line.Record.{Record}
 use Rattle.conode_record.specs.declared.line.RecordLine.{RecordLine}
 use Rattle.conode_record.specs.declared.line.RecordLine.TheVariants.{Skipped, Frame}
+use Rattle.co_frame.specs.FrameContent.{FrameContent}
+use Rattle.conode_explain_transfers.specs.declared.told.Part.{Part as Role}
 use Rattle.conode_explain_transfers.specs.declared.told.Told.{Told}
 use Rattle.conode_explain_transfers.specs.declared.track.Track.{Track}
-use Rattle.conode_explain_transfers.specs.Tellings.{telling}
+use Rattle.conode_explain_transfers.specs.Tellings.{is_boot_up, telling}
 use Rattle.conode_explain_transfers.specs.Tracks.{Telling}
 use Rattle.conode_explain_entries.specs.declared.entries.ShownPdo.{ShownPdo}
+use Rattle.conode_explain_entries.specs.declared.further.ChannelIds.{ChannelIds}
+use Rattle.conode_explain_entries.specs.declared.further.FurtherChannel.{FurtherChannel}
+use Rattle.conode_explain_entries.specs.declared.further.Place.{Place}
+use Rattle.conode_explain_entries.specs.Further.{FurtherTelling, booted_all, further_telling, is_at}
 use Rattle.conode_explain_entries.specs.Tables.{entries_with}
 use Rattle.conode_explain_pdo.specs.Buses.{Bus}
 use Rattle.conode_explain_pdo.specs.declared.claim.Claim.{Claim}
@@ -27,7 +33,7 @@ use Rattle.conode_explain_pdo.specs.Known.{KnownSheet}
 use Rattle.conode_explain_pdo.specs.Claims.{claims_with}
 use Rattle.conode_explain_pdo.specs.Known.{names_for}
 use Rattle.conode_explain_transfers.specs.declared.ended.Ended.{Ended}
-use Rattle.conode_explain_transfers.specs.declared.ended.Ending.TheVariants.{Unfinished}
+use Rattle.conode_explain_transfers.specs.declared.ended.Ending.TheVariants.{Interrupted, Unfinished}
 use Rattle.conode_explain_transfers.specs.Followed.{closed}
 use Rattle.conode_explain_filter.specs.Changes.{Said}
 use Rattle.conode_explain_filter.specs.declared.kind.Kind.{Kind}
@@ -44,26 +50,45 @@ use Rattle.conode_explain.specs.declared.progress.Layout.{Layout}
 use Rattle.conode_explain.specs.declared.progress.LineFormat.{LineFormat}
 use Rattle.conode_explain.specs.declared.progress.LineFormat.TheVariants.{Text, Json}
 use Rattle.conode_explain.specs.LogLines.{line_at}
-use Rattle.conode_explain.specs.Filtered.{data_of, is_news, lasts_told, shows_end, shows_frame, subject_in}
+use Rattle.conode_explain.specs.Filtered.{is_news, lasts_told, shows_end, shows_frame, subject_by}
 use Rattle.conode_explain.specs.Nodes.{last_at, nodes_with}
 use Rattle.conode_explain.specs.ToldWords.{ended_words, told_words}
-use Rattle.conode_explain.specs.declared.tones.Tone.{Tone}
-use Rattle.conode_explain.specs.Tones.{ending_tone, frame_tone, toned}
+use Rattle.conode_explain_forms.specs.declared.tones.Tone.{Tone}
+use Rattle.conode_explain_forms.specs.Places.{place_of, read_as}
+use Rattle.conode_explain_forms.specs.Tones.{data_of, ending_tone, frame_tone, toned}
 
 -- ---- the lines of frames
 
 -- nothing came
 abbrev pub nothing_known : Progress
-nothing_known = record { seen = nothing_seen; channels = []; entries = []; nodes = []; lasts = [] }
+nothing_known = record { seen = nothing_seen; channels = []; further = []; entries = []; nodes = []; lasts = [] }
+
+-- a boot-up is one of its node also where nothing was heard on the node's default channel
+abbrev pub or_boot_up : FrameContent → Option Told → Option Told
+or_boot_up frame (Some told) = Some told
+or_boot_up frame None = if is_boot_up frame then Some (record { node = frame.id - 0x700; part = None; ended = None }) else None
+
+abbrev pub telling_by : List Track → Record → FrameContent → Telling
+telling_by channels frame content =
+    let telling = telling channels frame.interface frame.micros content in
+    record { told = or_boot_up content telling.told; tracks = telling.tracks }
 
 -- what is said about a frame, and the channels after it: only data frames with an identifier of 11
 -- bits are followed
 abbrev pub telling_in : List Track → Record → Identifier → Content → Telling
-telling_in channels frame (Base id) (Data bytes) = telling channels frame.interface frame.micros (record { id = id; bytes = bytes })
+telling_in channels frame (Base id) (Data bytes) = telling_by channels frame (record { id = id; bytes = bytes })
 telling_in channels frame _ _ = record { told = None; tracks = channels }
 
 unfoldable pub telling_of : List Track → Record → Telling
 telling_of channels frame = telling_in channels frame frame.id frame.content
+
+-- what is said about one of a channel other than a default one, and these channels after it
+abbrev pub further_in : List FurtherChannel → Record → Place → Identifier → Content → FurtherTelling
+further_in further frame place (Base id) (Data bytes) = further_telling further frame.interface place frame.micros bytes
+further_in further frame place _ _ = record { told = None; channels = further }
+
+unfoldable pub further_of : List FurtherChannel → Record → Place → FurtherTelling
+further_of further frame place = further_in further frame place frame.id frame.content
 
 -- a channel may take a frame: its identifier is above those of PDOs
 abbrev pub may_be_told : Identifier → Bool
@@ -119,71 +144,128 @@ signal_lines form so_far bus claims frame told =
     then signal_line form.stamps (times_at so_far frame.micros) value form.signals.now ∷ [] else []
 
 -- and is asked for
-abbrev pub shown_signals : Layout → SoFar → Bus → List Claim → Record → Option Told → List (List ℕ)
-shown_signals form so_far bus claims frame told =
-    if shows_frame form so_far (subject_in claims frame) frame.micros
+abbrev pub shown_signals : Layout → SoFar → Bus → List Claim → Option Place → Record → Option Told → List (List ℕ)
+shown_signals form so_far bus claims place frame told =
+    if shows_frame form so_far (subject_by place claims frame) frame.micros
     then signal_lines form so_far bus claims frame told else []
 
+-- what a frame says: on a channel other than a default one what it would on the default one
+abbrev pub words_at : Bus → List Claim → Option Place → Last → Record → Option Told → List ℕ
+words_at bus claims place last frame told = told_words bus claims last (read_as place frame.id) frame.content told
+
 -- the line of a frame: of a table, where signals are asked for
-abbrev pub first_lines : Layout → Bus → List Claim → Last → SoFar → List Said → Record → Option Told → List (List ℕ)
-first_lines form bus claims last so_far lasts frame told =
+abbrev pub first_lines : Layout → Bus → List Claim → Option Place → Last → SoFar → List Said → Record → Option Told → List (List ℕ)
+first_lines form bus claims place last so_far lasts frame told =
     if length form.signals.now == 0
-    then shown_lines form so_far lasts (subject_in claims frame) frame (told_words bus claims last frame told)
-    else shown_signals form so_far bus claims frame told
+    then shown_lines form so_far lasts (subject_by place claims frame) frame (words_at bus claims place last frame told)
+    else shown_signals form so_far bus claims place frame told
 
 -- the line of a transfer of a node that ended, where one did and it is asked for
-unfoldable pub end_line : Layout → List KnownSheet → SoFar → ℕ → List ℕ → ℕ → Ended → List ℕ
-end_line form sheets so_far micros interface node e =
+unfoldable pub end_line : Layout → List KnownSheet → SoFar → ℕ → List ℕ → ℕ → Option ChannelIds → Ended → List ℕ
+end_line form sheets so_far micros interface node ids e =
     line_as form (ending_tone e.ending) Sdo (Some node)
-    (own_parts form.stamps (times_at so_far micros) (shows_interface so_far interface) interface (ended_words (names_for sheets interface node) node e))
+    (own_parts form.stamps (times_at so_far micros) (shows_interface so_far interface) interface (ended_words (names_for sheets interface node) node ids e))
 
-abbrev pub ended_lines : Layout → List KnownSheet → SoFar → ℕ → List ℕ → ℕ → Option Ended → List (List ℕ)
-ended_lines form sheets so_far micros interface node None = []
-ended_lines form sheets so_far micros interface node (Some e) =
-    if shows_end form so_far micros node then end_line form sheets so_far micros interface node e ∷ [] else []
+abbrev pub ended_lines : Layout → List KnownSheet → SoFar → ℕ → List ℕ → ℕ → Option ChannelIds → Option Ended → List (List ℕ)
+ended_lines form sheets so_far micros interface node ids None = []
+ended_lines form sheets so_far micros interface node ids (Some e) =
+    if shows_end form so_far micros node ids then end_line form sheets so_far micros interface node ids e ∷ [] else []
 
-abbrev pub told_lines : Layout → List KnownSheet → SoFar → Record → Option Told → List (List ℕ)
-told_lines form sheets so_far frame None = []
-told_lines form sheets so_far frame (Some told) = ended_lines form sheets so_far frame.micros frame.interface told.node told.ended
+-- the channel of a frame, where it isn't a default one
+abbrev pub ids_of : Option Place → Option ChannelIds
+ids_of None = None
+ids_of (Some place) = Some place.ids
+
+abbrev pub told_lines : Layout → List KnownSheet → SoFar → Option Place → Record → Option Told → List (List ℕ)
+told_lines form sheets so_far place frame None = []
+told_lines form sheets so_far place frame (Some told) =
+    ended_lines form sheets so_far frame.micros frame.interface told.node (ids_of place) told.ended
+
+-- an open transfer is interrupted by a boot-up
+abbrev pub interrupted_at : Option Ended → Option Ended
+interrupted_at None = None
+interrupted_at (Some e) = Some (record e { ending = Interrupted })
+
+-- a node booted up: the line of the transfer that is open on a channel of it
+unfoldable pub interrupted_in : Layout → List KnownSheet → SoFar → ℕ → List ℕ → ℕ → FurtherChannel → List (List ℕ)
+interrupted_in form sheets so_far micros interface node channel =
+    if is_at interface node channel
+    then ended_lines form sheets so_far micros interface node (Some channel.ids) (interrupted_at (closed channel.channel.transfer micros Unfinished)) else []
+
+-- of each other channel than its default one
+abbrev pub boot_lines : Layout → List KnownSheet → SoFar → List FurtherChannel → Record → ℕ → Option Role → List (List ℕ)
+boot_lines form sheets so_far further frame node None = flat_map (interrupted_in form sheets so_far frame.micros frame.interface node) further
+boot_lines form sheets so_far further frame node (Some part) = []
+
+unfoldable pub interrupted_lines : Layout → List KnownSheet → SoFar → List FurtherChannel → Record → Option Told → List (List ℕ)
+interrupted_lines form sheets so_far further frame None = []
+interrupted_lines form sheets so_far further frame (Some told) = boot_lines form sheets so_far further frame told.node told.part
+
+-- and these channels after it
+abbrev pub further_booted : List FurtherChannel → List ℕ → ℕ → Option Role → List FurtherChannel
+further_booted further interface node None = booted_all further interface node
+further_booted further interface node (Some part) = further
+
+abbrev pub further_after : List FurtherChannel → List ℕ → Option Told → List FurtherChannel
+further_after further interface None = further
+further_after further interface (Some told) = further_booted further interface told.node told.part
 
 -- the lines of a frame on a bus that is these PDOs, by what its SDO channel says about it, where the
 -- last frames of its node had this
-abbrev pub lines_with : Layout → List KnownSheet → Bus → List Claim → Last → SoFar → List Said → Record → Option Told → List (List ℕ)
-lines_with form sheets bus claims last so_far lasts frame told =
-    first_lines form bus claims last so_far lasts frame told ++ told_lines form sheets so_far frame told
+abbrev pub lines_with : Layout → List KnownSheet → Bus → List Claim → Option Place → Last → SoFar → List Said → List FurtherChannel → Record → Option Told → List (List ℕ)
+lines_with form sheets bus claims place last so_far lasts further frame told =
+    first_lines form bus claims place last so_far lasts frame told
+    ++ (told_lines form sheets so_far place frame told ++ interrupted_lines form sheets so_far further frame told)
 
 -- and what was said last after it: in a table nothing is
-abbrev pub lasts_with : Layout → Bus → List Claim → Last → SoFar → List Said → Record → Option Told → List Said
-lasts_with form bus claims last so_far lasts frame told =
+abbrev pub lasts_with : Layout → Bus → List Claim → Option Place → Last → SoFar → List Said → Record → Option Told → List Said
+lasts_with form bus claims place last so_far lasts frame told =
     if length form.signals.now == 0
-    then lasts_after form so_far lasts (subject_in claims frame) frame (told_words bus claims last frame told) else lasts
+    then lasts_after form so_far lasts (subject_by place claims frame) frame (words_at bus claims place last frame told) else lasts
 
 -- the lines of a frame of which its SDO channel says this
-abbrev pub lines_by : Layout → List KnownSheet → Progress → Record → Option Told → List (List ℕ)
-lines_by form sheets progress frame told =
+abbrev pub lines_by : Layout → List KnownSheet → Progress → Option Place → Record → Option Told → List (List ℕ)
+lines_by form sheets progress place frame told =
     let bus = bus_of sheets progress.entries frame in
-    lines_with form sheets bus (claims_at bus frame.id) (last_at progress.nodes frame) progress.seen progress.lasts frame told
+    lines_with form sheets bus (claims_at bus (read_as place frame.id)) place (last_at progress.nodes frame) progress.seen progress.lasts progress.further frame told
 
 -- how far it is after it, where the channels have it already
-abbrev pub progress_by : Layout → List KnownSheet → Progress → Record → Option Told → Progress
-progress_by form sheets progress frame told =
+abbrev pub progress_by : Layout → List KnownSheet → Progress → Option Place → Record → Option Told → Progress
+progress_by form sheets progress place frame told =
     let bus = bus_of sheets progress.entries frame in
     record {
       seen = seen_with progress.seen frame.micros frame.interface;
       channels = progress.channels;
+      further = further_after progress.further frame.interface told;
       nodes = nodes_with progress.nodes frame;
-      lasts = lasts_with form bus (claims_at bus frame.id) (last_at progress.nodes frame) progress.seen progress.lasts frame told;
+      lasts = lasts_with form bus (claims_at bus (read_as place frame.id)) place (last_at progress.nodes frame) progress.seen progress.lasts frame told;
       entries = entries_with progress.entries frame.interface told;
     }
 
+-- what is said about a frame of a channel other than a default one, or of none of these
+abbrev pub told_at : Progress → Record → Option Place → Option Told
+told_at progress frame None = (telling_of progress.channels frame).told
+told_at progress frame (Some place) = (further_of progress.further frame place).told
+
+-- and how far it is once the channels have the frame
+abbrev pub heard_at : Progress → Record → Option Place → Progress
+heard_at progress frame None = record progress { channels = (telling_of progress.channels frame).tracks }
+heard_at progress frame (Some place) = record progress { further = (further_of progress.further frame place).channels }
+
+-- the channel of a frame, by the sheets and by what the recording showed before it
+abbrev pub place_for : List KnownSheet → Progress → Record → Option Place
+place_for sheets progress frame = place_of (bus_of sheets progress.entries frame) frame.id frame.content
+
 -- the lines of a frame
 unfoldable pub frame_lines : Layout → List KnownSheet → Progress → Record → List (List ℕ)
-frame_lines form sheets progress frame = lines_by form sheets progress frame (telling_of progress.channels frame).told
+frame_lines form sheets progress frame =
+    let place = place_for sheets progress frame in
+    lines_by form sheets (heard_at progress frame place) place frame (told_at progress frame place)
 
 unfoldable pub progress_with : Layout → List KnownSheet → Progress → Record → Progress
 progress_with form sheets progress frame =
-    let telling = telling_of progress.channels frame in
-    progress_by form sheets (record progress { channels = telling.tracks }) frame telling.told
+    let place = place_for sheets progress frame in
+    progress_by form sheets (heard_at progress frame place) place frame (told_at progress frame place)
 
 -- the lines of what a line says, if that is a frame
 abbrev pub said_lines : Layout → List KnownSheet → Progress → Option RecordLine → List (List ℕ)
@@ -202,10 +284,16 @@ progress_after form sheets progress None = progress
 -- a transfer that is open at the end, at the stamp of the last frame
 abbrev pub unfinished_in : Layout → List KnownSheet → SoFar → Track → List (List ℕ)
 unfinished_in form sheets so_far track =
-    ended_lines form sheets so_far so_far.last track.interface.items track.node (closed track.channel.transfer so_far.last Unfinished)
+    ended_lines form sheets so_far so_far.last track.interface.items track.node None (closed track.channel.transfer so_far.last Unfinished)
 
+abbrev pub unfinished_on : Layout → List KnownSheet → SoFar → FurtherChannel → List (List ℕ)
+unfinished_on form sheets so_far channel =
+    ended_lines form sheets so_far so_far.last channel.interface.items channel.node (Some channel.ids) (closed channel.channel.transfer so_far.last Unfinished)
+
+-- those of the default channels come first
 unfoldable pub unfinished_lines : Layout → List KnownSheet → Progress → List (List ℕ)
-unfinished_lines form sheets progress = flat_map (unfinished_in form sheets progress.seen) progress.channels
+unfinished_lines form sheets progress =
+    flat_map (unfinished_in form sheets progress.seen) progress.channels ++ flat_map (unfinished_on form sheets progress.seen) progress.further
 
 -- ---- bad lines
 

@@ -1,15 +1,18 @@
 -- Which lines are printed.
-use Rattle.std.specs.Prelude.{ℕ, ◌==◌, Bool, true, false, not, ◌&&◌, if◌then◌else◌, List, [], ◌∷◌, length, Option, Some, None}
-use Rattle.conode_record.specs.declared.content.Content.{Content}
-use Rattle.conode_record.specs.declared.content.Content.TheVariants.{Data}
+use Rattle.std.specs.Prelude.{ℕ, ◌==◌, Bool, true, false, not, ◌&&◌, ◌||◌, if◌then◌else◌, List, [], ◌∷◌, length, Option, Some, None}
 use Rattle.conode_record.specs.declared.line.Record.{Record}
 use Rattle.conode_explain_filter.specs.Changes.{Said, is_new, kept}
 use Rattle.conode_explain_filter.specs.declared.kind.Kind.{Kind}
-use Rattle.conode_explain_filter.specs.declared.kind.Kind.TheVariants.{Pdo, Heartbeat, Sync}
+use Rattle.conode_explain_filter.specs.declared.kind.Kind.TheVariants.{Sdo, Pdo, Heartbeat, Sync}
+use Rattle.conode_explain_entries.specs.declared.further.ChannelIds.{ChannelIds}
+use Rattle.conode_explain_entries.specs.declared.further.Place.{Place}
+use Rattle.conode_explain_filter.specs.declared.filter.Filter.{Filter}
 use Rattle.conode_explain_filter.specs.declared.subject.Subject.{Subject}
 use Rattle.conode_explain_filter.specs.Filters.{passes, passes_transfer}
 use Rattle.conode_explain_filter.specs.Subjects.{subject_of}
+use Rattle.conode_explain_forms.specs.Tones.{data_of}
 use Rattle.conode_explain_pdo.specs.declared.claim.Claim.{Claim}
+use Rattle.conode_explain_text.specs.declared.so_far.Times.{Times}
 use Rattle.conode_explain_text.specs.SoFar.{SoFar, times_at}
 use Rattle.conode_explain.specs.declared.progress.Layout.{Layout}
 
@@ -22,6 +25,11 @@ first_node (claim ∷ claims) = Some claim.node
 abbrev pub subject_in : List Claim → Record → Subject
 subject_in claims frame = subject_of (first_node claims) frame.id frame.content
 
+-- on an SDO channel other than a default one: of its server
+abbrev pub subject_by : Option Place → List Claim → Record → Subject
+subject_by None claims frame = subject_in claims frame
+subject_by (Some place) claims frame = record (subject_in claims frame) { kind = Sdo; node = Some place.node }
+
 -- a frame at a stamp passes the filter
 unfoldable pub passes_frame : Layout → SoFar → Subject → ℕ → Bool
 passes_frame form so_far subject micros = passes form.filter.now subject (times_at so_far micros)
@@ -30,10 +38,20 @@ passes_frame form so_far subject micros = passes form.filter.now subject (times_
 abbrev pub shows_frame : Layout → SoFar → Subject → ℕ → Bool
 shows_frame form so_far subject micros = not form.transfers && passes_frame form so_far subject micros
 
+-- a request or an answer of a channel other than a default one
+abbrev pub channel_subject : ℕ → ℕ → Subject
+channel_subject node id = record { id = record { wide = false; number = id }; kind = Sdo; node = Some node }
+
+-- one of a transfer's channel passes
+abbrev pub passes_end : Filter → ℕ → Option ChannelIds → Times → Bool
+passes_end filter node None times = passes_transfer filter node times
+passes_end filter node (Some ids) times =
+    passes filter (channel_subject node ids.request) times || passes filter (channel_subject node ids.answer) times
+
 -- the line of a transfer of a node that ended at a stamp is left out where signals are asked for
-abbrev pub shows_end : Layout → SoFar → ℕ → ℕ → Bool
-shows_end form so_far micros node =
-    (length form.signals.now == 0) && passes_transfer form.filter.now node (times_at so_far micros)
+abbrev pub shows_end : Layout → SoFar → ℕ → ℕ → Option ChannelIds → Bool
+shows_end form so_far micros node ids =
+    (length form.signals.now == 0) && passes_end form.filter.now node ids (times_at so_far micros)
 
 -- ---- changes alone
 
@@ -46,11 +64,6 @@ repeats _ = false
 
 abbrev pub is_repeating : Layout → Subject → Bool
 is_repeating form subject = form.changes && repeats subject.kind
-
--- the bytes of a frame of data
-abbrev pub data_of : Content → List ℕ
-data_of (Data bytes) = bytes
-data_of other = []
 
 -- what a frame says, by its interface and identifier
 abbrev pub said_of : Subject → Record → List ℕ → Said

@@ -8,5 +8,4 @@ pub mod Nodes
 pub mod Sheets
 pub mod Taking
 pub mod ToldWords
-pub mod Tones
 pub mod Transfers

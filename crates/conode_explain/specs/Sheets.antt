@@ -5,7 +5,7 @@ use Rattle.co_frame.specs.Segments.{same_bool}
 use Rattle.co_sheet_changes.specs.Names.{originals_in}
 use Rattle.conode_explain_pdo.specs.Known.{KnownSheet, known_sheet, known_view}
 use Rattle.conode_explain.specs.declared.sheets.ReadSheet.{ReadSheet}
-use Rattle.conode_explain.specs.declared.writes.Settings.{Settings}
+use Rattle.conode_explain.specs.declared.settings.Settings.{Settings}
 
 abbrev pub sheets_of : Settings → List KnownSheet
 sheets_of settings = map known_view settings.sheets.now

@@ -2,7 +2,10 @@
 use Rattle.std.specs.Prelude.{ℕ, List, [], ◌++◌, codes, decimal, Option, Some, None, option_and_then, unwrap_or}
 use Rattle.co_value.specs.declared.key.Key.{Key}
 use Rattle.co_sheet_changes.specs.Names.{Names, entry_of, shown_name}
-use Rattle.conode_record.specs.declared.line.Record.{Record}
+use Rattle.co_text.specs.Printed.{digits_text}
+use Rattle.conode_record.specs.declared.content.Content.{Content}
+use Rattle.conode_record.specs.declared.fields.Identifier.{Identifier}
+use Rattle.conode_explain_entries.specs.declared.further.ChannelIds.{ChannelIds}
 use Rattle.conode_explain_transfers.specs.declared.told.Part.{Part}
 use Rattle.conode_explain_transfers.specs.declared.told.Told.{Told}
 use Rattle.conode_explain_services.specs.declared.last.Last.{Last}
@@ -28,23 +31,23 @@ name_in names node None = []
 name_in names node (Some key) = name_bytes names node key
 
 -- a segment of a sub-block has its number, every other frame its own text
-abbrev pub part_front : Bus → List Claim → Last → Record → ℕ → Side → Option ℕ → List ℕ
-part_front bus claims last frame node side None = words_of_content bus claims last frame.id frame.content
-part_front bus claims last frame node side (Some number) = segment_text side node number
+abbrev pub part_front : Bus → List Claim → Last → Identifier → Content → ℕ → Side → Option ℕ → List ℕ
+part_front bus claims last id content node side None = words_of_content bus claims last id content
+part_front bus claims last id content node side (Some number) = segment_text side node number
 
-unfoldable pub part_words : Bus → List Claim → Last → Record → ℕ → Part → List ℕ
-part_words bus claims last frame node part =
-    part_front bus claims last frame node part.side (segment_number part.what) ++ after_text part.what part.of (name_in (names_at bus node) node part.of)
+unfoldable pub part_words : Bus → List Claim → Last → Identifier → Content → ℕ → Part → List ℕ
+part_words bus claims last id content node part =
+    part_front bus claims last id content node part.side (segment_number part.what) ++ after_text part.what part.of (name_in (names_at bus node) node part.of)
 
-abbrev pub words_in : Bus → List Claim → Last → Record → ℕ → Option Part → List ℕ
-words_in bus claims last frame node None = words_of_content bus claims last frame.id frame.content
-words_in bus claims last frame node (Some part) = part_words bus claims last frame node part
+abbrev pub words_in : Bus → List Claim → Last → Identifier → Content → ℕ → Option Part → List ℕ
+words_in bus claims last id content node None = words_of_content bus claims last id content
+words_in bus claims last id content node (Some part) = part_words bus claims last id content node part
 
--- what a frame says, by what its SDO channel says about it, where the last frames of its node had
--- this
-abbrev pub told_words : Bus → List Claim → Last → Record → Option Told → List ℕ
-told_words bus claims last frame None = words_of_content bus claims last frame.id frame.content
-told_words bus claims last frame (Some told) = words_in bus claims last frame told.node told.part
+-- what a frame says that is read as one with this identifier, by what its SDO channel says about it,
+-- where the last frames of its node had this
+abbrev pub told_words : Bus → List Claim → Last → Identifier → Content → Option Told → List ℕ
+told_words bus claims last id content None = words_of_content bus claims last id content
+told_words bus claims last id content (Some told) = words_in bus claims last id content told.node told.part
 
 -- ---- transfers that ended
 
@@ -53,6 +56,11 @@ abbrev pub ending_words : Ending → List ℕ
 ending_words (Aborted by code) = words_of code.0
 ending_words _ = []
 
-unfoldable pub ended_words : Names → ℕ → Ended → List ℕ
-ended_words names node e =
-    codes "node " ++ decimal node ++ codes "  " ++ end_text e (name_bytes names node e.key) (ending_words e.ending)
+-- the identifiers of a channel other than the default one
+abbrev pub channel_words : Option ChannelIds → List ℕ
+channel_words None = []
+channel_words (Some ids) = codes " channel " ++ digits_text 16 3 ids.request ++ codes "/" ++ digits_text 16 3 ids.answer
+
+unfoldable pub ended_words : Names → ℕ → Option ChannelIds → Ended → List ℕ
+ended_words names node ids e =
+    codes "node " ++ decimal node ++ channel_words ids ++ codes "  " ++ end_text e (name_bytes names node e.key) (ending_words e.ending)

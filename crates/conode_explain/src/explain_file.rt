@@ -5,14 +5,16 @@ ghost use Rattle.std.specs.Process.{exit_status};
 
 use crate::explained::explain;
 use crate::progress::{Layout, LineFormat};
+use crate::settings::Settings;
 use crate::sheets::{ReadSheet, known_sheets};
-use crate::writes::{Settings, write_header};
+use crate::writes::write_header;
 use co_sheet::{FaultKind, GREATEST_SIZE, SheetFault, read};
 use co_sheet_changes::{AdaptFault, Originals};
 use co_sheet_mend::readable;
 use conode_convert::{SheetText, SheetWord, bad_sheet, bad_sheet_word, sheet_words, texts_of};
 use conode_explain_filter::{Filter, FilterFault, FilterWords};
-use conode_explain_forms::{Signal, SignalFault, first_missing};
+use conode_explain_forms::{Signal, SignalFault, channels_of, first_missing};
+use conode_explain_pdo::KnownSheet;
 use conode_explain_text::StampForm;
 use conode_io::{CmdFault, cannot_read, flushed, stopped};
 use conode_logs::Form;
@@ -105,6 +107,32 @@ fn explain_known<R: Files + AllocGlobal + Input, O: Write, E: Write>(
     explain_path(rt, path, settings, out, err)
 }
 
+// explains the recording of a path by data sheets with their PDOs
+#[tactic(auto, using(crate::proofs::WriteLemmas::one_or_two))]
+fn explain_with<R: Files + AllocGlobal + Input, O: Write, E: Write>(
+    rt: &R,
+    path: &str,
+    sheets: &[KnownSheet<'_, '_>],
+    form: Layout<'_>,
+    out: &mut O,
+    err: &mut E,
+) -> ExitCode
+    ensures { (exit_status result ≡ 0) ⊎ ((exit_status result ≡ 1) ⊎ (exit_status result ≡ 2)) }
+{
+    match channels_of(rt.alloc(), sheets) {
+        Ok(channels) => {
+            let channels = channels.as_slice();
+            let settings = Settings {
+                form,
+                sheets,
+                channels,
+            };
+            explain_known(rt, path, &settings, out, err)
+        }
+        Err(_) => stopped(CmdFault::Memory, out, err).status(),
+    }
+}
+
 // explains the recording of a path by data sheets
 #[tactic(auto, using(crate::proofs::WriteLemmas::one_or_two))]
 fn explain_by<R: Files + AllocGlobal + Input, O: Write, E: Write>(
@@ -118,11 +146,7 @@ fn explain_by<R: Files + AllocGlobal + Input, O: Write, E: Write>(
     ensures { (exit_status result ≡ 0) ⊎ ((exit_status result ≡ 1) ⊎ (exit_status result ≡ 2)) }
 {
     match known_sheets(rt.alloc(), sheets) {
-        Ok(known) => {
-            let sheets = known.as_slice();
-            let settings = Settings { form, sheets };
-            explain_known(rt, path, &settings, out, err)
-        }
+        Ok(known) => explain_with(rt, path, known.as_slice(), form, out, err),
         Err(_) => stopped(CmdFault::Memory, out, err).status(),
     }
 }

@@ -9,8 +9,8 @@ ghost use Rattle.conode_explain.specs.Taking.{Explains};
 ghost use Rattle.conode_explain.specs.Sheets.{sheets_of};
 
 use crate::progress::Layout;
+use crate::settings::Settings;
 use crate::step::Explaining;
-use crate::writes::Settings;
 use conode_io::CmdFault;
 use std::alloc::Global;
 use std::io::{Read, Write};

@@ -2,25 +2,28 @@
 
 ghost use Rattle.std.specs.Prelude.{◌≡◌, IfOk, OnOk};
 ghost use Rattle.conode_record.specs.Grammar.{IsIdentifier};
+ghost use Rattle.conode_explain_filter.specs.Filters.{passes};
 ghost use Rattle.conode_explain.specs.Filtered.{
-  data_of,
+  channel_subject,
   first_node,
   is_news,
   is_repeating,
   lasts_told,
+  passes_end,
   passes_frame,
   repeats,
   shows_end,
   shows_frame,
-  subject_in,
+  subject_by,
 };
 
 use crate::progress::Layout;
-use arrayvec::ArrayVec;
-use conode_explain_filter::{Kind, Lasts, Subject};
+use conode_explain_entries::{ChannelIds, Place};
+use conode_explain_filter::{Filter, Kind, Lasts, Subject, Written};
+use conode_explain_forms::data_of;
 use conode_explain_pdo::Claim;
-use conode_explain_text::Seen;
-use conode_record::{Content, Record};
+use conode_explain_text::{Seen, Times};
+use conode_record::Record;
 use std::alloc::AllocError;
 
 fn first_node(claims: &[Claim]) -> Option<u8>
@@ -32,12 +35,18 @@ fn first_node(claims: &[Claim]) -> Option<u8>
     }
 }
 
-/// The kind and the node of a frame that is these PDOs.
-pub(crate) fn subject_in(claims: &[Claim], frame: &Record<'_>) -> Subject
+/// The kind and the node of a frame that is these PDOs; on an SDO channel other than a default one of
+/// its server.
+pub(crate) fn subject_by(place: Option<Place>, claims: &[Claim], frame: &Record<'_>) -> Subject
     requires { IsIdentifier frame.now.id }
-    ensures { result ≡ subject_in claims.now frame.now }
+    ensures { result ≡ subject_by place claims.now frame.now }
 {
-    Subject::of(first_node(claims), frame)
+    let mut subject = Subject::of(first_node(claims), frame);
+    if let Some(place) = place {
+        subject.kind = Kind::Sdo;
+        subject.node = Some(place.node);
+    }
+    subject
 }
 
 #[tactic(auto, unfolding(crate::specs::Filtered::passes_frame))]
@@ -57,12 +66,45 @@ pub(crate) fn shows_frame(form: &Layout<'_>, seen: &Seen, subject: &Subject, mic
     !form.transfers && passes_frame(form, seen, subject, micros)
 }
 
+// whether a filter passes a frame with an identifier of an SDO channel other than a default one
+fn passes_channel(filter: &Filter, node: u8, id: u16, times: Times) -> bool
+    ensures { result ≡ passes filter.now (channel_subject node id) times }
+{
+    let subject = Subject {
+        id: Written {
+            wide: false,
+            number: u32::from(id),
+        },
+        kind: Kind::Sdo,
+        node: Some(node),
+    };
+    filter.passes(&subject, times)
+}
+
+fn passes_end(filter: &Filter, node: u8, ids: Option<ChannelIds>, times: Times) -> bool
+    ensures { result ≡ passes_end filter.now node ids times }
+{
+    match ids {
+        None => filter.passes_transfer(node, times),
+        Some(ids) => {
+            passes_channel(filter, node, ids.request, times)
+                || passes_channel(filter, node, ids.answer, times)
+        }
+    }
+}
+
 /// Whether the line of a node's transfer that ended at this stamp is printed; in a table of signals
 /// none is.
-pub(crate) fn shows_end(form: &Layout<'_>, seen: &Seen, micros: u64, node: u8) -> bool
-    ensures { result ≡ shows_end form.now seen.now micros node }
+pub(crate) fn shows_end(
+    form: &Layout<'_>,
+    seen: &Seen,
+    micros: u64,
+    node: u8,
+    ids: Option<ChannelIds>,
+) -> bool
+    ensures { result ≡ shows_end form.now seen.now micros node ids }
 {
-    form.signals.is_empty() && form.filter.passes_transfer(node, seen.times(micros))
+    form.signals.is_empty() && passes_end(form.filter, node, ids, seen.times(micros))
 }
 
 // of these kinds only changes are printed, where that is asked for
@@ -70,17 +112,6 @@ fn repeats(kind: Kind) -> bool
     ensures { result ≡ repeats kind }
 {
     matches!(kind, Kind::Pdo | Kind::Heartbeat | Kind::Sync)
-}
-
-/// The bytes of a frame of data; none of another one.
-pub(crate) fn data_of(content: &Content<'_>) -> ArrayVec<u8, 8>
-    ensures { result.items ≡ data_of content.now }
-{
-    match content {
-        Content::Data(bytes) => bytes.to_list(),
-        Content::Remote(_) => ArrayVec::new(),
-        Content::Fd(_, _) => ArrayVec::new(),
-    }
 }
 
 fn is_repeating(form: &Layout<'_>, subject: &Subject) -> bool

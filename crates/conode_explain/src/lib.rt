@@ -4,15 +4,16 @@
 
 mod abort_words;
 mod bad_words;
+mod ends;
 mod explain_file;
 mod explained;
 mod filtered;
 mod frame_words;
 mod progress;
+mod settings;
 mod sheets;
 mod step;
 mod told_words;
-mod tones;
 mod transfer;
 mod writes;
 
@@ -21,4 +22,4 @@ pub use conode_logs::Form;
 pub use explain_file::{ExplainOptions, explain_files};
 pub use explained::explain;
 pub use progress::{Layout, LineFormat};
-pub use writes::Settings;
+pub use settings::Settings;

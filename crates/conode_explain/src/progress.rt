@@ -4,11 +4,21 @@ ghost use Rattle.std.specs.Prelude.{◌≡◌, IfOk, OnOk};
 ghost use Rattle.conode_record.specs.Grammar.{IsIdentifier};
 ghost use Rattle.conode_explain_entries.specs.Tables.{entries_with};
 ghost use Rattle.conode_explain_text.specs.SoFar.{seen_with};
-ghost use Rattle.conode_explain.specs.Explained.{may_be_told, nothing_known, telling_of};
+ghost use Rattle.conode_explain_transfers.specs.Tellings.{is_boot_up};
+ghost use Rattle.conode_explain.specs.Explained.{
+  further_after,
+  further_of,
+  heard_at,
+  may_be_told,
+  nothing_known,
+  or_boot_up,
+  telling_of,
+  told_at,
+};
 ghost use Rattle.conode_explain.specs.Nodes.{last_at, nodes_with};
 
 use co_frame::Frame;
-use conode_explain_entries::Entries;
+use conode_explain_entries::{Entries, FurtherChannels, Place};
 use conode_explain_filter::{Filter, Lasts};
 use conode_explain_forms::Signal;
 use conode_explain_services::{Last, Nodes};
@@ -50,12 +60,13 @@ pub struct Layout<'f> {
     pub signals: &'f [Signal],
 }
 
-/// What a recording showed so far: its stamps and interfaces, the SDO channels, entries of nodes,
-/// what the last frames of nodes had, and what was said last of identifiers.
+/// What a recording showed so far: its stamps and interfaces, the SDO channels, those other than the
+/// default ones apart, entries of nodes, what the last frames of nodes had, and what was said last of identifiers.
 #[derive(Drop)]
 pub(crate) struct Progress {
     pub(crate) seen: Seen,
     pub(crate) channels: Channels,
+    pub(crate) further: FurtherChannels,
     pub(crate) entries: Entries,
     pub(crate) nodes: Nodes,
     pub(crate) lasts: Lasts,
@@ -89,6 +100,40 @@ fn note_node(nodes: &mut Nodes, frame: &Record<'_>) -> Result<(), AllocError>
     }
 }
 
+// Whether the frame is a boot-up.
+fn is_boot_up(frame: &Frame) -> bool
+    ensures { result ≡ is_boot_up frame.now }
+{
+    let bytes = frame.bytes();
+    (0x701..0x780).contains(&frame.id()) && bytes.len() == 1 && bytes[0] == 0
+}
+
+// A node booted up, where that is said about a frame.
+fn boot_further(further: &mut FurtherChannels, interface: &[u8], told: &Option<Told>)
+    ensures { further.new ≡ further_after further.old interface.now told.now }
+{
+    let Some(told) = told else {
+        return;
+    };
+    if told.part.is_none() {
+        further.boot_up(interface, told.node);
+    }
+}
+
+// what is said about a frame, of a boot-up at least its node
+fn or_boot_up(frame: &Frame, told: Option<Told>) -> Option<Told>
+    ensures { result ≡ or_boot_up frame.now told }
+{
+    if told.is_some() || !is_boot_up(frame) {
+        return told;
+    }
+    Some(Told {
+        node: (frame.id() - 0x700) as u8,
+        part: None,
+        ended: None,
+    })
+}
+
 impl Progress {
     /// Nothing came.
     pub(crate) fn new(alloc: Global) -> Progress
@@ -97,21 +142,23 @@ impl Progress {
         Progress {
             seen: Seen::new(),
             channels: Channels::new(alloc),
+            further: FurtherChannels::new(alloc),
             entries: Entries::new(alloc),
             nodes: Nodes::new(alloc),
             lasts: Lasts::new(alloc),
         }
     }
 
-    /// Takes a data frame with an identifier of 11 bits into its SDO channel. Returns what it is
-    /// there; `None` for every other frame. On an `Err` memory ran out.
+    // Takes a data frame with an identifier of 11 bits into its default SDO channel. Returns what it is
+    // there; `None` for every other frame. On an `Err` memory ran out.
     #[tactic(auto, unfolding(crate::specs::Explained::telling_of))]
-    pub(crate) fn tell(&mut self, frame: &Record<'_>) -> Result<Option<Told>, AllocError>
+    fn tell(&mut self, frame: &Record<'_>) -> Result<Option<Told>, AllocError>
         requires { IsIdentifier frame.now.id }
         ensures told { IfOk result
             (λ told. told ≡ (telling_of self.old.channels frame.now).told) }
         ensures channels { OnOk result
             (self.new.channels ≡ (telling_of self.old.channels frame.now).tracks) }
+        ensures further { self.new.further ≡ self.old.further }
         ensures seen { self.new.seen ≡ self.old.seen }
         ensures entries { self.new.entries ≡ self.old.entries }
         ensures nodes { self.new.nodes ≡ self.old.nodes }
@@ -124,8 +171,59 @@ impl Progress {
             return Ok(None);
         };
         let name = frame.interface.bytes();
-        self.channels
-            .take(name, frame.micros, &Frame::packed(id, bytes))
+        let packed = Frame::packed(id, bytes);
+        let told = self.channels.take(name, frame.micros, &packed)?;
+        Ok(or_boot_up(&packed, told))
+    }
+
+    // Takes a data frame into its SDO channel other than a default one. Returns what it is there. On an
+    // `Err` memory ran out.
+    #[tactic(auto, unfolding(crate::specs::Explained::further_of))]
+    fn tell_further(&mut self, frame: &Record<'_>, place: Place) -> Result<Option<Told>, AllocError>
+        requires { IsIdentifier frame.now.id }
+        ensures told { IfOk result
+            (λ told. told ≡ (further_of self.old.further frame.now place).told) }
+        ensures further { OnOk result
+            (self.new.further ≡ (further_of self.old.further frame.now place).channels) }
+        ensures seen { self.new.seen ≡ self.old.seen }
+        ensures channels { self.new.channels ≡ self.old.channels }
+        ensures entries { self.new.entries ≡ self.old.entries }
+        ensures nodes { self.new.nodes ≡ self.old.nodes }
+        ensures lasts { self.new.lasts ≡ self.old.lasts }
+    {
+        let Identifier::Base(id) = frame.id else {
+            return Ok(None);
+        };
+        let Content::Data(bytes) = &frame.content else {
+            return Ok(None);
+        };
+        let name = frame.interface.bytes();
+        self.further
+            .take(name, place, frame.micros, &Frame::packed(id, bytes))
+    }
+
+    /// Takes a frame into its SDO channel: that of a place, or a default one. Returns what it is there.
+    /// On an `Err` memory ran out.
+    pub(crate) fn tell_at(
+        &mut self,
+        frame: &Record<'_>,
+        place: Option<Place>,
+    ) -> Result<Option<Told>, AllocError>
+        requires { IsIdentifier frame.now.id }
+        ensures told { IfOk result (λ told. told ≡ told_at self.old frame.now place) }
+        ensures channels { OnOk result
+            (self.new.channels ≡ (heard_at self.old frame.now place).channels) }
+        ensures further { OnOk result
+            (self.new.further ≡ (heard_at self.old frame.now place).further) }
+        ensures seen { self.new.seen ≡ (heard_at self.old frame.now place).seen }
+        ensures entries { self.new.entries ≡ (heard_at self.old frame.now place).entries }
+        ensures nodes { self.new.nodes ≡ (heard_at self.old frame.now place).nodes }
+        ensures lasts { self.new.lasts ≡ (heard_at self.old frame.now place).lasts }
+    {
+        match place {
+            Some(place) => self.tell_further(frame, place),
+            None => self.tell(frame),
+        }
     }
 
     /// What the last frames of the node of a data frame had; nothing where its identifier has 29
@@ -152,6 +250,8 @@ impl Progress {
         ensures seen { OnOk result (self.new.seen
             ≡ seen_with self.old.seen frame.now.micros frame.now.interface) }
         ensures channels { OnOk result (self.new.channels ≡ self.old.channels) }
+        ensures further { OnOk result
+            (self.new.further ≡ further_after self.old.further frame.now.interface told.now) }
         ensures lasts { OnOk result (self.new.lasts ≡ self.old.lasts) }
         ensures entries { OnOk result (self.new.entries
             ≡ entries_with self.old.entries frame.now.interface told.now) }
@@ -159,6 +259,8 @@ impl Progress {
     {
         self.seen.add(frame);
         note_node(&mut self.nodes, frame)?;
-        self.entries.take(frame.interface.bytes(), told)
+        let name = frame.interface.bytes();
+        boot_further(&mut self.further, name, told);
+        self.entries.take(name, told)
     }
 }

@@ -20,8 +20,10 @@ ghost use Rattle.conode_explain.specs.Taking.{Takes};
 ghost use Rattle.conode_explain.specs.Sheets.{sheets_of};
 
 use crate::bad_words::{TOO_LONG, bad_words};
+use crate::ends::write_unfinished;
 use crate::progress::Progress;
-use crate::writes::{Room, Settings, write_frame, write_unfinished};
+use crate::settings::Settings;
+use crate::writes::{Room, write_frame};
 use co_stream::{BoundedLines, Found, ReadFault};
 use conode_convert::add_frame;
 use conode_explain_pdo::Claim;

@@ -4,7 +4,9 @@ ghost use Rattle.std.specs.Prelude.{◌≡◌, ◌++◌, OnOk, string_bytes};
 ghost use Rattle.co_sheet_changes.specs.Names.{names_view};
 ghost use Rattle.conode_explain_pdo.specs.Buses.{bus_view};
 ghost use Rattle.conode_record.specs.Grammar.{IsIdentifier};
+ghost use Rattle.co_text.specs.Printed.{digits_text};
 ghost use Rattle.conode_explain.specs.ToldWords.{
+  channel_words,
   ended_words,
   ending_words,
   name_bytes,
@@ -17,13 +19,14 @@ ghost use Rattle.conode_explain.specs.ToldWords.{
 use crate::abort_words::words_of;
 use crate::frame_words::set_words;
 use co_sheet_changes::{Names, shown_name};
-use co_text::push_decimal;
+use co_text::{push_byte, push_decimal, push_digit};
 use co_value::Key;
+use conode_explain_entries::ChannelIds;
 use conode_explain_pdo::{Bus, Claim};
 use conode_explain_services::Last;
 use conode_explain_transfer_text::{push_after, push_end, push_segment, segment_number};
 use conode_explain_transfers::{Ended, Ending, Part, Side, Told};
-use conode_record::Record;
+use conode_record::{Content, Identifier};
 use std::alloc::AllocError;
 
 // the name of a node's entry; empty where it has none
@@ -54,17 +57,18 @@ fn set_part_front(
     bus: Bus<'_, '_, '_, '_, '_>,
     claims: &[Claim],
     last: Last,
-    frame: &Record<'_>,
+    id: Identifier,
+    content: &Content<'_>,
     node: u8,
     side: Side,
     number: Option<u8>,
 ) -> Result<(), AllocError>
-    requires { IsIdentifier frame.now.id }
+    requires { IsIdentifier id }
     ensures { OnOk result (string_bytes said.new
-        ≡ part_front (bus_view bus.entry) claims.now last frame.now node side number) }
+        ≡ part_front (bus_view bus.entry) claims.now last id content.now node side number) }
 {
     let Some(number) = number else {
-        return set_words(said, bus, claims, last, frame.id, &frame.content);
+        return set_words(said, bus, claims, last, id, content);
     };
     said.clear();
     push_segment(said, side, node, number)
@@ -76,16 +80,19 @@ fn set_part_words(
     bus: Bus<'_, '_, '_, '_, '_>,
     claims: &[Claim],
     last: Last,
-    frame: &Record<'_>,
+    id: Identifier,
+    content: &Content<'_>,
     node: u8,
     part: Part,
 ) -> Result<(), AllocError>
-    requires { IsIdentifier frame.now.id }
+    requires { IsIdentifier id }
     ensures { OnOk result (string_bytes said.new
-        ≡ part_words (bus_view bus.entry) claims.now last frame.now node part) }
+        ≡ part_words (bus_view bus.entry) claims.now last id content.now node part) }
 {
     let number = segment_number(part.what);
-    set_part_front(said, bus, claims, last, frame, node, part.side, number)?;
+    set_part_front(
+        said, bus, claims, last, id, content, node, part.side, number,
+    )?;
     push_after(
         said,
         part.what,
@@ -94,28 +101,29 @@ fn set_part_words(
     )
 }
 
-/// Sets `said` to what a frame says; `claims` are the PDOs that it is, `last` is what the last frames
-/// of its node had, `told` what its SDO channel says about it. On an `Err` memory ran out, and it is
-/// incomplete.
+/// Sets `said` to what a frame says that is read as one with this identifier; `claims` are the PDOs
+/// that it is, `last` is what the last frames of its node had, `told` what its SDO channel says about
+/// it. On an `Err` memory ran out, and it is incomplete.
 pub(crate) fn set_told_words(
     said: &mut String,
     bus: Bus<'_, '_, '_, '_, '_>,
     claims: &[Claim],
     last: Last,
-    frame: &Record<'_>,
+    id: Identifier,
+    content: &Content<'_>,
     told: &Option<Told>,
 ) -> Result<(), AllocError>
-    requires { IsIdentifier frame.now.id }
+    requires { IsIdentifier id }
     ensures { OnOk result (string_bytes said.new
-        ≡ told_words (bus_view bus.entry) claims.now last frame.now told.now) }
+        ≡ told_words (bus_view bus.entry) claims.now last id content.now told.now) }
 {
     let Some(told) = told else {
-        return set_words(said, bus, claims, last, frame.id, &frame.content);
+        return set_words(said, bus, claims, last, id, content);
     };
     let Some(part) = told.part else {
-        return set_words(said, bus, claims, last, frame.id, &frame.content);
+        return set_words(said, bus, claims, last, id, content);
     };
-    set_part_words(said, bus, claims, last, frame, told.node, part)
+    set_part_words(said, bus, claims, last, id, content, told.node, part)
 }
 
 // what the code of an abort means
@@ -128,21 +136,44 @@ fn ending_words(ending: Ending) -> &'static str
     }
 }
 
-/// Sets `said` to what is said of a node's transfer that ended. On an `Err` memory ran out, and it
-/// is incomplete.
+// an identifier, in three digits
+#[tactic(auto, unfolding(co_text::specs::Printed::digits_text))]
+fn push_identifier(said: &mut String, id: u16) -> Result<(), AllocError>
+    ensures { OnOk result (string_bytes said.new ≡ string_bytes said.old ++ digits_text 16 3 id) }
+{
+    push_digit(said, (id / 256 % 16) as u8)?;
+    push_byte(said, (id % 256) as u8)
+}
+
+fn push_channel(said: &mut String, ids: Option<ChannelIds>) -> Result<(), AllocError>
+    ensures { OnOk result (string_bytes said.new ≡ string_bytes said.old ++ channel_words ids) }
+{
+    let Some(ids) = ids else {
+        return Ok(());
+    };
+    said.push_str(" channel ")?;
+    push_identifier(said, ids.request)?;
+    said.push_str("/")?;
+    push_identifier(said, ids.answer)
+}
+
+/// Sets `said` to what is said of a node's transfer that ended; `ids` are those of its channel, where
+/// that isn't the default one. On an `Err` memory ran out, and it is incomplete.
 #[tactic(auto, unfolding(crate::specs::ToldWords::ended_words))]
 pub(crate) fn set_ended_words(
     said: &mut String,
     names: Names<'_, '_>,
     node: u8,
+    ids: Option<ChannelIds>,
     ended: &Ended,
 ) -> Result<(), AllocError>
     ensures { OnOk result (string_bytes said.new
-        ≡ ended_words (names_view names.entry) node ended.now) }
+        ≡ ended_words (names_view names.entry) node ids ended.now) }
 {
     said.clear();
     said.push_str("node ")?;
     push_decimal(said, u64::from(node))?;
+    push_channel(said, ids)?;
     said.push_str("  ")?;
     push_end(
         said,

@@ -1,67 +1,55 @@
-//! The lines of frames, and of transfers that ended.
+//! The lines of frames.
 
 ghost use Rattle.std.specs.Prelude.{◌≡◌, ◌⊎◌, ◌++◌, OnOk, IfErr};
 ghost use Rattle.conode_explain_pdo.specs.Buses.{bus_view};
 ghost use Rattle.conode_io.specs.Written.{WritesLines};
 ghost use Rattle.conode_record.specs.Grammar.{IsIdentifier};
-ghost use Rattle.conode_explain_text.specs.Lines.{own_parts};
-ghost use Rattle.conode_explain_text.specs.SoFar.{shows_interface, times_at};
 ghost use Rattle.conode_explain.specs.Explained.{
   bus_of,
   claims_at,
-  ended_lines,
   first_lines,
   frame_line,
   frame_lines,
   header_lines,
   lasts_after,
   lasts_with,
-  line_as,
   lines_by,
   news_lines,
   progress_by,
   progress_with,
   shown_lines,
   shown_signals,
-  told_lines,
-  unfinished_lines,
+  words_at,
 };
-ghost use Rattle.conode_explain.specs.Filtered.{lasts_told, subject_in};
-ghost use Rattle.conode_explain.specs.ToldWords.{told_words};
+ghost use Rattle.conode_explain.specs.Filtered.{lasts_told, subject_by};
 ghost use Rattle.conode_explain.specs.Sheets.{sheets_of};
 
-use crate::filtered::{data_of, is_news, shows_end, shows_frame, subject_in};
+use crate::ends::{write_boot_up, write_told_end};
+use crate::filtered::{is_news, shows_frame, subject_by};
 use crate::progress::{Layout, LineFormat, Progress, may_be_told};
-use crate::told_words::{set_ended_words, set_told_words};
-use crate::tones::{Tone, ending_tone, frame_tone, put_tone};
-use conode_explain_entries::Entries;
-use conode_explain_filter::{Kind, Lasts, Subject};
-use conode_explain_forms::{header, json_line, own_json_line, set_signal_line};
-use conode_explain_pdo::{Bus, Claim, KnownSheet, add_claims, names_for};
+use crate::settings::Settings;
+use crate::told_words::set_told_words;
+use conode_explain_entries::{Entries, Place};
+use conode_explain_filter::{Lasts, Subject};
+use conode_explain_forms::{
+    data_of, frame_tone, header, json_line, place_of, put_tone, read_as, set_signal_line,
+};
+use conode_explain_pdo::{Bus, Claim, add_claims};
 use conode_explain_services::Last;
-use conode_explain_text::{Seen, set_line, set_own_line};
-use conode_explain_transfers::{Ended, Told};
+use conode_explain_text::{Seen, set_line};
+use conode_explain_transfers::Told;
 use conode_io::{CmdFault, hand_over};
 use conode_record::{Identifier, Record};
 use std::alloc::{AllocError, Global};
 use std::io::Write;
 
-/// How a recording is explained.
-#[derive(Clone, Copy)]
-pub struct Settings<'f, 'k, 's, 'a> {
-    /// In which form.
-    pub form: Layout<'f>,
-    /// The data sheets that are known.
-    pub sheets: &'k [KnownSheet<'s, 'a>],
-}
-
 /// Scratch space for a line, reused for each one.
 #[derive(Drop)]
 pub(crate) struct Room {
-    alloc: Global,
-    said: String,
-    text: String,
-    line: Vec<u8>,
+    pub(crate) alloc: Global,
+    pub(crate) said: String,
+    pub(crate) text: String,
+    pub(crate) line: Vec<u8>,
 }
 
 impl Room {
@@ -136,7 +124,8 @@ fn set_frame_line(
 }
 
 // Writes the line of a frame that is asked for, if it says something new; `claims` are the PDOs
-// that it is, `last` is what the last frames of its node had.
+// that it is, `place` is its SDO channel, where that isn't a default one, `last` is what the last
+// frames of its node had.
 #[tactic(auto, using(crate::proofs::WriteSets::one_line))]
 fn write_news<W: Write>(
     room: &mut Room,
@@ -145,6 +134,7 @@ fn write_news<W: Write>(
     lasts: &mut Lasts,
     bus: Bus<'_, '_, '_, '_, '_>,
     claims: &[Claim],
+    place: Option<Place>,
     last: Last,
     subject: &Subject,
     frame: &Record<'_>,
@@ -154,12 +144,13 @@ fn write_news<W: Write>(
     requires { IsIdentifier frame.now.id }
     ensures lines { OnOk result (WritesLines (W.contents out.old) (W.contents out.new)
         (news_lines form.now seen.now lasts.old subject.now frame.now
-        (told_words (bus_view bus.entry) claims.now last frame.now told.now))) }
+        (words_at (bus_view bus.entry) claims.now place last frame.now told.now))) }
     ensures lasts { OnOk result (lasts.new ≡ lasts_told form.now lasts.old subject.now
-        frame.now (told_words (bus_view bus.entry) claims.now last frame.now told.now)) }
+        frame.now (words_at (bus_view bus.entry) claims.now place last frame.now told.now)) }
     ensures err { IfErr result (λ fault. (fault ≡ CmdFault.Write) ⊎ (fault ≡ CmdFault.Memory)) }
 {
-    set_told_words(&mut room.said, bus, claims, last, frame, told)?;
+    let id = read_as(place, frame.id);
+    set_told_words(&mut room.said, bus, claims, last, id, &frame.content, told)?;
     let words = room.said.as_bytes();
     if !is_news(lasts, form, subject, frame, words)? {
         return Ok(());
@@ -187,6 +178,7 @@ fn write_shown<W: Write>(
     lasts: &mut Lasts,
     bus: Bus<'_, '_, '_, '_, '_>,
     claims: &[Claim],
+    place: Option<Place>,
     last: Last,
     frame: &Record<'_>,
     told: &Option<Told>,
@@ -194,19 +186,19 @@ fn write_shown<W: Write>(
 ) -> Result<(), CmdFault>
     requires { IsIdentifier frame.now.id }
     ensures lines { OnOk result (WritesLines (W.contents out.old) (W.contents out.new)
-        (shown_lines form.now seen.now lasts.old (subject_in claims.now frame.now) frame.now
-        (told_words (bus_view bus.entry) claims.now last frame.now told.now))) }
+        (shown_lines form.now seen.now lasts.old (subject_by place claims.now frame.now) frame.now
+        (words_at (bus_view bus.entry) claims.now place last frame.now told.now))) }
     ensures lasts { OnOk result (lasts.new ≡ lasts_after form.now seen.now lasts.old
-        (subject_in claims.now frame.now) frame.now
-        (told_words (bus_view bus.entry) claims.now last frame.now told.now)) }
+        (subject_by place claims.now frame.now) frame.now
+        (words_at (bus_view bus.entry) claims.now place last frame.now told.now)) }
     ensures err { IfErr result (λ fault. (fault ≡ CmdFault.Write) ⊎ (fault ≡ CmdFault.Memory)) }
 {
-    let subject = subject_in(claims, frame);
+    let subject = subject_by(place, claims, frame);
     if !shows_frame(form, seen, &subject, frame.micros) {
         return Ok(());
     }
     write_news(
-        room, form, seen, lasts, bus, claims, last, &subject, frame, told, out,
+        room, form, seen, lasts, bus, claims, place, last, &subject, frame, told, out,
     )
 }
 
@@ -218,16 +210,18 @@ fn write_signals<W: Write>(
     seen: &Seen,
     bus: Bus<'_, '_, '_, '_, '_>,
     claims: &[Claim],
+    place: Option<Place>,
     frame: &Record<'_>,
     told: &Option<Told>,
     out: &mut W,
 ) -> Result<(), CmdFault>
     requires { IsIdentifier frame.now.id }
     ensures lines { OnOk result (WritesLines (W.contents out.old) (W.contents out.new)
-        (shown_signals form.now seen.now (bus_view bus.entry) claims.now frame.now told.now)) }
+        (shown_signals form.now seen.now (bus_view bus.entry) claims.now place frame.now
+        told.now)) }
     ensures err { IfErr result (λ fault. (fault ≡ CmdFault.Write) ⊎ (fault ≡ CmdFault.Memory)) }
 {
-    let subject = subject_in(claims, frame);
+    let subject = subject_by(place, claims, frame);
     if !shows_frame(form, seen, &subject, frame.micros) {
         return Ok(());
     }
@@ -249,6 +243,7 @@ fn write_first<W: Write>(
     lasts: &mut Lasts,
     bus: Bus<'_, '_, '_, '_, '_>,
     claims: &[Claim],
+    place: Option<Place>,
     last: Last,
     frame: &Record<'_>,
     told: &Option<Told>,
@@ -256,119 +251,27 @@ fn write_first<W: Write>(
 ) -> Result<(), CmdFault>
     requires { IsIdentifier frame.now.id }
     ensures lines { OnOk result (WritesLines (W.contents out.old) (W.contents out.new)
-        (first_lines form.now (bus_view bus.entry) claims.now last seen.now lasts.old frame.now
-        told.now)) }
+        (first_lines form.now (bus_view bus.entry) claims.now place last seen.now lasts.old
+        frame.now told.now)) }
     ensures lasts { OnOk result (lasts.new
-        ≡ lasts_with form.now (bus_view bus.entry) claims.now last seen.now lasts.old frame.now
-        told.now) }
+        ≡ lasts_with form.now (bus_view bus.entry) claims.now place last seen.now lasts.old
+        frame.now told.now) }
     ensures err { IfErr result (λ fault. (fault ≡ CmdFault.Write) ⊎ (fault ≡ CmdFault.Memory)) }
 {
     if form.signals.is_empty() {
-        return write_shown(room, form, seen, lasts, bus, claims, last, frame, told, out);
+        return write_shown(
+            room, form, seen, lasts, bus, claims, place, last, frame, told, out,
+        );
     }
-    write_signals(&mut room.text, form, seen, bus, claims, frame, told, out)
-}
-
-// Sets `line` to the line of an ended transfer, with these words, in a tone.
-fn set_end_line(
-    alloc: Global,
-    line: &mut Vec<u8>,
-    text: &mut String,
-    seen: &Seen,
-    form: &Layout<'_>,
-    micros: u64,
-    interface: &[u8],
-    node: u8,
-    tone: Tone,
-    words: &[u8],
-) -> Result<(), AllocError>
-    ensures { OnOk result (line.new.items ≡ line_as form.now tone Kind.Sdo (Some node)
-        (own_parts form.now.stamps (times_at seen.now micros)
-        (shows_interface seen.now interface.now) interface.now words.now)) }
-{
-    let times = seen.times(micros);
-    let shows = seen.shows_interface(interface);
-    let stamps = form.stamps;
-    match form.format {
-        LineFormat::Text => {
-            set_own_line(line, text, stamps, times, shows, interface, words)?;
-            put_tone(alloc, line, form.colours, tone)
-        }
-        LineFormat::Json => {
-            let (kind, of) = (Kind::Sdo, Some(node));
-            *line = own_json_line(alloc, stamps, times, shows, interface, words, kind, of)?;
-            Ok(())
-        }
-    }
-}
-
-// Writes the line of the transfer that ended, if one did and it is asked for. It has the stamp and
-// the interface of the frame that ended it.
-#[tactic(auto, unfolding(crate::specs::Explained::end_line), using(crate::proofs::WriteSets::one_line))]
-fn write_end<W: Write>(
-    room: &mut Room,
-    seen: &Seen,
-    settings: &Settings<'_, '_, '_, '_>,
-    micros: u64,
-    interface: &[u8],
-    node: u8,
-    ended: &Option<Ended>,
-    out: &mut W,
-) -> Result<(), CmdFault>
-    ensures lines { OnOk result (WritesLines (W.contents out.old) (W.contents out.new)
-        (ended_lines settings.now.form (sheets_of settings.now) seen.now micros
-        interface.now node ended.now)) }
-    ensures err { IfErr result (λ fault. (fault ≡ CmdFault.Write) ⊎ (fault ≡ CmdFault.Memory)) }
-{
-    let Some(ended) = ended else {
-        return Ok(());
-    };
-    if !shows_end(&settings.form, seen, micros, node) {
-        return Ok(());
-    }
-    let names = names_for(settings.sheets, interface, node);
-    set_ended_words(&mut room.said, names, node, ended)?;
-    set_end_line(
-        room.alloc,
-        &mut room.line,
+    write_signals(
         &mut room.text,
+        form,
         seen,
-        &settings.form,
-        micros,
-        interface,
-        node,
-        ending_tone(ended.ending),
-        room.said.as_bytes(),
-    )?;
-    hand_over(room.line.as_slice(), out)
-}
-
-// Writes the line of the transfer that ended with a frame, if one did and it is asked for.
-fn write_told_end<W: Write>(
-    room: &mut Room,
-    seen: &Seen,
-    settings: &Settings<'_, '_, '_, '_>,
-    frame: &Record<'_>,
-    told: &Option<Told>,
-    out: &mut W,
-) -> Result<(), CmdFault>
-    ensures lines { OnOk result (WritesLines (W.contents out.old) (W.contents out.new)
-        (told_lines settings.now.form (sheets_of settings.now) seen.now frame.now
-        told.now)) }
-    ensures err { IfErr result (λ fault. (fault ≡ CmdFault.Write) ⊎ (fault ≡ CmdFault.Memory)) }
-{
-    let Some(told) = told else {
-        return Ok(());
-    };
-    let name = frame.interface.bytes();
-    write_end(
-        room,
-        seen,
-        settings,
-        frame.micros,
-        name,
-        told.node,
-        &told.ended,
+        bus,
+        claims,
+        place,
+        frame,
+        told,
         out,
     )
 }
@@ -399,20 +302,22 @@ fn write_by<W: Write>(
     claims: &mut Vec<Claim>,
     progress: &mut Progress,
     settings: &Settings<'_, '_, '_, '_>,
+    place: Option<Place>,
     frame: &Record<'_>,
     told: &Option<Told>,
     out: &mut W,
 ) -> Result<(), CmdFault>
     requires { IsIdentifier frame.now.id }
     ensures lines { OnOk result (WritesLines (W.contents out.old) (W.contents out.new)
-        (lines_by settings.now.form (sheets_of settings.now) progress.old frame.now told.now)) }
+        (lines_by settings.now.form (sheets_of settings.now) progress.old place frame.now
+        told.now)) }
     ensures progress { OnOk result (progress.new ≡ progress_by settings.now.form
-        (sheets_of settings.now) progress.old frame.now told.now) }
+        (sheets_of settings.now) progress.old place frame.now told.now) }
     ensures err { IfErr result (λ fault. (fault ≡ CmdFault.Write) ⊎ (fault ≡ CmdFault.Memory)) }
 {
     let last = progress.last(frame);
     let bus = bus_of(settings, &progress.entries, frame);
-    set_claims(claims, bus, frame.id)?;
+    set_claims(claims, bus, read_as(place, frame.id))?;
     write_first(
         room,
         &settings.form,
@@ -420,12 +325,16 @@ fn write_by<W: Write>(
         &mut progress.lasts,
         bus,
         claims.as_slice(),
+        place,
         last,
         frame,
         told,
         out,
     )?;
-    write_told_end(room, &progress.seen, settings, frame, told, out)?;
+    let seen = &progress.seen;
+    write_told_end(room, seen, settings, place, frame, told, out)?;
+    let channels = progress.further.channels();
+    write_boot_up(room, seen, settings, channels, frame, told, out)?;
     progress.add(frame, told)?;
     Ok(())
 }
@@ -448,32 +357,15 @@ pub(crate) fn write_frame<W: Write>(
         ≡ progress_with settings.now.form (sheets_of settings.now) progress.old frame.now) }
     ensures err { IfErr result (λ fault. (fault ≡ CmdFault.Write) ⊎ (fault ≡ CmdFault.Memory)) }
 {
-    // most frames are of no SDO channel, and what one says about a frame is large
-    if !may_be_told(frame.id) {
-        return write_by(room, claims, progress, settings, frame, &None, out);
+    let bus = bus_of(settings, &progress.entries, frame);
+    match place_of(bus, frame.id, &frame.content, settings.channels) {
+        // most frames are of no SDO channel, and what one says about a frame is large
+        None if !may_be_told(frame.id) => {
+            write_by(room, claims, progress, settings, None, frame, &None, out)
+        }
+        place => {
+            let told = progress.tell_at(frame, place)?;
+            write_by(room, claims, progress, settings, place, frame, &told, out)
+        }
     }
-    let told = progress.tell(frame)?;
-    write_by(room, claims, progress, settings, frame, &told, out)
-}
-
-/// Writes the lines of the transfers that are open, at the end.
-#[tactic(auto, unfolding(crate::specs::Explained::unfinished_lines))]
-pub(crate) fn write_unfinished<W: Write>(
-    room: &mut Room,
-    progress: &Progress,
-    settings: &Settings<'_, '_, '_, '_>,
-    out: &mut W,
-) -> Result<(), CmdFault>
-    ensures lines { OnOk result (WritesLines (W.contents out.old) (W.contents out.new)
-        (unfinished_lines settings.now.form (sheets_of settings.now) progress.now)) }
-    ensures err { IfErr result (λ fault. (fault ≡ CmdFault.Write) ⊎ (fault ≡ CmdFault.Memory)) }
-{
-    let seen = &progress.seen;
-    let last = seen.last();
-    for track in progress.channels.tracks() {
-        let ended = track.channel.unfinished(last);
-        let name = track.interface.as_slice();
-        write_end(room, seen, settings, last, name, track.node, &ended, out)?;
-    }
-    Ok(())
 }

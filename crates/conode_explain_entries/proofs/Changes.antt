@@ -22,3 +22,9 @@ whole f (x ∷ xs) (suc i) le = ap (λ l. x ∷ l) (whole f xs i (omega (arith, 
 pub all_done : {A : Type 0} (f : A → A) (before now : List A) (i : ℕ) → length now ≤ i → take i now ++ map f (drop i now) ≡ map f before
     → now ≡ map f before
 all_done f before now i le h = sym (whole f now i le) ∙ h
+
+-- what stands at a place of a list: inside it nothing else is given
+pub same_at : {A : Type 0} (xs : List A) (i : ℕ) (d e : A) → i < length xs → get_or xs i d ≡ get_or xs i e
+same_at [] i d e lt = absurd (omega (arith, lt))
+same_at (x ∷ xs) zero d e lt = refl
+same_at (x ∷ xs) (suc i) d e lt = same_at xs i d e (omega (arith, lt))

@@ -209,6 +209,24 @@ other_interface = refl
 
 -- ---- the entries that are followed
 
+default_server : entry_of (key 0x1200 1) ≡ None
+default_server = refl
+
+first_server : entry_of (key 0x1201 1) ≡ Some (record { index = 0x1201; part = Mapping 1 })
+first_server = refl
+
+server_count : entry_of (key 0x1201 0) ≡ None
+server_count = refl
+
+last_client : entry_of (key 0x12FF 3) ≡ Some (record { index = 0x12FF; part = Mapping 3 })
+last_client = refl
+
+above_node_id : entry_of (key 0x12FF 4) ≡ None
+above_node_id = refl
+
+above_clients : entry_of (key 0x1300 1) ≡ None
+above_clients = refl
+
 first_rpdo : entry_of (key 0x1400 1) ≡ Some (record { index = 0x1400; part = CobId })
 first_rpdo = refl
 

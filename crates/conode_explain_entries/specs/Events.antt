@@ -27,12 +27,18 @@ is_cob_id key = (key.sub == pdo_cob_id) && (is_within tpdo_communication key.ind
 abbrev pub is_mapping : Key → Bool
 is_mapping key = nat_le key.sub 64 && (is_within tpdo_mapping key.index || is_within rpdo_mapping key.index)
 
+-- a COB-ID of an SDO channel other than the default one, or the node-ID of its other end: of servers
+-- 1201h to 127Fh, of clients 1280h to 12FFh (CiA 301, 7.5.2.33 and 7.5.2.34)
+abbrev pub is_channel : Key → Bool
+is_channel key = (nat_le 1 key.sub && nat_le key.sub 3) && (nat_le 0x1201 key.index && nat_le key.index 0x12FF)
+
 -- the entry of a PDO that a key is; its mapping parameter has an index that is 200h more than that
--- of its communication parameter
+-- of its communication parameter. An SDO channel's is kept by its sub-index, as one of a mapping
 abbrev pub entry_of : Key → Option PdoEntry
 entry_of key =
     if is_cob_id key then Some (record { index = key.index; part = CobId })
-    else (if is_mapping key then Some (record { index = key.index - 0x200; part = Mapping key.sub }) else None)
+    else (if is_mapping key then Some (record { index = key.index - 0x200; part = Mapping key.sub })
+    else (if is_channel key then Some (record { index = key.index; part = Mapping key.sub }) else None))
 
 -- ---- transfers that ended
 

@@ -1,3 +1,4 @@
 pub mod Events
+pub mod Further
 pub mod Histories
 pub mod Tables

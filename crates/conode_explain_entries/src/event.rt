@@ -7,6 +7,7 @@ ghost use Rattle.conode_explain_entries.specs.Events.{
   event_after,
   event_in,
   has_signature,
+  is_channel,
   is_cob_id,
   is_load,
   is_mapping,
@@ -29,14 +30,14 @@ use conode_explain_transfers::{Direction, Ended, Ending, Side, Told};
 pub enum PdoPart {
     /// Its COB-ID: sub-index 1 of its communication parameter.
     CobId,
-    /// A sub-index of its mapping parameter, 0 to 64.
+    /// A sub-index of its mapping parameter, 0 to 64; of an SDO channel's parameter 1 to 3.
     Mapping { sub: u8 },
 }
 
-/// An entry of a PDO.
+/// An entry of a PDO, or of an SDO channel.
 #[derive(Clone, Copy)]
 pub struct PdoEntry {
-    /// The index of the PDO's communication parameter.
+    /// The index of the PDO's communication parameter, or of the channel's parameter.
     pub index: u16,
     /// Which of its entries.
     pub part: PdoPart,
@@ -74,6 +75,13 @@ fn is_mapping(key: Key) -> bool
             || IndexRange::RPDO_MAPPING.contains(key.index))
 }
 
+// of an SDO channel other than the default one
+fn is_channel(key: Key) -> bool
+    ensures { result ≡ is_channel key }
+{
+    (1 <= key.sub && key.sub <= 3) && (0x1201 <= key.index && key.index <= 0x12FF)
+}
+
 fn entry_of(key: Key) -> Option<PdoEntry>
     ensures { result ≡ entry_of key }
 {
@@ -86,6 +94,12 @@ fn entry_of(key: Key) -> Option<PdoEntry>
     if is_mapping(key) {
         return Some(PdoEntry {
             index: key.index.saturating_sub(0x200),
+            part: PdoPart::Mapping { sub: key.sub },
+        });
+    }
+    if is_channel(key) {
+        return Some(PdoEntry {
+            index: key.index,
             part: PdoPart::Mapping { sub: key.sub },
         });
     }

@@ -1,4 +1,6 @@
 pub mod Examples
 pub mod JsonExamples
 pub mod JsonLemmas
+pub mod PlaceExamples
 pub mod Readings
+pub mod ToneExamples

@@ -18,11 +18,15 @@ mod json_content;
 mod json_lines;
 mod kind_name;
 mod lines;
+mod places;
 mod signal;
 mod stamps;
+mod tones;
 mod words;
 
 pub use columns::{first_missing, header};
 pub use json_lines::{json_line, own_json_line};
 pub use lines::set_signal_line;
+pub use places::{SheetChannel, channels_of, place_of, read_as};
 pub use signal::{Signal, SignalFault};
+pub use tones::{Tone, data_of, ending_tone, frame_tone, put_tone};

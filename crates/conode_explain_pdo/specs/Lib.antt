@@ -1,4 +1,5 @@
 pub mod Buses
+pub mod ChannelWords
 pub mod Claims
 pub mod CobIds
 pub mod Content

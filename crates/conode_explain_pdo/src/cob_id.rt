@@ -28,7 +28,8 @@ pub struct SheetCobId {
 // one more than the greatest number of 32 bits
 pub(crate) const BOUND: u64 = 0x1_0000_0000;
 
-pub(crate) fn cob_id_of(default: Preset<'_>) -> Option<SheetCobId>
+/// The COB-ID that an entry begins with; `None` where it has no number of 32 bits.
+pub fn cob_id_of(default: Preset<'_>) -> Option<SheetCobId>
     ensures { result ≡ cob_id_of (default_view default.entry) }
 {
     match default {
@@ -44,15 +45,16 @@ pub(crate) fn cob_id_of(default: Preset<'_>) -> Option<SheetCobId>
     }
 }
 
-/// Whether a PDO may have an identifier: it is not restricted (CiA 301, 7.3.5), and not that of a
+/// Whether a PDO, or an SDO channel other than a default one, may have an identifier: it is not restricted (CiA 301, 7.3.5), and not that of a
 /// default SDO channel.
-pub(crate) fn may_be_pdo(id: u16) -> bool
+pub fn may_be_pdo(id: u16) -> bool
     ensures { result ≡ may_be_pdo id }
 {
     !is_restricted(id) && !matches!(id, 0x581..=0x5FF | 0x601..=0x67F)
 }
 
-pub(crate) fn has_identifier(word: u64, id: u16) -> bool
+/// Whether a COB-ID is valid and has this identifier of 11 bits: bits 31 and 29 are clear.
+pub fn has_identifier(word: u64, id: u16) -> bool
     ensures { result ≡ has_identifier word id }
 {
     (word < 0x8000_0000 && word / 0x2000_0000 % 2 == 0) && word % 0x800 == u64::from(id)
@@ -76,7 +78,7 @@ impl SheetCobId {
         }
     }
 
-    fn word_for(self, node: u64) -> u64
+    pub(crate) fn word_for(self, node: u64) -> u64
         requires { node < 65536 }
         ensures { result ≡ word_for self node }
     {

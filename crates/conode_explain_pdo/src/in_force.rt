@@ -146,7 +146,7 @@ fn sheet_word(sheet: Option<&Mapping>, place: u8) -> Option<u32>
 }
 
 // the value at a place; past the last nothing was shown
-fn value_at(values: &[Value], place: usize) -> Value
+pub(crate) fn value_at(values: &[Value], place: usize) -> Value
     ensures { result ≡ value_at values.now place }
 {
     if place < values.len() {

@@ -2,6 +2,7 @@
 #![tactic(auto)]
 
 mod bus;
+mod channel_words;
 mod claim;
 mod cob_id;
 mod entry_bits;
@@ -15,8 +16,9 @@ mod sheet;
 mod value_type;
 
 pub use bus::Bus;
+pub use channel_words::channel_word;
 pub use claim::{Claim, add_claims};
-pub use cob_id::SheetCobId;
+pub use cob_id::{SheetCobId, cob_id_of, has_identifier, may_be_pdo};
 pub use entry_bits::EntryBits;
 pub use known::names_for;
 pub use known_entry::push_known;

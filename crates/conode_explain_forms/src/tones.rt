@@ -1,9 +1,10 @@
 //! The colour of a line on a terminal.
 
 ghost use Rattle.std.specs.Prelude.{◌≡◌, ◌++◌, OnOk};
-ghost use Rattle.conode_explain.specs.Tones.{
+ghost use Rattle.conode_explain_forms.specs.Tones.{
   abort_tone,
   boot_up_tone,
+  data_of,
   data_tone,
   emergency_tone,
   ending_tone,
@@ -17,16 +18,16 @@ ghost use Rattle.conode_explain.specs.Tones.{
   toned,
 };
 
-use crate::filtered::data_of;
+use arrayvec::ArrayVec;
 use conode_explain_filter::{Kind, Subject};
 use conode_explain_text::{Seen, odd_words};
 use conode_explain_transfers::Ending;
-use conode_record::{Identifier, Record};
+use conode_record::{Content, Identifier, Record};
 use std::alloc::{AllocError, Global};
 
 /// What the colour of a line says.
 #[derive(Clone, Copy)]
-pub(crate) enum Tone {
+pub enum Tone {
     /// Nothing: it has none.
     Plain,
     /// Something failed: red.
@@ -37,6 +38,17 @@ pub(crate) enum Tone {
     Good,
     /// A command, or a boot-up: cyan.
     Notable,
+}
+
+/// The bytes of a frame of data; none of another one.
+pub fn data_of(content: &Content<'_>) -> ArrayVec<u8, 8>
+    ensures { result.items ≡ data_of content.now }
+{
+    match content {
+        Content::Data(bytes) => bytes.to_list(),
+        Content::Remote(_) => ArrayVec::new(),
+        Content::Fd(_, _) => ArrayVec::new(),
+    }
 }
 
 fn emergency_tone(bytes: &[u8]) -> Tone
@@ -110,7 +122,7 @@ fn or_odd(is_odd: bool, tone: Tone) -> Tone
 
 /// The tone of the line of a frame.
 #[tactic(auto, unfolding(crate::specs::Tones::frame_tone))]
-pub(crate) fn frame_tone(seen: &Seen, subject: &Subject, frame: &Record<'_>) -> Tone
+pub fn frame_tone(seen: &Seen, subject: &Subject, frame: &Record<'_>) -> Tone
     ensures { result ≡ frame_tone seen.now subject.now frame.now }
 {
     let data = data_of(&frame.content);
@@ -122,7 +134,7 @@ pub(crate) fn frame_tone(seen: &Seen, subject: &Subject, frame: &Record<'_>) -> 
 }
 
 /// The tone of the line of a transfer that ended.
-pub(crate) fn ending_tone(ending: Ending) -> Tone
+pub fn ending_tone(ending: Ending) -> Tone
     ensures { result ≡ ending_tone ending }
 {
     match ending {
@@ -174,7 +186,7 @@ fn push_coloured(made: &mut Vec<u8>, numbers: &str, line: &[u8]) -> Result<(), A
 /// Writes a line, whose last byte is a line feed, in the colour of a tone, where that is asked for.
 /// On an `Err` memory ran out.
 #[tactic(auto, unfolding(crate::specs::Tones::toned))]
-pub(crate) fn put_tone(
+pub fn put_tone(
     alloc: Global,
     line: &mut Vec<u8>,
     colours: bool,

@@ -1,5 +1,7 @@
 -- The colour of a line on a terminal.
 use Rattle.std.specs.Prelude.{ℕ, ◌-◌, ◌==◌, Bool, true, false, not, ◌&&◌, if◌then◌else◌, List, [], ◌∷◌, ◌++◌, codes, length, slice_index, take, is_some}
+use Rattle.conode_record.specs.declared.content.Content.{Content}
+use Rattle.conode_record.specs.declared.content.Content.TheVariants.{Data}
 use Rattle.conode_record.specs.declared.fields.Identifier.{Identifier}
 use Rattle.conode_record.specs.declared.fields.Identifier.TheVariants.{Base, Extended, Error}
 use Rattle.conode_record.specs.declared.line.Record.{Record}
@@ -10,11 +12,15 @@ use Rattle.conode_explain_text.specs.Lines.{odd_words}
 use Rattle.conode_explain_text.specs.SoFar.{SoFar, times_at}
 use Rattle.conode_explain_transfers.specs.declared.ended.Ending.{Ending}
 use Rattle.conode_explain_transfers.specs.declared.ended.Ending.TheVariants.{Done, Unfinished}
-use Rattle.conode_explain.specs.declared.tones.Tone.{Tone}
-use Rattle.conode_explain.specs.declared.tones.Tone.TheVariants.{Plain, Bad, Odd, Good, Notable}
-use Rattle.conode_explain.specs.Filtered.{data_of}
+use Rattle.conode_explain_forms.specs.declared.tones.Tone.{Tone}
+use Rattle.conode_explain_forms.specs.declared.tones.Tone.TheVariants.{Plain, Bad, Odd, Good, Notable}
 
 -- ---- of frames
+
+-- the bytes of a frame of data
+abbrev pub data_of : Content → List ℕ
+data_of (Data bytes) = bytes
+data_of other = []
 
 -- an emergency: one whose code is 0 says that an error is gone (CiA 301, 7.2.7.1)
 abbrev pub emergency_tone : List ℕ → Tone

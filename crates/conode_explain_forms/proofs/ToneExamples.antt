@@ -4,8 +4,8 @@ use Rattle.std.specs.Prelude.{codes}
 use Rattle.conode_explain_filter.specs.declared.kind.Kind.TheVariants.{Sdo, Pdo, Emergency, Nmt, Heartbeat, Sync, Other}
 use Rattle.conode_record.specs.declared.fields.Identifier.TheVariants.{Base, Extended, Error}
 use Rattle.conode_explain_transfers.specs.declared.ended.Ending.TheVariants.{Done, Unanswered, Repeated, Interrupted, Unfinished, Irregular}
-use Rattle.conode_explain.specs.declared.tones.Tone.TheVariants.{Plain, Bad, Odd, Good, Notable}
-use Rattle.conode_explain.specs.Tones.{data_tone, ending_tone, or_odd, service_tone, toned}
+use Rattle.conode_explain_forms.specs.declared.tones.Tone.TheVariants.{Plain, Bad, Odd, Good, Notable}
+use Rattle.conode_explain_forms.specs.Tones.{data_tone, ending_tone, or_odd, service_tone, toned}
 
 -- the code alone says whether an error is gone, of an emergency that is whole
 emergencies : map (data_tone Emergency) ((0 ∷ 0 ∷ 1 ∷ 0 ∷ 0 ∷ 0 ∷ 0 ∷ 0 ∷ []) ∷ (1 ∷ 0 ∷ 0 ∷ 0 ∷ 0 ∷ 0 ∷ 0 ∷ 0 ∷ []) ∷ (0 ∷ 1 ∷ 0 ∷ 0 ∷ 0 ∷ 0 ∷ 0 ∷ 0 ∷ []) ∷ (0 ∷ 0 ∷ 0 ∷ 0 ∷ 0 ∷ 0 ∷ 0 ∷ []) ∷ [] ∷ []) ≡ Good ∷ Bad ∷ Bad ∷ Bad ∷ Bad ∷ []

@@ -3,7 +3,7 @@ use Rattle.std.specs.List.{flat_map}
 use Rattle.conode_io.specs.Written.{WritesLines}
 use Rattle.conode_explain.specs.Explained.{unfinished_in}
 use Rattle.conode_explain.specs.Sheets.{sheets_of}
-use Rattle.conode_explain.proofs.writes.write_unfinished.Given as goal
+use Rattle.conode_explain.proofs.ends.write_unfinished_default.Given as goal
 
 -- the lines of the channels so far are written
 abbrev pub invariant-loop-track : goal.invariant-loop-track
