@@ -1,36 +1,28 @@
 -- What explain knows of an upload and what the channel's log has of it (`Standing`): after a request with its answers, one that the device
 -- ignores, and the channel's other events.
-use Rattle.std.proofs.Common.{◌≡◌, ℕ, ◌+◌, Bool, true, false, not, List, [], ◌∷◌, length, Option, Some, None, refl, sym, ap, ◌∙◌, ◌⊎◌, inl, inr, subst}
-use Rattle.std.specs.Prelude.{◌&&◌, ◌==◌, nat_lt, if◌then◌else◌, is_some, IfSome}
-use Rattle.std.proofs.lemmas.Bool.{eqb-true, false≢true}
-use Rattle.arrayvec.specs.ArrayVec.{ArrayVec}
+use Rattle.std.proofs.Common.{◌≡◌, ℕ, ◌+◌, false, List, [], ◌∷◌, length, Option, None, refl, sym, ap, ◌⊎◌, inl, subst}
+use Rattle.std.specs.Prelude.{◌==◌, IfSome}
 use Rattle.co_value.specs.Numbers.{AreBytes}
 use Rattle.co_frame.specs.FrameContent.{FrameContent}
-use Rattle.co_frame.specs.Segments.{same_bool}
-use Rattle.co_frame.specs.SdoRequests.{request_in}
-use Rattle.co_frame.specs.declared.sdo_request.SdoRequest.{SdoRequest}
-use Rattle.co_frame.specs.declared.sdo_request.SdoRequest.TheVariants.{DownloadExpedited, DownloadInitiate, DownloadSegment, Upload as UploadInitiate, UploadSegment as NextSegment, Abort as Abandon, BlockUploadInitiate, BlockUploadEnd as UploadEnd, BlockUploadAcknowledge, BlockUploadStart, BlockDownloadInitiate, BlockDownloadEnd}
 use Rattle.co_dict.specs.Rows.{Contents, Rows}
 use Rattle.co_dict.specs.Stores.{Description, IsDictionary}
-use Rattle.co_sdo.specs.Log.{Answer, Exchanged, Log, Ticked as Elapsed, TimedOut, Dropped, frames_on}
-use Rattle.co_sdo.specs.Opened.{OpenTransfer, opened, opened_after}
+use Rattle.co_sdo.specs.Log.{Exchanged, Log, Ticked as Elapsed, Dropped, frames_on}
+use Rattle.co_sdo.specs.Opened.{opened, opened_after}
 use Rattle.co_sdo.specs.OpenTransfers.{open_transfer}
 use Rattle.co_sdo.specs.Replies.{answers_to, reply_to}
 use Rattle.co_sdo.specs.Standing.{is_under_way}
 use Rattle.co_sdo.specs.Steps.{opened_next}
-use Rattle.co_sdo_laws.proofs.Channel.{Served, Serves, served, tick_opens}
+use Rattle.co_sdo_laws.proofs.Channel.{Served, served, tick_opens}
 use Rattle.co_sheet.specs.Content.{Row}
-use Rattle.conode_explain_transfers.specs.declared.kinds.Direction.{Direction}
-use Rattle.conode_explain_transfers.specs.declared.kinds.Direction.TheVariants.{Download, Upload}
 use Rattle.conode_explain_transfers.specs.declared.kinds.Side.TheVariants.{Client}
 use Rattle.conode_explain_transfers.specs.declared.transfer.Transfer.{Transfer}
 use Rattle.conode_explain_transfers.specs.Digests.{digest_of}
-use Rattle.conode_explain_laws.specs.Uploads.{Read, acknowledged_whole}
+use Rattle.conode_explain_laws.specs.Uploads.{acknowledged_whole}
 use Rattle.conode_explain_laws.proofs.AllUploads.{drops}
 use Rattle.conode_explain_laws.proofs.UploadExchanges.{EndsWith, exchange}
 use Rattle.conode_explain_laws.proofs.UploadStanding.{FollowsIn}
-use Rattle.conode_explain_laws.proofs.UploadSteps.{acknowledged_next, completes, dropped_whole, ticked_whole}
-use Rattle.conode_explain_laws.proofs.UploadViews.{hears, hears_answers, holds}
+use Rattle.conode_explain_laws.proofs.UploadSteps.{completes, dropped_whole, ticked_whole}
+use Rattle.conode_explain_laws.proofs.UploadViews.{hears, hears_answers}
 use Rattle.conode_explain_laws.proofs.Views.{View}
 use Rattle.conode_compare_rules.specs.declared.limits.Subject.{Subject}
 use Rattle.conode_compare_rules.specs.declared.progress.Progress.{Progress}

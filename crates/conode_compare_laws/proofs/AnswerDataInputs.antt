@@ -1,10 +1,8 @@
 -- All inputs: no transfer of the default channel ends with another size or CRC than was indicated.
-use Rattle.std.proofs.Common.{◌≡◌, ℕ, ◌+◌, ◌<◌, ◌≢◌, Bool, true, false, List, [], ◌∷◌, ◌++◌, map, length, Option, Some, None, refl, sym, ap, ◌∙◌, inl, inr, subst, arith}
-use Rattle.std.specs.Prelude.{◌==◌, ◌&&◌, if◌then◌else◌, is_some, IfSome}
+use Rattle.std.proofs.Common.{◌≡◌, ℕ, ◌+◌, Bool, true, false, List, [], ◌∷◌, ◌++◌, map, length, Option, Some, None, refl, sym, ap, ◌∙◌, inl, inr, subst}
+use Rattle.std.specs.Prelude.{◌==◌, if◌then◌else◌, IfSome}
 use Rattle.std.specs.List.{AllByRecursion}
 use Rattle.std.proofs.lemmas.Bool.{eqb-true, false≢true}
-use Rattle.std.proofs.lemmas.Bool.Decides.{nat_tests}
-use Rattle.co_value.specs.declared.key.Key.{Key}
 use Rattle.co_frame.specs.AbortCodes.{timed_out as timed_out_code}
 use Rattle.co_frame.specs.FrameContent.{FrameContent}
 use Rattle.co_frame.specs.declared.heartbeat.Heartbeat.TheVariants.{BootUp}
@@ -12,10 +10,10 @@ use Rattle.co_dict.specs.Rows.{Rows}
 use Rattle.co_dict.specs.Stores.{IsDictionary}
 use Rattle.co_sdo.specs.Channels.{ChannelSettings}
 use Rattle.co_sdo.specs.Events.{ChannelEvent, exchange_on, frames_at, logs_after, time_out_on}
-use Rattle.co_sdo.specs.Log.{Answer, Event, Log, Ticked as Elapsed, TimedOut, Dropped, frames_on}
+use Rattle.co_sdo.specs.Log.{Answer, Log, Ticked as Elapsed, TimedOut, Dropped, frames_on}
 use Rattle.co_sdo.specs.Opened.{is_time_over, opened, opened_after}
 use Rattle.co_sdo.specs.OpenTransfers.{Since, and_event, open_since, open_transfer, since_initiate}
-use Rattle.co_sdo.specs.Replies.{aborted, open_key, time_out_reply}
+use Rattle.co_sdo.specs.Replies.{open_key, time_out_reply}
 use Rattle.co_sdo.specs.Standing.{is_under_way}
 use Rattle.co_sdo_laws.proofs.Channel.{ended}
 use Rattle.co_node_laws.proofs.Channel.{default_channel}
@@ -55,7 +53,7 @@ use Rattle.conode_compare_laws.proofs.AnswerDataFrames.{abort_run, begun_view, m
 use Rattle.conode_compare_laws.proofs.AnswerDevice.{IsNumbered, expired_at, found_with, idle_stopped, no_exchange_of_event, none_at_event, none_at_frame, none_stopped, numbered, timed_out}
 use Rattle.conode_compare_laws.proofs.AnswerInputs.{nmt_exchange, not_zero, served_is, zero_is}
 use Rattle.conode_compare_laws.proofs.AnswerOthers.{begun_has, is_sdo, life_run, others_run}
-use Rattle.conode_compare_laws.proofs.AnswerSteps.{begun_newest, some_map}
+use Rattle.conode_compare_laws.proofs.AnswerSteps.{some_map}
 use Rattle.conode_compare_laws.proofs.AnswerTransferInputs.{answers_other, log_at, nmt_other, not_equal, only_other, same_log}
 
 no_data : (kind : FrameKind) (found : Findings) → is_sdo kind ≡ false → data_differences kind found ≡ []

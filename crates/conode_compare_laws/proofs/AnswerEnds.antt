@@ -6,7 +6,6 @@ use Rattle.arrayvec.specs.ArrayVec.{ArrayVec}
 use Rattle.co_value.specs.declared.key.Key.{Key}
 use Rattle.co_value.specs.Keys.{same_key}
 use Rattle.co_frame.specs.Segments.{same_bool}
-use Rattle.co_frame.specs.declared.abort_code.AbortCode.{AbortCode}
 use Rattle.co_frame.specs.declared.block_segment.BlockSegment.{BlockSegment}
 use Rattle.co_frame.specs.declared.sdo_response.SdoResponse.{SdoResponse}
 use Rattle.co_frame.specs.declared.sdo_response.SdoResponse.TheVariants.{Abort as Refuse, DownloadDone, DownloadSegmentDone, UploadExpedited, UploadInitiated, UploadSegment, BlockDownloadInitiated, BlockDownloadDone, BlockDownloadAcknowledge, BlockUploadInitiated, BlockUploadEnd}
@@ -26,12 +25,12 @@ use Rattle.conode_explain_transfers.specs.declared.stage.Stage.TheVariants.{AllA
 use Rattle.conode_explain_transfers.specs.declared.transfer.Transfer.{Transfer}
 use Rattle.conode_explain_transfers.specs.BlockTurns.{acknowledged, block_ended, block_ended_at, block_segment_at, crc_in, end_confirmed, is_block, segment_added, segment_again, segment_ahead}
 use Rattle.conode_explain_transfers.specs.Endings.{size_fault, size_verdict, verdict}
-use Rattle.conode_explain_transfers.specs.Followed.{Followed, one_more, turns_at, with_frame}
+use Rattle.conode_explain_transfers.specs.Followed.{Followed, turns_at, with_frame}
 use Rattle.conode_explain_transfers.specs.SegmentedTurns.{answering, segment_done_at, upload_segment_at}
 use Rattle.conode_explain_transfers.specs.Stages.{confirmed_with, is_initiated}
 use Rattle.conode_explain_transfers.specs.Transfers.{Turn, after, awaited_number, is_download, overtaken, unexpected}
 use Rattle.conode_explain_transfers.specs.Turns.{response_turn}
-use Rattle.conode_explain_laws.proofs.Kept.{Keeps, keeps}
+use Rattle.conode_explain_laws.proofs.Kept.{keeps}
 use Rattle.conode_explain_laws.proofs.Readings.{Abort, Begin, Nothing, Reading, Request, Response, Segment, follows_by, reading_of, turn_of}
 use Rattle.conode_explain_laws.proofs.UploadViews.{hears}
 use Rattle.conode_explain_laws.proofs.Views.{View, abort_is, is_abort_reading, is_begin, server_no_begin}

@@ -1,6 +1,6 @@
 -- A request that the device ignores, since it hasn't eight bytes or the device is stopped, as explain follows it: no upload ends in it with
 -- another size or CRC than was indicated; and what both have then.
-use Rattle.std.proofs.Common.{◌≡◌, ℕ, ◌+◌, ◌*◌, Bool, true, false, not, List, [], length, Option, Some, None, refl, sym, ap, ◌∙◌, ◌⊎◌, inl, inr, subst}
+use Rattle.std.proofs.Common.{◌≡◌, ℕ, ◌+◌, Bool, true, false, not, List, length, Option, Some, None, refl, sym, ap, ◌∙◌, ◌⊎◌, inl, inr, subst}
 use Rattle.std.specs.Prelude.{◌&&◌, ◌==◌, nat_lt, if◌then◌else◌, is_some, IfSome}
 use Rattle.std.proofs.lemmas.Bool.{false≢true}
 use Rattle.arrayvec.specs.ArrayVec.{ArrayVec}
@@ -9,21 +9,20 @@ use Rattle.co_frame.specs.SdoRequests.{request_in}
 use Rattle.co_frame.specs.declared.sdo_request.SdoRequest.{SdoRequest}
 use Rattle.co_frame.specs.declared.sdo_request.SdoRequest.TheVariants.{DownloadExpedited, DownloadInitiate, DownloadSegment, Upload as UploadInitiate, UploadSegment as NextSegment, Abort as Abandon, BlockUploadInitiate, BlockUploadEnd as UploadEnd, BlockUploadAcknowledge, BlockUploadStart, BlockDownloadInitiate, BlockDownloadEnd}
 use Rattle.co_sdo.specs.Opened.{OpenTransfer}
-use Rattle.conode_explain_transfers.specs.declared.kinds.Direction.{Direction}
 use Rattle.conode_explain_transfers.specs.declared.kinds.Direction.TheVariants.{Download, Upload}
 use Rattle.conode_explain_transfers.specs.declared.kinds.Side.{Side}
 use Rattle.conode_explain_transfers.specs.declared.kinds.Side.TheVariants.{Client}
 use Rattle.conode_explain_transfers.specs.declared.kinds.What.{What}
 use Rattle.conode_explain_transfers.specs.declared.kinds.What.TheVariants as what
 use Rattle.conode_explain_transfers.specs.declared.stage.Stage.{Stage}
-use Rattle.conode_explain_transfers.specs.declared.stage.Stage.TheVariants.{AllAcknowledged, BlockEnded, BlockInitiated, DownloadConfirmed, DownloadSent, Initiated, SubBlock, UploadAsked, UploadTaken}
+use Rattle.conode_explain_transfers.specs.declared.stage.Stage.TheVariants.{BlockEnded, BlockInitiated, DownloadConfirmed, DownloadSent, Initiated, SubBlock, UploadAsked, UploadTaken}
 use Rattle.conode_explain_transfers.specs.declared.transfer.Transfer.{Transfer}
-use Rattle.conode_explain_transfers.specs.BlockTurns.{acknowledged, acknowledged_at, block_ended, crc_in, end_confirmed, end_confirmed_at, is_block, next_sub_block, upload_started_at}
+use Rattle.conode_explain_transfers.specs.BlockTurns.{acknowledged, acknowledged_at, block_ended, crc_in, end_confirmed, end_confirmed_at, is_block, upload_started_at}
 use Rattle.conode_explain_transfers.specs.Digests.{digest_of}
 use Rattle.conode_explain_transfers.specs.Followed.{turns_at, with_frame}
 use Rattle.conode_explain_transfers.specs.SegmentedTurns.{download_segment_at, upload_request_at}
 use Rattle.conode_explain_transfers.specs.Stages.{confirmed_with}
-use Rattle.conode_explain_transfers.specs.Transfers.{Turn, after, awaited_number, goes_on as part, irregular, is_download, repeated, takes_pending, unexpected}
+use Rattle.conode_explain_transfers.specs.Transfers.{Turn, after, awaited_number, is_download, unexpected}
 use Rattle.conode_explain_transfers.specs.Turns.{request_turn}
 use Rattle.conode_explain_laws.specs.Uploads.{Read}
 use Rattle.conode_explain_laws.proofs.AllInputs.{short_reading}
@@ -34,7 +33,7 @@ use Rattle.conode_explain_laws.proofs.Readings.{Abort, Begin, Nothing, Reading, 
 use Rattle.conode_explain_laws.proofs.UploadStanding.{AtEnd, Follows, FollowsIn, IsWaiting, aside, asked, at_end, begun, blocks, gone, is_ended, segmented}
 use Rattle.conode_explain_laws.proofs.UploadViews.{hears}
 use Rattle.conode_explain_laws.proofs.Views.{View, is_begin}
-use Rattle.conode_compare_laws.proofs.AnswerEnds.{IsWhole, Leads, Whole, by_turn, download_leads, frame_whole, other_whole, rests, worn, worn_leads}
+use Rattle.conode_compare_laws.proofs.AnswerEnds.{IsWhole, Leads, download_leads, frame_whole, other_whole, rests, worn}
 use Rattle.conode_compare_laws.proofs.AnswerFollowed.{reads}
 use Rattle.conode_compare_laws.proofs.AnswerWhole.{EndsWhole, asked_worn, end_whole, left_whole, upload_plain}
 

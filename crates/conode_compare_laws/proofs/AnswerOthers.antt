@@ -1,54 +1,22 @@
 -- Frames of other services and of other channels, for the laws about transfers: the transfer stays, or none is known to be open.
-use Rattle.std.proofs.Common.{◌≡◌, ℕ, ◌+◌, ◌<◌, ◌≢◌, Bool, true, false, List, [], ◌∷◌, ◌++◌, map, length, Option, Some, None, refl, sym, ap, ◌∙◌, inr, subst, arith}
-use Rattle.std.specs.Prelude.{◌==◌, ◌&&◌, if◌then◌else◌, is_some, IfSome, slice_index}
-use Rattle.std.specs.List.{AllByRecursion}
-use Rattle.std.proofs.lemmas.Bool.{eqb-true, false≢true, ne_eqb}
-use Rattle.std.proofs.lemmas.Bool.Decides.{nat_tests}
-use Rattle.co_value.specs.declared.key.Key.{Key}
-use Rattle.co_frame.specs.AbortCodes.{timed_out as timed_out_code}
+use Rattle.std.proofs.Common.{◌≡◌, ℕ, ◌+◌, Bool, true, false, List, [], ◌∷◌, length, Option, Some, None, refl, sym, ap}
+use Rattle.std.specs.Prelude.{◌==◌, if◌then◌else◌, is_some, slice_index}
+use Rattle.std.proofs.lemmas.Bool.{false≢true, ne_eqb}
 use Rattle.co_frame.specs.FrameContent.{FrameContent}
 use Rattle.co_frame.specs.Emergencies.{emergency_in}
 use Rattle.co_frame.specs.Heartbeats.{heartbeat_bytes}
 use Rattle.co_frame.specs.Nmt.{nmt_command_in}
-use Rattle.co_frame.specs.SdoRequests.{request_in}
 use Rattle.co_frame.specs.declared.emergency.Emergency.{Emergency}
 use Rattle.co_frame.specs.declared.heartbeat.Heartbeat.{Heartbeat}
-use Rattle.co_frame.specs.declared.heartbeat.Heartbeat.TheVariants.{BootUp}
 use Rattle.co_frame.specs.declared.nmt.NmtCommand.{NmtCommand}
 use Rattle.co_frame.specs.declared.nmt.NmtService.{NmtService}
 use Rattle.co_frame.specs.declared.nmt.NmtService.TheVariants.{Start, Stop, EnterPreOperational, ResetNode, ResetCommunication}
-use Rattle.co_frame.specs.declared.sdo_request.SdoRequest.{SdoRequest}
-use Rattle.co_frame.specs.declared.sdo_request.SdoRequest.TheVariants.{DownloadExpedited, DownloadInitiate, Upload as UploadInitiate, BlockUploadInitiate, BlockDownloadInitiate}
-use Rattle.co_frame.specs.declared.sdo_response.SdoResponse.TheVariants.{Abort as Refuse}
-use Rattle.co_sdo.specs.Channels.{ChannelSettings}
-use Rattle.co_sdo.specs.Events.{ChannelEvent, exchange_on, frames_at, logs_after, time_out_on}
-use Rattle.co_sdo.specs.Log.{Answer, Event, Log, Response as Replied, Ticked as Elapsed, TimedOut, Dropped, answer_bytes, frames_on}
-use Rattle.co_sdo.specs.Opened.{OpenTransfer, is_time_over, opened, opened_after}
-use Rattle.co_sdo.specs.OpenTransfers.{Since, and_event, is_initiate as initiates, open_since, open_transfer, since_initiate}
-use Rattle.co_sdo.specs.Replies.{open_key, time_out_reply}
-use Rattle.co_sdo_laws.proofs.Channel.{ended, tick_opens}
-use Rattle.co_node_laws.proofs.Channel.{default_channel}
-use Rattle.co_node_parts.specs.declared.nmt_state.NodeState.TheVariants as node
-use Rattle.co_node_parts.specs.NmtStates.{is_state}
-use Rattle.co_node_model.specs.Device.{contents_of, moment, moments, prescribed, state_of}
-use Rattle.co_node_model.specs.Emergencies.{emergency_frames}
-use Rattle.co_node_model.specs.Heartbeats.{boot_up, life_frames}
-use Rattle.co_node_model.specs.Inputs.{Applied, Framed, Inputs, InputView, Ticked}
-use Rattle.co_node_model.specs.Marks.{marked_tick}
-use Rattle.co_node_model.specs.Moments.{Constants, History, Moment, channels}
-use Rattle.co_node_model.specs.Sdo.{channel_logs, drops, with_channel_ticks, with_drop}
-use Rattle.co_node_model.specs.Sync.{is_sync_id}
-use Rattle.co_node_model.specs.Tpdos.{tpdo_frame}
+use Rattle.co_node_model.specs.Heartbeats.{life_frames}
 use Rattle.co_sheet.specs.Content.{Row}
 use Rattle.conode_explain_transfers.specs.declared.kinds.Side.TheVariants.{Client, Server}
 use Rattle.conode_explain_transfers.specs.declared.transfer.Transfer.{Transfer}
-use Rattle.conode_explain_laws.specs.Downloads.{is_block_begin}
-use Rattle.conode_explain_laws.proofs.Begins.{HasKey, has_key}
-use Rattle.conode_explain_laws.proofs.Views.{server_no_begin}
-use Rattle.conode_explain_transfers.specs.BlockTurns.{is_block}
-use Rattle.co_value.specs.Numbers.{AreBytes}
 use Rattle.conode_compare_transfers.specs.declared.dialogue.Dialogue.{Dialogue}
-use Rattle.conode_compare_transfers.specs.Dialogues.{dialogue_heard, given_up, interrupted}
+use Rattle.conode_compare_transfers.specs.Dialogues.{given_up, interrupted}
 use Rattle.conode_compare_rules.specs.declared.kind.FrameKind.{FrameKind}
 use Rattle.conode_compare_rules.specs.declared.kind.FrameKind.TheVariants.{Command, CommandToAll, Control, Emergency as Emcy, Fault, Guarding, OddControl, OddEmergency, Other, Polled, Process, Sdo}
 use Rattle.conode_compare_rules.specs.declared.limits.Subject.{Subject}
@@ -58,27 +26,9 @@ use Rattle.conode_compare_rules.specs.declared.verdict.Findings.{Findings}
 use Rattle.conode_compare_rules.specs.FrameKinds.{command_kind, command_to, control_kind, data_kind, emergency_kind, emergency_with, length_of}
 use Rattle.conode_compare_rules.specs.Progresses as progresses
 use Rattle.conode_compare_rules.specs.Progresses.{after_command, after_emergency, after_fault, after_frame, after_odd_control, after_process, begins_anew, begun, booted, findings_at, findings_in, progress_with, silence_at, was_quiet, with_gap}
-use Rattle.conode_compare_laws.specs.AnswerFindings.{transfer_differences}
-use Rattle.conode_compare_laws.specs.AnswerSenders.{AllSendOther, AreOther, BeginNoBlockUploads, BeginNoBlocks, BeginsNoBlockUpload, BeginsNoBlocks, HasBytes, HaveBytes, HaveOtherChannels, IsOther, SendsOther, is_block_upload_begin}
-use Rattle.conode_compare_laws.specs.Differences.{differences_from, differences_in}
-use Rattle.conode_compare_laws.specs.Identifiers.{AreElsewhere, IsAside, IsElsewhere}
-use Rattle.conode_compare_laws.specs.Recordings.{Stamped, frame_of, heard_from, recording}
+use Rattle.conode_compare_laws.specs.AnswerSenders.{AreOther, IsOther}
 use Rattle.conode_compare_laws.proofs.Frames.{life_kind}
-use Rattle.conode_compare_laws.proofs.Heard.{of_device}
-use Rattle.conode_compare_laws.proofs.Runs.{AllRun, joined, then_none}
-use Rattle.conode_compare_laws.proofs.AnswerTurns.{Sound}
-use Rattle.conode_compare_laws.proofs.AnswerFollowed.{begins_sound, reads}
-use Rattle.conode_compare_laws.proofs.AnswerBreaches.{Fine, own_fit, refusal_fine, stray_fine}
-use Rattle.conode_compare_laws.proofs.AnswerDevice.{Clean, IsAnother, IsNumbered, clean_at, expired_at, found_with, idle_stopped, no_exchange_of_event, none_at_event, none_at_frame, none_stopped, numbered, outside, timed_out}
-use Rattle.conode_compare_laws.proofs.AnswerDialogues.{InitiateHeard, initiate_heard}
-use Rattle.conode_compare_laws.proofs.AnswerSteps.{begun_newest, some_map}
-use Rattle.conode_compare_laws.proofs.AnswerExchange.{answer_kind, request_kind, small_key}
-use Rattle.conode_compare_laws.proofs.AnswerCalm.{another_exchange, calm_exchange, clean_exchange}
-use Rattle.conode_compare_laws.proofs.AnswerInputs.{not_eight, not_zero, nmt_exchange, served_is, zero_is}
-use Rattle.conode_compare_laws.proofs.AnswerOpened.{IsOf, none_of}
-use Rattle.conode_compare_laws.proofs.AnswerTransfers.{Shape, outside_sub_block}
-use Rattle.conode_compare_laws.proofs.AnswerTransferRuns.{HasShape, client_quiet, cons_runs, frame_runs, server_quiet, shape_after, sound_in}
-use Rattle.conode_compare_laws.proofs.AnswerTransferExchange.{HasTied, Tied, all_tied, exchange_runs, later_shape, map_runs}
+use Rattle.conode_compare_laws.proofs.Runs.{AllRun}
 
 -- ---- frames of other services: the transfer stays, or none is known to be open
 

@@ -1,5 +1,5 @@
 -- All inputs, block transfers too: no answer of the default channel has the toggle bit of the one before.
-use Rattle.std.proofs.Common.{◌≡◌, ℕ, ◌+◌, ◌≤◌, ◌≢◌, Bool, true, false, not, List, [], ◌∷◌, ◌++◌, map, length, Option, Some, None, refl, sym, ap, ◌∙◌, ◌⊎◌, inl, inr, subst}
+use Rattle.std.proofs.Common.{◌≡◌, ℕ, ◌+◌, ◌≤◌, Bool, true, false, List, [], ◌∷◌, ◌++◌, map, length, Option, Some, None, refl, sym, ap, ◌∙◌, ◌⊎◌, inl, inr, subst}
 use Rattle.std.specs.Prelude.{◌%◌, ◌/◌, ◌==◌, ◌&&◌, ◌||◌, if◌then◌else◌, nat_le, IfSome}
 use Rattle.std.specs.List.{AllByRecursion}
 use Rattle.std.proofs.lemmas.Bool.{eqb-true, false≢true}
@@ -10,7 +10,7 @@ use Rattle.co_frame.specs.AbortCodes.{timed_out as timed_out_code, unknown_comma
 use Rattle.co_frame.specs.FrameContent.{FrameContent}
 use Rattle.co_frame.specs.Segments.{is_odd}
 use Rattle.co_frame.specs.SdoRequests.{request_in}
-use Rattle.co_frame.specs.SdoResponses.{response_bytes, response_in, response_row_in}
+use Rattle.co_frame.specs.SdoResponses.{response_bytes, response_in}
 use Rattle.co_frame.specs.declared.heartbeat.Heartbeat.TheVariants.{BootUp}
 use Rattle.co_frame.specs.declared.sdo_request.ExpeditedData.TheVariants.{Indicated}
 use Rattle.co_frame.specs.declared.sdo_request.SdoRequest.{SdoRequest}
@@ -18,13 +18,13 @@ use Rattle.co_frame.specs.declared.sdo_request.SdoRequest.TheVariants.{DownloadE
 use Rattle.co_frame.specs.declared.sdo_response.SdoResponse.{SdoResponse}
 use Rattle.co_frame.specs.declared.sdo_response.SdoResponse.TheVariants.{Abort as Refuse, DownloadDone, DownloadSegmentDone, UploadExpedited, UploadInitiated, UploadSegment, BlockDownloadInitiated, BlockDownloadAcknowledge, BlockUploadInitiated}
 use Rattle.co_dict.specs.Refusals.{first_of}
-use Rattle.co_dict.specs.Rows.{Contents, Rows}
+use Rattle.co_dict.specs.Rows.{Contents}
 use Rattle.co_dict.specs.Stores.{Description}
 use Rattle.co_sdo.specs.declared.stage.Stage.{Stage}
 use Rattle.co_sdo.specs.declared.stage.Stage.TheVariants.{Download as Receiving, SubBlock as InSubBlock, Upload as Uploading}
 use Rattle.co_sdo.specs.Channels.{ChannelSettings}
 use Rattle.co_sdo.specs.Downloads.{expedited_part}
-use Rattle.co_sdo.specs.Events.{ChannelEvent, exchange_on, frames_at, time_out_on}
+use Rattle.co_sdo.specs.Events.{ChannelEvent, frames_at, time_out_on}
 use Rattle.co_sdo.specs.Log.{Answer, Log, Response as Replied, Ticked as Elapsed, answer_bytes, frames_on}
 use Rattle.co_sdo.specs.Opened.{OpenTransfer, is_time_over, opened_after}
 use Rattle.co_sdo.specs.OpenTransfers.{is_initiate as initiates}
@@ -34,7 +34,6 @@ use Rattle.co_sdo.specs.SubBlocks.{ends_sub_block}
 use Rattle.co_sdo.specs.Uploads.{is_last_after, part_after, upload_initiated, value_at}
 use Rattle.co_sdo_laws.proofs.Frames.{acknowledged_read, segment_done_read, segment_sent_read}
 use Rattle.co_sdo_laws.proofs.Segments.{part_small}
-use Rattle.co_node_laws.proofs.Channel.{default_channel}
 use Rattle.co_node_parts.specs.declared.nmt_state.NodeState.TheVariants as node
 use Rattle.co_node_parts.specs.NmtStates.{is_state}
 use Rattle.co_node_model.specs.Device.{contents_of, moment, moments, prescribed, state_of}
@@ -51,7 +50,7 @@ use Rattle.conode_explain_transfers.specs.declared.ended.Ended.{Ended}
 use Rattle.conode_explain_transfers.specs.declared.ended.Ending.{Ending}
 use Rattle.conode_explain_transfers.specs.declared.ended.Ending.TheVariants.{Aborted, CrcDiffers, SizeDiffers}
 use Rattle.conode_explain_transfers.specs.declared.kinds.Direction.{Direction}
-use Rattle.conode_explain_transfers.specs.declared.kinds.Direction.TheVariants.{Download, Upload}
+use Rattle.conode_explain_transfers.specs.declared.kinds.Direction.TheVariants.{Upload}
 use Rattle.conode_explain_transfers.specs.declared.kinds.Side.{Side}
 use Rattle.conode_explain_transfers.specs.declared.kinds.Side.TheVariants.{Client, Server}
 use Rattle.conode_explain_transfers.specs.declared.kinds.What.{What}
@@ -59,13 +58,13 @@ use Rattle.conode_explain_transfers.specs.declared.kinds.What.TheVariants as wha
 use Rattle.conode_explain_transfers.specs.declared.stage.Stage.{Stage as Progressed}
 use Rattle.conode_explain_transfers.specs.declared.stage.Stage.TheVariants.{DownloadSent, Initiated, SubBlock, UploadAsked}
 use Rattle.conode_explain_transfers.specs.declared.transfer.Transfer.{Transfer}
-use Rattle.conode_explain_transfers.specs.Followed.{Followed, Following, followed}
+use Rattle.conode_explain_transfers.specs.Followed.{Following, followed}
 use Rattle.conode_explain_transfers.specs.Readings.{is_in_sub_block as is_inside}
 use Rattle.conode_explain_transfers.specs.Stages.{confirmed_with}
 use Rattle.conode_explain_transfers.specs.Transfers.{after, is_download}
 use Rattle.conode_explain_transfers.specs.Turns.{response_turn}
 use Rattle.conode_explain_laws.proofs.Exchanges.{same_toggle}
-use Rattle.conode_explain_laws.proofs.Readings.{Abort, Begin, Reading, Response, follows_by, reading_of, response_reading}
+use Rattle.conode_explain_laws.proofs.Readings.{Abort, Reading, Response, follows_by, reading_of, response_reading}
 use Rattle.conode_explain_laws.proofs.Views.{abort_is, is_abort_reading, is_begin, server_no_begin}
 use Rattle.conode_compare_transfers.specs.declared.breach.Breach.{Breach}
 use Rattle.conode_compare_transfers.specs.declared.breach.Breach.TheVariants.{AbortKey, Form, Size}
@@ -101,7 +100,7 @@ use Rattle.conode_compare_laws.proofs.AnswerInputs.{nmt_exchange, not_zero, serv
 use Rattle.conode_compare_laws.proofs.AnswerOnly.{client_found, is_breach, server_found}
 use Rattle.conode_compare_laws.proofs.AnswerOthers.{is_sdo, life_run, others_run}
 use Rattle.conode_compare_laws.proofs.AnswerSteps.{Same, begun_newest, begun_same, some_map}
-use Rattle.conode_compare_laws.proofs.AnswerToggles.{AreBlocks, Heard, Once, acknowledged_once, asks_one, begins_one, blocks_once, client_heard, first_once, in_turn, is_again, is_kept, odd_frame, sends_one, turn_what}
+use Rattle.conode_compare_laws.proofs.AnswerToggles.{AreBlocks, Heard, acknowledged_once, asks_one, begins_one, blocks_once, client_heard, first_once, in_turn, is_again, is_kept, odd_frame, sends_one, turn_what}
 use Rattle.conode_compare_laws.proofs.AnswerTransferInputs.{answers_other, nmt_other, not_equal, only_other}
 use Rattle.conode_compare_laws.proofs.AnswerTurns.{in_blocks}
 

@@ -1,22 +1,15 @@
 -- All inputs of a device without block transfers: nothing is found within the transfers of its default channel.
 use Rattle.std.proofs.Common.{◌≡◌, ℕ, ◌+◌, ◌<◌, ◌≢◌, Bool, true, false, List, [], ◌∷◌, ◌++◌, map, length, Option, Some, None, refl, sym, ap, ◌∙◌, inr, subst, arith}
-use Rattle.std.specs.Prelude.{◌==◌, ◌&&◌, if◌then◌else◌, is_some, IfSome, slice_index}
+use Rattle.std.specs.Prelude.{◌==◌, ◌&&◌, if◌then◌else◌, is_some, IfSome}
 use Rattle.std.specs.List.{AllByRecursion}
-use Rattle.std.proofs.lemmas.Bool.{eqb-true, false≢true, ne_eqb}
+use Rattle.std.proofs.lemmas.Bool.{eqb-true, false≢true}
 use Rattle.std.proofs.lemmas.Bool.Decides.{nat_tests}
 use Rattle.co_value.specs.declared.key.Key.{Key}
 use Rattle.co_frame.specs.AbortCodes.{timed_out as timed_out_code}
 use Rattle.co_frame.specs.FrameContent.{FrameContent}
-use Rattle.co_frame.specs.Emergencies.{emergency_in}
-use Rattle.co_frame.specs.Heartbeats.{heartbeat_bytes}
-use Rattle.co_frame.specs.Nmt.{nmt_command_in}
 use Rattle.co_frame.specs.SdoRequests.{request_in}
-use Rattle.co_frame.specs.declared.emergency.Emergency.{Emergency}
 use Rattle.co_frame.specs.declared.heartbeat.Heartbeat.{Heartbeat}
 use Rattle.co_frame.specs.declared.heartbeat.Heartbeat.TheVariants.{BootUp}
-use Rattle.co_frame.specs.declared.nmt.NmtCommand.{NmtCommand}
-use Rattle.co_frame.specs.declared.nmt.NmtService.{NmtService}
-use Rattle.co_frame.specs.declared.nmt.NmtService.TheVariants.{Start, Stop, EnterPreOperational, ResetNode, ResetCommunication}
 use Rattle.co_frame.specs.declared.sdo_request.SdoRequest.{SdoRequest}
 use Rattle.co_frame.specs.declared.sdo_request.SdoRequest.TheVariants.{DownloadExpedited, DownloadInitiate, Upload as UploadInitiate, BlockUploadInitiate, BlockDownloadInitiate}
 use Rattle.co_frame.specs.declared.sdo_response.SdoResponse.TheVariants.{Abort as Refuse}
@@ -48,21 +41,18 @@ use Rattle.conode_explain_laws.proofs.Views.{server_no_begin}
 use Rattle.conode_explain_transfers.specs.BlockTurns.{is_block}
 use Rattle.co_value.specs.Numbers.{AreBytes}
 use Rattle.conode_compare_transfers.specs.declared.dialogue.Dialogue.{Dialogue}
-use Rattle.conode_compare_transfers.specs.Dialogues.{dialogue_heard, given_up, interrupted}
+use Rattle.conode_compare_transfers.specs.Dialogues.{dialogue_heard}
 use Rattle.conode_compare_rules.specs.declared.kind.FrameKind.{FrameKind}
-use Rattle.conode_compare_rules.specs.declared.kind.FrameKind.TheVariants.{Command, CommandToAll, Control, Emergency as Emcy, Fault, Guarding, OddControl, OddEmergency, Other, Polled, Process, Sdo}
+use Rattle.conode_compare_rules.specs.declared.kind.FrameKind.TheVariants.{Sdo}
 use Rattle.conode_compare_rules.specs.declared.limits.Subject.{Subject}
 use Rattle.conode_compare_rules.specs.declared.progress.Progress.{Progress}
 use Rattle.conode_compare_rules.specs.declared.verdict.Findings.{Findings}
-use Rattle.conode_compare_rules.specs.FrameKinds.{command_kind, command_to, control_kind, data_kind, emergency_kind, emergency_with, length_of}
-use Rattle.conode_compare_rules.specs.Progresses as progresses
-use Rattle.conode_compare_rules.specs.Progresses.{after_command, after_emergency, after_fault, after_frame, after_odd_control, after_process, before_recording, begins_anew, begun, booted, findings_in, silence_at, was_quiet, with_gap}
+use Rattle.conode_compare_rules.specs.Progresses.{before_recording, begun}
 use Rattle.conode_compare_laws.specs.AnswerFindings.{transfer_differences}
 use Rattle.conode_compare_laws.specs.AnswerSenders.{AllSendOther, AreOther, BeginNoBlockUploads, BeginNoBlocks, BeginsNoBlockUpload, BeginsNoBlocks, HasBytes, HaveBytes, HaveOtherChannels, IsOther, SendsOther, is_block_upload_begin}
 use Rattle.conode_compare_laws.specs.Differences.{differences_from, differences_in}
 use Rattle.conode_compare_laws.specs.Identifiers.{AreElsewhere, IsAside, IsElsewhere}
 use Rattle.conode_compare_laws.specs.Recordings.{Stamped, frame_of, heard_from, recording}
-use Rattle.conode_compare_laws.proofs.Frames.{life_kind}
 use Rattle.conode_compare_laws.proofs.Heard.{of_device}
 use Rattle.conode_compare_laws.proofs.Runs.{AllRun, joined, then_none}
 use Rattle.conode_compare_laws.proofs.AnswerTurns.{Sound}
@@ -77,7 +67,7 @@ use Rattle.conode_compare_laws.proofs.AnswerCalm.{another_exchange, calm_exchang
 use Rattle.conode_compare_laws.proofs.AnswerInputs.{not_eight, not_zero, nmt_exchange, served_is, zero_is}
 use Rattle.conode_compare_laws.proofs.AnswerOpened.{IsOf, none_of}
 use Rattle.conode_compare_laws.proofs.AnswerTransfers.{Shape, outside_sub_block}
-use Rattle.conode_compare_laws.proofs.AnswerTransferRuns.{HasShape, client_quiet, cons_runs, frame_runs, server_quiet, shape_after, sound_in}
+use Rattle.conode_compare_laws.proofs.AnswerTransferRuns.{HasShape, client_quiet, frame_runs, server_quiet, shape_after, sound_in}
 use Rattle.conode_compare_laws.proofs.AnswerTransferExchange.{HasTied, Tied, all_tied, exchange_runs, later_shape, map_runs}
 
 -- ---- frames of other services

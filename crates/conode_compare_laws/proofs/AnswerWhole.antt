@@ -1,12 +1,11 @@
 -- A request with its answers, as explain follows them: no upload ends in it with another size or CRC than was indicated; and what is kept
 -- of the data.
-use Rattle.std.proofs.Common.{◌≡◌, ℕ, suc, ◌+◌, ◌*◌, ◌≤◌, Bool, true, false, not, List, [], ◌∷◌, ◌++◌, length, take, Option, Some, None, refl, sym, ap, ◌∙◌, ◌⊎◌, inl, inr, subst}
+use Rattle.std.proofs.Common.{◌≡◌, ℕ, suc, ◌+◌, ◌*◌, Bool, true, false, not, List, [], ◌∷◌, ◌++◌, length, take, Option, Some, None, refl, sym, ap, ◌∙◌, ◌⊎◌, inl, inr, subst}
 use Rattle.std.specs.Prelude.{◌&&◌, ◌==◌, nat_lt, if◌then◌else◌, is_some, IfSome}
 use Rattle.std.proofs.lemmas.Bool.{false≢true}
 use Rattle.arrayvec.specs.ArrayVec.{ArrayVec}
 use Rattle.co_value.specs.declared.key.Key.{Key}
-use Rattle.co_value.specs.Numbers.{AreBytes}
-use Rattle.co_frame.specs.Segments.{is_odd, same_bool}
+use Rattle.co_frame.specs.Segments.{is_odd}
 use Rattle.co_frame.specs.SdoRequests.{request_in}
 use Rattle.co_frame.specs.SdoResponses.{response_bytes}
 use Rattle.co_frame.specs.declared.sdo_request.SdoRequest.{SdoRequest}
@@ -19,15 +18,14 @@ use Rattle.co_sdo.specs.declared.stage.Stage.TheVariants.{Upload as Uploading}
 use Rattle.co_sdo.specs.Log.{Answer, Response as Replied, answer_bytes}
 use Rattle.co_sdo.specs.Opened.{OpenTransfer}
 use Rattle.co_sdo.specs.OpenTransfers.{is_initiate as initiates}
-use Rattle.co_sdo.specs.Replies.{answers_to, is_in_sub_block, request_answers, unless_refused, toggle_refusal}
+use Rattle.co_sdo.specs.Replies.{answers_to, request_answers, unless_refused, toggle_refusal}
 use Rattle.co_sdo.specs.Uploads.{is_last_after, part_after, upload_segment}
 use Rattle.co_sdo_laws.proofs.Frames.{segment_sent_read}
 use Rattle.co_sdo_laws.proofs.Segments.{joined, part_small, taken_all}
 use Rattle.conode_explain_transfers.specs.declared.digest.Digest.{Digest}
-use Rattle.conode_explain_transfers.specs.declared.ended.Ended.{Ended}
 use Rattle.conode_explain_transfers.specs.declared.ended.Ending.TheVariants.{Repeated}
 use Rattle.conode_explain_transfers.specs.declared.kinds.Direction.{Direction}
-use Rattle.conode_explain_transfers.specs.declared.kinds.Direction.TheVariants.{Download, Upload}
+use Rattle.conode_explain_transfers.specs.declared.kinds.Direction.TheVariants.{Upload}
 use Rattle.conode_explain_transfers.specs.declared.kinds.Side.{Side}
 use Rattle.conode_explain_transfers.specs.declared.kinds.Side.TheVariants.{Client, Server}
 use Rattle.conode_explain_transfers.specs.declared.kinds.What.{What}
@@ -35,7 +33,7 @@ use Rattle.conode_explain_transfers.specs.declared.kinds.What.TheVariants as wha
 use Rattle.conode_explain_transfers.specs.declared.stage.Stage.{Stage}
 use Rattle.conode_explain_transfers.specs.declared.stage.Stage.TheVariants.{AllAcknowledged, BlockEnded, BlockInitiated, Confirmed, DownloadConfirmed, DownloadSent, Initiated, SubBlock, UploadAsked, UploadTaken}
 use Rattle.conode_explain_transfers.specs.declared.transfer.Transfer.{Transfer}
-use Rattle.conode_explain_transfers.specs.BlockTurns.{acknowledged, acknowledged_at, acknowledged_in, block_ended, block_segment_at, crc_in, end_confirmed, end_confirmed_at, is_block, next_sub_block as after_sub_block, upload_started_at}
+use Rattle.conode_explain_transfers.specs.BlockTurns.{acknowledged, acknowledged_at, block_ended, block_segment_at, crc_in, end_confirmed, end_confirmed_at, is_block, next_sub_block as after_sub_block, upload_started_at}
 use Rattle.conode_explain_transfers.specs.Data.{data_with}
 use Rattle.conode_explain_transfers.specs.Digests.{counted, digest_of}
 use Rattle.conode_explain_transfers.specs.Endings.{size_fault, verdict}
@@ -56,7 +54,7 @@ use Rattle.conode_explain_laws.proofs.Readings.{Abort, Begin, Nothing, Reading, 
 use Rattle.conode_explain_laws.proofs.UploadStanding.{AtEnd, FollowsIn, InUpload, IsWaiting, aside, asked, at_end, begun, blocks, gone, late_request, segmented, size_is}
 use Rattle.conode_explain_laws.proofs.UploadViews.{hears, hears_answers, holds, read_as}
 use Rattle.conode_explain_laws.proofs.Views.{View, is_begin, server_no_begin}
-use Rattle.conode_compare_laws.proofs.AnswerEnds.{AllWhole, IsWhole, Leads, Rests, Whole, abort_answers, calm, differs, download, download_leads, first, frame_whole, is_calm, is_partial, other_whole, rest_answers, rests, right_verdict, stray_whole, worn, worn_leads}
+use Rattle.conode_compare_laws.proofs.AnswerEnds.{AllWhole, IsWhole, Leads, Rests, Whole, abort_answers, calm, differs, download, download_leads, first, frame_whole, is_calm, other_whole, rest_answers, rests, right_verdict, stray_whole, worn, worn_leads}
 use Rattle.conode_compare_laws.proofs.AnswerFollowed.{reads}
 
 -- ---- a request in an upload whose segments come, or whose next one the client asks for

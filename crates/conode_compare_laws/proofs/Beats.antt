@@ -186,7 +186,8 @@ still_passes subject rows p micros (OddEmergency length) period ago is h =
     (let e : Beats period micros ago p = ended period micros ago p h in record { none = refl; beats = record { fresh = e.fresh; known = e.known; since = e.since } })
 still_passes subject rows p micros (Process id length) period ago is h =
     (let e : Beats period micros ago p = ended period micros ago p h in record { none = sighted_none id length (tpdos.sighting (moment_at subject p micros) p.pdos id length); beats = record { fresh = e.fresh; known = e.known; since = e.since } })
-still_passes subject rows p micros Other period ago is h = record { none = refl; beats = ended period micros ago p h }
+still_passes subject rows p micros Other period ago is h =
+    (let e : Beats period micros ago p = ended period micros ago p h in record { none = refl; beats = record { fresh = e.fresh; known = e.known; since = e.since } })
 still_passes subject rows p micros _ period ago is h = absurd (cc)
 
 -- the boot-up, and heartbeats: the next one is awaited from then on

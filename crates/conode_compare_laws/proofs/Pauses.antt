@@ -146,7 +146,7 @@ unfolding after_process
 quiet_passes inhibit micros sent subject rows p (Command service) is h = record { none = refl; calm = command_calm inhibit micros sent p service false h }
 quiet_passes inhibit micros sent subject rows p (CommandToAll service) is h = record { none = refl; calm = command_calm inhibit micros sent p service subject.facts.starts_itself h }
 quiet_passes inhibit micros sent subject rows p (Process id length) is h = record { none = refl; calm = record { known = h.known; since = h.since } }
-quiet_passes inhibit micros sent subject rows p Other is h = record { none = refl; calm = h }
+quiet_passes inhibit micros sent subject rows p Other is h = record { none = refl; calm = record { known = h.known; since = h.since } }
 quiet_passes inhibit micros sent subject rows p _ is h = absurd (cc)
 
 one : (inhibit micros : ℕ) (sent : List Sending) (subject : Subject) (rows : List Row) (p : Progress) (frame : FrameContent) (kind : FrameKind) → data_kind subject.node frame ≡ kind
