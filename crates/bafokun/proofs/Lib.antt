@@ -2,10 +2,12 @@ pub mod Added
 pub mod AsBox
 pub mod AsLoss
 pub mod GivenBus
+pub mod NoReset
 pub mod Numbered
 pub mod Put
 pub mod Refused
 pub mod StateKept
+pub mod Synced
 pub mod Terminated
 pub mod Ticks
 pub mod ChangesSoFar

@@ -17,7 +17,7 @@ use Rattle.co_node_model.specs.Sync.{is_sync_id}
 use Rattle.co_node_laws.specs.Devices.{Device}
 use Rattle.co_node_laws.specs.ByKind.{Heard, Ignored, device_of, kind_of, kind_of_frame, state_with}
 
-unequal : (id : ℕ) (is : Bool) → is ≡ (id == 0) → (id ≡ 0 → ⊥) → is ≡ false
+pub unequal : (id : ℕ) (is : Bool) → is ≡ (id == 0) → (id ≡ 0 → ⊥) → is ≡ false
 unequal id false e other = refl
 unequal id true e other = absurd (other (grind (arith, nat_tests, e)))
 

@@ -7,6 +7,7 @@ pub mod Entries
 pub mod Faults
 pub mod Frames
 pub mod Happened
+pub mod Lent
 pub mod Seals
 pub mod Texts
 pub mod Ticks

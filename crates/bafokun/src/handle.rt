@@ -95,12 +95,7 @@ impl Handle {
     /// Takes a received frame. The frames that are sent are put into the array, as many as it has
     /// room for; returns how many there are.
     #[inline(always)]
-    pub(crate) fn take_frame(
-        &mut self,
-        alloc: Global,
-        frame: &Frame,
-        frames: &mut [CanFrame],
-    ) -> usize
+    pub(crate) fn take_frame(&mut self, frame: &Frame, frames: &mut [CanFrame]) -> usize
         ensures gives { (k : Constants) (before : Inputs) → IsDevice k self.old before →
             Gives k before (Framed frame.now) self.new frames.old frames.new result }
         ensures empty { IsEmpty self.old → IsQuiet self.new frames.old frames.new result }
@@ -114,14 +109,14 @@ impl Handle {
         if self.is_empty() {
             return 0;
         }
-        let mut held = self.take_out(alloc);
+        let held = self.seal.held_mut();
         held.take_frame(frame);
-        self.give(held, frames)
+        held.give(frames)
     }
 
     /// 1 ms elapsed. The frames that are sent are put and counted as by `take_frame`.
     #[inline(always)]
-    pub(crate) fn tick(&mut self, alloc: Global, frames: &mut [CanFrame]) -> usize
+    pub(crate) fn tick(&mut self, frames: &mut [CanFrame]) -> usize
         ensures gives { (k : Constants) (before : Inputs) → IsDevice k self.old before →
             Gives k before Ticked self.new frames.old frames.new result }
         ensures empty { IsEmpty self.old → IsQuiet self.new frames.old frames.new result }
@@ -133,9 +128,9 @@ impl Handle {
         if self.is_empty() {
             return 0;
         }
-        let mut held = self.take_out(alloc);
+        let held = self.seal.held_mut();
         held.tick();
-        self.give(held, frames)
+        held.give(frames)
     }
 
     /// Takes an application event. The frames that are sent are put and counted as by `take_frame`.

@@ -11,13 +11,15 @@ ghost use Rattle.bafokun.specs.Changes.{IsNext, and_set, left_after};
 ghost use Rattle.bafokun.specs.Bus.{GaveBus, bus_input};
 ghost use Rattle.bafokun.specs.Devices.{Gave};
 ghost use Rattle.bafokun.specs.Entries.{key_named};
+ghost use Rattle.bafokun.specs.Frames.{ArePut};
 ghost use Rattle.bafokun.specs.Happened.{and_bus, and_input, and_ticks, left_of, told_of};
 ghost use Rattle.bafokun.specs.Ticks.{GaveTicks};
 
 use crate::bus::bus_input;
 use crate::changes::{next_changed, note_reset};
 use crate::entries::Named;
-use crate::happened::Events;
+use crate::frames::{CanFrame, put};
+use crate::happened::{Events, is_sync};
 use co_dict_placed::forget_change;
 use co_dict_table::EntryTable;
 use co_frame::{Frame, Outbox};
@@ -49,15 +51,29 @@ impl Held {
             self.new.events ≡ and_input k before (Framed frame.now) self.old.events }
     {
         let state = self.node.state();
+        // called here alone: called twice, it isn't compiled into its callers
         let seen = self
             .node
             .take_frame_noting(frame, &mut self.sent, &mut self.changes);
-        note_reset(seen, &self.entries, &mut self.changes);
-        if frame.id() == 0 {
+        if is_sync(seen) {
+            self.events.note_frame(seen);
+        } else if frame.id() == 0 {
+            note_reset(seen, &self.entries, &mut self.changes);
             self.events.note(&self.node, state);
         } else {
             self.events.note_frame(seen);
         }
+    }
+
+    /// Puts the frames of the last input into the array, as many as it has room for; returns how
+    /// many there are.
+    #[inline(always)]
+    pub(crate) fn give(&self, frames: &mut [CanFrame]) -> usize
+        ensures put { ArePut self.now.sent.items frames.old frames.new }
+        ensures count { result ≡ length self.now.sent.items }
+    {
+        put(&self.sent, frames);
+        self.sent.len()
     }
 
     /// 1 ms elapsed.

@@ -71,7 +71,7 @@ pub extern "C" fn bafokun_take(
     ensures untouched { (IsCan frame.now → ⊥) → frames.new ≡ frames.old }
 {
     match frame.read() {
-        Some(frame) => node.take_frame(alloc, &frame, frames),
+        Some(frame) => node.take_frame(&frame, frames),
         None => 0,
     }
 }
@@ -90,7 +90,7 @@ pub extern "C" fn bafokun_tick(alloc: Global, node: &mut Handle, frames: &mut [C
     ensures events { (k : Constants) (before : Inputs) → IsDevice k node.old before →
         events_of node.new ≡ and_input k before Ticked (events_of node.old) }
 {
-    node.tick(alloc, frames)
+    node.tick(frames)
 }
 
 /// Several ms elapsed, at most `most`: the ticks end with the first that sends frames, so that

@@ -25,6 +25,9 @@ impl Model for Seal {
 }
 
 impl Seal {
+    ghost use Rattle.std.specs.Borrow.{sem};
+    ghost use Rattle.bafokun.specs.Lent.{LendsHeld};
+
     /// The seal of a box.
     pub(crate) fn of_parts(parts: Parts<Held, Global>) -> Seal
         ensures { result.value ≡ Some parts.value }
@@ -51,5 +54,15 @@ impl Seal {
     {
         let _ = alloc;
         Seal { at: null_mut() }
+    }
+
+    /// The device, where it is. There has to be one.
+    #[inline(always)]
+    pub(crate) fn held_mut(&mut self) -> &mut Held
+        requires { self.old.value ≡ None → ⊥ }
+        ensures* writes_back { sem 𝓛 (LendsHeld self.entry result) }
+        ensures value { self.old.value ≡ Some result.now }
+    {
+        unsafe { &mut *(self.at as *mut Held) }
     }
 }
