@@ -7,7 +7,7 @@ mod node_tokens;
 mod parts;
 mod recording;
 mod recording_file;
-mod sheet_time;
+mod sheet_facts;
 mod step;
 mod tokens;
 

@@ -19,7 +19,7 @@ use crate::parts::{Part, put_parts};
 use conode_json::JsonWriter;
 use conode_stats_counts::{Bus, Heartbeats, Node, Shown, Tally};
 use conode_stats_text::{
-    Pace, SheetTime, is_shown, lost_gap, median, sheet_time, silent_since, state_word,
+    Pace, SheetFacts, is_shown, lost_gap, median, sheet_time, silent_since, state_word,
 };
 use std::alloc::{AllocError, Global};
 
@@ -194,7 +194,7 @@ fn put_node_in(
 pub(crate) fn put_nodes(
     alloc: Global,
     writer: &mut JsonWriter,
-    sheets: &[SheetTime<'_>],
+    sheets: &[SheetFacts<'_>],
     bus: &Bus,
 ) -> Result<(), AllocError> {
     writer.begin_array_of("nodes")?;

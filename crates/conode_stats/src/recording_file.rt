@@ -3,16 +3,16 @@
 ghost use Rattle.std.specs.Prelude.{◌≡◌, ◌⊎◌, ◌≤◌, IfErr, IfSome};
 ghost use Rattle.std.specs.Process.{exit_status};
 
-use crate::bit_rate::{bit_rate_in, rate_of};
+use crate::bit_rate::rate_of;
 use crate::recording::{Recording, count};
-use crate::sheet_time::sheet_time;
+use crate::sheet_facts::facts_of;
 use crate::tokens::put_page;
 use co_sheet::{FaultKind, SheetFault, read};
 use conode_convert::{SheetText, SheetWord, bad_sheet, bad_sheet_word, sheet_words, texts_of};
 use conode_io::{CmdFault, cannot_read, flushed, hand_over, stopped};
 use conode_json::JsonWriter;
 use conode_logs::Form;
-use conode_stats_text::{Page, SheetTime, set_page};
+use conode_stats_text::{Page, SheetFacts, set_page};
 use std::alloc::{AllocError, Global};
 use std::fs;
 use std::io::{Input, Read, Write};
@@ -25,8 +25,8 @@ const STANDARD_INPUT: &str = "-";
 /// What the command line asks for.
 #[derive(Clone, Copy)]
 pub struct StatsWords<'a> {
-    /// The words that name data sheets, each `[INTERFACE:][NODE=]FILE`. The first bit rate of one
-    /// counts if none is given, and their producer heartbeat times.
+    /// The words that name data sheets, each `[INTERFACE:][NODE=]FILE`. Their producer heartbeat
+    /// times count, and their bit rates if none is given.
     pub sheets: &'a [&'a str],
     /// The bit rate, 1,000 to 1,000,000 bit/s, if one is given: `500k`, `1M`, `125000`.
     pub bit_rate: Option<&'a str>,
@@ -40,7 +40,7 @@ pub struct StatsWords<'a> {
 #[derive(Clone, Copy)]
 struct Settings<'a> {
     bit_rate: Option<u32>,
-    sheets: &'a [SheetTime<'a>],
+    sheets: &'a [SheetFacts<'a>],
     json: bool,
     log: Form,
 }
@@ -149,49 +149,35 @@ fn stats_path<R: Files + AllocGlobal + Input, O: Write, E: Write>(
     }
 }
 
-// what data sheets have
-#[derive(Drop)]
-struct Taken<'a> {
-    bit_rate: Option<u32>,
-    times: Vec<SheetTime<'a>>,
-}
-
-impl<'a> Taken<'a> {
-    // adds what a sheet has
-    fn add(&mut self, alloc: Global, of: &SheetText<'a>) -> Result<(), SheetFault>
-        ensures { IfSome self.old.bit_rate (λ rate. rate ≤ 1000000)
-            → IfSome self.new.bit_rate (λ rate. rate ≤ 1000000) }
-    {
-        let sheet = read(alloc, of.text.as_slice())?;
-        if self.bit_rate.is_none() {
-            self.bit_rate = bit_rate_in(of.text.as_slice());
-        }
-        if let Some(time) = sheet_time(&sheet, &of.word) {
-            if self.times.push(time).is_err() {
-                return Err(SheetFault {
-                    kind: FaultKind::Memory,
-                    line: 0,
-                });
-            }
-        }
-        Ok(())
+// adds what a sheet has
+fn add_facts<'a>(
+    alloc: Global,
+    facts: &mut Vec<SheetFacts<'a>>,
+    of: &SheetText<'a>,
+) -> Result<(), SheetFault> {
+    let sheet = read(alloc, of.text.as_slice())?;
+    let own = facts_of(&sheet, of.text.as_slice(), &of.word);
+    if facts.push(own).is_err() {
+        return Err(SheetFault {
+            kind: FaultKind::Memory,
+            line: 0,
+        });
     }
+    Ok(())
 }
 
 // Adds what the texts of sheets have. On an `Err` one is at fault, or memory ran out, and it is said.
 fn take_all<'a, O: Write, E: Write>(
     alloc: Global,
-    taken: &mut Taken<'a>,
+    facts: &mut Vec<SheetFacts<'a>>,
     texts: &[SheetText<'a>],
     out: &mut O,
     err: &mut E,
 ) -> Result<(), ExitCode>
-    ensures rate { IfSome taken.old.bit_rate (λ rate. rate ≤ 1000000)
-        → IfSome taken.new.bit_rate (λ rate. rate ≤ 1000000) }
-    ensures status { IfErr result (λ status. exit_status status ≡ 1) }
+    ensures { IfErr result (λ status. exit_status status ≡ 1) }
 {
     for text in texts {
-        if let Err(fault) = taken.add(alloc, text) {
+        if let Err(fault) = add_facts(alloc, facts, text) {
             return Err(bad_sheet(fault, text.word.path, texts.len() > 1, out, err));
         }
     }
@@ -210,20 +196,13 @@ fn stats_with<R: Files + AllocGlobal + Input, O: Write, E: Write>(
     requires { IfSome settings.bit_rate (λ rate. rate ≤ 1000000) }
     ensures { (exit_status result ≡ 0) ⊎ (exit_status result ≡ 1) }
 {
-    let mut taken = Taken {
-        bit_rate: None,
-        times: Vec::new(rt.alloc()),
-    };
-    if let Err(status) = take_all(rt.alloc(), &mut taken, texts, out, err) {
+    let mut facts = Vec::new(rt.alloc());
+    if let Err(status) = take_all(rt.alloc(), &mut facts, texts, out, err) {
         return status;
     }
-    let bit_rate = match settings.bit_rate {
-        Some(rate) => Some(rate),
-        None => taken.bit_rate,
-    };
     let settings = Settings {
-        bit_rate,
-        sheets: taken.times.as_slice(),
+        bit_rate: settings.bit_rate,
+        sheets: facts.as_slice(),
         json: settings.json,
         log: settings.log,
     };

@@ -12,7 +12,7 @@ use crate::parts::{Part, put_parts};
 use conode_explain_text::push_name;
 use conode_json::JsonWriter;
 use conode_stats_counts::{Bus, Load, Row, Tally};
-use conode_stats_text::{Page, SheetTime, gap_of, push_id, sorted_rows};
+use conode_stats_text::{Page, gap_of, push_id, sheet_rate, sorted_rows};
 use std::alloc::{AllocError, Global};
 
 // the beginning of an object: what is counted, and the tally
@@ -109,23 +109,38 @@ fn put_bus(
     alloc: Global,
     writer: &mut JsonWriter,
     shown: &mut String,
-    sheets: &[SheetTime<'_>],
+    page: &Page<'_>,
     bus: &Bus,
 ) -> Result<(), AllocError> {
     shown.clear();
     push_name(shown, bus.interface())?;
     put_tally(alloc, writer, "interface", shown.as_str(), &bus.all())?;
     put_load(alloc, writer, &bus.load())?;
+    put_parts(
+        alloc,
+        writer,
+        &[Part::NumberIf("bitRate", own_rate(page, bus.interface()))],
+    )?;
     put_failures(alloc, writer, shown, bus)?;
-    put_nodes(alloc, writer, sheets, bus)?;
+    put_nodes(alloc, writer, page.sheets, bus)?;
     put_rows_on(alloc, writer, shown, bus)
 }
 
-// the bit rate, if it is known
-fn rate_of(page: &Page<'_>) -> Option<u64> {
-    match page.bit_rate {
+// the bit rate of an interface, if it is known
+fn rate_of(page: &Page<'_>, interface: &[u8]) -> Option<u64> {
+    match sheet_rate(page.bit_rate, page.sheets, interface) {
         Some(rate) => Some(u64::from(rate)),
         None => None,
+    }
+}
+
+// the bit rate of an interface, if it isn't that of the others
+fn own_rate(page: &Page<'_>, interface: &[u8]) -> Option<u64> {
+    let rate = rate_of(page, interface);
+    if rate == rate_of(page, b"") {
+        None
+    } else {
+        rate
     }
 }
 
@@ -144,12 +159,12 @@ fn put_whole(
             Part::Number("version", 1),
             Part::Number("badLines", page.bad),
             Part::Number("framesLeftOut", page.counts.left_out()),
-            Part::NumberIf("bitRate", rate_of(page)),
+            Part::NumberIf("bitRate", rate_of(page, b"")),
             Part::Array("buses"),
         ],
     )?;
     for bus in page.counts.buses() {
-        put_bus(alloc, writer, shown, page.sheets, bus)?;
+        put_bus(alloc, writer, shown, page, bus)?;
     }
     put_parts(alloc, writer, &[Part::EndArray, Part::EndObject])
 }

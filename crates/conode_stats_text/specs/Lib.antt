@@ -5,5 +5,5 @@ pub mod Findings
 pub mod NodeLines
 pub mod Paces
 pub mod Pieces
-pub mod SheetTimes
+pub mod SheetFacts
 pub mod StatsLines

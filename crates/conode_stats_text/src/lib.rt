@@ -10,7 +10,7 @@ mod nodes;
 mod pace;
 mod page;
 mod pieces;
-mod sheet_times;
+mod sheet_facts;
 mod wrong;
 
 pub use cells::push_id;
@@ -19,4 +19,4 @@ pub use finding::{Kind, is_waiting};
 pub use nodes::{is_shown, state_word};
 pub use pace::{Pace, lost_gap, median, silent_since};
 pub use page::{Page, set_page, sorted_rows};
-pub use sheet_times::{SheetTime, sheet_time};
+pub use sheet_facts::{SheetFacts, sheet_rate, sheet_time};

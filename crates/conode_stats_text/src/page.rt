@@ -7,7 +7,7 @@ use crate::finding::{Kind, open_finding};
 use crate::lines::{push_bus, push_count, push_load, push_row};
 use crate::nodes::{is_shown, push_node_in};
 use crate::pieces::{Piece, push_pieces};
-use crate::sheet_times::{SheetTime, sheet_time};
+use crate::sheet_facts::{SheetFacts, sheet_rate, sheet_time};
 use crate::wrong::push_listed;
 use conode_stats_counts::{Bus, Counts, FailureRow, Row};
 use std::alloc::{AllocError, Global};
@@ -17,12 +17,12 @@ use std::alloc::{AllocError, Global};
 pub struct Page<'a> {
     /// The counts of the recording.
     pub counts: &'a Counts,
-    /// The producer heartbeat times that data sheets have. For a node one for it comes before one
-    /// for each node, of those one for an interface, and of these the first.
-    pub sheets: &'a [SheetTime<'a>],
+    /// What data sheets have. For a node one for it comes before one for each node, of those one for
+    /// an interface, and of these the first.
+    pub sheets: &'a [SheetFacts<'a>],
     /// How many lines of the recording are bad.
     pub bad: u64,
-    /// The bit rate in bit/s, at most 1,000,000, if it is known.
+    /// The bit rate in bit/s, at most 1,000,000, if one is given for all buses.
     pub bit_rate: Option<u32>,
 }
 
@@ -70,7 +70,7 @@ pub fn sorted_rows(alloc: Global, bus: &Bus) -> Result<Vec<Row>, AllocError> {
 fn push_nodes_wrong(
     text: &mut String,
     excerpt: &mut Excerpt,
-    sheets: &[SheetTime<'_>],
+    sheets: &[SheetFacts<'_>],
     bus: &Bus,
     kind: Kind,
 ) -> Result<(), AllocError> {
@@ -132,7 +132,7 @@ fn push_open_on(text: &mut String, excerpt: &mut Excerpt, bus: &Bus) -> Result<(
 fn push_kind_on(
     text: &mut String,
     excerpt: &mut Excerpt,
-    sheets: &[SheetTime<'_>],
+    sheets: &[SheetFacts<'_>],
     bus: &Bus,
     kind: Kind,
 ) -> Result<(), AllocError> {
@@ -292,12 +292,15 @@ fn push_table_on(
     cell: &mut String,
     table: Table,
     bus: &Bus,
-    bit_rate: Option<u32>,
+    page: &Page<'_>,
 ) -> Result<(), AllocError>
-    requires { IfSome bit_rate (λ rate. rate ≤ 1000000) }
+    requires { IfSome page.now.bit_rate (λ rate. rate ≤ 1000000) }
 {
     match table {
-        Table::Buses => push_front(text, bus, bit_rate),
+        Table::Buses => {
+            let rate = sheet_rate(page.bit_rate, page.sheets, bus.interface());
+            push_front(text, bus, rate)
+        }
         Table::Nodes => push_nodes(text, cell, bus),
         Table::Identifiers => push_rows_on(alloc, text, cell, bus),
     }
@@ -315,7 +318,7 @@ fn push_table(
 {
     text.push_str(table.head())?;
     for bus in page.counts.buses() {
-        push_table_on(alloc, text, cell, table, bus, page.bit_rate)?;
+        push_table_on(alloc, text, cell, table, bus, page)?;
     }
     Ok(())
 }

@@ -1,8 +1,9 @@
-//! The producer heartbeat time of a data sheet.
+//! What the statistics take of a data sheet.
 
+use crate::bit_rate::bit_rate_in;
 use co_sheet::{EntryRow, Preset, Sheet};
 use conode_convert::SheetWord;
-use conode_stats_text::SheetTime;
+use conode_stats_text::SheetFacts;
 
 /// The index of the producer heartbeat time (CiA 301, 7.5.2.20).
 const PRODUCER_HEARTBEAT: u16 = 0x1017;
@@ -25,20 +26,19 @@ fn time_in(sheet: &Sheet<'_>) -> Option<u16> {
     None
 }
 
-/// The producer heartbeat time of a sheet, if it has one: ParameterValue, or else DefaultValue. It
-/// is for the node and the interface that a word names; without a node for that of the sheet, a
-/// device configuration file; else for each.
-pub(crate) fn sheet_time<'a>(sheet: &Sheet<'_>, word: &SheetWord<'a>) -> Option<SheetTime<'a>> {
-    let Some(time) = time_in(sheet) else {
-        return None;
-    };
+/// What a sheet with this text has: the producer heartbeat time, ParameterValue, or else
+/// DefaultValue; the bit rate of a device configuration file. It is for the node and the interface
+/// that a word names; without a node for that of the sheet, a device configuration file; else for
+/// each.
+pub(crate) fn facts_of<'a>(sheet: &Sheet<'_>, text: &[u8], word: &SheetWord<'a>) -> SheetFacts<'a> {
     let node = match word.node {
         Some(node) => Some(node),
         None => sheet.node_id(),
     };
-    Some(SheetTime {
+    SheetFacts {
         interface: word.interface,
         node,
-        time,
-    })
+        time: time_in(sheet).unwrap_or(0),
+        bit_rate: bit_rate_in(text).unwrap_or(0),
+    }
 }
