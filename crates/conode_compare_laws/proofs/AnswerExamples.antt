@@ -13,7 +13,8 @@ use Rattle.conode_compare_transfers.specs.Dialogues.{dialogue_heard, exchange_in
 use Rattle.conode_compare_transfers.specs.NewestFrames.{newest_after, newest_with}
 use Rattle.conode_compare_rules.specs.declared.entries.Entries.{Entries}
 use Rattle.conode_compare_rules.specs.declared.finding.Finding.{Finding}
-use Rattle.conode_compare_rules.specs.declared.finding.Finding.TheVariants.{Unasked}
+use Rattle.conode_compare_transfers.specs.declared.breach.Breach.TheVariants.{Size}
+use Rattle.conode_compare_rules.specs.declared.finding.Finding.TheVariants.{Transfer, Unasked}
 use Rattle.conode_compare_rules.specs.declared.limits.Subject.{Subject}
 use Rattle.conode_compare_rules.specs.Answers.{answer_finding, confirmed_finding, held_finding, silence_finding, stopped_finding, what_finding}
 use Rattle.conode_compare_rules.specs.EntriesInForce.{asked_to_write, shown_inhibit, shown_period}
@@ -22,7 +23,7 @@ use Rattle.conode_compare_rules.specs.Progresses.{answer_findings, begun, booted
 use Rattle.conode_compare_rules.specs.States as states
 use Rattle.conode_compare_rules.specs.States.{after_boot_up, after_other, awaits_boot_up, is_settled}
 use Rattle.conode_compare_rules.specs.Verdicts.{found}
-use Rattle.conode_compare_laws.specs.AnswerFindings.{answer_differences}
+use Rattle.conode_compare_laws.specs.AnswerFindings.{answer_differences, data_differences}
 use Rattle.conode_compare_laws.specs.Differences.{differences_in}
 use Rattle.conode_compare_laws.specs.Recordings.{Recorded, Stamped, recording, with_stamp}
 
@@ -85,3 +86,19 @@ second_answer : answers_found twice_answered ≡ Unasked ∷ []
 unfolding findings_at progress_with begun booted found states.after_control after_boot_up after_other awaits_boot_up is_settled progresses.after_control control_findings heartbeat_findings silence_finding channel_heard exchange_at exchange_noted late_noted
     request_findings confirmed_finding answer_findings answer_finding stopped_finding held_finding what_finding held_mismatch dialogue_heard exchange_in is_certain newest_with newest_after breach_at shown_period shown_inhibit asked_to_write mismatch_at request_row_in response_row_in
 second_answer = refl
+
+-- ---- nor is the last segment of another device: the device has eight bytes
+
+abbrev foreign_segment : List Recorded
+foreign_segment = with_stamp 0 (frame 0x705 1 0)
+    ∷ with_stamp 900000 (frame 0x705 1 127)
+    ∷ with_stamp 1700000 (frame 0x605 8 0x4008_1000_0000_0000)
+    ∷ with_stamp 1700000 (frame 0x585 8 0x4108_1000_0800_0000)
+    ∷ with_stamp 1800000 (frame 0x605 8 0x6000_0000_0000_0000)
+    ∷ with_stamp 1800000 (frame 0x585 8 0x0B41_4200_0000_0000)
+    ∷ []
+
+other_size : differences_in data_differences subject [] foreign_segment ≡ Transfer (Size (record { index = 0x1008; sub = 0 }) 8 2) ∷ []
+unfolding findings_at progress_with begun booted found states.after_control after_boot_up after_other awaits_boot_up is_settled progresses.after_control control_findings heartbeat_findings silence_finding channel_heard exchange_at exchange_noted late_noted
+    request_findings confirmed_finding answer_findings answer_finding stopped_finding held_finding what_finding held_mismatch dialogue_heard exchange_in is_certain newest_with newest_after breach_at shown_period shown_inhibit asked_to_write mismatch_at request_row_in response_row_in
+other_size = refl

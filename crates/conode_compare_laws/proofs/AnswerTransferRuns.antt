@@ -43,7 +43,7 @@ use Rattle.conode_compare_transfers.specs.Breaches.{breach_at, breach_by, ending
 use Rattle.conode_compare_transfers.specs.Dialogues.{dialogue_heard, exchange_in, is_timed, leaves_request_open, may_be_segment}
 use Rattle.conode_compare_transfers.specs.Times.{is_past}
 use Rattle.conode_compare_rules.specs.declared.finding.Finding.{Finding}
-use Rattle.conode_compare_rules.specs.declared.finding.Finding.TheVariants.{AnswerStopped, Held, NoAnswer, Unasked}
+use Rattle.conode_compare_rules.specs.declared.finding.Finding.TheVariants.{Transfer as Within}
 use Rattle.conode_compare_rules.specs.declared.kind.FrameKind.{FrameKind}
 use Rattle.conode_compare_rules.specs.declared.kind.FrameKind.TheVariants.{Sdo}
 use Rattle.conode_compare_rules.specs.declared.limits.Limits.{Limits}
@@ -62,6 +62,7 @@ use Rattle.conode_compare_laws.proofs.AnswerKeys.{kept}
 use Rattle.conode_compare_laws.proofs.AnswerFollowed.{client_reading, reads}
 use Rattle.conode_compare_laws.proofs.AnswerBreaches.{Fine, FineEnd}
 use Rattle.conode_compare_laws.proofs.AnswerDialogues.{channel_is, doubted_is, in_doubt}
+use Rattle.conode_compare_laws.proofs.AnswerOnly.{client_found, is_breach, server_found}
 use Rattle.conode_compare_laws.proofs.AnswerSteps.{Same, begun_same}
 use Rattle.conode_compare_laws.proofs.AnswerTransfers.{Shape, shape_goes}
 use Rattle.conode_compare_laws.proofs.AnswerExchange.{answer_kind}
@@ -69,91 +70,9 @@ use Rattle.conode_compare_laws.proofs.Runs.{AllRun, joined}
 
 -- ---- what isn't of these kinds
 
-only_or : (x y : Option Finding) → of_transfers x ≡ [] → of_transfers y ≡ [] → of_transfers (option_or x y) ≡ []
-only_or None y p q = q
-only_or (Some finding) y p q = p
-
-no_value : (m : Option Mismatch) → of_transfers (value_finding m) ≡ []
-no_value None = refl
-no_value (Some m) = refl
-
-no_end : (subject : Subject) (rows : List Row) (frame : FrameContent) (ended : Option Ended) → of_transfers (ended_finding subject rows frame ended) ≡ []
-no_end subject rows frame None = refl
-no_end subject rows frame (Some e) = by (refuses_other frame e)
-  where
-    by : (b : Bool) → of_transfers (if b then None else value_finding (mismatch_at subject.node subject.facts.modular rows (is_exact e.protocol frame) e)) ≡ []
-    by true = refl
-    by false = no_value _
-
-no_held : (m : Option HeldMismatch) → of_transfers (option_map (λ m. Held m) m) ≡ []
-no_held None = refl
-no_held (Some m) = refl
-
-held_none : (subject : Subject) (written : Written) (x : Exchange) → of_transfers (held_finding subject written x) ≡ []
-unfolding held_finding
-held_none subject written x = no_held (held_mismatch subject.held.entries.items written x.certain x.heard.ended)
-
-stopped_by : (limits : Limits) (started : ℕ) (nmt : Nmt) (asked : Option Asked) → of_transfers (stopped_with limits started nmt asked) ≡ []
-stopped_by limits started nmt None = refl
-stopped_by limits started nmt (Some a) = by (is_stopped nmt.state && is_settled limits started nmt.commanded a.micros)
-  where
-    by : (b : Bool) → of_transfers (if b then Some (AnswerStopped a.key) else None) ≡ []
-    by true = refl
-    by false = refl
-
-stopped_none : (limits : Limits) (started : ℕ) (nmt : Nmt) (x : Exchange) → of_transfers (stopped_finding limits started nmt x) ≡ []
-unfolding stopped_finding
-stopped_none limits started nmt x = by x.certain
-  where
-    by : (certain : Bool) → of_transfers (if certain then stopped_with limits started nmt x.asked else None) ≡ []
-    by true = stopped_by limits started nmt x.asked
-    by false = refl
-
-late_none : (limits : Limits) (asked : Option Asked) (micros : ℕ) → of_transfers (late_answer limits asked micros) ≡ []
-late_none limits None micros = refl
-late_none limits (Some a) micros = by (is_timed a.key && is_past a.micros limits.answer micros)
-  where
-    by : (b : Bool) → of_transfers (if b then Some (NoAnswer a.key (micros - a.micros)) else None) ≡ []
-    by true = refl
-    by false = refl
-
-overdue_none : (limits : Limits) (x : Exchange) (micros : ℕ) → of_transfers (overdue_answer limits x micros) ≡ []
-overdue_none limits x micros = by x.owed
-  where
-    by : (b : Bool) → of_transfers (if b then late_answer limits x.asked micros else None) ≡ []
-    by true = late_none limits x.asked micros
-    by false = refl
-
-asked_none : (f : Asked → Finding) (o : Option Asked) → ((a : Asked) → of_transfers (Some (f a)) ≡ []) → of_transfers (option_map f o) ≡ []
-asked_none f None h = refl
-asked_none f (Some a) h = h a
-
-what_by : (subject : Subject) (rows : List Row) (x : Exchange) (frame : FrameContent) (w : What) → of_transfers (finding_of subject rows x frame w) ≡ []
-what_by subject rows x frame what.Stray = by (is_abort frame)
-  where
-    by : (b : Bool) → of_transfers (if b then None else Some Unasked) ≡ []
-    by true = refl
-    by false = refl
-what_by subject rows x frame what.Overtaken = asked_none _ x.asked (λ a. refl)
-what_by subject rows x frame what.Unexpected = asked_none _ x.asked (λ a. refl)
-what_by subject rows x frame what.Part = no_end subject rows frame x.heard.ended
-what_by subject rows x frame _ = refl
-
-what_none : (subject : Subject) (rows : List Row) (x : Exchange) (frame : FrameContent) → of_transfers (what_finding subject rows x frame) ≡ []
-unfolding what_finding
-what_none subject rows x frame = what_by subject rows x frame x.heard.what
-
-answer_none : (subject : Subject) (rows : List Row) (micros : ℕ) (x : Exchange) (frame : FrameContent) → (x.certain ≡ false) ⊎ (of_transfers (breach_finding x.breach) ≡ []) → of_transfers (answer_finding subject rows micros x frame) ≡ []
-unfolding answer_finding
-answer_none subject rows micros x frame h = by x.certain h
-  where
-    by : (certain : Bool) → (certain ≡ false) ⊎ (of_transfers (breach_finding x.breach) ≡ [])
-        → of_transfers (if certain then option_or (overdue_answer subject.limits x micros) (known_answer subject rows x frame) else None) ≡ []
-    by false h = refl
-    by true (inl off) = absurd (false≢true (sym off))
-    by true (inr none) =
-        only_or (overdue_answer subject.limits x micros) (known_answer subject rows x frame) (overdue_none subject.limits x micros)
-        (only_or (what_finding subject rows x frame) (breach_finding x.breach) (what_none subject rows x frame) none)
+no_other : (finding : Finding) → is_breach finding ≡ false → of_transfers (Some finding) ≡ []
+no_other (Within breach) off = absurd (cc)
+no_other _ off = refl
 
 -- ---- a frame of the server
 
@@ -173,16 +92,11 @@ IsFine micros d frame = (d.doubted ≡ Some micros) ⊎ Fine frame (reads d.chan
 
 server_none : (subject : Subject) (rows : List Row) (p : Progress) (micros : ℕ) (frame : FrameContent) → IsFine micros p.dialogue frame
     → transfer_differences (Sdo Server frame) (findings_in subject rows p micros (Sdo Server frame)) ≡ []
-unfolding answer_findings found exchange_at late_noted
 server_none subject rows p micros frame h =
-    let x : Exchange = exchange_in subject.limits.answer p.started p.dialogue micros Server frame in
-    only_or (stopped_finding subject.limits p.started (answer_noted subject p micros).nmt x) _ (stopped_none subject.limits p.started (answer_noted subject p micros).nmt x)
-    (only_or (answer_finding subject rows micros x frame) (held_finding subject p.written x)
-    (answer_none subject rows micros x frame (elim h [
-      | inl doubt ↦ inl (in_doubt subject.limits.answer p.started p.dialogue micros frame doubt)
-      | inr f ↦ inr (no_breach subject.limits.answer p.started p.dialogue micros frame f)
-    ]))
-    (held_none subject p.written x))
+    server_found of_transfers refl no_other subject rows p micros frame (λ certain. elim h [
+      | inl doubt ↦ absurd (false≢true (sym (in_doubt subject.limits.answer p.started p.dialogue micros frame doubt) ∙ certain))
+      | inr f ↦ no_breach subject.limits.answer p.started p.dialogue micros frame f
+    ])
 
 -- ---- a frame of the client
 
@@ -272,27 +186,10 @@ client_breach_none key answer started d micros frame s =
     client_breach d.newest (followed d.channel micros Client frame.bytes).says frame
     (subst (FineEnd frame) (sym (says_client d micros frame (sound_in key d.channel.transfer s))) (client_end key d.channel.heard d.channel.transfer (request_in frame.bytes) micros frame s))
 
-confirmed_none : (frame : FrameContent) (o : Option Finding) → of_transfers o ≡ [] → transfer_differences (Sdo Client frame) (confirmed_findings o) ≡ []
-unfolding found
-confirmed_none frame None h = refl
-confirmed_none frame (Some finding) h = h
-
 client_none : (key : Key) (subject : Subject) (rows : List Row) (p : Progress) (micros : ℕ) (frame : FrameContent) → IfSome p.dialogue.channel.transfer (Shape key)
     → transfer_differences (Sdo Client frame) (findings_in subject rows p micros (Sdo Client frame)) ≡ []
-unfolding request_findings confirmed_finding exchange_at
-client_none key subject rows p micros frame s = by (exchange_in subject.limits.answer p.started p.dialogue micros Client frame).certain
-  where
-    x : Exchange
-    x = exchange_in subject.limits.answer p.started p.dialogue micros Client frame
-
-    by : (certain : Bool) → transfer_differences (Sdo Client frame) (confirmed_findings (if certain then option_or (breach_finding (exchange_in subject.limits.answer p.started p.dialogue micros Client frame).breach) (option_or (ended_finding subject rows frame (exchange_in subject.limits.answer p.started p.dialogue micros Client frame).heard.ended) (held_finding subject p.written (exchange_in subject.limits.answer p.started p.dialogue micros Client frame))) else None)) ≡ []
-    by true =
-        confirmed_none frame _
-        (only_or (breach_finding x.breach) (option_or (ended_finding subject rows frame x.heard.ended) (held_finding subject p.written x))
-        (client_breach_none key subject.limits.answer p.started p.dialogue micros frame s)
-        (only_or (ended_finding subject rows frame x.heard.ended) (held_finding subject p.written x)
-        (no_end subject rows frame x.heard.ended) (held_none subject p.written x)))
-    by false = refl
+client_none key subject rows p micros frame s =
+    client_found of_transfers refl no_other subject rows p micros frame (λ certain. client_breach_none key subject.limits.answer p.started p.dialogue micros frame s)
 
 -- ---- frames one after another
 
