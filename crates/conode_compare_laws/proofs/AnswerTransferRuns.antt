@@ -1,7 +1,6 @@
 -- Frames of a device without block transfers, one after another: nothing is found within the transfers of its default channel.
-use Rattle.std.proofs.Common.{◌≡◌, ℕ, ◌+◌, ◌-◌, Bool, true, false, List, [], ◌∷◌, Option, Some, None, refl, sym, ap, ◌∙◌, ◌⊎◌, inl, inr, subst}
-use Rattle.std.specs.Prelude.{◌&&◌, ◌||◌, if◌then◌else◌, is_some, IfSome, option_map}
-use Rattle.std.specs.Option.{option_or}
+use Rattle.std.proofs.Common.{◌≡◌, ℕ, ◌+◌, Bool, true, false, List, [], ◌∷◌, Option, Some, None, refl, sym, ap, ◌∙◌, ◌⊎◌, inl, inr, subst}
+use Rattle.std.specs.Prelude.{◌||◌, if◌then◌else◌, is_some, IfSome}
 use Rattle.std.proofs.lemmas.Bool.{false≢true}
 use Rattle.co_value.specs.declared.key.Key.{Key}
 use Rattle.co_frame.specs.FrameContent.{FrameContent}
@@ -30,32 +29,19 @@ use Rattle.conode_explain_transfers.specs.Transfers.{Turn, after, is_same_reques
 use Rattle.conode_explain_transfers.specs.Turns.{request_turn}
 use Rattle.conode_explain_laws.proofs.Readings.{Request, Nothing, follows_by, request_reading, same as same_reading, turn_of}
 use Rattle.conode_explain_laws.proofs.Views.{server_no_begin}
-use Rattle.conode_compare_held.specs.declared.written.HeldMismatch.{HeldMismatch}
-use Rattle.conode_compare_held.specs.declared.written.Written.{Written}
-use Rattle.conode_compare_held.specs.HeldNumbers.{held_mismatch}
-use Rattle.conode_compare_values.specs.declared.mismatch.Mismatch.{Mismatch}
-use Rattle.conode_compare_values.specs.SheetValues.{mismatch_at}
-use Rattle.conode_compare_transfers.specs.declared.dialogue.Asked.{Asked}
 use Rattle.conode_compare_transfers.specs.declared.dialogue.Dialogue.{Dialogue}
-use Rattle.conode_compare_transfers.specs.declared.dialogue.Exchange.{Exchange}
 use Rattle.conode_compare_transfers.specs.declared.newest.Newest.{Newest}
 use Rattle.conode_compare_transfers.specs.Breaches.{breach_at, breach_by, ending_breach}
-use Rattle.conode_compare_transfers.specs.Dialogues.{dialogue_heard, exchange_in, is_timed, leaves_request_open, may_be_segment}
-use Rattle.conode_compare_transfers.specs.Times.{is_past}
+use Rattle.conode_compare_transfers.specs.Dialogues.{dialogue_heard, exchange_in, leaves_request_open, may_be_segment}
 use Rattle.conode_compare_rules.specs.declared.finding.Finding.{Finding}
 use Rattle.conode_compare_rules.specs.declared.finding.Finding.TheVariants.{Transfer as Within}
 use Rattle.conode_compare_rules.specs.declared.kind.FrameKind.{FrameKind}
 use Rattle.conode_compare_rules.specs.declared.kind.FrameKind.TheVariants.{Sdo}
-use Rattle.conode_compare_rules.specs.declared.limits.Limits.{Limits}
 use Rattle.conode_compare_rules.specs.declared.limits.Subject.{Subject}
-use Rattle.conode_compare_rules.specs.declared.nmt.Nmt.{Nmt}
 use Rattle.conode_compare_rules.specs.declared.progress.Progress.{Progress}
-use Rattle.conode_compare_rules.specs.Answers.{answer_finding, breach_finding, confirmed_finding, ended_finding, finding_of, held_finding, is_abort, is_exact, known_answer, late_answer, overdue_answer, refuses_other, stopped_finding, stopped_with, value_finding, what_finding}
-use Rattle.conode_compare_rules.specs.EmergencyRules.{is_stopped}
+use Rattle.conode_compare_rules.specs.Answers.{breach_finding}
 use Rattle.conode_compare_rules.specs.FrameKinds.{data_kind}
-use Rattle.conode_compare_rules.specs.Progresses.{after_frame, answer_findings, answer_noted, begun, channel_heard, confirmed_findings, exchange_at, exchange_noted, findings_at, findings_in, late_noted, progress_with, request_findings}
-use Rattle.conode_compare_rules.specs.States.{is_settled}
-use Rattle.conode_compare_rules.specs.Verdicts.{found}
+use Rattle.conode_compare_rules.specs.Progresses.{after_frame, begun, channel_heard, exchange_noted, findings_at, findings_in, late_noted, progress_with}
 use Rattle.conode_compare_laws.specs.AnswerFindings.{of_transfers, transfer_differences}
 use Rattle.conode_compare_laws.proofs.AnswerTurns.{Sound, asked}
 use Rattle.conode_compare_laws.proofs.AnswerKeys.{kept}
