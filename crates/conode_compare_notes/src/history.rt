@@ -161,10 +161,7 @@ impl Errors {
     {
         match (side, what) {
             (Side::Client, What::Initiate)
-                if asks_to_write(frame) && changes_errors(key_in(frame)) =>
-            {
-                Errors::none()
-            }
+                if asks_to_write(frame) && changes_errors(key_in(frame)) => { Errors::none() }
             _ => self,
         }
     }
@@ -195,8 +192,7 @@ impl Errors {
     {
         match (self.signalled, self.shown, newest) {
             (Some(signalled), Some(shown), Some(micros))
-                if is_past(shown.micros, limits.answer, micros) =>
-            {
+                if is_past(shown.micros, limits.answer, micros) => {
                 Some(Warning::OtherError(shown.code, signalled.code))
             }
             _ => None,
@@ -240,9 +236,8 @@ impl Errors {
                     self
                 }
             }
-            FrameKind::OddEmergency(_)
-            | FrameKind::Command(_)
-            | FrameKind::CommandToAll(_) => Errors::none(),
+            FrameKind::OddEmergency(_) | FrameKind::Command(_) | FrameKind::CommandToAll(_) =>
+                Errors::none(),
             _ => self,
         }
     }

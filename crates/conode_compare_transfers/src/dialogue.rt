@@ -494,8 +494,7 @@ impl Dialogue {
         let leaves = leaves_slow(other, self.newest, &heard.ended);
         self.slow = self.slow.after_answer(late, turns).after(leaves, micros);
         self.asked = asked_after(heard.what, micros, frame);
-        self.doubted =
-            doubted_after(self.sub_block, side, &heard, frame, self.doubted, micros);
+        self.doubted = doubted_after(self.sub_block, side, &heard, frame, self.doubted, micros);
         let left = leaves_block(other, &heard.ended);
         self.sub_block = sub_block_after(side, left, heard.what, byte_at(frame, 0), self.sub_block);
         let judged = self.is_certain(answer, started, micros);
