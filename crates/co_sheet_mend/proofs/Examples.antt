@@ -3,12 +3,12 @@ use Rattle.std.proofs.Common.{◌≡◌, ℕ, List, [], ◌∷◌, Some, None, r
 use Rattle.std.specs.Fmt.{digits}
 use Rattle.std.specs.Prelude.{codes, false}
 use Rattle.co_sheet_rows.specs.declared.fault.FaultKind.{FaultKind}
-use Rattle.co_sheet_rows.specs.declared.fault.FaultKind.TheVariants.{BadNumber, BadType, BadAccess, BadDefault, BadList, MissingKey, MissingMandatory, MissingSub0}
+use Rattle.co_sheet_rows.specs.declared.fault.FaultKind.TheVariants.{BadNumber, BadType, BadAccess, BadDefault, BadList, MissingKey, MissingMandatory, MissingSection, MissingSub0, TooLarge}
 use Rattle.co_sheet_rows.specs.declared.fault.SheetFault.{SheetFault}
 use Rattle.co_sheet_text.specs.Text.{Line}
 use Rattle.co_sheet_changes.specs.Pieces.{assigned}
 use Rattle.co_sheet_mend.specs.declared.repair.Repair.TheVariants.{Emptied, Typed, ReadWrite, Completed}
-use Rattle.co_sheet_mend.specs.Repairs.{line_as, list_text, mended_lines, repair_at, repair_for, sub0_text, type_code}
+use Rattle.co_sheet_mend.specs.Repairs.{counted_text, line_as, mandatory_sections, mended_by, mended_lines, repair_at, repair_for, sub0_text, type_code}
 
 abbrev line : ℕ → List ℕ → Line
 line number bytes = record { number = number; bytes = bytes }
@@ -22,7 +22,7 @@ at_its_line : map (repair_at (fault 5 BadNumber ∷ [])) (4 ∷ 5 ∷ 6 ∷ []) 
 unfolding repair_at repair_for
 at_its_line = refl
 
-nothing_helps : repair_at (fault 5 MissingMandatory ∷ []) 5 ≡ None
+nothing_helps : repair_at (fault 0 TooLarge ∷ []) 0 ≡ None
 unfolding repair_at repair_for
 nothing_helps = refl
 
@@ -110,5 +110,20 @@ with_sub0 = refl
 counted_anew : mended_lines (repair_at (fault 1 BadList ∷ [])) false None
     (line 1 (codes "[OptionalObjects]") ∷ line 2 (codes "SupportedObjects=3") ∷ line 3 (codes "01 = 0x1008") ∷ line 4 (codes "4=0x1017") ∷ line 5 (codes "[1008]") ∷ line 6 (codes "1=2") ∷ [])
     ≡ codes "[OptionalObjects]\nSupportedObjects=2\n1=0x1008\n2=0x1017\n\n\n\n[1008]\n1=2\n"
-unfolding repair_at repair_for line_as list_text assigned digits
+unfolding repair_at repair_for line_as counted_text assigned digits
 counted_anew = refl
+
+-- ---- a text with a fault at no line
+
+-- 1018h isn't listed: the list counts all three too, and its own lines come after that
+mandatory_listed : mended_by (repair_at (fault 0 MissingMandatory ∷ []))
+    (line 1 (codes "[MandatoryObjects]") ∷ line 2 (codes "SupportedObjects=2") ∷ line 3 (codes "1=0x1000") ∷ line 4 (codes "2=4097") ∷ line 5 (codes "[1000]") ∷ [])
+    ≡ codes "[MandatoryObjects]\nSupportedObjects=5\n1=0x1000\n2=4097\n3=0x1000\n4=0x1001\n5=0x1018\nSupportedObjects=2\n1=0x1000\n2=4097\n[1000]\n[1000]\nDataType=7\nAccessType=ro\n[1001]\nDataType=5\nAccessType=ro\n[1018]\nObjectType=9\n[1018sub0]\nDataType=5\nAccessType=ro\n"
+unfolding repair_at repair_for counted_text mandatory_sections assigned digits
+mandatory_listed = refl
+
+-- no list of the mandatory objects, and a line at fault
+list_begun : mended_by (repair_at (fault 0 MissingSection ∷ fault 2 BadNumber ∷ [])) (line 1 (codes "[OptionalObjects]") ∷ line 2 (codes "SupportedObjects=0x") ∷ [])
+    ≡ codes "[OptionalObjects]\n\n[MandatoryObjects]\nSupportedObjects=0\n"
+unfolding repair_at repair_for line_as
+list_begun = refl

@@ -12,7 +12,7 @@ use Rattle.co_value.specs.declared.key.Key.{Key}
 use Rattle.co_sheet_text.specs.Text.{Line}
 use Rattle.co_sheet_mend.specs.declared.repair.Repair.{Repair}
 use Rattle.co_sheet_mend.specs.declared.repair.Repair.TheVariants.{Emptied, Typed, ReadWrite, Completed, Counted, Numbered}
-use Rattle.co_sheet_mend.specs.Repairs.{asks_for, first_asked, has_repair, is_counted, key_at, mended_lines, rank, repair_at, repair_here, same_repair, stronger}
+use Rattle.co_sheet_mend.specs.Repairs.{asks_for, first_asked, has_repair, is_counted, key_at, mended_by, mended_lines, rank, repair_at, repair_here, same_repair, stronger}
 
 pub stronger-none : (a : Option Repair) → stronger a None ≡ a
 stronger-none None = refl
@@ -142,3 +142,6 @@ module _ (f g : ℕ → Option Repair) (same : (line : ℕ) → f line ≡ g lin
   same_lines counted key [] = refl
   same_lines counted key (line ∷ more) =
       rw (same line.number, same_lines true key more, same_lines (is_counted (g line.number)) (key_at key line) more) refl
+
+  pub same_mended : (lines : List Line) → mended_by f lines ≡ mended_by g lines
+  same_mended lines = rw (same 0, same_lines false None lines) refl

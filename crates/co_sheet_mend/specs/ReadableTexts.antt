@@ -4,7 +4,7 @@ use Rattle.co_sheet.specs.Accepted.{first_fault}
 use Rattle.co_sheet_adapt.specs.Adapted.{adapted_text}
 use Rattle.co_sheet_faults.specs.AllFaults.{faults_of}
 use Rattle.co_sheet_text.specs.Text.{lines_of}
-use Rattle.co_sheet_mend.specs.Repairs.{mended_lines, repair_at}
+use Rattle.co_sheet_mend.specs.Repairs.{mended_by, repair_at}
 use Rattle.co_sheet_mend.specs.declared.repair.Repair.{Repair}
 use Rattle.co_sheet_mend.specs.declared.repairs.Repairs.{Repairs}
 use Rattle.co_sheet_mend.specs.declared.rewriting.Rewritten.{Rewritten}
@@ -12,7 +12,7 @@ use Rattle.indexmap.specs.IndexMap.{get}
 
 -- a text without what is at fault in it
 abbrev pub mended : List ℕ → List ℕ
-mended text = mended_lines (repair_at (faults_of text)) false None (lines_of text)
+mended text = mended_by (repair_at (faults_of text)) (lines_of text)
 
 abbrev pub is_accepted : List ℕ → Bool
 is_accepted text = is_none (first_fault text)

@@ -10,8 +10,8 @@ use Rattle.co_value.specs.declared.key.Key.{Key}
 use Rattle.co_value.specs.Types.{code_of}
 use Rattle.co_profile.specs.FixedTypes.{fixed_type_of}
 use Rattle.co_sheet_text.specs.declared.section_kind.SectionKind.{SectionKind}
-use Rattle.co_sheet_text.specs.declared.section_kind.SectionKind.TheVariants.{Object, SubIndex}
-use Rattle.co_sheet_text.specs.Names.{kind_of}
+use Rattle.co_sheet_text.specs.declared.section_kind.SectionKind.TheVariants.{MandatoryObjects, Object, SubIndex}
+use Rattle.co_sheet_text.specs.Names.{kind_of, same_kind}
 use Rattle.co_sheet_text.specs.LinesAtFault.{emptied}
 use Rattle.co_sheet_text.specs.LinesRead.{all_digits}
 use Rattle.co_sheet_text.specs.Text.{Line, same_name}
@@ -32,12 +32,14 @@ repair_for kind.BadNumber = Some Emptied
 repair_for kind.AmbiguousNumber = Some Emptied
 repair_for kind.BadLimits = Some Emptied
 repair_for kind.BadDefault = Some Emptied
+repair_for kind.CompactForm = Some Emptied
 repair_for kind.BadType = Some Typed
 repair_for kind.LeftOutType = Some Typed
 repair_for kind.BadAccess = Some ReadWrite
 repair_for kind.MissingKey = Some Completed
 repair_for kind.BadList = Some Counted
 repair_for kind.MissingSub0 = Some Numbered
+repair_for kind.MissingMandatory = Some Counted
 repair_for other = None
 
 -- ---- of a line
@@ -135,9 +137,11 @@ numbered_from number [] = []
 numbered_from number (value ∷ values) = assigned (decimal number) value ++ numbered_from (suc number) values
 
 -- counted, and numbered from 1
-unfoldable pub list_text : List Line → List ℕ
-list_text lines =
-    assigned (codes "SupportedObjects") (decimal (length (objects_named lines))) ++ numbered_from 1 (objects_named lines)
+unfoldable pub counted_text : List (List ℕ) → List ℕ
+counted_text values = assigned (codes "SupportedObjects") (decimal (length values)) ++ numbered_from 1 values
+
+abbrev pub list_text : List Line → List ℕ
+list_text lines = counted_text (objects_named lines)
 
 -- ---- what a line becomes, which these lines follow
 
@@ -176,3 +180,42 @@ mended_lines repairs counted key (line ∷ more) =
     if counted && not (is_some (section_in line)) then ended [] ++ mended_lines repairs true key more
     else line_as (repairs line.number) (key_at key line) line more
     ++ mended_lines repairs (is_counted (repairs line.number)) (key_at key line) more
+
+-- ---- of a text with a fault that is at no line, and so at line 0
+
+-- the three mandatory objects (CiA 301, 7.5.1)
+abbrev pub mandatory_objects : List (List ℕ)
+mandatory_objects = codes "0x1000" ∷ codes "0x1001" ∷ codes "0x1018" ∷ []
+
+abbrev pub with_mandatory : List Line → List (List ℕ)
+with_mandatory lines = objects_named lines ++ mandatory_objects
+
+-- a section of each: where the text has one, the second is at fault in the next round, and so is an
+-- object that is listed twice
+unfoldable pub mandatory_sections : List ℕ
+mandatory_sections =
+    codes "[1000]\nDataType=7\nAccessType=ro\n[1001]\nDataType=5\nAccessType=ro\n"
+    ++ codes "[1018]\nObjectType=9\n[1018sub0]\nDataType=5\nAccessType=ro\n"
+
+-- a line begins the list of the mandatory objects
+abbrev pub begins_mandatory : Line → Bool
+begins_mandatory line = option_map_or (λ name. same_kind (kind_of name) MandatoryObjects) (section_in line) false
+
+-- that list counts the three too: its own lines come after them, and are at fault in the next round
+abbrev pub listed : Line → List Line → List ℕ
+listed line more = ended line.bytes ++ (if begins_mandatory line then counted_text (with_mandatory more) else [])
+
+abbrev pub mandatory_lines : List Line → List ℕ
+mandatory_lines [] = mandatory_sections
+mandatory_lines (line ∷ more) = listed line more ++ mandatory_lines more
+
+-- a list of the mandatory objects, where the text has none
+abbrev pub begun_list : Option Repair → List ℕ
+begun_list repair = if is_some repair then codes "[MandatoryObjects]\nSupportedObjects=0\n" else []
+
+-- lines by these repairs, that of line 0 first: where one of the three is in no list nothing but this
+-- is mended
+abbrev pub mended_by : (ℕ → Option Repair) → List Line → List ℕ
+mended_by repairs lines =
+    if is_counted (repairs 0) then mandatory_lines lines
+    else mended_lines repairs false None lines ++ begun_list (repairs 0)

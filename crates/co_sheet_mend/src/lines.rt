@@ -5,7 +5,9 @@ ghost use Rattle.std.specs.Option.{option_copied};
 ghost use Rattle.co_sheet_changes.specs.Pieces.{assigned};
 ghost use Rattle.co_sheet_changes.specs.Views.{line_view};
 ghost use Rattle.co_sheet_mend.specs.Repairs.{
+  begins_mandatory,
   completed,
+  counted_text,
   ended,
   gives,
   gives_any,
@@ -15,6 +17,8 @@ ghost use Rattle.co_sheet_mend.specs.Repairs.{
   lacking_type,
   line_as,
   list_text,
+  listed,
+  mandatory_sections,
   numbered,
   numbered_from,
   objects_named,
@@ -23,6 +27,7 @@ ghost use Rattle.co_sheet_mend.specs.Repairs.{
   sub0_text,
   type_code,
   typed,
+  with_mandatory,
 };
 ghost use Rattle.co_sheet_text.specs.LinesAtFault.{emptied};
 
@@ -38,6 +43,12 @@ const DATA_TYPE: &[u8] = b"DataType";
 const ACCESS_TYPE: &[u8] = b"AccessType";
 
 const READ_WRITE: &[u8] = b"rw";
+
+/// The sections of the device type and of the error register.
+const VALUES: &[u8] = b"[1000]\nDataType=7\nAccessType=ro\n[1001]\nDataType=5\nAccessType=ro\n";
+
+/// The section of the identity object.
+const IDENTITY: &[u8] = b"[1018]\nObjectType=9\n[1018sub0]\nDataType=5\nAccessType=ro\n";
 
 fn gives(line: &Line<'_>, name: &[u8]) -> bool
     ensures { result ≡ gives name.now (line_view line.now) }
@@ -158,14 +169,22 @@ fn push_count(alloc: Global, made: &mut Vec<u8>, name: &[u8], count: u64) -> Res
     made.extend_from_slice(b"\n")
 }
 
-// the objects that lines name, counted and numbered from 1
-#[tactic(auto, unfolding(crate::specs::Repairs::list_text))]
+// objects, counted and numbered from 1
+#[tactic(auto, unfolding(crate::specs::Repairs::counted_text))]
+fn push_values(alloc: Global, made: &mut Vec<u8>, values: &[&[u8]]) -> Result<(), AllocError>
+    ensures { OnOk result (made.new.items
+        ≡ made.old.items ++ counted_text (map (λ value. value.now) values.now)) }
+{
+    push_count(alloc, made, b"SupportedObjects", values.len() as u64)?;
+    push_numbered(alloc, made, values)
+}
+
+// the objects that lines name
 fn push_list(alloc: Global, made: &mut Vec<u8>, lines: &[Line<'_>]) -> Result<(), AllocError>
     ensures { OnOk result (made.new.items ≡ made.old.items ++ list_text (map line_view lines.now)) }
 {
     let values = objects_named(alloc, lines)?;
-    push_count(alloc, made, b"SupportedObjects", values.len() as u64)?;
-    push_numbered(alloc, made, values.as_slice())
+    push_values(alloc, made, values.as_slice())
 }
 
 // what a line at fault is read as
@@ -317,4 +336,53 @@ pub(crate) fn push_line(
         Some(Repair::Counted) => push_counted(alloc, made, line, more),
         Some(Repair::Numbered) => push_numbered_line(made, line),
     }
+}
+
+// the objects that lines name, and after them the mandatory ones
+fn with_mandatory<'a>(alloc: Global, lines: &[Line<'a>]) -> Result<Vec<&'a [u8]>, AllocError>
+    ensures { IfOk result (λ values.
+        map (λ value. value.now) values.items ≡ with_mandatory (map line_view lines.now)) }
+{
+    let mut values = objects_named(alloc, lines)?;
+    values.push(b"0x1000")?;
+    values.push(b"0x1001")?;
+    values.push(b"0x1018")?;
+    Ok(values)
+}
+
+fn begins_mandatory(line: &Line<'_>) -> bool
+    ensures { result ≡ begins_mandatory (line_view line.now) }
+{
+    match line.section() {
+        Some(name) => matches!(SectionKind::of_name(name), SectionKind::MandatoryObjects),
+        None => false,
+    }
+}
+
+/// Appends a line, and where it begins the list of the mandatory objects, which these lines follow,
+/// the count and the numbers of that list with 1000h, 1001h and 1018h. `Err`: out of memory.
+pub(crate) fn push_listed(
+    alloc: Global,
+    made: &mut Vec<u8>,
+    line: &Line<'_>,
+    more: &[Line<'_>],
+) -> Result<(), AllocError>
+    ensures { OnOk result (made.new.items
+        ≡ made.old.items ++ listed (line_view line.now) (map line_view more.now)) }
+{
+    push_ended(made, line.bytes)?;
+    if !begins_mandatory(line) {
+        return Ok(());
+    }
+    let values = with_mandatory(alloc, more)?;
+    push_values(alloc, made, values.as_slice())
+}
+
+/// Appends a section of each mandatory object (CiA 301, 7.5.1). `Err`: out of memory.
+#[tactic(auto, unfolding(crate::specs::Repairs::mandatory_sections))]
+pub(crate) fn push_mandatory_sections(made: &mut Vec<u8>) -> Result<(), AllocError>
+    ensures { OnOk result (made.new.items ≡ made.old.items ++ mandatory_sections) }
+{
+    made.extend_from_slice(VALUES)?;
+    made.extend_from_slice(IDENTITY)
 }

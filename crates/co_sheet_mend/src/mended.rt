@@ -2,10 +2,10 @@
 
 ghost use Rattle.std.specs.Prelude.{◌≡◌, ◌≤◌, ◌++◌, None, false, length, map, IfOk, OnOk};
 ghost use Rattle.co_sheet_changes.specs.Views.{line_view};
-ghost use Rattle.co_sheet_mend.specs.Repairs.{is_counted, mended_lines};
+ghost use Rattle.co_sheet_mend.specs.Repairs.{begun_list, is_counted, mandatory_lines, mended_by, mended_lines};
 ghost use Rattle.co_sheet_mend.specs.ReadableTexts.{mended, repair_in};
 
-use crate::lines::{key_at, push_ended, push_line};
+use crate::lines::{key_at, push_ended, push_line, push_listed, push_mandatory_sections};
 use crate::repair::Repair;
 use crate::repairs::Repairs;
 use co_sheet_changes::{Line, lines_in};
@@ -44,13 +44,57 @@ fn push_lines(
     Ok(())
 }
 
+// appends lines, the list of the mandatory objects with all three, and a section of each
+fn push_mandatory_lines(
+    alloc: Global,
+    made: &mut Vec<u8>,
+    lines: &[Line<'_>],
+) -> Result<(), AllocError>
+    ensures { OnOk result (made.new.items
+        ≡ made.old.items ++ mandatory_lines (map line_view lines.now)) }
+{
+    let mut rest = lines;
+    while let [line, more @ ..] = rest {
+        push_listed(alloc, made, line, more)?;
+        rest = more;
+    }
+    push_mandatory_sections(made)
+}
+
+fn push_begun_list(made: &mut Vec<u8>, repair: Option<Repair>) -> Result<(), AllocError>
+    ensures { OnOk result (made.new.items ≡ made.old.items ++ begun_list repair) }
+{
+    match repair {
+        Some(_) => made.extend_from_slice(b"[MandatoryObjects]\nSupportedObjects=0\n"),
+        None => Ok(()),
+    }
+}
+
+// appends lines by their repairs, that of the whole text first
+fn push_by(
+    alloc: Global,
+    made: &mut Vec<u8>,
+    repairs: &Repairs,
+    lines: &[Line<'_>],
+) -> Result<(), AllocError>
+    ensures { OnOk result (made.new.items
+        ≡ made.old.items ++ mended_by (repair_in repairs.now) (map line_view lines.now)) }
+{
+    let of_text = repairs.at(0);
+    if is_counted(of_text) {
+        return push_mandatory_lines(alloc, made, lines);
+    }
+    push_lines(alloc, made, repairs, lines)?;
+    push_begun_list(made, of_text)
+}
+
 fn push_mended(alloc: Global, made: &mut Vec<u8>, text: &[u8]) -> Result<(), AllocError>
     requires { length text.now ≤ 1048576 }
     ensures { OnOk result (made.new.items ≡ made.old.items ++ mended text.now) }
 {
     let repairs = Repairs::in_text(alloc, text)?;
     let lines = lines_in(alloc, text)?;
-    push_lines(alloc, made, &repairs, lines.as_slice())
+    push_by(alloc, made, &repairs, lines.as_slice())
 }
 
 /// A text of at most 1,048,576 bytes without what is at fault in it. `Err`: out of memory.

@@ -18,7 +18,8 @@ pub enum Repair {
     /// The section line, and after it a data type and an access type, those that the section lacks.
     Completed,
     /// Of the section line of an object list: that line, and the objects that the list names, counted
-    /// and numbered from 1.
+    /// and numbered from 1. Of line 0: the list of the mandatory objects, which counts 1000h, 1001h
+    /// and 1018h too.
     Counted,
     /// Of the section line of an ARRAY or a RECORD: a section of sub-index 0, and that line.
     Numbered,
@@ -52,8 +53,8 @@ pub(crate) fn stronger(one: Option<Repair>, other: Option<Repair>) -> Option<Rep
     }
 }
 
-/// What comes in place of a line with a fault of this kind; `None`: nothing helps, as where a
-/// mandatory object isn't listed.
+/// What comes in place of a line with a fault of this kind; of line 0, which stands for the whole
+/// text, see `mended_by`. `None`: nothing helps.
 #[tactic(auto, unfolding(crate::specs::Repairs::repair_for))]
 pub(crate) fn repair_for(kind: FaultKind) -> Option<Repair>
     ensures { result ≡ repair_for kind }
@@ -68,15 +69,13 @@ pub(crate) fn repair_for(kind: FaultKind) -> Option<Repair>
         | FaultKind::AmbiguousNumber
         | FaultKind::ListedTwice
         | FaultKind::BadLimits
-        | FaultKind::BadDefault => Some(Repair::Emptied),
+        | FaultKind::BadDefault
+        | FaultKind::CompactForm => Some(Repair::Emptied),
         FaultKind::BadType | FaultKind::LeftOutType => Some(Repair::Typed),
         FaultKind::BadAccess => Some(Repair::ReadWrite),
         FaultKind::MissingKey => Some(Repair::Completed),
-        FaultKind::BadList => Some(Repair::Counted),
+        FaultKind::BadList | FaultKind::MissingMandatory => Some(Repair::Counted),
         FaultKind::MissingSub0 => Some(Repair::Numbered),
-        FaultKind::TooLarge
-        | FaultKind::CompactForm
-        | FaultKind::MissingMandatory
-        | FaultKind::Memory => None,
+        FaultKind::TooLarge | FaultKind::Memory => None,
     }
 }
