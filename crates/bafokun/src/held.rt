@@ -18,8 +18,8 @@ ghost use Rattle.bafokun.specs.Ticks.{GaveTicks};
 use crate::bus::bus_input;
 use crate::changes::{next_changed, note_reset};
 use crate::entries::Named;
-use crate::frames::{CanFrame, put};
-use crate::happened::{Events, is_sync};
+use crate::frames::{CanFrame, clear, put, put_all};
+use crate::happened::Events;
 use co_dict_placed::forget_change;
 use co_dict_table::EntryTable;
 use co_frame::{Frame, Outbox};
@@ -50,14 +50,14 @@ impl Held {
         ensures events { (k : Constants) (before : Inputs) → Stands k self.old.node before →
             self.new.events ≡ and_input k before (Framed frame.now) self.old.events }
     {
+        clear(&mut self.sent);
+        let id = frame.id();
         let state = self.node.state();
         // called here alone: called twice, it isn't compiled into its callers
         let seen = self
             .node
             .take_frame_noting(frame, &mut self.sent, &mut self.changes);
-        if is_sync(seen) {
-            self.events.note_frame(seen);
-        } else if frame.id() == 0 {
+        if id == 0 {
             note_reset(seen, &self.entries, &mut self.changes);
             self.events.note(&self.node, state);
         } else {
@@ -72,8 +72,23 @@ impl Held {
         ensures put { ArePut self.now.sent.items frames.old frames.new }
         ensures count { result ≡ length self.now.sent.items }
     {
+        let count = self.sent.len();
         put(&self.sent, frames);
-        self.sent.len()
+        count
+    }
+
+    /// The same after a tick: most send no frame.
+    #[tactic(auto, using(crate::proofs::Put::none_put))]
+    #[inline(always)]
+    pub(crate) fn give_of_tick(&self, frames: &mut [CanFrame]) -> usize
+        ensures put { ArePut self.now.sent.items frames.old frames.new }
+        ensures count { result ≡ length self.now.sent.items }
+    {
+        if self.has_sent() {
+            put_all(&self.sent, frames);
+            return self.sent.len();
+        }
+        0
     }
 
     /// 1 ms elapsed.
