@@ -105,8 +105,8 @@ pub(crate) fn clear(sent: &mut Outbox)
     }
 }
 
-/// Puts frames into an array, as many as it has room for. None, or one, as most inputs send, cost
-/// no call.
+/// Puts frames into an array, as many as it has room for. None, or one of eight bytes, as most
+/// inputs send, cost no call.
 #[tactic(auto, using(crate::proofs::Put::none_put))]
 #[inline(always)]
 pub(crate) fn put(frames: &[Frame], places: &mut [CanFrame])
@@ -114,7 +114,7 @@ pub(crate) fn put(frames: &[Frame], places: &mut [CanFrame])
 {
     match frames {
         [] => {}
-        [frame] => put_one(frame, places),
+        [frame] if frame.bytes().len() == 8 => put_one(frame, places),
         _ => put_all(frames, places),
     }
 }

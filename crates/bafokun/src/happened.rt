@@ -1,10 +1,11 @@
 //! What happened to a device since the application asked.
 
-ghost use Rattle.std.specs.Prelude.{◌≡◌, ◌∷◌, slice_index, slice_set};
+ghost use Rattle.std.specs.Prelude.{◌≡◌, ◌∷◌, slice_index, slice_set, true};
 ghost use Rattle.co_frame.specs.FrameContent.{FrameContent};
 ghost use Rattle.co_node_model.specs.Inputs.{Framed, InputView, Inputs, Ticked};
 ghost use Rattle.co_node_model.specs.Moments.{Constants};
 ghost use Rattle.co_node_model.specs.Device.{contents_of, state_of};
+ghost use Rattle.co_node_device.specs.declared.seen.Seen.TheVariants.{Nothing, Rpdo, Sync};
 ghost use Rattle.co_node_device.specs.Lasts.{last_seen};
 ghost use Rattle.co_node.specs.Nodes.{Stands};
 ghost use Rattle.bafokun.specs.Answers.{state_code};
@@ -95,6 +96,39 @@ fn set(places: &mut [u8], node: u8, value: u8)
     let node = usize::from(node);
     if node < places.len() {
         places[node] = value;
+    }
+}
+
+/// A SYNC was seen.
+#[inline(always)]
+pub(crate) fn is_sync(seen: Seen) -> bool
+    ensures { result ≡ true → seen ≡ Sync }
+{
+    match seen {
+        Seen::Sync => true,
+        _ => false,
+    }
+}
+
+/// A frame of an RPDO was seen.
+#[inline(always)]
+pub(crate) fn is_rpdo(seen: Seen) -> bool
+    ensures { result ≡ true → seen ≡ Rpdo }
+{
+    match seen {
+        Seen::Rpdo => true,
+        _ => false,
+    }
+}
+
+/// Nothing was seen.
+#[inline(always)]
+pub(crate) fn is_nothing(seen: Seen) -> bool
+    ensures { result ≡ true → seen ≡ Nothing }
+{
+    match seen {
+        Seen::Nothing => true,
+        _ => false,
     }
 }
 
@@ -193,17 +227,18 @@ impl Events {
         }
     }
 
-    // What most frames are is noted without a call. So few variants are tested one by one; a match
-    // on all of them is a jump by a table.
+    // What most frames are is noted without a call. Three tests take less time than a match on all
+    // variants, which is a jump by a table.
     #[inline(always)]
     fn note_seen(&mut self, seen: Seen)
         ensures { self.new ≡ with_seen seen self.old }
     {
-        match seen {
-            Seen::Sync => self.sync = 1,
-            Seen::Rpdo => self.rpdo = 1,
-            Seen::Nothing => {}
-            _ => self.note_rare(seen),
+        if is_sync(seen) {
+            self.sync = 1;
+        } else if is_rpdo(seen) {
+            self.rpdo = 1;
+        } else if !is_nothing(seen) {
+            self.note_rare(seen);
         }
     }
 
