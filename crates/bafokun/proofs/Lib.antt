@@ -7,7 +7,6 @@ pub mod Numbered
 pub mod Put
 pub mod Refused
 pub mod StateKept
-pub mod Synced
 pub mod Terminated
 pub mod Ticks
 pub mod ChangesSoFar

@@ -26,7 +26,7 @@ use Rattle.co_node_model.specs.Sdo.{channel_logs, with_request}
 use Rattle.co_node_model.specs.Sync.{is_sync_id}
 use Rattle.co_node_device.specs.Lasts.{last_seen, seen_of}
 use Rattle.co_node_device.specs.SetEntries.{last_set}
-use Rattle.bafokun.specs.Changes.{and_set, reset_seen, with_area}
+use Rattle.bafokun.specs.Changes.{and_set, reset_seen, with_area, with_reset}
 use Rattle.bafokun.proofs.StateKept.{unequal}
 
 module _ (k : Constants) (h : History) (frame : FrameContent) where
@@ -91,3 +91,11 @@ set_by_frame k past frame entries old there noted kept other same noting keeping
     let set = with_keys k.description keys old in
     keeping ∙ noting ∙ ap (with_keys k.description keys) same
     ∙ sym (ap (λ (area : Option Area). option_map_or (λ a. with_area a entries 0 set) area set) (unseen k past frame other))
+
+-- what any frame sets, of a place: `noted` of `there`, and `after` with those of a reset
+pub set_by_command : (k : Constants) (past : Inputs) (frame : FrameContent) (entries : List EntryContent) (old there noted kept after : List ℕ)
+    → there ≡ old → noted ≡ with_keys k.description (last_set k (Framed frame ∷ past)) there → kept ≡ noted
+    → after ≡ with_reset (last_seen k (Framed frame ∷ past)) entries kept → after ≡ and_set k past (Framed frame) entries old
+set_by_command k past frame entries old there noted kept after same noting keeping reset =
+    let keys = last_set k (Framed frame ∷ past) in
+    reset ∙ ap (λ (set : List ℕ). with_reset (last_seen k (Framed frame ∷ past)) entries set) (keeping ∙ noting ∙ ap (with_keys k.description keys) same)

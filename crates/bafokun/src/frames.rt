@@ -3,7 +3,7 @@
 ghost use Rattle.std.specs.Prelude.{◌≡◌, ◌≤◌, ◌∷◌, [], IfSome, Some, None, length};
 ghost use Rattle.bafokun.specs.Frames.{ArePut, IsCan, c_frame, content_of};
 
-use co_frame::Frame;
+use co_frame::{Frame, Outbox};
 use co_value::PackedBytes;
 
 /// A CAN data frame, 12 bytes without padding: `struct bafokun_frame`.
@@ -27,7 +27,7 @@ impl CanFrame {
         CanFrame {
             id: frame.id(),
             length: data.len() as u16,
-            bytes: packed_some(data).padded(),
+            bytes: packed(data).padded(),
         }
     }
 
@@ -37,35 +37,42 @@ impl CanFrame {
         ensures is { IfSome result (λ _. IsCan self.now) }
         ensures none { result ≡ None → IsCan self.now → ⊥ }
     {
-        if self.id > 0x7FF || self.length > 8 {
+        if self.id > 0x7FF {
             return None;
         }
-        Some(Frame::packed(self.id, &packed(&self.bytes[..self.length as usize])))
+        // eight bytes first, as in SDO, then none, as in most SYNCs: neither costs a call
+        if self.length == 8 {
+            return Some(Frame::packed(self.id, &packed_eight(&self.bytes)));
+        }
+        if self.length == 0 {
+            return Some(Frame::packed(self.id, &PackedBytes::new()));
+        }
+        if self.length > 8 {
+            return None;
+        }
+        Some(Frame::packed(self.id, &packed_few(&self.bytes[..self.length as usize])))
     }
 }
 
-// Packs at most eight bytes. None, as in most SYNCs, cost no call.
+// Packs bytes. Eight, as in SDO, cost no call.
 #[inline(always)]
 fn packed(bytes: &[u8]) -> PackedBytes
     requires { length bytes.now ≤ 8 }
     ensures { result ≡ bytes.now }
 {
-    if bytes.is_empty() {
-        return PackedBytes::new();
+    if bytes.len() == 8 {
+        packed_eight(bytes)
+    } else {
+        packed_few(bytes)
     }
-    packed_some(bytes)
 }
 
-// Packs bytes, some in most cases. Eight, as in SDO, are read in two halves: four bytes need no
-// call.
+// Packs eight bytes. They are read in two halves: four bytes need no call.
 #[inline(always)]
-fn packed_some(bytes: &[u8]) -> PackedBytes
-    requires { length bytes.now ≤ 8 }
+fn packed_eight(bytes: &[u8]) -> PackedBytes
+    requires { length bytes.now ≡ 8 }
     ensures { result ≡ bytes.now }
 {
-    if bytes.len() != 8 {
-        return packed_few(bytes);
-    }
     let mut packed = PackedBytes::new();
     packed.append(&bytes[..4]);
     packed.append(&bytes[4..]);
@@ -83,8 +90,23 @@ fn packed_few(bytes: &[u8]) -> PackedBytes
     packed
 }
 
-/// Puts frames into an array, as many as it has room for. None, or one, as most inputs send, cost
-/// no call.
+/// Removes the frames of the last input. None, or one, as most inputs send, cost no call.
+#[inline(always)]
+pub(crate) fn clear(sent: &mut Outbox)
+    ensures { sent.new.items ≡ [] }
+{
+    if sent.is_empty() {
+        return;
+    }
+    if sent.len() == 1 {
+        sent.pop();
+    } else {
+        sent.clear();
+    }
+}
+
+/// Puts frames into an array, as many as it has room for. None, or one of eight bytes, as most
+/// inputs send, cost no call.
 #[tactic(auto, using(crate::proofs::Put::none_put))]
 #[inline(always)]
 pub(crate) fn put(frames: &[Frame], places: &mut [CanFrame])
@@ -92,7 +114,7 @@ pub(crate) fn put(frames: &[Frame], places: &mut [CanFrame])
 {
     match frames {
         [] => {}
-        [frame] => put_one(frame, places),
+        [frame] if frame.bytes().len() == 8 => put_one(frame, places),
         _ => put_all(frames, places),
     }
 }
@@ -108,9 +130,10 @@ fn put_one(frame: &Frame, places: &mut [CanFrame])
     }
 }
 
-// Puts frames into an array, as many as it has room for.
+/// Puts frames into an array, as many as it has room for, by a call.
+#[cold]
 #[inline(never)]
-fn put_all(frames: &[Frame], places: &mut [CanFrame])
+pub(crate) fn put_all(frames: &[Frame], places: &mut [CanFrame])
     ensures { ArePut frames.now places.old places.new }
 {
     for i in 0..frames.len().min(places.len()) {

@@ -130,7 +130,7 @@ impl Handle {
         }
         let held = self.seal.held_mut();
         held.tick();
-        held.give(frames)
+        held.give_of_tick(frames)
     }
 
     /// Takes an application event. The frames that are sent are put and counted as by `take_frame`.

@@ -110,9 +110,9 @@ pub(crate) fn is_sync(seen: Seen) -> bool
     }
 }
 
-// A frame of an RPDO was seen.
+/// A frame of an RPDO was seen.
 #[inline(always)]
-fn is_rpdo(seen: Seen) -> bool
+pub(crate) fn is_rpdo(seen: Seen) -> bool
     ensures { result ≡ true → seen ≡ Rpdo }
 {
     match seen {
@@ -121,9 +121,9 @@ fn is_rpdo(seen: Seen) -> bool
     }
 }
 
-// Nothing was seen.
+/// Nothing was seen.
 #[inline(always)]
-fn is_nothing(seen: Seen) -> bool
+pub(crate) fn is_nothing(seen: Seen) -> bool
     ensures { result ≡ true → seen ≡ Nothing }
 {
     match seen {
@@ -288,7 +288,18 @@ impl Events {
     {
         let lost = node.lost();
         if !lost.is_empty() {
-            self.note(node, before);
+            self.note_late(node, before);
         }
+    }
+
+    // `note`, where it is needed by few inputs.
+    #[cold]
+    #[inline(never)]
+    fn note_late(&mut self, node: &Node, before: NodeState)
+        ensures { (k : Constants) (past : Inputs) (input : InputView) →
+            Stands k node.now (input ∷ past) → before ≡ state_of k past →
+            self.new ≡ and_input k past input self.old }
+    {
+        self.note(node, before);
     }
 }

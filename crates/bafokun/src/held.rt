@@ -1,13 +1,15 @@
 //! A device with the data that C reads of it.
 
 ghost use Rattle.std.specs.Prelude.{◌≡◌, [], ◌∷◌, true, false};
-ghost use Rattle.co_node_model.specs.Inputs.{Inputs, Framed, Ticked, Applied, Written, app_view};
+ghost use Rattle.co_node_model.specs.Inputs.{Inputs, InputView, Framed, Ticked, Applied, Written, app_view};
+ghost use Rattle.co_node_model.specs.Device.{state_of};
+ghost use Rattle.co_node_device.specs.Lasts.{last_seen};
 ghost use Rattle.co_node_model.specs.Moments.{Constants};
 ghost use Rattle.co_node_model.specs.Heartbeats.{boot_up};
 ghost use Rattle.co_node.specs.Nodes.{Stands};
 ghost use Rattle.std.specs.Prelude.{length};
 ghost use Rattle.std.specs.Box.{boxed_slice_items};
-ghost use Rattle.bafokun.specs.Changes.{IsNext, and_set, left_after};
+ghost use Rattle.bafokun.specs.Changes.{IsNext, and_set, left_after, with_reset};
 ghost use Rattle.bafokun.specs.Bus.{GaveBus, bus_input};
 ghost use Rattle.bafokun.specs.Devices.{Gave};
 ghost use Rattle.bafokun.specs.Entries.{key_named};
@@ -18,12 +20,12 @@ ghost use Rattle.bafokun.specs.Ticks.{GaveTicks};
 use crate::bus::bus_input;
 use crate::changes::{next_changed, note_reset};
 use crate::entries::Named;
-use crate::frames::{CanFrame, put};
-use crate::happened::{Events, is_sync};
+use crate::frames::{CanFrame, clear, put, put_all};
+use crate::happened::{Events, is_nothing, is_rpdo, is_sync};
 use co_dict_placed::forget_change;
 use co_dict_table::EntryTable;
 use co_frame::{Frame, Outbox};
-use co_node::{AppEvent, Node};
+use co_node::{AppEvent, Node, NodeState, Seen};
 use std::boxed::BoxedSlice;
 
 /// A device, the frames of its last input, the entry table of its data sheet, which of the entries
@@ -50,19 +52,46 @@ impl Held {
         ensures events { (k : Constants) (before : Inputs) → Stands k self.old.node before →
             self.new.events ≡ and_input k before (Framed frame.now) self.old.events }
     {
+        clear(&mut self.sent);
         let state = self.node.state();
         // called here alone: called twice, it isn't compiled into its callers
         let seen = self
             .node
             .take_frame_noting(frame, &mut self.sent, &mut self.changes);
-        if is_sync(seen) {
-            self.events.note_frame(seen);
+        // which variant it is, and no more: so the compiler knows it of most frames
+        if is_nothing(seen) {
+            if frame.id() == 0 {
+                self.note_command(state);
+            } else {
+                self.events.note_frame(Seen::Nothing);
+            }
+        } else if is_sync(seen) {
+            self.events.note_frame(Seen::Sync);
         } else if frame.id() == 0 {
-            note_reset(seen, &self.entries, &mut self.changes);
-            self.events.note(&self.node, state);
+            self.note_command(state);
+        } else if is_rpdo(seen) {
+            self.events.note_frame(Seen::Rpdo);
         } else {
-            self.events.note_frame(seen);
+            self.events.note_frame(self.node.last_seen());
         }
+    }
+
+    // Notes what a frame with identifier 0 did, by the NMT state before it.
+    #[inline(never)]
+    fn note_command(&mut self, before: NodeState)
+        ensures node { self.new.node ≡ self.old.node }
+        ensures sent { self.new.sent ≡ self.old.sent }
+        ensures entries { self.new.entries ≡ self.old.entries }
+        ensures changes { (k : Constants) (past : Inputs) → Stands k self.old.node past →
+            boxed_slice_items self.new.changes ≡ with_reset (last_seen k past) self.old.entries
+            (boxed_slice_items self.old.changes) }
+        ensures events { (k : Constants) (past : Inputs) (input : InputView) →
+            Stands k self.old.node (input ∷ past) → before ≡ state_of k past →
+            self.new.events ≡ and_input k past input self.old.events }
+    {
+        let seen = self.node.last_seen();
+        note_reset(seen, &self.entries, &mut self.changes);
+        self.events.note(&self.node, before);
     }
 
     /// Puts the frames of the last input into the array, as many as it has room for; returns how
@@ -72,8 +101,23 @@ impl Held {
         ensures put { ArePut self.now.sent.items frames.old frames.new }
         ensures count { result ≡ length self.now.sent.items }
     {
+        let count = self.sent.len();
         put(&self.sent, frames);
-        self.sent.len()
+        count
+    }
+
+    /// The same after a tick: most send no frame.
+    #[tactic(auto, using(crate::proofs::Put::none_put))]
+    #[inline(always)]
+    pub(crate) fn give_of_tick(&self, frames: &mut [CanFrame]) -> usize
+        ensures put { ArePut self.now.sent.items frames.old frames.new }
+        ensures count { result ≡ length self.now.sent.items }
+    {
+        if self.has_sent() {
+            put_all(&self.sent, frames);
+            return self.sent.len();
+        }
+        0
     }
 
     /// 1 ms elapsed.

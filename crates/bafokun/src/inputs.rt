@@ -52,7 +52,6 @@ pub extern "C" fn bafokun_boot(alloc: Global, node: &mut Handle, frames: &mut [C
 /// than 8 bytes. C must pass what `bafokun_tick` requires, and a frame outside the array.
 #[unsafe(no_mangle)]
 pub extern "C" fn bafokun_take(
-    alloc: Global,
     node: &mut Handle,
     frame: &CanFrame,
     frames: &mut [CanFrame],
@@ -81,7 +80,7 @@ pub extern "C" fn bafokun_take(
 /// of a device, empty or filled by `bafokun_build`, and an array of as many frames as it states; it
 /// must make no other call for this place at the same time.
 #[unsafe(no_mangle)]
-pub extern "C" fn bafokun_tick(alloc: Global, node: &mut Handle, frames: &mut [CanFrame]) -> usize
+pub extern "C" fn bafokun_tick(node: &mut Handle, frames: &mut [CanFrame]) -> usize
     ensures gives { (k : Constants) (before : Inputs) → IsDevice k node.old before →
         Gives k before Ticked node.new frames.old frames.new result }
     ensures empty { IsEmpty node.old → IsQuiet node.new frames.old frames.new result }

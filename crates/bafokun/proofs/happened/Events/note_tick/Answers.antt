@@ -5,7 +5,7 @@ use Rattle.bafokun.proofs.Added.{none_by_test, quiet_tick}
 use Rattle.bafokun.proofs.happened.Events.note_tick.Goals as goal
 
 pub returns-then-not-is_empty : goal.returns-then-not-is_empty
-returns-then-not-is_empty c = λ k past stands was. c.note.ensures k past Ticked stands was
+returns-then-not-is_empty c = λ k past stands was. c.note_late.ensures k past Ticked stands was
 
 pub returns-else-not-is_empty : goal.returns-else-not-is_empty
 returns-else-not-is_empty c = λ k past stands was.
