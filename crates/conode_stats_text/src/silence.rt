@@ -157,10 +157,7 @@ fn is_stopped(all: &Tally, command: Option<u64>, gap: u64, stamp: u64) -> bool
     ensures { result ≡ is_stopped all.now command gap stamp }
 {
     match command {
-        Some(command) => all
-            .elapsed(command)
-            .saturating_sub(all.elapsed(stamp))
-            <= gap,
+        Some(command) => all.elapsed(command).saturating_sub(all.elapsed(stamp)) <= gap,
         None => false,
     }
 }
