@@ -83,7 +83,7 @@ module _ (bus : BusCounts) where
   not_silent = refl
 
   no_object : tokens_in (ended 41000000) None 6 (server None) ≡ []
-  unfolding silence_of pdo_silence
+  unfolding silence_of pdo_silence median
   no_object = refl
 
 -- one that has no line on the page, and is silent by its PDOs

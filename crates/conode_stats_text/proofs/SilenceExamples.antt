@@ -12,6 +12,7 @@ use Rattle.conode_stats_text.specs.declared.pace.Pace.TheVariants.{Written, Pdos
 use Rattle.conode_stats_text.specs.declared.silence.Silence.{Silence}
 use Rattle.conode_stats_text.specs.declared.silence.Source.TheVariants.{Commands, Syncs, Sender}
 use Rattle.conode_stats_text.specs.Findings.{node_finding}
+use Rattle.conode_stats_text.specs.Paces.{median}
 use Rattle.conode_stats_text.specs.Silences.{beat_silence, is_cyclic, is_from, is_tpdo, later, pdo_silence, silence_of}
 use Rattle.conode_stats_text.proofs.NodeExamples.{ended_at, last, server}
 use Rattle.conode_stats_text.proofs.PaceExamples.{heartbeats}
@@ -195,15 +196,15 @@ module _ (bus : BusCounts) where
   ended end = record bus { all = ended_at end; rows = alone }
 
   without : silence_of (ended 11000001) None 5 (server None) ≡ since 10000000 200000
-  unfolding silence_of pdo_silence
+  unfolding silence_of pdo_silence median
   without = refl
 
   booted : silence_of (ended 11000001) None 5 (record (server None) { last = Some (record last { state = BootUp }) }) ≡ since 10000000 200000
-  unfolding silence_of pdo_silence
+  unfolding silence_of pdo_silence median
   booted = refl
 
   with_beats : silence_of (ended 11000001) None 5 (record (server None) { last = Some last }) ≡ None
-  unfolding silence_of
+  unfolding silence_of median
   with_beats = refl
 
   -- its heartbeats say it first
@@ -213,5 +214,5 @@ module _ (bus : BusCounts) where
   by_both = refl
 
   of_its_kind : node_finding SilenceKind (ended 11000001) None 5 (server None) ≡ Some (Silent (record { since = 10000000; pace = Pdos 200000 }))
-  unfolding silence_of pdo_silence
+  unfolding silence_of pdo_silence median
   of_its_kind = refl

@@ -11,7 +11,6 @@ ghost use Rattle.conode_stats_text.specs.Findings.{
   open_finding,
   restarted_in,
   row_finding,
-  silent_in,
 };
 
 use crate::pace::{Pace, lost_gap};
@@ -76,15 +75,6 @@ pub(crate) enum Finding {
     Emergency(FailureRow),
     /// There are so many of a kind on the bus.
     Counted(Kind, u64),
-}
-
-fn silent_in(silence: Option<Silence>) -> Option<Finding>
-    ensures { result ≡ silent_in silence }
-{
-    match silence {
-        Some(silence) => Some(Finding::Silent(silence)),
-        None => None,
-    }
 }
 
 fn late_in(heartbeats: &Heartbeats) -> Option<Finding>
@@ -157,7 +147,10 @@ impl Kind {
         ensures { result ≡ node_finding self bus.now sheet number node.now }
     {
         match self {
-            Kind::Silence => silent_in(silence_of(bus, sheet, number, node)),
+            Kind::Silence => match silence_of(bus, sheet, number, node) {
+                Some(silence) => Some(Finding::Silent(silence)),
+                None => None,
+            },
             Kind::Lateness => late_in(&node.heartbeats),
             Kind::Loss => lost_in(sheet, &node.heartbeats),
             Kind::Restarts => restarted_in(node),

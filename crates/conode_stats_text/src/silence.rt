@@ -4,20 +4,15 @@ ghost use Rattle.std.specs.Prelude.{◌≡◌};
 ghost use Rattle.conode_stats_text.specs.Silences.{
   are_missed,
   beat_silence,
-  is_cyclic,
   is_from,
-  is_service,
   is_steady,
-  is_stopped,
   is_tpdo,
   is_without_beats,
   last_of,
   later,
-  missed_since,
   pdo_silence,
   silence_of,
   steady_gap,
-  wait_to,
 };
 
 use crate::pace::Pace;
@@ -66,14 +61,6 @@ fn is_tpdo(node: u8, id: u32) -> bool
     id == 0x180 + node || id == 0x280 + node || id == 0x380 + node || id == 0x480 + node
 }
 
-// whether it is that of its EMCY messages, its SDO responses, or its frames of error control
-fn is_service(node: u8, id: u32) -> bool
-    ensures { result ≡ is_service node id }
-{
-    let node = u32::from(node);
-    id == 0x80 + node || id == 0x580 + node || id == 0x700 + node
-}
-
 impl Source {
     // whether a frame with this identifier comes from there
     fn sends(self, id: u32) -> bool
@@ -82,7 +69,13 @@ impl Source {
         match self {
             Source::Commands => id == 0,
             Source::Syncs => id == 0x80,
-            Source::Sender(node) => is_tpdo(node, id) || is_service(node, id),
+            Source::Sender(node) => {
+                let service = u32::from(node);
+                is_tpdo(node, id)
+                    || id == 0x80 + service
+                    || id == 0x580 + service
+                    || id == 0x700 + service
+            }
         }
     }
 }
@@ -110,19 +103,13 @@ fn last_of(all: &Tally, source: Source, rows: &[Row]) -> Option<u64>
     last
 }
 
-// whether frames came at a steady pace
-fn is_cyclic(tally: &Tally) -> bool
-    ensures { result ≡ is_cyclic tally.now }
-{
-    FEWEST_GAPS <= tally.gaps && tally.greatest / 2 <= tally.total / tally.gaps
-}
-
 // whether a row is of a node's TPDO that came at a steady pace up to a stamp
 fn is_steady(all: &Tally, node: u8, stamp: u64, row: &Row) -> bool
     ensures { result ≡ is_steady all.now node stamp row.now }
 {
     is_tpdo(node, row.can_id)
-        && is_cyclic(&row.tally)
+        && FEWEST_GAPS <= row.tally.gaps
+        && row.tally.greatest / 2 <= row.tally.total / row.tally.gaps
         && all
             .elapsed(row.tally.last)
             .saturating_sub(all.elapsed(stamp))
@@ -142,32 +129,18 @@ fn steady_gap(all: &Tally, node: u8, stamp: u64, rows: &[Row]) -> u64
     gap
 }
 
-// the time from a stamp to the last SYNC, or else to the end of the bus
-fn wait_to(all: &Tally, sync: Option<u64>, stamp: u64) -> u64
-    ensures { result ≡ wait_to all.now sync stamp }
-{
-    match sync {
-        Some(sync) => all.elapsed(stamp).saturating_sub(all.elapsed(sync)),
-        None => all.elapsed(stamp),
-    }
-}
-
-// whether an NMT command came after a stamp, or at most such a gap before
-fn is_stopped(all: &Tally, command: Option<u64>, gap: u64, stamp: u64) -> bool
-    ensures { result ≡ is_stopped all.now command gap stamp }
-{
-    match command {
-        Some(command) => all.elapsed(command).saturating_sub(all.elapsed(stamp)) <= gap,
-        None => false,
-    }
-}
-
 // whether PDOs with this gap are missed after a stamp
 fn are_missed(all: &Tally, rows: &[Row], gap: u64, stamp: u64) -> bool
     ensures { result ≡ are_missed all.now rows.now gap stamp }
 {
-    Pace::Pdos(gap).is_long(wait_to(all, last_of(all, Source::Syncs, rows), stamp))
-        && !is_stopped(all, last_of(all, Source::Commands, rows), gap, stamp)
+    let passed = all.elapsed(stamp);
+    match last_of(all, Source::Commands, rows) {
+        Some(command) if all.elapsed(command).saturating_sub(passed) <= gap => false,
+        _ => match last_of(all, Source::Syncs, rows) {
+            Some(sync) => { Pace::Pdos(gap).is_long(passed.saturating_sub(all.elapsed(sync))) }
+            None => Pace::Pdos(gap).is_long(passed),
+        },
+    }
 }
 
 // by its PDOs
