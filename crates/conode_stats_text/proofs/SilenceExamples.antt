@@ -1,7 +1,6 @@
 -- Which nodes are silent at the end, evaluated.
 use Rattle.std.proofs.Common.{ℕ, Option, [], ◌∷◌, ◌≡◌, Some, None, true, false, refl}
 use Rattle.std.specs.Prelude.{List}
-use Rattle.conode_stats_counts.specs.declared.node.Node.{Node}
 use Rattle.conode_stats_counts.specs.declared.row.Row.{Row}
 use Rattle.conode_stats_counts.specs.declared.state.NmtState.TheVariants.{BootUp}
 use Rattle.conode_stats_counts.specs.declared.tally.Tally.{Tally}
