@@ -7,11 +7,15 @@ use Rattle.conode_json.specs.Members.{number_member, object_begin, text_member}
 use Rattle.co_text.specs.Printed.{digits_text}
 use Rattle.conode_explain_transfers.specs.declared.ended.Ended.{Ended}
 use Rattle.conode_stats_counts.specs.declared.failure.FailureRow.{FailureRow}
+use Rattle.conode_stats_counts.specs.Buses.{BusCounts}
 use Rattle.conode_stats_text.specs.declared.finding.Kind.TheVariants.{Failures, Emergencies}
+use Rattle.conode_stats_text.specs.declared.pace.Pace.TheVariants.{Written}
+use Rattle.conode_stats_text.specs.declared.silence.Silence.{Silence}
 use Rattle.conode_stats_text.specs.Paces.{median}
+use Rattle.conode_stats_text.specs.Silences.{pdo_silence, silence_of}
 use Rattle.conode_stats_text.proofs.NodeExamples.{ended_at, heartbeats, no_heartbeats, node, server}
 use Rattle.conode_stats.specs.FailureTokens.{counted_tokens, failure_tokens, key_members, open_tokens, open_tokens_in}
-use Rattle.conode_stats.specs.NodeTokens.{node_end, node_front, node_tokens, tokens_in, wait_members}
+use Rattle.conode_stats.specs.NodeTokens.{node_end, node_front, node_tokens, tokens_if, tokens_in, wait_members}
 
 -- ---- nodes
 
@@ -48,24 +52,45 @@ of_no_heartbeats : wait_members no_heartbeats ≡ key (codes "lateHeartbeats") �
 unfolding wait_members number_member median digits
 of_no_heartbeats = refl
 
-all_wrong : node_end (ended_at 41000000) None heartbeats (Some 1200)
+-- silent by its heartbeats
+abbrev silence : Silence
+silence = record { since = 40000000; pace = Written 100 }
+
+all_wrong : node_end None heartbeats (Some silence) (Some 1200)
     ≡ key (codes "lostGap") ∷ number (codes "800000") ∷ key (codes "silentSince") ∷ number (codes "40000000")
     ∷ key (codes "longestAnswer") ∷ number (codes "1200") ∷ end_object ∷ []
 unfolding node_end number_member median digits
 all_wrong = refl
 
--- by a sheet's 600 ms no wait is too long; 150 ms after the last heartbeat, by the recording, it isn't silent
-none_wrong : node_end (ended_at 40150000) (Some 600) heartbeats None ≡ end_object ∷ []
+-- by a sheet's 600 ms no wait is too long
+none_wrong : node_end (Some 600) heartbeats None None ≡ end_object ∷ []
 unfolding node_end median
 none_wrong = refl
 
-object : tokens_in (ended_at 41000000) None 6 (node 2)
-    ≡ node_front 6 (node 2) ++ wait_members heartbeats ++ node_end (ended_at 41000000) None heartbeats (Some 1200)
-unfolding node_tokens
-object = refl
+module _ (bus : BusCounts) where
+  abbrev ended : ℕ → BusCounts
+  ended end = record bus { all = ended_at end; rows = [] }
 
-no_object : tokens_in (ended_at 41000000) None 6 (server None) ≡ []
-no_object = refl
+  object : tokens_in (ended 41000000) None 6 (node 2)
+      ≡ node_front 6 (node 2) ++ wait_members heartbeats ++ node_end None heartbeats (Some silence) (Some 1200)
+  unfolding node_tokens silence_of
+  object = refl
+
+  -- 150 ms after the last heartbeat, by the recording, it isn't silent
+  not_silent : tokens_in (ended 40150000) None 6 (node 2)
+      ≡ node_front 6 (node 2) ++ wait_members heartbeats ++ node_end None heartbeats None (Some 1200)
+  unfolding node_tokens silence_of
+  not_silent = refl
+
+  no_object : tokens_in (ended 41000000) None 6 (server None) ≡ []
+  unfolding silence_of pdo_silence median
+  no_object = refl
+
+-- one that has no line on the page, and is silent by its PDOs
+silent_object : tokens_if None 6 (server None) (Some silence)
+    ≡ node_front 6 (server None) ++ wait_members no_heartbeats ++ node_end None no_heartbeats (Some silence) None
+unfolding node_tokens
+silent_object = refl
 
 -- ---- SDO transfers and EMCY messages
 

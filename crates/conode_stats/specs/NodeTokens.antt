@@ -1,13 +1,15 @@
 -- The nodes of a bus in JSON. Times are in microseconds.
-use Rattle.std.specs.Prelude.{ℕ, ◌==◌, if◌then◌else◌, List, [], ◌∷◌, ◌++◌, codes, length, Option, Some, None}
+use Rattle.std.specs.Prelude.{ℕ, ◌==◌, ◌||◌, if◌then◌else◌, List, [], ◌∷◌, ◌++◌, codes, length, Option, Some, None, is_some}
 use Rattle.json.specs.Token.{Token, begin_object, end_object}
 use Rattle.conode_json.specs.Members.{object_begin, text_member}
 use Rattle.conode_stats_counts.specs.declared.heartbeats.Heartbeats.{Heartbeats}
 use Rattle.conode_stats_counts.specs.declared.node.Node.{Node}
 use Rattle.conode_stats_counts.specs.declared.node.Shown.{Shown}
-use Rattle.conode_stats_counts.specs.declared.tally.Tally.{Tally}
+use Rattle.conode_stats_counts.specs.Buses.{BusCounts}
+use Rattle.conode_stats_text.specs.declared.silence.Silence.{Silence}
 use Rattle.conode_stats_text.specs.NodeLines.{is_shown, state_word}
-use Rattle.conode_stats_text.specs.Paces.{lost_gap, median, pace_of, silent_since, usual_pace}
+use Rattle.conode_stats_text.specs.Paces.{lost_gap, median, usual_pace}
+use Rattle.conode_stats_text.specs.Silences.{silence_of}
 use Rattle.conode_stats.specs.StatsTokens.{joined, number_in, number_of}
 
 -- the last restart, if there is one
@@ -48,19 +50,29 @@ wait_members heartbeats =
     ∷ number_in (codes "longestLateGap") (late_gap_in heartbeats) ∷ number_in (codes "longestGap") (gap_in heartbeats)
     ∷ number_in (codes "medianGap") (median heartbeats.first) ∷ [])
 
--- what the page says of them, by the tally of the bus, and the time of a sheet; then its longest answer,
--- and the end
-unfoldable pub node_end : Tally → Option ℕ → Heartbeats → Option ℕ → List Token
-node_end all sheet heartbeats answer =
+-- the stamp since which a node is silent at the end, if it is
+abbrev pub since_in : Option Silence → Option ℕ
+since_in None = None
+since_in (Some silence) = Some silence.since
+
+-- what the page says of them by the time of a sheet; since when it is silent, its longest answer, and the
+-- end
+unfoldable pub node_end : Option ℕ → Heartbeats → Option Silence → Option ℕ → List Token
+node_end sheet heartbeats silence answer =
     joined (number_in (codes "lostGap") (lost_gap (usual_pace sheet heartbeats) heartbeats.longest)
-    ∷ number_in (codes "silentSince") (silent_since all (pace_of sheet heartbeats) heartbeats.since)
+    ∷ number_in (codes "silentSince") (since_in silence)
     ∷ number_in (codes "longestAnswer") answer ∷ (end_object ∷ []) ∷ [])
 
 -- a node
-unfoldable pub node_tokens : Tally → Option ℕ → ℕ → Node → List Token
-node_tokens all sheet number node =
-    node_front number node ++ wait_members node.heartbeats ++ node_end all sheet node.heartbeats node.longest_answer
+unfoldable pub node_tokens : Option ℕ → ℕ → Node → Option Silence → List Token
+node_tokens sheet number node silence =
+    node_front number node ++ wait_members node.heartbeats ++ node_end sheet node.heartbeats silence node.longest_answer
 
--- nothing of a node without a line
-abbrev pub tokens_in : Tally → Option ℕ → ℕ → Node → List Token
-tokens_in all sheet number node = if is_shown node then node_tokens all sheet number node else []
+-- nothing of a node without a line, if it isn't silent
+abbrev pub tokens_if : Option ℕ → ℕ → Node → Option Silence → List Token
+tokens_if sheet number node silence =
+    if is_shown node || is_some silence then node_tokens sheet number node silence else []
+
+-- of a node of a bus
+abbrev pub tokens_in : BusCounts → Option ℕ → ℕ → Node → List Token
+tokens_in bus sheet number node = tokens_if sheet number node (silence_of bus sheet number node)

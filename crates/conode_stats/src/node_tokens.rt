@@ -9,6 +9,7 @@ ghost use Rattle.conode_stats.specs.NodeTokens.{
   node_end,
   node_front,
   restart_in,
+  since_in,
   state_member,
   tokens_in,
   wait_members,
@@ -17,9 +18,9 @@ ghost use Rattle.conode_stats.specs.Parts.{part_tokens};
 
 use crate::parts::{Part, put_parts};
 use conode_json::JsonWriter;
-use conode_stats_counts::{Bus, Heartbeats, Node, Shown, Tally};
+use conode_stats_counts::{Bus, Heartbeats, Node, Shown};
 use conode_stats_text::{
-    Pace, SheetFacts, is_shown, lost_gap, median, sheet_time, silent_since, state_word,
+    Pace, SheetFacts, Silence, is_shown, lost_gap, median, sheet_time, silence_of, state_word,
 };
 use std::alloc::{AllocError, Global};
 
@@ -136,27 +137,35 @@ fn put_waits(
     )
 }
 
-// what looks wrong with them, its longest answer, and the end
+fn since_in(silence: Option<Silence>) -> Option<u64>
+    ensures { result ≡ since_in silence }
+{
+    match silence {
+        Some(silence) => Some(silence.since),
+        None => None,
+    }
+}
+
+// what looks wrong with them, since when the node is silent, its longest answer, and the end
 #[tactic(auto, unfolding(crate::specs::NodeTokens::node_end))]
 fn put_end(
     alloc: Global,
     writer: &mut JsonWriter,
-    all: &Tally,
     sheet: Option<u16>,
     heartbeats: &Heartbeats,
+    silence: Option<Silence>,
     answer: Option<u64>,
 ) -> Result<(), AllocError>
     ensures { OnOk result (writer.new
-        ≡ writer.old ++ node_end all.now sheet heartbeats.now answer) }
+        ≡ writer.old ++ node_end sheet heartbeats.now silence answer) }
 {
     let lost = lost_gap(Pace::usual(sheet, heartbeats), heartbeats.longest);
-    let silent = silent_since(all, Pace::of(sheet, heartbeats), heartbeats.since);
     put_parts(
         alloc,
         writer,
         &[
             Part::NumberIf("lostGap", lost),
-            Part::NumberIf("silentSince", silent),
+            Part::NumberIf("silentSince", since_in(silence)),
             Part::NumberIf("longestAnswer", answer),
             Part::EndObject,
         ],
@@ -167,30 +176,31 @@ fn put_end(
 fn put_node_in(
     alloc: Global,
     writer: &mut JsonWriter,
-    all: &Tally,
+    bus: &Bus,
     sheet: Option<u16>,
-    number: u32,
+    number: u8,
     node: &Node,
 ) -> Result<(), AllocError>
     ensures { OnOk result (writer.new
-        ≡ writer.old ++ tokens_in all.now sheet number node.now) }
+        ≡ writer.old ++ tokens_in bus.now sheet number node.now) }
 {
-    if !is_shown(node) {
+    let silence = silence_of(bus, sheet, number, node);
+    if !is_shown(node) && silence.is_none() {
         return Ok(());
     }
-    put_front(alloc, writer, number, node)?;
+    put_front(alloc, writer, u32::from(number), node)?;
     put_waits(alloc, writer, &node.heartbeats)?;
     put_end(
         alloc,
         writer,
-        all,
         sheet,
         &node.heartbeats,
+        silence,
         node.longest_answer,
     )
 }
 
-/// Writes the nodes of a bus that have a line on the page, by node-ID.
+/// Writes the nodes of a bus that have a line on the page, or are silent, by node-ID.
 pub(crate) fn put_nodes(
     alloc: Global,
     writer: &mut JsonWriter,
@@ -198,11 +208,10 @@ pub(crate) fn put_nodes(
     bus: &Bus,
 ) -> Result<(), AllocError> {
     writer.begin_array_of("nodes")?;
-    let all = bus.all();
     for number in 1..128u8 {
         if let Some(node) = bus.nodes().get(usize::from(number)) {
             let sheet = sheet_time(sheets, bus.interface(), number);
-            put_node_in(alloc, writer, &all, sheet, u32::from(number), node)?;
+            put_node_in(alloc, writer, bus, sheet, number, node)?;
         }
     }
     writer.end_array()

@@ -5,7 +5,7 @@ use Rattle.std.specs.Fmt.{digits}
 use Rattle.co_text.specs.Printed.{digits_text}
 use Rattle.conode_stats_text.specs.Cells.{seconds, tenths, thousandths}
 use Rattle.conode_stats_text.specs.Figures.{ratio, room_in}
-use Rattle.conode_stats_text.specs.StatsLines.{id_text}
+use Rattle.conode_stats_text.specs.StatsLines.{frames_in, id_text}
 
 -- ---- figures
 
@@ -67,3 +67,14 @@ extended_id = refl
 error_id : id_text 0x20000080 ≡ codes "20000080"
 unfolding id_text digits_text digits
 error_id = refl
+
+-- ---- how many frames
+
+one_frame : frames_in 1 ≡ codes " frame in "
+one_frame = refl
+
+two_frames : frames_in 2 ≡ codes " frames in "
+two_frames = refl
+
+no_frames : frames_in 0 ≡ codes " frames in "
+no_frames = refl

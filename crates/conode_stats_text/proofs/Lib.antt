@@ -2,3 +2,4 @@ mod Examples
 mod FailureExamples
 pub mod NodeExamples
 mod PaceExamples
+mod SilenceExamples

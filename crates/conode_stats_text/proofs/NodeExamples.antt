@@ -9,6 +9,7 @@ use Rattle.conode_stats_counts.specs.declared.node.Shown.{Shown}
 use Rattle.conode_stats_counts.specs.declared.state.NmtState.TheVariants.{Stopped}
 use Rattle.conode_stats_counts.specs.declared.state.StateTimes.{StateTimes}
 use Rattle.conode_stats_counts.specs.declared.tally.Tally.{Tally}
+use Rattle.conode_stats_counts.specs.Buses.{BusCounts}
 use Rattle.conode_stats_text.specs.declared.finding.Finding.TheVariants.{Restarted}
 use Rattle.conode_stats_text.specs.declared.finding.Kind.TheVariants.{Restarts}
 use Rattle.conode_stats_text.specs.Cells.{seconds, thousandths}
@@ -64,11 +65,12 @@ ended_at last = record {
 
 -- ---- what looks wrong
 
-two_restarts : node_finding Restarts (ended_at 41000000) None (node 2) ≡ Some (Restarted 2 1130000)
-two_restarts = refl
+module _ (bus : BusCounts) where
+  two_restarts : node_finding Restarts bus None 6 (node 2) ≡ Some (Restarted 2 1130000)
+  two_restarts = refl
 
-no_restart : node_finding Restarts (ended_at 41000000) None (node 0) ≡ None
-no_restart = refl
+  no_restart : node_finding Restarts bus None 6 (node 0) ≡ None
+  no_restart = refl
 
 restarts : restart_line (codes "can0") 6 2 1130000 ≡ codes "  can0: node 6 restarts without a reset command: 2, the last at 1.130000\n"
 unfolding restart_line node_front seconds digits_text digits

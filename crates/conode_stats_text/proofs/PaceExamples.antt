@@ -4,14 +4,12 @@ use Rattle.std.specs.Prelude.{List, codes}
 use Rattle.std.specs.Fmt.{digits}
 use Rattle.co_text.specs.Printed.{digits_text}
 use Rattle.conode_stats_counts.specs.declared.heartbeats.Heartbeats.{Heartbeats}
-use Rattle.conode_stats_counts.specs.declared.tally.Tally.{Tally}
-use Rattle.conode_stats_text.specs.declared.pace.Pace.TheVariants.{Written, Sheet, Median}
+use Rattle.conode_stats_text.specs.declared.pace.Pace.TheVariants.{Written, Sheet, Median, Pdos}
 use Rattle.conode_stats_text.specs.declared.excerpt.Excerpt.{Excerpt}
-use Rattle.conode_stats_text.specs.declared.finding.Finding.TheVariants.{Silent, Late, Lost, Restarted}
+use Rattle.conode_stats_text.specs.declared.finding.Finding.TheVariants.{Late, Lost, Restarted}
 use Rattle.conode_stats_text.specs.Cells.{seconds, thousandths}
-use Rattle.conode_stats_text.specs.Findings.{is_listed, late_in, listed, lost_in, passed, silent_in}
+use Rattle.conode_stats_text.specs.Findings.{is_listed, late_in, listed, lost_in, passed}
 use Rattle.conode_stats_text.specs.StatsLines.{node_front}
-use Rattle.conode_stats_text.proofs.NodeExamples.{ended_at}
 use Rattle.conode_stats_text.specs.Paces.{is_long, late_line, lost_line, median, pace_of, silent_line, usual_pace}
 
 -- ---- the median
@@ -35,7 +33,7 @@ of_one = refl
 
 -- ---- what counts
 
-abbrev heartbeats : Option ℕ → ℕ → ℕ → List ℕ → Heartbeats
+abbrev pub heartbeats : Option ℕ → ℕ → ℕ → List ℕ → Heartbeats
 heartbeats written late longest first = record { written = written; since = Some 1000000; late = late; longest_late = 151000; longest = longest; first = first }
 
 recorded : pace_of (Some 300) (heartbeats (Some 100) 0 0 []) ≡ Some (Written 100)
@@ -70,6 +68,19 @@ long_by_sheet = refl
 not_long_by_recording : is_long (Written 200) 300000 ≡ false
 not_long_by_recording = refl
 
+-- PDOs with a gap of 200 ms are missed after a second, with one of 400 ms after three such gaps
+not_long_by_pdos : is_long (Pdos 200000) 1000000 ≡ false
+not_long_by_pdos = refl
+
+long_by_pdos : is_long (Pdos 200000) 1000001 ≡ true
+long_by_pdos = refl
+
+not_long_by_slow_pdos : is_long (Pdos 400000) 1200002 ≡ false
+not_long_by_slow_pdos = refl
+
+long_by_slow_pdos : is_long (Pdos 400000) 1200003 ≡ true
+long_by_slow_pdos = refl
+
 -- ---- what looks wrong
 
 abbrev two : List ℕ
@@ -89,22 +100,6 @@ lost_by_sheet = refl
 not_lost_by_sheet : lost_in (Some 100) (heartbeats None 0 150000 []) ≡ None
 not_lost_by_sheet = refl
 
-not_silent : silent_in (ended_at 1150000) None (heartbeats (Some 100) 2 0 []) ≡ None
-not_silent = refl
-
-silent : silent_in (ended_at 1150001) None (heartbeats (Some 100) 2 0 []) ≡ Some (Silent 1000000 (Written 100))
-silent = refl
-
--- the clock was set back by a second since: 100 ms up to then, and 50 ms from then on
-abbrev set_back : ℕ → Tally
-set_back last = record (ended_at last) { steps_back = 1; step_from = 1100000; step_to = 5000 }
-
-not_silent_set_back : silent_in (set_back 55000) None (heartbeats (Some 100) 2 0 []) ≡ None
-not_silent_set_back = refl
-
-silent_set_back : silent_in (set_back 55001) None (heartbeats (Some 100) 2 0 []) ≡ Some (Silent 1000000 (Written 100))
-silent_set_back = refl
-
 late : late_in (heartbeats (Some 100) 2 0 []) ≡ Some (Late 2 151000)
 late = refl
 
@@ -116,6 +111,10 @@ not_late = refl
 silent_by_recording : silent_line (codes "can0") 5 1000000 (Written 100) ≡ codes "  can0: node 5 silent since 1.000000, 1017h as recorded 100 ms\n"
 unfolding silent_line node_front seconds digits_text digits
 silent_by_recording = refl
+
+silent_by_pdos : silent_line (codes "can0") 5 1000000 (Pdos 103000) ≡ codes "  can0: node 5 silent since 1.000000, greatest gap of its PDOs 103.000 ms\n"
+unfolding silent_line node_front seconds thousandths digits_text digits
+silent_by_pdos = refl
 
 late_by_recording : late_line (codes "can0") 5 2 151000
     ≡ codes "  can0: node 5 heartbeats later than 1.5 times 1017h as recorded: 2, up to 151.000 ms\n"

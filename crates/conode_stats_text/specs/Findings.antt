@@ -5,32 +5,31 @@ use Rattle.conode_stats_counts.specs.declared.failure.FailureRow.{FailureRow}
 use Rattle.conode_stats_counts.specs.declared.heartbeats.Heartbeats.{Heartbeats}
 use Rattle.conode_stats_counts.specs.declared.node.Node.{Node}
 use Rattle.conode_stats_counts.specs.declared.tally.Tally.{Tally}
+use Rattle.conode_stats_counts.specs.Buses.{BusCounts}
 use Rattle.conode_stats_counts.specs.Gaps.{counted}
 use Rattle.conode_stats_text.specs.declared.excerpt.Excerpt.{Excerpt}
 use Rattle.conode_stats_text.specs.declared.finding.Finding.{Finding}
 use Rattle.conode_stats_text.specs.declared.finding.Finding.TheVariants.{Silent, Late, Lost, Restarted, Failed, Open, Emergency, Counted}
 use Rattle.conode_stats_text.specs.declared.finding.Kind.{Kind}
-use Rattle.conode_stats_text.specs.declared.finding.Kind.TheVariants.{Silence, Lateness, Loss, Restarts, Failures, Emergencies, StepsBack, ErrorFrames, MoreFailures, MoreEmergencies, MoreIdentifiers}
+use Rattle.conode_stats_text.specs.declared.finding.Kind.TheVariants.{Silence as SilenceKind, Lateness, Loss, Restarts, Failures, Emergencies, StepsBack, ErrorFrames, MoreFailures, MoreEmergencies, MoreIdentifiers}
 use Rattle.conode_stats_text.specs.declared.pace.Pace.{Pace}
+use Rattle.conode_stats_text.specs.declared.silence.Silence.{Silence}
 use Rattle.conode_stats_text.specs.FailureLines.{emergency_line, failure_line, is_waiting, open_line}
 use Rattle.conode_stats_text.specs.NodeLines.{restart_line}
 use Rattle.conode_stats_text.specs.StatsLines.{counts_line}
-use Rattle.conode_stats_text.specs.Paces.{late_line, lost_gap, lost_line, pace_of, silent_line, silent_since, usual_pace}
+use Rattle.conode_stats_text.specs.Paces.{late_line, lost_gap, lost_line, silent_line, usual_pace}
+use Rattle.conode_stats_text.specs.Silences.{silence_of}
 
 -- ---- what looks wrong
-
-abbrev pub silent_at : Option Pace → Option ℕ → Option Finding
-silent_at (Some pace) (Some since) = Some (Silent since pace)
-silent_at _ _ = None
 
 abbrev pub lost_at : Option Pace → Option ℕ → Option Finding
 lost_at (Some pace) (Some gap) = Some (Lost gap pace)
 lost_at _ _ = None
 
--- a node that is silent at the end, by the tally of the bus and the time of a sheet
-abbrev pub silent_in : Tally → Option ℕ → Heartbeats → Option Finding
-silent_in all sheet heartbeats =
-    silent_at (pace_of sheet heartbeats) (silent_since all (pace_of sheet heartbeats) heartbeats.since)
+-- a node that is silent at the end
+abbrev pub silent_in : Option Silence → Option Finding
+silent_in None = None
+silent_in (Some silence) = Some (Silent silence)
 
 -- one with heartbeats later than the recording has it
 abbrev pub late_in : Heartbeats → Option Finding
@@ -43,13 +42,13 @@ lost_in sheet heartbeats = lost_at (usual_pace sheet heartbeats) (lost_gap (usua
 abbrev pub restarted_in : Node → Option Finding
 restarted_in node = if node.restarts == 0 then None else Some (Restarted node.restarts node.last_restart)
 
--- what a node shows of a kind
-abbrev pub node_finding : Kind → Tally → Option ℕ → Node → Option Finding
-node_finding Silence all sheet node = silent_in all sheet node.heartbeats
-node_finding Lateness all sheet node = late_in node.heartbeats
-node_finding Loss all sheet node = lost_in sheet node.heartbeats
-node_finding Restarts all sheet node = restarted_in node
-node_finding _ all sheet node = None
+-- what a node of a bus shows of a kind, by the time of a sheet
+abbrev pub node_finding : Kind → BusCounts → Option ℕ → ℕ → Node → Option Finding
+node_finding SilenceKind bus sheet number node = silent_in (silence_of bus sheet number node)
+node_finding Lateness bus sheet number node = late_in node.heartbeats
+node_finding Loss bus sheet number node = lost_in sheet node.heartbeats
+node_finding Restarts bus sheet number node = restarted_in node
+node_finding _ bus sheet number node = None
 
 -- what a row is of a kind
 abbrev pub row_finding : Kind → FailureRow → Option Finding
@@ -77,7 +76,7 @@ counted_words _ = []
 -- ---- its line
 
 abbrev pub finding_line : List ℕ → ℕ → Finding → List ℕ
-finding_line interface node (Silent since pace) = silent_line interface node since pace
+finding_line interface node (Silent silence) = silent_line interface node silence.since silence.pace
 finding_line interface node (Late count gap) = late_line interface node count gap
 finding_line interface node (Lost gap pace) = lost_line interface node gap pace
 finding_line interface node (Restarted count last) = restart_line interface node count last

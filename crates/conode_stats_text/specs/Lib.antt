@@ -6,4 +6,5 @@ pub mod NodeLines
 pub mod Paces
 pub mod Pieces
 pub mod SheetFacts
+pub mod Silences
 pub mod StatsLines

@@ -1,13 +1,11 @@
--- How often a node should send a heartbeat, and which waits were too long. Times are in
+-- How often a node should send a heartbeat, or its PDOs, and which waits were too long. Times are in
 -- microseconds, producer heartbeat times in milliseconds.
-use Rattle.std.specs.Prelude.{ℕ, ◌+◌, ◌-◌, ◌*◌, ◌/◌, ◌^◌, Bool, nat_le, nat_lt, min, fold, if◌then◌else◌, List, [], ◌∷◌, codes, decimal, length, Option, Some, None}
+use Rattle.std.specs.Prelude.{ℕ, ◌+◌, ◌-◌, ◌*◌, ◌/◌, ◌^◌, Bool, nat_le, nat_lt, min, fold, ◌&&◌, if◌then◌else◌, List, [], ◌∷◌, codes, decimal, length, Option, Some, None}
 use Rattle.std.specs.List.{concat, count_by}
 use Rattle.conode_stats_counts.specs.declared.heartbeats.Heartbeats.{Heartbeats}
-use Rattle.conode_stats_counts.specs.declared.tally.Tally.{Tally}
 use Rattle.conode_stats_counts.specs.Heartbeats.{is_late}
-use Rattle.conode_stats_counts.specs.Tallies.{elapsed}
 use Rattle.conode_stats_text.specs.declared.pace.Pace.{Pace}
-use Rattle.conode_stats_text.specs.declared.pace.Pace.TheVariants.{Written, Sheet, Median}
+use Rattle.conode_stats_text.specs.declared.pace.Pace.TheVariants.{Written, Sheet, Median, Pdos}
 use Rattle.conode_stats_text.specs.Cells.{seconds, thousandths}
 use Rattle.conode_stats_text.specs.StatsLines.{node_front}
 
@@ -48,11 +46,13 @@ pace_by None sheet heartbeats = usual_pace sheet heartbeats
 abbrev pub pace_of : Option ℕ → Heartbeats → Option Pace
 pace_of sheet heartbeats = pace_by heartbeats.written sheet heartbeats
 
--- whether a wait is more than 1.5 times as long
+-- whether a wait is more than 1.5 times as long; for PDOs more than three times their greatest gap, and more
+-- than a second
 abbrev pub is_long : Pace → ℕ → Bool
 is_long (Written time) gap = is_late time gap
 is_long (Sheet time) gap = is_late time gap
 is_long (Median median) gap = nat_lt (median + median / 2) gap
+is_long (Pdos greatest) gap = nat_lt 1000000 gap && nat_lt greatest (gap / 3)
 
 -- ---- the lines
 
@@ -61,11 +61,13 @@ abbrev pub pace_front : Pace → List ℕ
 pace_front (Written time) = codes ", 1017h as recorded "
 pace_front (Sheet time) = codes ", 1017h of the sheet "
 pace_front (Median median) = codes ", median "
+pace_front (Pdos greatest) = codes ", greatest gap of its PDOs "
 
 abbrev pub pace_figure : Pace → List ℕ
 pace_figure (Written time) = decimal time
 pace_figure (Sheet time) = decimal time
 pace_figure (Median median) = thousandths median
+pace_figure (Pdos greatest) = thousandths greatest
 
 unfoldable pub silent_line : List ℕ → ℕ → ℕ → Pace → List ℕ
 silent_line interface node stamp pace =
@@ -82,12 +84,6 @@ late_line interface node count gap =
     ∷ codes ", up to " ∷ thousandths gap ∷ codes " ms\n" ∷ [])
 
 -- ---- what looks wrong
-
--- the stamp since which a node is silent at the end, if it is, by the tally of the bus; one of which no
--- heartbeat is known to be awaited isn't
-abbrev pub silent_since : Tally → Option Pace → Option ℕ → Option ℕ
-silent_since all (Some pace) (Some stamp) = if is_long pace (elapsed all stamp) then Some stamp else None
-silent_since all _ _ = None
 
 -- the longest wait, if it is too long
 abbrev pub lost_gap : Option Pace → ℕ → Option ℕ

@@ -42,10 +42,13 @@ busiest_part room load =
 unfoldable pub load_line : ℕ → Tally → Load → List ℕ
 load_line bit_rate all load = load_front (load_word load) (room_in bit_rate all.total) load ++ busiest_part bit_rate load
 
+abbrev pub frames_in : ℕ → List ℕ
+frames_in count = if count == 1 then codes " frame in " else codes " frames in "
+
 -- the frames of a bus, and the time over which they came
 unfoldable pub bus_line : List ℕ → Tally → List ℕ
 bus_line interface all =
-    concat (codes "  " ∷ name_text interface ∷ codes ": " ∷ decimal all.frames ∷ codes " frames in " ∷ seconds all.total
+    concat (codes "  " ∷ name_text interface ∷ codes ": " ∷ decimal all.frames ∷ frames_in all.frames ∷ seconds all.total
     ∷ codes " s, the first at " ∷ seconds all.first ∷ codes "\n" ∷ [])
 
 -- ---- what looks wrong

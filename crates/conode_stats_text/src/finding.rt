@@ -11,10 +11,10 @@ ghost use Rattle.conode_stats_text.specs.Findings.{
   open_finding,
   restarted_in,
   row_finding,
-  silent_in,
 };
 
-use crate::pace::{Pace, lost_gap, silent_since};
+use crate::pace::{Pace, lost_gap};
+use crate::silence::{Silence, silence_of};
 use co_value::Key;
 use conode_explain_transfers::Ended;
 use conode_stats_counts::{Bus, FailureRow, Heartbeats, Node, Row, Tally};
@@ -59,8 +59,8 @@ pub enum Kind {
 /// What looks wrong with a node, or a bus. Stamps and times are in microseconds.
 #[derive(Clone, Copy)]
 pub(crate) enum Finding {
-    /// It is silent since this stamp, at this pace.
-    Silent(u64, Pace),
+    /// It is silent at the end.
+    Silent(Silence),
     /// So many heartbeats came later than the recording has it, one after the longest wait.
     Late(u64, u64),
     /// The longest wait for a heartbeat, at this pace.
@@ -75,16 +75,6 @@ pub(crate) enum Finding {
     Emergency(FailureRow),
     /// There are so many of a kind on the bus.
     Counted(Kind, u64),
-}
-
-fn silent_in(all: &Tally, sheet: Option<u16>, heartbeats: &Heartbeats) -> Option<Finding>
-    ensures { result ≡ silent_in all.now sheet heartbeats.now }
-{
-    let pace = Pace::of(sheet, heartbeats);
-    match (pace, silent_since(all, pace, heartbeats.since)) {
-        (Some(pace), Some(since)) => Some(Finding::Silent(since, pace)),
-        _ => None,
-    }
 }
 
 fn late_in(heartbeats: &Heartbeats) -> Option<Finding>
@@ -145,13 +135,22 @@ fn error_frames(rows: &[Row]) -> u64 {
 }
 
 impl Kind {
-    /// What a node shows of this kind, by the tally of its bus; `sheet` is the node's producer
-    /// heartbeat time in ms, if a sheet has one.
-    pub(crate) fn of_node(self, all: &Tally, sheet: Option<u16>, node: &Node) -> Option<Finding>
-        ensures { result ≡ node_finding self all.now sheet node.now }
+    /// What a node of a bus shows of this kind; `sheet` is its producer heartbeat time in ms, if a
+    /// sheet has one.
+    pub(crate) fn of_node(
+        self,
+        bus: &Bus,
+        sheet: Option<u16>,
+        number: u8,
+        node: &Node,
+    ) -> Option<Finding>
+        ensures { result ≡ node_finding self bus.now sheet number node.now }
     {
         match self {
-            Kind::Silence => silent_in(all, sheet, &node.heartbeats),
+            Kind::Silence => match silence_of(bus, sheet, number, node) {
+                Some(silence) => Some(Finding::Silent(silence)),
+                None => None,
+            },
             Kind::Lateness => late_in(&node.heartbeats),
             Kind::Loss => lost_in(sheet, &node.heartbeats),
             Kind::Restarts => restarted_in(node),

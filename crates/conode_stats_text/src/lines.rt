@@ -5,6 +5,7 @@ ghost use Rattle.std.specs.Prelude.{◌≡◌, ◌++◌, ◌≤◌, OnOk, string
 ghost use Rattle.conode_stats_text.specs.StatsLines.{
   bus_line,
   busiest_part,
+  frames_in,
   if_any,
   load_front,
   load_line,
@@ -109,6 +110,16 @@ pub(crate) fn push_load(
     push_busiest(text, u64::from(bit_rate), load)
 }
 
+fn frames_in(count: u64) -> &'static str
+    ensures { result.now ≡ frames_in count }
+{
+    if count == 1 {
+        " frame in "
+    } else {
+        " frames in "
+    }
+}
+
 /// Appends the line of the frames of a bus.
 #[tactic(auto, unfolding(crate::specs::StatsLines::bus_line))]
 pub(crate) fn push_bus(text: &mut String, interface: &[u8], all: &Tally) -> Result<(), AllocError>
@@ -122,7 +133,7 @@ pub(crate) fn push_bus(text: &mut String, interface: &[u8], all: &Tally) -> Resu
             Piece::Name(interface),
             Piece::Words(": "),
             Piece::Number(all.frames),
-            Piece::Words(" frames in "),
+            Piece::Words(frames_in(all.frames)),
             Piece::Seconds(all.total),
             Piece::Words(" s, the first at "),
             Piece::Seconds(all.first),

@@ -10,15 +10,14 @@ ghost use Rattle.conode_stats_text.specs.Paces.{
   pace_figure,
   pace_front,
   pace_of,
-  silent_since,
   usual_pace,
 };
 ghost use Rattle.conode_stats_text.specs.Pieces.{piece_text};
 
 use crate::pieces::Piece;
-use conode_stats_counts::{Heartbeats, Tally, is_late};
+use conode_stats_counts::{Heartbeats, is_late};
 
-/// How often a node should send a heartbeat.
+/// How often a node should send a heartbeat, or its PDOs.
 #[derive(Clone, Copy)]
 pub enum Pace {
     /// The producer heartbeat time in ms, 1017:00, that a transfer in the recording shows.
@@ -27,7 +26,12 @@ pub enum Pace {
     Sheet(u16),
     /// The median of the node's first gaps, in microseconds.
     Median(u64),
+    /// The greatest gap of its cyclic TPDO, in microseconds, of a node without heartbeats.
+    Pdos(u64),
 }
+
+/// PDOs are missed after a second, or more.
+const SECOND: u64 = 1_000_000;
 
 // whether half of the gaps, or more, are no longer than this one
 fn is_half(gaps: &[u64], gap: u64) -> bool
@@ -86,7 +90,8 @@ impl Pace {
         }
     }
 
-    /// Whether a wait, in microseconds, is more than 1.5 times as long.
+    /// Whether a wait, in microseconds, is more than 1.5 times as long; for PDOs more than three times
+    /// their greatest gap, and more than a second.
     pub(crate) fn is_long(self, gap: u64) -> bool
         ensures { result ≡ is_long self gap }
     {
@@ -96,6 +101,7 @@ impl Pace {
                 Some(most) => most < gap,
                 None => false,
             },
+            Pace::Pdos(greatest) => SECOND < gap && greatest < gap / 3,
         }
     }
 
@@ -107,6 +113,7 @@ impl Pace {
             Pace::Written(_) => ", 1017h as recorded ",
             Pace::Sheet(_) => ", 1017h of the sheet ",
             Pace::Median(_) => ", median ",
+            Pace::Pdos(_) => ", greatest gap of its PDOs ",
         }
     }
 
@@ -116,19 +123,8 @@ impl Pace {
     {
         match self {
             Pace::Written(time) | Pace::Sheet(time) => Piece::Number(u64::from(time)),
-            Pace::Median(median) => Piece::Millis(median),
+            Pace::Median(gap) | Pace::Pdos(gap) => Piece::Millis(gap),
         }
-    }
-}
-
-/// Since which stamp a node is silent at the end, if it is: by the tally of the bus, and the stamp
-/// since which a heartbeat is awaited.
-pub fn silent_since(all: &Tally, pace: Option<Pace>, since: Option<u64>) -> Option<u64>
-    ensures { result ≡ silent_since all.now pace since }
-{
-    match (pace, since) {
-        (Some(pace), Some(since)) if pace.is_long(all.elapsed(since)) => Some(since),
-        _ => None,
     }
 }
 

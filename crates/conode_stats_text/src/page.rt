@@ -74,11 +74,10 @@ fn push_nodes_wrong(
     bus: &Bus,
     kind: Kind,
 ) -> Result<(), AllocError> {
-    let all = bus.all();
     for number in 1..128u8 {
         if let Some(node) = bus.nodes().get(usize::from(number)) {
             let time = sheet_time(sheets, bus.interface(), number);
-            let finding = kind.of_node(&all, time, node);
+            let finding = kind.of_node(bus, time, number, node);
             push_listed(text, excerpt, bus.interface(), u32::from(number), &finding)?;
         }
     }

@@ -18,30 +18,30 @@ use crate::excerpt::Excerpt;
 use crate::finding::{Finding, Kind};
 use crate::pace::Pace;
 use crate::pieces::{Piece, push_pieces};
+use crate::silence::Silence;
 use co_value::Key;
 use conode_stats_counts::FailureRow;
 use std::alloc::AllocError;
 
-// a node that is silent at the end, since a stamp in microseconds
+// a node that is silent at the end
 #[tactic(auto, unfolding(crate::specs::Paces::silent_line))]
 fn push_silent(
     text: &mut String,
     interface: &[u8],
     node: u32,
-    since: u64,
-    pace: Pace,
+    silence: &Silence,
 ) -> Result<(), AllocError>
-    ensures { OnOk result (string_bytes text.new
-        ≡ string_bytes text.old ++ silent_line interface.now node since pace) }
+    ensures { OnOk result (string_bytes text.new ≡ string_bytes text.old
+        ++ silent_line interface.now node silence.now.since silence.now.pace) }
 {
     push_pieces(
         text,
         &[
             Piece::Node(interface, node),
             Piece::Words(" silent since "),
-            Piece::Seconds(since),
-            Piece::Words(pace.front()),
-            pace.figure(),
+            Piece::Seconds(silence.since),
+            Piece::Words(silence.pace.front()),
+            silence.pace.figure(),
             Piece::Words(" ms\n"),
         ],
     )
@@ -264,7 +264,7 @@ fn push_finding(
         ≡ string_bytes text.old ++ finding_line interface.now node finding.now) }
 {
     match finding {
-        Finding::Silent(since, pace) => push_silent(text, interface, node, *since, *pace),
+        Finding::Silent(silence) => push_silent(text, interface, node, silence),
         Finding::Late(count, gap) => push_late(text, interface, node, *count, *gap),
         Finding::Lost(gap, pace) => push_lost(text, interface, node, *gap, *pace),
         Finding::Restarted(count, last) => push_restarts(text, interface, node, *count, *last),
