@@ -4,7 +4,10 @@ ghost use Rattle.std.specs.Prelude.{◌≡◌, ◌≤◌, ◌++◌, map, true, A
 ghost use Rattle.co_value.specs.Keys.{is_key_before};
 ghost use Rattle.co_sheet.specs.SheetViews.{row_view};
 ghost use Rattle.co_sheet.specs.SheetLaws.{IsSheetRow};
-ghost use Rattle.co_dict_build.specs.declared.build_fault.BuildFault.TheVariants.{TooMany, ValueRange};
+ghost use Rattle.co_dict_build.specs.declared.build_fault.BuildFault.TheVariants.{
+  TooMany,
+  ValueRange,
+};
 ghost use Rattle.co_dict_build.specs.Capacities.{limits_view};
 ghost use Rattle.co_dict_build.specs.Built.{plan_of, plan_in, built_description, built_contents};
 ghost use Rattle.co_dict_faults.specs.SoundPlans.{sound_plan};

@@ -1,6 +1,17 @@
 //! Laws of all faults of a dictionary.
 
-ghost use Rattle.std.specs.Prelude.{◌≡◌, ◌≤◌, ℕ, true, AllPairs, Contains, slice_get, is_some, is_none, not};
+ghost use Rattle.std.specs.Prelude.{
+  ◌≡◌,
+  ◌≤◌,
+  ℕ,
+  true,
+  AllPairs,
+  Contains,
+  slice_get,
+  is_some,
+  is_none,
+  not,
+};
 ghost use Rattle.std.specs.List.Sorted.{IsStrictlySortedBy};
 ghost use Rattle.co_sheet.specs.SheetLaws.{IsRowBefore};
 ghost use Rattle.co_dict.specs.declared.side.Side.{Side};

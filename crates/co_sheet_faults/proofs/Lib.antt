@@ -18,3 +18,4 @@ mod FaultOrderLemmas
 mod EntryCodeLemmas
 mod ListCodeLemmas
 mod TextCodeLemmas
+mod WordLemmas

@@ -1,7 +1,9 @@
 //! What the checks find, in one pass.
 
 ghost use Rattle.std.specs.Prelude.{◌≡◌, ◌++◌, ◌&&◌, not, is_none, map, OnOk};
-ghost use Rattle.co_sheet_text.specs.declared.section_kind.SectionKind.TheVariants.{MandatoryObjects};
+ghost use Rattle.co_sheet_text.specs.declared.section_kind.SectionKind.TheVariants.{
+  MandatoryObjects,
+};
 ghost use Rattle.co_sheet_text.specs.Sections.{section_at};
 ghost use Rattle.co_sheet_text.specs.Views.{section_view};
 ghost use Rattle.co_sheet_text.specs.SectionLaws.{IsParsed};

@@ -5,10 +5,20 @@ ghost use Rattle.co_sheet_text.specs.Views.{section_view};
 ghost use Rattle.co_sheet.specs.ObjectLists.{is_one_of};
 ghost use Rattle.co_sheet.specs.Entries.{single_codes, type_code, data_type_of};
 ghost use Rattle.co_sheet.specs.Limits.{is_numeric, limit_at};
-ghost use Rattle.co_sheet.specs.Checks.{at_key, type_line, left_out_codes, bad_access, unread_limit};
+ghost use Rattle.co_sheet.specs.Checks.{
+  at_key,
+  type_line,
+  left_out_codes,
+  bad_access,
+  unread_limit,
+};
 ghost use Rattle.co_sheet.specs.SectionViews.{entry_view};
 ghost use Rattle.co_sheet.specs.Views.{default_view};
-ghost use Rattle.co_sheet_faults.specs.Soundness.{is_object_type_at_fault, is_data_type_at_fault, is_outside};
+ghost use Rattle.co_sheet_faults.specs.Soundness.{
+  is_object_type_at_fault,
+  is_data_type_at_fault,
+  is_outside,
+};
 ghost use Rattle.co_sheet_faults.specs.AllChecks.{key_found, of_sound_type, default_found_at};
 ghost use Rattle.co_sheet_faults.specs.private.Collected.{
   type_collected,
@@ -18,7 +28,12 @@ ghost use Rattle.co_sheet_faults.specs.private.Collected.{
   values_collected,
   entry_collected,
 };
-ghost use Rattle.co_sheet_faults.specs.private.EntryParts.{lacks_key, AreLimits, limit_if, is_beyond};
+ghost use Rattle.co_sheet_faults.specs.private.EntryParts.{
+  lacks_key,
+  AreLimits,
+  limit_if,
+  is_beyond,
+};
 
 use crate::faults::{add_if, add_unread, add_unread_at};
 use co_sheet::{
@@ -57,7 +72,8 @@ fn lacks_key(entry: &EntrySection) -> bool
 
 // adds an entry without DataType or AccessType
 fn add_missing_key(faults: &mut Vec<SheetFault>, entry: &EntrySection) -> Result<(), AllocError>
-    ensures { OnOk result (faults.new.items ≡ faults.old.items ++ key_found (entry_view entry.now)) }
+    ensures { OnOk result
+        (faults.new.items ≡ faults.old.items ++ key_found (entry_view entry.now)) }
 {
     if is_object_type_bad(entry) {
         return Ok(());
@@ -128,7 +144,8 @@ fn add_type(faults: &mut Vec<SheetFault>, entry: &EntrySection) -> Result<(), Al
 
 // adds an AccessType that is no access
 fn add_access(faults: &mut Vec<SheetFault>, entry: &EntrySection) -> Result<(), AllocError>
-    ensures { OnOk result (faults.new.items ≡ faults.old.items ++ bad_access (entry_view entry.now)) }
+    ensures { OnOk result
+        (faults.new.items ≡ faults.old.items ++ bad_access (entry_view entry.now)) }
 {
     let Some(given) = entry.section.property(b"AccessType") else {
         return Ok(());
@@ -161,9 +178,13 @@ fn limit_at(entry: &EntrySection, data_type: DataType, name: &[u8]) -> Option<i1
     requires { is_numeric data_type ≡ true }
     ensures { result ≡ limit_at name.now data_type (entry_view entry.now) }
 {
-    let given = entry.section.property(name)?;
-    let numeral = signed_numeral(given.value).ok()?;
-    Some(numeral.value_at(data_type))
+    let Some(given) = entry.section.property(name) else {
+        return None;
+    };
+    match signed_numeral(given.value) {
+        Ok(numeral) => Some(numeral.value_at(data_type)),
+        Err(_) => None,
+    }
 }
 
 // whether a limit that can be read is outside the type's range
@@ -330,7 +351,10 @@ fn add_values(
 fn data_type_of(entry: &EntrySection) -> Option<DataType>
     ensures { result ≡ data_type_of (entry_view entry.now) }
 {
-    data_type_with(type_code(entry)?)
+    match type_code(entry) {
+        Some(code) => data_type_with(code),
+        None => None,
+    }
 }
 
 // adds the limits and the defaults that are at fault, where the data type isn't

@@ -3,7 +3,13 @@
 ghost use Rattle.std.specs.Prelude.{◌≡◌, ◌++◌, ◌∷◌, [], OnOk};
 ghost use Rattle.co_sheet_text.specs.Views.{property_view, section_view};
 ghost use Rattle.co_sheet.specs.Faults.{fault_at};
-ghost use Rattle.co_sheet.specs.Checks.{fault_if, at_key, numeral_fault, unread_number, compact_form};
+ghost use Rattle.co_sheet.specs.Checks.{
+  fault_if,
+  at_key,
+  numeral_fault,
+  unread_number,
+  compact_form,
+};
 
 use co_sheet::{FaultKind, SheetFault};
 use co_sheet_text::{NumeralFault, Property, TextSection, unsigned_number};

@@ -1,6 +1,6 @@
 //! All faults of a text, in order.
 
-ghost use Rattle.std.specs.Prelude.{◌≡◌, ◌++◌, ◌≤◌, length, map, Contains, OnOk, IfOk};
+ghost use Rattle.std.specs.Prelude.{◌≡◌, ◌++◌, ◌≤◌, [], length, map, Contains, OnOk, IfOk};
 ghost use Rattle.std.specs.List.Sorted.{IsStrictlySortedBy};
 ghost use Rattle.co_sheet_rows.specs.declared.fault.SheetFault.{SheetFault as Fault};
 ghost use Rattle.co_sheet_text.specs.Text.{lines_of};
@@ -63,15 +63,6 @@ fn add_collected(alloc: Global, faults: &mut Vec<SheetFault>, text: &[u8]) -> Re
     add_found(alloc, faults, &parsed, lines.as_slice())
 }
 
-fn collected_in(alloc: Global, text: &[u8]) -> Result<Vec<SheetFault>, AllocError>
-    requires { length text.now ≤ 1048576 }
-    ensures { IfOk result (λ found. found.items ≡ text_collected (lines_of text.now)) }
-{
-    let mut faults = Vec::new(alloc);
-    add_collected(alloc, &mut faults, text)?;
-    Ok(faults)
-}
-
 // sorts faults, and leaves each of them once
 fn put_in_order(faults: &mut Vec<SheetFault>) -> Result<(), AllocError>
     ensures all { OnOk result ((fault : Fault) → Contains faults.old.items fault
@@ -83,6 +74,26 @@ fn put_in_order(faults: &mut Vec<SheetFault>) -> Result<(), AllocError>
     faults.sort_by_key(|fault| (fault.line, fault.kind.number()))?;
     faults.dedup_by_key(|fault| (fault.line, fault.kind.number()));
     Ok(())
+}
+
+// adds all faults of a text, in order, to none
+fn add_all(alloc: Global, faults: &mut Vec<SheetFault>, text: &[u8]) -> Result<(), AllocError>
+    requires { faults.old.items ≡ [] }
+    ensures all { OnOk result ((fault : Fault) → Contains (faults_of text.now) fault
+        → Contains faults.new.items fault) }
+    ensures only { OnOk result ((fault : Fault) → Contains faults.new.items fault
+        → Contains (faults_of text.now) fault) }
+    ensures increase { OnOk result (IsStrictlySortedBy fault_cmp faults.new.items) }
+{
+    if text.len() > GREATEST_SIZE {
+        faults.push(SheetFault {
+            kind: FaultKind::TooLarge,
+            line: 0,
+        })?;
+        return Ok(());
+    }
+    add_collected(alloc, faults, text)?;
+    put_in_order(faults)
 }
 
 /// All faults of a text (CiA 306), where `co_sheet::read` returns the first only: those of its
@@ -101,15 +112,7 @@ pub fn find_faults(alloc: Global, text: &[u8]) -> Result<Vec<SheetFault>, AllocE
         → Contains (faults_of text.now) fault) }
     ensures increase { IfOk result (λ found. IsStrictlySortedBy fault_cmp found.items) }
 {
-    if text.len() > GREATEST_SIZE {
-        let mut faults = Vec::new(alloc);
-        faults.push(SheetFault {
-            kind: FaultKind::TooLarge,
-            line: 0,
-        })?;
-        return Ok(faults);
-    }
-    let mut faults = collected_in(alloc, text)?;
-    put_in_order(&mut faults)?;
+    let mut faults = Vec::new(alloc);
+    add_all(alloc, &mut faults, text)?;
     Ok(faults)
 }

@@ -2,7 +2,11 @@
 
 ghost use Rattle.std.specs.Prelude.{◌≡◌, ℕ, ◌<◌, ◌≤◌, length, List, [], ◌∷◌, Contains, Some};
 ghost use Rattle.co_sheet_rows.specs.declared.fault.FaultKind.{FaultKind as Kind};
-ghost use Rattle.co_sheet_rows.specs.declared.fault.FaultKind.TheVariants.{TooLarge, BadLimits, BadDefault};
+ghost use Rattle.co_sheet_rows.specs.declared.fault.FaultKind.TheVariants.{
+  TooLarge,
+  BadLimits,
+  BadDefault,
+};
 ghost use Rattle.co_sheet_rows.specs.declared.fault.SheetFault.{SheetFault as Fault};
 ghost use Rattle.co_sheet_text.specs.Text.{Line, lines_of};
 ghost use Rattle.co_sheet.specs.Accepted.{IsAccepted, first_fault};

@@ -1,10 +1,10 @@
 //! What is at fault in an object.
 
-ghost use Rattle.std.specs.Prelude.{◌≡◌, ◌++◌, ◌==◌, map, flat_map, OnOk};
+ghost use Rattle.std.specs.Prelude.{◌≡◌, ◌++◌, ◌==◌, map, flat_map, OnOk, Some};
 ghost use Rattle.std.specs.List.{list_any};
 ghost use Rattle.co_sheet_text.specs.Views.{section_view};
 ghost use Rattle.co_sheet.specs.ObjectLists.{is_one_of};
-ghost use Rattle.co_sheet.specs.Entries.{single_codes, compound_codes, object_code};
+ghost use Rattle.co_sheet.specs.Entries.{compound_codes, object_code};
 ghost use Rattle.co_sheet.specs.SectionViews.{object_view, entry_view};
 ghost use Rattle.co_sheet_faults.specs.Soundness.{is_compact};
 ghost use Rattle.co_sheet_faults.specs.AllChecks.{sub_index_0_found};
@@ -15,7 +15,7 @@ ghost use Rattle.co_sheet_faults.specs.private.Collected.{
   parts_collected,
   object_collected,
 };
-ghost use Rattle.co_sheet_faults.specs.private.EntryParts.{object_codes};
+ghost use Rattle.co_sheet_faults.specs.private.EntryParts.{codes_of};
 
 use crate::entries::{add_entry, is_single};
 use crate::faults::{add_compact_form, add_if, add_unread, add_unread_at};
@@ -41,38 +41,30 @@ fn object_code(section: &TextSection) -> Option<u64>
     }
 }
 
-// adds an ObjectType of an object that is no number, or no object type
-fn add_object_type(faults: &mut Vec<SheetFault>, section: &TextSection) -> Result<(), AllocError>
-    ensures { OnOk result (faults.new.items
-        ≡ faults.old.items ++ object_type_collected object_codes (section_view section.now)) }
+// whether an object type is one that an object may have, or a sub-index: VAR's or DOMAIN's
+fn is_known(is_part: bool, code: u64) -> bool
+    ensures { result ≡ is_one_of (codes_of is_part) (Some code) }
+{
+    is_single(Some(code)) || (!is_part && is_compound(Some(code)))
+}
+
+// adds an ObjectType of an object or a sub-index that is no number, or isn't known
+fn add_object_type(
+    faults: &mut Vec<SheetFault>,
+    section: &TextSection,
+    is_part: bool,
+) -> Result<(), AllocError>
+    ensures { OnOk result (faults.new.items ≡ faults.old.items
+        ++ object_type_collected (codes_of is_part) (section_view section.now)) }
 {
     let Some(given) = section.property(b"ObjectType") else {
         return Ok(());
     };
     match unsigned_number(given.value) {
         Ok(code) => {
-            let is_known = is_single(Some(code)) || is_compound(Some(code));
+            let is_known = is_known(is_part, code);
             add_if(faults, !is_known, FaultKind::BadType, given.line)
         }
-        Err(fault) => add_unread(faults, fault, given.line),
-    }
-}
-
-// adds an ObjectType of a sub-index that is no number, or neither VAR's nor DOMAIN's
-fn add_part_type(faults: &mut Vec<SheetFault>, section: &TextSection) -> Result<(), AllocError>
-    ensures { OnOk result (faults.new.items
-        ≡ faults.old.items ++ object_type_collected single_codes (section_view section.now)) }
-{
-    let Some(given) = section.property(b"ObjectType") else {
-        return Ok(());
-    };
-    match unsigned_number(given.value) {
-        Ok(code) => add_if(
-            faults,
-            !is_single(Some(code)),
-            FaultKind::BadType,
-            given.line,
-        ),
         Err(fault) => add_unread(faults, fault, given.line),
     }
 }
@@ -128,7 +120,7 @@ fn add_part(
     ensures { OnOk result (faults.new.items
         ≡ faults.old.items ++ part_collected is_entry (entry_view part.now)) }
 {
-    add_part_type(faults, part.section)?;
+    add_object_type(faults, part.section, true)?;
     if is_entry {
         add_entry(faults, part)?;
     }
@@ -183,7 +175,7 @@ pub(crate) fn add_object(
     ensures { OnOk result (faults.new.items
         ≡ faults.old.items ++ object_collected tables.now (object_view object.now)) }
 {
-    add_object_type(faults, object.section)?;
+    add_object_type(faults, object.section, false)?;
     add_compact(faults, object.section)?;
     add_missing_sub_index_0(faults, tables, object)?;
     add_parts(faults, tables, object)

@@ -87,25 +87,10 @@ abbrev with_sub_number : List ℕ → List (List ℕ)
 with_sub_number line =
     codes "[1018]" ∷ line ∷ codes "[1018sub0]" ∷ codes "[1018sub2]" ∷ codes "[1017sub1]" ∷ []
 
-too_few : places SubNumber (with_sub_number (codes "SubNumber=1")) ≡ 2 ∷ []
+sub_numbers : map (λ line. places SubNumber (with_sub_number line)) (codes "SubNumber=1" ∷ codes "SubNumber=0x2" ∷ codes "SubNumber=3" ∷ codes "SubNumber=two" ∷ codes "SubNumber=" ∷ [])
+    ≡ (2 ∷ []) ∷ [] ∷ (2 ∷ []) ∷ (2 ∷ []) ∷ [] ∷ []
 unfolding places_of places_in
-too_few = refl
-
-as_many : places SubNumber (with_sub_number (codes "SubNumber=0x2")) ≡ []
-unfolding places_of places_in
-as_many = refl
-
-too_many : places SubNumber (with_sub_number (codes "SubNumber=3")) ≡ 2 ∷ []
-unfolding places_of places_in
-too_many = refl
-
-no_count : places SubNumber (with_sub_number (codes "SubNumber=two")) ≡ 2 ∷ []
-unfolding places_of places_in
-no_count = refl
-
-no_key : places SubNumber (with_sub_number (codes "SubNumber=")) ≡ []
-unfolding places_of places_in
-no_key = refl
+sub_numbers = refl
 
 -- ---- SubIndex0
 

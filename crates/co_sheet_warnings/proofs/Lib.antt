@@ -4,3 +4,5 @@ pub mod QuestionLemmas
 mod ByLineLemmas
 pub mod NameLemmas
 pub mod KnownLemmas
+mod KindLemmas
+mod WordLemmas

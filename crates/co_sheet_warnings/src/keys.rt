@@ -104,20 +104,14 @@ fn text_read(line: &[u8]) -> &[u8]
     trim(line)
 }
 
-// whether a warning can be about a key
-fn is_telling(key: &WrittenKey) -> bool
-    ensures { result ≡ is_telling (key_view key.now) }
-{
-    matches!(key.topic, Topic::FileInfo | Topic::DeviceInfo) || !is_known(key)
-}
-
 // the key that a line gives, where a warning can be about it
 fn telling_on<'a>(topic: Topic, line: usize, text: &'a [u8]) -> Option<WrittenKey<'a>>
     ensures { option_to_list (option_map key_view result)
         ≡ filter is_telling (key_on topic line (form_of text.now)) }
 {
     match key_on(topic, line, text) {
-        Some(key) if is_telling(&key) => Some(key),
+        Some(key) if matches!(key.topic, Topic::FileInfo | Topic::DeviceInfo) || !is_known(&key) =>
+            Some(key),
         _ => None,
     }
 }

@@ -24,4 +24,4 @@ pub use find::find_warnings;
 pub use known_key::KnownKey;
 pub use lines::text_lines;
 pub use warning::{Warning, WarningKind};
-pub use words::{fix_of, is_quiet, meaning_of, name_of, subject_of};
+pub use words::{fix_of, meaning_of, name_of, subject_of};

@@ -1,6 +1,18 @@
 //! The object lists.
 
-ghost use Rattle.std.specs.Prelude.{◌≡◌, ◌++◌, ◌||◌, ℕ, nat_eq, map, flat_map, option_to_list, filter_map, IfOk, OnOk};
+ghost use Rattle.std.specs.Prelude.{
+  ◌≡◌,
+  ◌++◌,
+  ◌||◌,
+  ℕ,
+  nat_eq,
+  map,
+  flat_map,
+  option_to_list,
+  filter_map,
+  IfOk,
+  OnOk,
+};
 ghost use Rattle.indexmap.specs.IndexSet.{contains};
 ghost use Rattle.co_sheet_text.specs.Views.{section_view};
 ghost use Rattle.co_sheet.specs.ObjectLists.{is_listed};

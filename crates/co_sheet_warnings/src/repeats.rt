@@ -1,6 +1,17 @@
 //! What comes twice where it should come once: an identifier, and a name.
 
-ghost use Rattle.std.specs.Prelude.{◌≡◌, [], ◌∷◌, ◌++◌, if◌then◌else◌, filter_map, map, option_map, IfOk, OnOk};
+ghost use Rattle.std.specs.Prelude.{
+  ◌≡◌,
+  [],
+  ◌∷◌,
+  ◌++◌,
+  if◌then◌else◌,
+  filter_map,
+  map,
+  option_map,
+  IfOk,
+  OnOk,
+};
 ghost use Rattle.std.specs.List.{list_any};
 ghost use Rattle.co_sheet_text.specs.Views.{section_view};
 ghost use Rattle.co_sheet_warnings.specs.Repeats.{
@@ -10,7 +21,13 @@ ghost use Rattle.co_sheet_warnings.specs.Repeats.{
   repeats,
   same_scoped,
 };
-ghost use Rattle.co_sheet_warnings.specs.private.Views.{as_name, name_view, placed_in, repeats_of, scoped_view};
+ghost use Rattle.co_sheet_warnings.specs.private.Views.{
+  as_name,
+  name_view,
+  placed_in,
+  repeats_of,
+  scoped_view,
+};
 
 use crate::sub_indices::{is_within, value_in};
 use co_sheet::{Preset, numeric_default};

@@ -1,6 +1,7 @@
 pub mod CutLemmas
 pub mod LoopLemmas
 mod FaultLemmas
+mod WordLemmas
 mod MarkLemmas
 mod BuildLaws
 mod FoundLaws

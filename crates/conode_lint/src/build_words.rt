@@ -1,7 +1,13 @@
 //! The words of a build fault.
 
-ghost use Rattle.std.specs.Prelude.{◌≡◌};
-ghost use Rattle.conode_lint.specs.BuildWords.{build_about, build_place, build_fix, build_meaning, build_subject};
+ghost use Rattle.std.specs.Prelude.{◌≡◌, ◌<◌, [], get_or, length, map};
+ghost use Rattle.conode_lint.specs.BuildWords.{
+  build_about,
+  build_place,
+  build_fix,
+  build_meaning,
+  build_subject,
+};
 
 use co_dict_build::BuildFault;
 use conode_lint_text::{About, Place};
@@ -32,49 +38,67 @@ pub(crate) fn build_place(fault: BuildFault) -> Place
     }
 }
 
+// a text of a table, by its row
+fn text_at(texts: &[&'static str], row: usize) -> &'static str
+    requires { row < length texts.now }
+    ensures { result.now ≡ get_or (map (λ text. text.now) texts.now) row [] }
+{
+    texts[row]
+}
+
+/// What is wrong by each fault, by its number; none has number 0.
+const MEANINGS: [&str; 8] = [
+    "",
+    "the node-ID is none of 1 to 127",
+    "the default with $NODEID is outside the type or the limits for this node-ID",
+    "the COB-ID is reserved, belongs to an SDO channel or has wrong bits",
+    "the PDO lacks its other object, or a sub-index that it needs",
+    "it counts an entry that is missing or can't be mapped, a wrong length, or over 64 bits",
+    "over 16,384 entries, or over 16,777,216 bytes of room",
+    "memory ran out",
+];
+
 /// What is wrong, in one line.
 pub(crate) fn build_meaning(fault: BuildFault) -> &'static str
     ensures { result.now ≡ build_meaning fault }
 {
-    match fault {
-        BuildFault::NodeId => "the node-ID is none of 1 to 127",
-        BuildFault::ValueRange(_) =>
-            "the default with $NODEID is outside the type or the limits for this node-ID",
-        BuildFault::BadCobId(_) =>
-            "the COB-ID is reserved, belongs to an SDO channel or has wrong bits",
-        BuildFault::PdoPair(_) => "the PDO lacks its other object, or a sub-index that it needs",
-        BuildFault::BadMapping(_) =>
-            "it counts an entry that is missing or can't be mapped, a wrong length, or over 64 bits",
-        BuildFault::TooMany => "over 16,384 entries, or over 16,777,216 bytes of room",
-        BuildFault::Memory => "memory ran out",
-    }
+    text_at(&MEANINGS, fault.number() as usize)
 }
+
+/// How each is fixed, likewise.
+const FIXES: [&str; 8] = [
+    "",
+    "give a node-ID from 1 to 127",
+    "correct the default or the limits",
+    "give a free COB-ID",
+    "list or describe what is missing",
+    "correct the mapping, or set PDOMapping=1 for the entry",
+    "take objects out of the lists, or lower --domains or --strings",
+    "run it again with more memory",
+];
 
 /// How to fix it, in one line.
 pub(crate) fn build_fix(fault: BuildFault) -> &'static str
     ensures { result.now ≡ build_fix fault }
 {
-    match fault {
-        BuildFault::NodeId => "give a node-ID from 1 to 127",
-        BuildFault::ValueRange(_) => "correct the default or the limits",
-        BuildFault::BadCobId(_) => "give a free COB-ID",
-        BuildFault::PdoPair(_) => "list or describe what is missing",
-        BuildFault::BadMapping(_) => "correct the mapping, or set PDOMapping=1 for the entry",
-        BuildFault::TooMany => "take objects out of the lists, or lower --domains or --strings",
-        BuildFault::Memory => "run it again with more memory",
-    }
+    text_at(&FIXES, fault.number() as usize)
 }
+
+/// The subject that has the rule of each, likewise.
+const SUBJECTS: [&str; 8] = [
+    "",
+    "CiA 301, node-ID",
+    "CiA 306-1, object description",
+    "CiA 301, restricted CAN-IDs",
+    "CiA 301, PDO communication and mapping parameter",
+    "CiA 301, PDO mapping parameter",
+    "",
+    "",
+];
 
 /// The subject of CiA 306-1 or CiA 301 that has the rule; empty if none has.
 pub(crate) fn build_subject(fault: BuildFault) -> &'static str
     ensures { result.now ≡ build_subject fault }
 {
-    match fault {
-        BuildFault::NodeId => "CiA 301, node-ID",
-        BuildFault::ValueRange(_) => "CiA 306-1, object description",
-        BuildFault::BadCobId(_) => "CiA 301, restricted CAN-IDs",
-        BuildFault::PdoPair(_) => "CiA 301, PDO communication and mapping parameter",
-        BuildFault::BadMapping(_) => "CiA 301, PDO mapping parameter",
-        BuildFault::TooMany | BuildFault::Memory => "",
-    }
+    text_at(&SUBJECTS, fault.number() as usize)
 }

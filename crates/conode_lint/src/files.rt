@@ -7,10 +7,9 @@ use crate::folder::{is_folder, sheets_in};
 use crate::linted_text::lint_text;
 use crate::marks::Checks;
 use crate::report::{Counts, Form, Report};
-use crate::rules::{all_rules, unknown_name};
+use crate::rules::unknown_name;
 use co_sheet::{StreamFault, read_text};
 use conode_io::{CmdFault, cannot_read, file_text, flushed, hand_over, stopped};
-use conode_lint_text::Rule;
 use std::alloc::{AllocError, Global};
 use std::io::{Input, Write};
 use std::process::ExitCode;
@@ -130,26 +129,22 @@ impl Session {
         out: &mut O,
         err: &mut E,
     ) -> Result<(), CmdFault> {
-        if path == "-" {
-            self.take_read(rt.alloc(), path, input_text(rt), options, out, err)
-        } else if is_folder(rt, path) {
-            self.take_folder(rt, path, options, out, err)
-        } else {
-            self.take_read(rt.alloc(), path, file_text(rt, path), options, out, err)
+        if path != "-" && is_folder(rt, path) {
+            return self.take_folder(rt, path, options, out, err);
         }
+        self.take_read(rt.alloc(), path, text_of(rt, path), options, out, err)
     }
 
     // the whole report but for what is still to be handed over
     fn take_paths<R: Files + AllocGlobal + Input + Clone + Drop, O: Write, E: Write>(
         &mut self,
         rt: &R,
-        rules: &[Rule<'_>],
         paths: &[&str],
         options: &LintOptions<'_>,
         out: &mut O,
         err: &mut E,
     ) -> Result<(), CmdFault> {
-        self.report.begin(rt.alloc(), options.version, rules)?;
+        self.report.begin(rt.alloc(), options.version)?;
         for path in paths {
             self.take_path(rt, path, options, out, err)?;
         }
@@ -166,8 +161,11 @@ impl Session {
     }
 }
 
-// standard input
-fn input_text<R: AllocGlobal + Input>(rt: &R) -> Result<Vec<u8>, CmdFault> {
+// the text of a path's file, or of standard input for `-`
+fn text_of<R: Files + AllocGlobal + Input>(rt: &R, path: &str) -> Result<Vec<u8>, CmdFault> {
+    if path != "-" {
+        return file_text(rt, path);
+    }
     let mut text = Vec::new(rt.alloc());
     match read_text(&mut rt.reader(), &mut text) {
         Ok(()) => Ok(text),
@@ -176,10 +174,9 @@ fn input_text<R: AllocGlobal + Input>(rt: &R) -> Result<Vec<u8>, CmdFault> {
     }
 }
 
-// lints all paths, and returns how much was found; a log of SARIF has these rules
+// lints all paths, and returns how much was found
 fn lint_paths<R: Files + AllocGlobal + Input + Clone + Drop, O: Write, E: Write>(
     rt: &R,
-    rules: &[Rule<'_>],
     paths: &[&str],
     options: &LintOptions<'_>,
     out: &mut O,
@@ -189,7 +186,7 @@ fn lint_paths<R: Files + AllocGlobal + Input + Clone + Drop, O: Write, E: Write>
         report: Report::new(rt.alloc(), options.form),
         counts: Counts::NONE,
     };
-    session.take_paths(rt, rules, paths, options, out, err)?;
+    session.take_paths(rt, paths, options, out, err)?;
     session.finish(out)
 }
 
@@ -220,12 +217,11 @@ fn lint_all<R: Files + AllocGlobal + Input + Clone + Drop, O: Write, E: Write>(
     out: &mut O,
     err: &mut E,
 ) -> Result<u8, CmdFault> {
-    let rules = all_rules(rt.alloc())?;
-    if let Some(name) = unknown_name(rules.as_slice(), options.checks.allowed) {
+    if let Some(name) = unknown_name(options.checks.allowed) {
         let _ = writeln!(err, "no finding has the name {name}");
         return Ok(2);
     }
-    let outcome = lint_paths(rt, rules.as_slice(), paths, options, out, err);
+    let outcome = lint_paths(rt, paths, options, out, err);
     let counts = flushed(out, outcome)?;
     Ok(status_of(&counts, options.strict))
 }

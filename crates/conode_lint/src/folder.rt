@@ -1,7 +1,7 @@
 //! The data sheets of a folder.
 
 use conode_io::CmdFault;
-use std::alloc::{AllocError, Global};
+use std::alloc::AllocError;
 use std::fs::DirEntry;
 use std::rt::Files;
 use std::{fs, io};
@@ -33,11 +33,6 @@ fn fault_of(error: io::Error) -> CmdFault {
     }
 }
 
-fn add_path(alloc: Global, paths: &mut Vec<String>, path: &str) -> Result<(), AllocError> {
-    paths.push(String::from_str(alloc, path)?)?;
-    Ok(())
-}
-
 // adds the path of a file with the name of a data sheet
 fn add_sheet<R: Files + AllocGlobal>(
     rt: &R,
@@ -46,7 +41,7 @@ fn add_sheet<R: Files + AllocGlobal>(
     path: &str,
 ) -> Result<(), AllocError> {
     if is_sheet_name(name) && !is_folder(rt, path) {
-        return add_path(rt.alloc(), paths, path);
+        paths.push(String::from_str(rt.alloc(), path)?)?;
     }
     Ok(())
 }
@@ -73,8 +68,12 @@ fn add_sheets<R: Files + AllocGlobal + Clone + Drop>(
     paths: &mut Vec<String>,
     folder: &str,
 ) -> Result<bool, CmdFault> {
+    let entries = match fs::read_dir(rt, folder) {
+        Ok(entries) => entries,
+        Err(error) => return Err(fault_of(error)),
+    };
     let mut are_named = true;
-    for entry in fs::read_dir(rt, folder).map_err(fault_of)? {
+    for entry in entries {
         if !add_entry(rt, paths, entry)? {
             are_named = false;
         }

@@ -1,7 +1,7 @@
 //! The words about a text that is no data sheet of CANopen.
 
 ghost use Rattle.std.specs.Prelude.{◌≡◌};
-ghost use Rattle.conode_lint.specs.FormatWords.{format_fix, format_meaning, format_subject};
+ghost use Rattle.conode_lint.specs.FormatWords.{format_fix, format_meaning};
 
 use crate::mark::OtherFormat;
 
@@ -23,11 +23,4 @@ pub(crate) fn format_fix(format: OtherFormat) -> &'static str
         OtherFormat::Xml => "export it as an EDS",
         OtherFormat::EtherNetIp => "ask the vendor for the EDS of its CANopen device",
     }
-}
-
-/// The subject of the standard.
-pub(crate) fn format_subject(_format: OtherFormat) -> &'static str
-    ensures { result.now ≡ format_subject }
-{
-    "CiA 306-1, structure of an EDS"
 }

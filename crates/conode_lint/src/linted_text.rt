@@ -9,7 +9,7 @@ ghost use Rattle.conode_lint.specs.Linted.{IsLinted, IsMadeOf, left};
 use crate::allowed::{kept, names_in};
 use crate::lines::line_at;
 use crate::mark::Mark;
-use crate::marks::{Checks, marks_of};
+use crate::marks::{Checks, add_marks_of};
 use crate::words::{about_of, fix_of, meaning_of, name_of, place_of, severity_of, subject_of};
 use co_sheet_warnings::text_lines;
 use conode_lint_text::{Finding, Severity};
@@ -147,7 +147,8 @@ fn linted_in<'a>(
     requires { map (λ line. line.now) lines.now ≡ text_lines text.now }
     ensures { IfOk result (IsLinted text.now checks.now) }
 {
-    let found = marks_of(alloc, text, lines, checks)?;
+    let mut found = Vec::new(alloc);
+    add_marks_of(alloc, &mut found, text, lines, checks)?;
     linted_of(alloc, lines, checks, found.as_slice())
 }
 

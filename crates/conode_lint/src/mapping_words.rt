@@ -5,7 +5,6 @@ ghost use Rattle.conode_lint.specs.MappingWords.{
   mapping_about,
   mapping_meaning,
   mapping_fix,
-  mapping_subject,
 };
 
 use co_dict_faults::{MappingFault, MappingReason};
@@ -58,11 +57,4 @@ pub(crate) fn mapping_fix(reason: MappingReason) -> &'static str
         MappingReason::OneBit => "give the length as 8 bits (08h), for a BOOLEAN too",
         MappingReason::WrongLength => "give 8 bits for each byte of the type of that entry",
     }
-}
-
-/// The subject of the standard that has the rules.
-pub(crate) fn mapping_subject() -> &'static str
-    ensures { result.now ≡ mapping_subject }
-{
-    "CiA 301, PDO mapping parameter"
 }

@@ -45,17 +45,16 @@ pub struct Checks<'a> {
     pub allowed: &'a [&'a str],
 }
 
-fn fault_marks(alloc: Global, faults: &[SheetFault]) -> Result<Vec<Mark>, AllocError>
-    ensures { IfOk result (λ marks. marks.items ≡ map fault_mark faults.now) }
+fn add_faults(marks: &mut Vec<Mark>, faults: &[SheetFault]) -> Result<(), AllocError>
+    ensures { OnOk result (marks.new.items ≡ marks.old.items ++ map fault_mark faults.now) }
 {
-    let mut marks = Vec::new(alloc);
     for fault in faults {
         marks.push(Mark {
             line: fault.line,
             subject: Subject::Fault(fault.kind),
         })?;
     }
-    Ok(marks)
+    Ok(())
 }
 
 fn add_warnings(marks: &mut Vec<Mark>, warnings: &[Warning]) -> Result<(), AllocError>
@@ -83,12 +82,6 @@ fn sheet_of(alloc: Global, text: &[u8]) -> Result<Option<Sheet<'_>>, AllocError>
     }
 }
 
-fn no_faults(alloc: Global) -> Vec<SheetFault>
-    ensures { result.items ≡ [] }
-{
-    Vec::new(alloc)
-}
-
 // all faults of a text; a sheet has none
 fn faults_of(
     alloc: Global,
@@ -100,7 +93,7 @@ fn faults_of(
 {
     all_faults();
     match sheet {
-        Some(_) => Ok(no_faults(alloc)),
+        Some(_) => Ok(Vec::new(alloc)),
         None => find_faults(alloc, text),
     }
 }
@@ -154,48 +147,53 @@ fn add_suspicious<'s, 'a>(
     add_warnings(marks, warnings.as_slice())
 }
 
-// the marks of a text with these lines and sections: its faults, its build and its warnings
-fn marked_in<'s, 'a>(
+// adds the marks of a text with these lines and sections to none: its faults, its build and its
+// warnings
+fn add_marks<'s, 'a>(
     alloc: Global,
+    marks: &mut Vec<Mark>,
     text: &'a [u8],
     lines: &'s [&'a [u8]],
     sections: &'s [TextSection<'s, 'a>],
     sheet: &Option<Sheet<'_>>,
     faults: &[SheetFault],
     checks: &Checks<'_>,
-) -> Result<Vec<Mark>, AllocError>
+) -> Result<(), AllocError>
+    requires none { marks.old.items ≡ [] }
     requires size { length text.now ≤ 1048576 }
     requires lines { map (λ line. line.now) lines.now ≡ text_lines text.now }
     requires sections { map section_view sections.now ≡ sections_read (lines_of text.now) }
     requires sheet { sheet.now ≡ sheet_of text.now }
-    ensures { IfOk result (λ marks. IsMarked text.now checks.now faults.now marks.items) }
+    ensures { OnOk result (IsMarked text.now checks.now faults.now marks.new.items) }
 {
-    let mut marks = fault_marks(alloc, faults)?;
+    add_faults(marks, faults)?;
     let node = node_for(checks.node, sheet);
-    add_built(alloc, &mut marks, sections, sheet, node, &checks.limits)?;
-    add_suspicious(alloc, &mut marks, text, lines, sections, checks)?;
-    Ok(marks)
+    add_built(alloc, marks, sections, sheet, node, &checks.limits)?;
+    add_suspicious(alloc, marks, text, lines, sections, checks)
 }
 
-// the marks of a text with these lines, parsed
-fn marked_parsed<'a>(
+// adds the marks of a text with these lines, parsed, to none
+fn add_parsed<'a>(
     alloc: Global,
+    marks: &mut Vec<Mark>,
     text: &'a [u8],
     lines: &[&'a [u8]],
     parsed: &ParsedText<'a>,
     sheet: &Option<Sheet<'_>>,
     faults: &[SheetFault],
     checks: &Checks<'_>,
-) -> Result<Vec<Mark>, AllocError>
+) -> Result<(), AllocError>
+    requires none { marks.old.items ≡ [] }
     requires size { length text.now ≤ 1048576 }
     requires lines { map (λ line. line.now) lines.now ≡ text_lines text.now }
     requires parsed { parsed.now ≡ sections_read (lines_of text.now) }
     requires sheet { sheet.now ≡ sheet_of text.now }
-    ensures { IfOk result (λ marks. IsMarked text.now checks.now faults.now marks.items) }
+    ensures { OnOk result (IsMarked text.now checks.now faults.now marks.new.items) }
 {
     let sections = parsed.sections(alloc)?;
-    marked_in(
+    add_marks(
         alloc,
+        marks,
         text,
         lines,
         sections.as_slice(),
@@ -205,46 +203,49 @@ fn marked_parsed<'a>(
     )
 }
 
-// the marks of a text with these lines
-fn marked<'a>(
+// adds the marks of a text with these lines to none
+fn add_marked<'a>(
     alloc: Global,
+    marks: &mut Vec<Mark>,
     text: &'a [u8],
     lines: &[&'a [u8]],
     sheet: &Option<Sheet<'_>>,
     faults: &[SheetFault],
     checks: &Checks<'_>,
-) -> Result<Vec<Mark>, AllocError>
+) -> Result<(), AllocError>
+    requires none { marks.old.items ≡ [] }
     requires size { length text.now ≤ 1048576 }
     requires lines { map (λ line. line.now) lines.now ≡ text_lines text.now }
     requires sheet { sheet.now ≡ sheet_of text.now }
-    ensures { IfOk result (λ marks. IsMarked text.now checks.now faults.now marks.items) }
+    ensures { OnOk result (IsMarked text.now checks.now faults.now marks.new.items) }
 {
     let parsed = read_sections(alloc, text)?;
-    marked_parsed(alloc, text, lines, &parsed, sheet, faults, checks)
+    add_parsed(alloc, marks, text, lines, &parsed, sheet, faults, checks)
 }
 
-// the marks of a text that is too large to be read: only that fault
-fn marked_large(
-    alloc: Global,
+// adds the marks of a text that is too large to be read to none: only that fault
+fn add_large(
+    marks: &mut Vec<Mark>,
     text: &[u8],
     sheet: &Option<Sheet<'_>>,
     faults: &[SheetFault],
     checks: &Checks<'_>,
-) -> Result<Vec<Mark>, AllocError>
+) -> Result<(), AllocError>
+    requires none { marks.old.items ≡ [] }
     requires size { 1048576 < length text.now }
     requires sheet { sheet.now ≡ sheet_of text.now }
     requires small { IfSome sheet.now (λ _. length text.now ≤ 1048576) }
-    ensures { IfOk result (λ marks. IsMarked text.now checks.now faults.now marks.items) }
+    ensures { OnOk result (IsMarked text.now checks.now faults.now marks.new.items) }
 {
-    fault_marks(alloc, faults)
+    add_faults(marks, faults)
 }
 
-// marks by line; those of a line stay in their order
-fn by_line(mut marks: Vec<Mark>) -> Result<Vec<Mark>, AllocError>
-    ensures { IfOk result (λ sorted. IsByLine marks.items sorted.items) }
+// puts marks in the order of their lines; those of a line stay in their order
+fn put_by_line(marks: &mut Vec<Mark>) -> Result<(), AllocError>
+    ensures { OnOk result (IsByLine marks.old.items marks.new.items) }
 {
     marks.sort_by_key(|mark| mark.line)?;
-    Ok(marks)
+    Ok(())
 }
 
 // the format of a text with faults, if it is another
@@ -258,54 +259,77 @@ fn format_of(lines: &[&[u8]], faults: &[SheetFault]) -> Option<OtherFormat>
     }
 }
 
-fn format_alone(alloc: Global, format: OtherFormat) -> Result<Vec<Mark>, AllocError>
-    ensures { IfOk result (λ marks. marks.items ≡ format_mark format ∷ []) }
+fn add_format(marks: &mut Vec<Mark>, format: OtherFormat) -> Result<(), AllocError>
+    ensures { OnOk result (marks.new.items ≡ marks.old.items ++ format_mark format ∷ []) }
 {
-    let mut marks = Vec::new(alloc);
     marks.push(Mark {
         line: 1,
         subject: Subject::Format(format),
     })?;
-    Ok(marks)
+    Ok(())
 }
 
-// what is found in a text with these lines and faults: only the format, if it is another one, else
-// all
-fn marks_in<'a>(
+// adds what is found in a text with these lines and faults to none: only the format, if it is
+// another one, else all
+fn add_found<'a>(
     alloc: Global,
+    marks: &mut Vec<Mark>,
     text: &'a [u8],
     lines: &[&'a [u8]],
     sheet: &Option<Sheet<'_>>,
     faults: &[SheetFault],
     checks: &Checks<'_>,
-) -> Result<Vec<Mark>, AllocError>
+) -> Result<(), AllocError>
+    requires none { marks.old.items ≡ [] }
     requires lines { map (λ line. line.now) lines.now ≡ text_lines text.now }
     requires sheet { sheet.now ≡ sheet_of text.now }
     requires small { IfSome sheet.now (λ _. length text.now ≤ 1048576) }
-    ensures { IfOk result (λ found. IsFoundIn text.now checks.now faults.now found.items
+    ensures { OnOk result (IsFoundIn text.now checks.now faults.now marks.new.items
         (format_of (text_lines text.now) faults.now)) }
 {
     if let Some(format) = format_of(lines, faults) {
-        return format_alone(alloc, format);
+        return add_format(marks, format);
     }
     if text.len() > GREATEST_SIZE {
-        return by_line(marked_large(alloc, text, sheet, faults, checks)?);
+        add_large(marks, text, sheet, faults, checks)?;
+        return put_by_line(marks);
     }
-    by_line(marked(alloc, text, lines, sheet, faults, checks)?)
+    add_marked(alloc, marks, text, lines, sheet, faults, checks)?;
+    put_by_line(marks)
 }
 
-/// Everything that is found in a text with these lines, by line. For a text with faults that is of
-/// another format, only that is found. `Err`: out of memory.
-pub(crate) fn marks_of<'a>(
+// adds what is found in a text with these lines and this sheet to none
+fn add_of_sheet<'a>(
     alloc: Global,
+    marks: &mut Vec<Mark>,
+    text: &'a [u8],
+    lines: &[&'a [u8]],
+    sheet: &Option<Sheet<'_>>,
+    checks: &Checks<'_>,
+) -> Result<(), AllocError>
+    requires none { marks.old.items ≡ [] }
+    requires lines { map (λ line. line.now) lines.now ≡ text_lines text.now }
+    requires sheet { sheet.now ≡ sheet_of text.now }
+    requires small { IfSome sheet.now (λ _. length text.now ≤ 1048576) }
+    ensures { OnOk result (IsFound text.now checks.now marks.new.items) }
+{
+    let faults = faults_of(alloc, text, sheet)?;
+    add_found(alloc, marks, text, lines, sheet, faults.as_slice(), checks)
+}
+
+/// Adds everything that is found in a text with these lines, by line, to no marks. For a text with
+/// faults that is of another format, only that is found. `Err`: out of memory.
+pub(crate) fn add_marks_of<'a>(
+    alloc: Global,
+    marks: &mut Vec<Mark>,
     text: &'a [u8],
     lines: &[&'a [u8]],
     checks: &Checks<'_>,
-) -> Result<Vec<Mark>, AllocError>
-    requires { map (λ line. line.now) lines.now ≡ text_lines text.now }
-    ensures { IfOk result (λ found. IsFound text.now checks.now found.items) }
+) -> Result<(), AllocError>
+    requires none { marks.old.items ≡ [] }
+    requires lines { map (λ line. line.now) lines.now ≡ text_lines text.now }
+    ensures { OnOk result (IsFound text.now checks.now marks.new.items) }
 {
     let sheet = sheet_of(alloc, text)?;
-    let faults = faults_of(alloc, text, &sheet)?;
-    marks_in(alloc, text, lines, &sheet, faults.as_slice(), checks)
+    add_of_sheet(alloc, marks, text, lines, &sheet, checks)
 }

@@ -1,9 +1,10 @@
 //! What is written about many files, in one of three forms.
 
 use crate::linted_text::Linted;
+use crate::rules::all_rules;
 use conode_lint_text::{
-    Rule, characters_of, push_finding, push_more, push_summary, put_document_end,
-    put_document_head, put_file, put_log_end, put_log_head, put_results,
+    characters_of, push_finding, push_more, push_summary, put_document_end, put_document_head,
+    put_file, put_log_end, put_log_head, put_results,
 };
 use json::Writer;
 use percent_encoding::{AsciiSet, NON_ALPHANUMERIC, percent_encode};
@@ -115,16 +116,14 @@ impl Report {
     }
 
     /// Begins the report: no file yet. `Err`: out of memory, here as for the other calls.
-    pub fn begin(
-        &mut self,
-        alloc: Global,
-        version: &str,
-        rules: &[Rule<'_>],
-    ) -> Result<(), AllocError> {
+    pub fn begin(&mut self, alloc: Global, version: &str) -> Result<(), AllocError> {
         match self.form {
             Form::Text { .. } => Ok(()),
             Form::Json => put_document_head(&mut self.writer),
-            Form::Sarif => put_log_head(alloc, &mut self.writer, version, rules),
+            Form::Sarif => {
+                let rules = all_rules(alloc)?;
+                put_log_head(alloc, &mut self.writer, version, rules.as_slice())
+            }
         }
     }
 
@@ -189,12 +188,11 @@ impl Report {
         let Report { form, text, writer } = self;
         match form {
             Form::Text { .. } => Ok(text.into_bytes()),
-            Form::Json | Form::Sarif => with_line_feed(writer.into_inner()),
+            Form::Json | Form::Sarif => {
+                let mut bytes = writer.into_inner();
+                bytes.push(b'\n')?;
+                Ok(bytes)
+            }
         }
     }
-}
-
-fn with_line_feed(mut bytes: Vec<u8>) -> Result<Vec<u8>, AllocError> {
-    bytes.push(b'\n')?;
-    Ok(bytes)
 }

@@ -84,28 +84,32 @@ fn rule_fix(subject: Subject) -> &'static str {
     }
 }
 
+fn subjects() -> &'static [Subject] {
+    &SUBJECTS
+}
+
 /// All kinds of findings. `Err`: out of memory.
 pub(crate) fn all_rules(alloc: Global) -> Result<Vec<Rule<'static>>, AllocError> {
     let mut rules = Vec::new(alloc);
-    for subject in &SUBJECTS {
+    for subject in subjects() {
         rules.push(rule_of(*subject))?;
     }
     Ok(rules)
 }
 
 /// The first of these names that no kind of finding has.
-pub(crate) fn unknown_name<'a>(rules: &[Rule<'_>], names: &[&'a str]) -> Option<&'a str> {
+pub(crate) fn unknown_name<'a>(names: &[&'a str]) -> Option<&'a str> {
     for name in names {
-        if !is_known(rules, *name) {
+        if !is_known(*name) {
             return Some(*name);
         }
     }
     None
 }
 
-fn is_known(rules: &[Rule<'_>], name: &str) -> bool {
-    for rule in rules {
-        if rule.name == name {
+fn is_known(name: &str) -> bool {
+    for subject in subjects() {
+        if name_of(*subject) == name {
             return true;
         }
     }

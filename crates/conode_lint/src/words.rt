@@ -13,8 +13,8 @@ ghost use Rattle.conode_lint.specs.Words.{
 };
 
 use crate::build_words::{build_about, build_fix, build_meaning, build_place, build_subject};
-use crate::format_words::{format_fix, format_meaning, format_subject};
-use crate::mapping_words::{mapping_about, mapping_fix, mapping_meaning, mapping_subject};
+use crate::format_words::{format_fix, format_meaning};
+use crate::mapping_words::{mapping_about, mapping_fix, mapping_meaning};
 use crate::mark::{Mark, Subject};
 use co_sheet_faults::{FaultKind, SheetFault};
 use conode_lint_text::{About, Place, Severity};
@@ -122,10 +122,10 @@ pub(crate) fn subject_of(subject: Subject) -> &'static str
     ensures { result.now ≡ subject_of subject }
 {
     match subject {
-        Subject::Format(format) => format_subject(format),
+        Subject::Format(_) => "CiA 306-1, structure of an EDS",
         Subject::Fault(kind) => co_sheet_faults::subject_of(kind),
         Subject::Build(fault) => build_subject(fault),
-        Subject::Mapping(_) => mapping_subject(),
+        Subject::Mapping(_) => "CiA 301, PDO mapping parameter",
         Subject::Warning(kind) => co_sheet_warnings::subject_of(kind),
     }
 }

@@ -4,6 +4,7 @@ use Rattle.std.specs.List.{flat_map}
 use Rattle.json.specs.Token.{Token, begin_object, end_object, begin_array, end_array, key, string, number, boolean}
 use Rattle.conode_lint_text.specs.Characters.{characters_of, in_utf8}
 use Rattle.conode_lint_text.specs.Findings.{column_of, message_of, severity_name}
+use Rattle.conode_lint_text.specs.Members.{member_name}
 use Rattle.conode_lint_text.specs.declared.finding.Finding.{Finding}
 use Rattle.conode_lint_text.specs.declared.parts.Part.{Part}
 use Rattle.conode_lint_text.specs.declared.parts.Part.TheVariants.{BeginObject, EndObject, EndArray, Object, Array, Text, Message, Number, Flag, Severity}
@@ -13,24 +14,24 @@ abbrev pub utf8_of : List ℕ → List ℕ
 utf8_of line = in_utf8 (characters_of line)
 
 -- a member that is a text, and one that is a number
-unfoldable pub text_member : List ℕ → List ℕ → List Token
+abbrev pub text_member : List ℕ → List ℕ → List Token
 text_member name text = key name ∷ string text ∷ []
 
-unfoldable pub number_member : List ℕ → ℕ → List Token
+abbrev pub number_member : List ℕ → ℕ → List Token
 number_member name count = key name ∷ number (decimal count) ∷ []
 
-unfoldable pub flag_member : List ℕ → Bool → List Token
+abbrev pub flag_member : List ℕ → Bool → List Token
 flag_member name is = key name ∷ boolean is ∷ []
 
 -- the beginning of a member that is an object, and of one that is an array
-unfoldable pub object_begin : List ℕ → List Token
+abbrev pub object_begin : List ℕ → List Token
 object_begin name = key name ∷ begin_object ∷ []
 
-unfoldable pub array_begin : List ℕ → List Token
+abbrev pub array_begin : List ℕ → List Token
 array_begin name = key name ∷ begin_array ∷ []
 
 -- a member that is an object with a text
-unfoldable pub message_member : List ℕ → List ℕ → List Token
+abbrev pub message_member : List ℕ → List ℕ → List Token
 message_member name text = object_begin name ++ text_member (codes "text") text ++ end_object ∷ []
 
 -- the tokens of a part
@@ -38,21 +39,21 @@ abbrev pub part_tokens : Part → List Token
 part_tokens BeginObject = begin_object ∷ []
 part_tokens EndObject = end_object ∷ []
 part_tokens EndArray = end_array ∷ []
-part_tokens (Object name) = object_begin name.now
-part_tokens (Array name) = array_begin name.now
-part_tokens (Text name text) = text_member name.now text.now
-part_tokens (Message name text) = message_member name.now text.now
-part_tokens (Number name count) = number_member name.now count
-part_tokens (Flag name is) = flag_member name.now is
-part_tokens (Severity name severity) = text_member name.now (severity_name severity)
+part_tokens (Object member) = object_begin (member_name member)
+part_tokens (Array member) = array_begin (member_name member)
+part_tokens (Text member text) = text_member (member_name member) text.now
+part_tokens (Message member text) = message_member (member_name member) text.now
+part_tokens (Number member count) = number_member (member_name member) count
+part_tokens (Flag member is) = flag_member (member_name member) is
+part_tokens (Severity member severity) = text_member (member_name member) (severity_name severity)
 
-unfoldable pub place_members : Finding → List Token
+abbrev pub place_members : Finding → List Token
 place_members finding =
     number_member (codes "line") finding.line
     ++ number_member (codes "column") (column_of finding)
     ++ text_member (codes "severity") (severity_name finding.severity)
 
-unfoldable pub word_members : Finding → List Token
+abbrev pub word_members : Finding → List Token
 word_members finding =
     text_member (codes "name") finding.name.now
     ++ text_member (codes "meaning") (message_of finding)
@@ -66,13 +67,13 @@ finding_tokens finding =
     begin_object ∷ (place_members finding ++ word_members finding ++ end_object ∷ [])
 
 -- how many errors and warnings there are
-unfoldable pub count_members : ℕ → ℕ → List Token
+abbrev pub count_members : ℕ → ℕ → List Token
 count_members errors warnings =
     number_member (codes "errors") errors ++ number_member (codes "warnings") warnings
 
 -- a file before its findings: whether it could be read, how many errors and warnings it has, and
 -- how many findings are left out
-unfoldable pub file_members : List ℕ → Bool → ℕ → ℕ → ℕ → List Token
+abbrev pub file_members : List ℕ → Bool → ℕ → ℕ → ℕ → List Token
 file_members name is_read errors warnings more =
     text_member (codes "file") name ++ flag_member (codes "read") is_read
     ++ count_members errors warnings ++ number_member (codes "more") more

@@ -1,5 +1,7 @@
 pub mod Characters
 pub mod Findings
 pub mod TextForm
+pub mod Members
 pub mod JsonForm
 pub mod SarifForm
+pub mod Documents

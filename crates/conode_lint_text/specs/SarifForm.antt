@@ -9,7 +9,7 @@ use Rattle.conode_lint_text.specs.declared.finding.Rule.{Rule}
 use Rattle.conode_lint_text.specs.declared.finding.Severity.{Severity}
 
 -- the level of a rule's results
-unfoldable pub level_member : Severity → List Token
+abbrev pub level_member : Severity → List Token
 level_member severity =
     object_begin (codes "defaultConfiguration") ++ text_member (codes "level") (severity_name severity)
     ++ end_object ∷ []
@@ -31,23 +31,23 @@ region_members finding =
     ++ message_member (codes "snippet") (utf8_of finding.text.now) ++ end_object ∷ []
 
 -- the file, by its URI
-unfoldable pub uri_member : List ℕ → List Token
+abbrev pub uri_member : List ℕ → List Token
 uri_member uri =
     object_begin (codes "artifactLocation") ++ text_member (codes "uri") uri ++ end_object ∷ []
 
 -- the file and the region
-unfoldable pub location_tokens : List ℕ → Finding → List Token
+abbrev pub location_tokens : List ℕ → Finding → List Token
 location_tokens uri finding =
     begin_object ∷ (object_begin (codes "physicalLocation") ++ uri_member uri
     ++ region_members finding ++ (end_object ∷ end_object ∷ []))
 
 -- where a result is
-unfoldable pub locations_member : List ℕ → Finding → List Token
+abbrev pub locations_member : List ℕ → Finding → List Token
 locations_member uri finding =
     array_begin (codes "locations") ++ location_tokens uri finding ++ end_array ∷ []
 
 -- a result: the name of its kind, its level and what is wrong, and where it is
-unfoldable pub said_tokens : Finding → List Token
+abbrev pub said_tokens : Finding → List Token
 said_tokens finding =
     begin_object ∷ (text_member (codes "ruleId") finding.name.now
     ++ text_member (codes "level") (severity_name finding.severity)

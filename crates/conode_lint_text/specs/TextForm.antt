@@ -7,17 +7,17 @@ use Rattle.conode_lint_text.specs.declared.finding.Finding.{Finding}
 use Rattle.conode_lint_text.specs.declared.finding.Severity.{Severity as HowSevere}
 use Rattle.conode_lint_text.specs.declared.finding.Severity.TheVariants.{Error, Warning}
 use Rattle.conode_lint_text.specs.declared.pieces.Piece.{Piece}
-use Rattle.conode_lint_text.specs.declared.pieces.Piece.TheVariants.{Text, Colour, Shown, Decimal, Counted, Severity, Word, Byte}
+use Rattle.conode_lint_text.specs.declared.pieces.Piece.TheVariants.{Text, Colour, Shown, Decimal, Position, Counted, Severity, Word, Byte}
 
 -- what begins a colour on a terminal (ECMA-48, SGR), by its numbers, and what ends it; without
 -- colours nothing
-unfoldable pub begin_colour : Bool → List ℕ → List ℕ
+abbrev pub begin_colour : Bool → List ℕ → List ℕ
 begin_colour colours numbers = if colours then 27 ∷ codes "[" ++ numbers ++ codes "m" else []
 
-unfoldable pub end_colour : Bool → List ℕ
+abbrev pub end_colour : Bool → List ℕ
 end_colour colours = if colours then 27 ∷ codes "[0m" else []
 
-unfoldable pub coloured : Bool → List ℕ → List ℕ → List ℕ
+abbrev pub coloured : Bool → List ℕ → List ℕ → List ℕ
 coloured colours numbers text = begin_colour colours numbers ++ text ++ end_colour colours
 
 -- red for errors, magenta for warnings
@@ -26,24 +26,23 @@ severity_colour Error = codes "1;31"
 severity_colour Warning = codes "1;35"
 
 -- the number of the line and the column, if a line is to blame
-unfoldable pub position_text : Finding → List ℕ
-position_text finding =
-    if finding.line == 0 then []
-    else decimal finding.line ++ codes ":" ++ decimal (column_of finding) ++ codes ":"
+unfoldable pub position_text : ℕ → ℕ → List ℕ
+position_text line column =
+    if line == 0 then [] else decimal line ++ codes ":" ++ decimal column ++ codes ":"
 
 -- the file, and the position
-unfoldable pub place_text : List ℕ → Finding → List ℕ
-place_text file finding = shown_all file ++ codes ":" ++ position_text finding
+abbrev pub place_text : List ℕ → Finding → List ℕ
+place_text file finding = shown_all file ++ codes ":" ++ position_text finding.line (column_of finding)
 
 -- `error[BadList]:`
-unfoldable pub label_text : Finding → List ℕ
+abbrev pub label_text : Finding → List ℕ
 label_text finding = severity_name finding.severity ++ codes "[" ++ finding.name.now ++ codes "]:"
 
 -- the two in colours
-unfoldable pub place_part : Bool → List ℕ → Finding → List ℕ
+abbrev pub place_part : Bool → List ℕ → Finding → List ℕ
 place_part colours file finding = coloured colours (codes "1") (place_text file finding)
 
-unfoldable pub label_part : Bool → Finding → List ℕ
+abbrev pub label_part : Bool → Finding → List ℕ
 label_part colours finding =
     coloured colours (severity_colour finding.severity) (label_text finding)
 
@@ -84,6 +83,7 @@ piece_text (Text text) = text.now
 piece_text (Colour colours sequence) = if colours then sequence.now else []
 piece_text (Shown characters) = shown_all characters.now
 piece_text (Decimal number) = decimal number
+piece_text (Position line column) = position_text line column
 piece_text (Counted number thing) = counted number thing.now
 piece_text (Severity severity) = severity_name severity
 piece_text (Word word) = digits_text 16 4 word

@@ -2,7 +2,13 @@
 
 ghost use Rattle.std.specs.Prelude.{◌≡◌, ◌++◌, OnOk, IfOk, map, string_bytes};
 ghost use Rattle.std.specs.Str.{chars};
-ghost use Rattle.conode_lint_text.specs.Characters.{characters_of, in_utf8, shown, shown_all, windows_1252};
+ghost use Rattle.conode_lint_text.specs.Characters.{
+  characters_of,
+  in_utf8,
+  shown,
+  shown_all,
+  windows_1252,
+};
 ghost use Rattle.conode_lint_text.specs.JsonForm.{utf8_of};
 
 use co_text::push_byte;

@@ -2,20 +2,25 @@
 //! may be there.
 
 ghost use Rattle.std.specs.Prelude.{◌≡◌, ◌++◌, OnOk};
-ghost use Rattle.std.specs.List.{flat_map};
 ghost use Rattle.conode_lint_text.specs.Findings.{column_of, message_of};
-ghost use Rattle.conode_lint_text.specs.JsonForm.{document_end, document_head, file_tokens, finding_tokens, utf8_of};
+ghost use Rattle.conode_lint_text.specs.JsonForm.{
+  document_end,
+  document_head,
+  file_tokens,
+  finding_tokens,
+  utf8_of,
+};
 
-use crate::characters::utf8_of;
-use crate::column::own_column;
+use crate::documents::{Document, put_findings};
 use crate::finding::Finding;
+use crate::member::Member;
 use crate::parts::{Part, put_parts};
-use crate::words::message_of;
 use json::Writer;
 use std::alloc::{AllocError, Global};
 
-#[tactic(auto, unfolding(crate::specs::JsonForm::finding_tokens, crate::specs::JsonForm::place_members, crate::specs::JsonForm::word_members))]
-fn put_members<'p>(
+/// Writes a finding: its column, what is wrong and the line itself are given.
+#[tactic(auto, unfolding(crate::specs::JsonForm::finding_tokens))]
+pub(crate) fn put_members<'p>(
     writer: &mut Writer,
     finding: &'p Finding<'p>,
     column: usize,
@@ -32,46 +37,22 @@ fn put_members<'p>(
         writer,
         &[
             Part::BeginObject,
-            Part::Number("line", finding.line),
-            Part::Number("column", column),
-            Part::Severity("severity", finding.severity),
-            Part::Text("name", finding.name),
-            Part::Text("meaning", message),
-            Part::Text("text", text),
-            Part::Text("fix", finding.fix),
-            Part::Text("subject", finding.subject),
+            Part::Number(Member::Line, finding.line),
+            Part::Number(Member::Column, column),
+            Part::Severity(Member::Severity, finding.severity),
+            Part::Text(Member::Name, finding.name),
+            Part::Text(Member::Meaning, message),
+            Part::Text(Member::Text, text),
+            Part::Text(Member::Fix, finding.fix),
+            Part::Text(Member::Subject, finding.subject),
             Part::EndObject,
         ],
     )
 }
 
-fn put_finding(alloc: Global, writer: &mut Writer, finding: &Finding<'_>) -> Result<(), AllocError>
-    ensures { OnOk result
-        (writer.new.tokens ≡ writer.old.tokens ++ finding_tokens finding.now) }
-{
-    let column = own_column(alloc, finding)?;
-    let text = utf8_of(alloc, finding.text)?;
-    let message = message_of(alloc, finding)?;
-    put_members(writer, finding, column, message.as_str(), text.as_str())
-}
-
-fn put_findings(
-    alloc: Global,
-    writer: &mut Writer,
-    findings: &[Finding<'_>],
-) -> Result<(), AllocError>
-    ensures { OnOk result
-        (writer.new.tokens ≡ writer.old.tokens ++ flat_map finding_tokens findings.now) }
-{
-    for finding in findings {
-        put_finding(alloc, writer, finding)?;
-    }
-    Ok(())
-}
-
 /// Writes a file: its name, whether it could be read, `counts` of its errors, its warnings and the
 /// findings left out, and its findings.
-#[tactic(auto, unfolding(crate::specs::JsonForm::file_tokens, crate::specs::JsonForm::file_members, crate::specs::JsonForm::count_members))]
+#[tactic(auto, unfolding(crate::specs::JsonForm::file_tokens))]
 pub fn put_file(
     alloc: Global,
     writer: &mut Writer,
@@ -88,15 +69,15 @@ pub fn put_file(
         writer,
         &[
             Part::BeginObject,
-            Part::Text("file", name),
-            Part::Flag("read", is_read),
-            Part::Number("errors", errors),
-            Part::Number("warnings", warnings),
-            Part::Number("more", more),
-            Part::Array("findings"),
+            Part::Text(Member::File, name),
+            Part::Flag(Member::Read, is_read),
+            Part::Number(Member::Errors, errors),
+            Part::Number(Member::Warnings, warnings),
+            Part::Number(Member::More, more),
+            Part::Array(Member::Findings),
         ],
     )?;
-    put_findings(alloc, writer, findings)?;
+    put_findings(alloc, writer, Document::Json, findings)?;
     put_parts(writer, &[Part::EndArray, Part::EndObject])
 }
 
@@ -109,14 +90,14 @@ pub fn put_document_head(writer: &mut Writer) -> Result<(), AllocError>
         writer,
         &[
             Part::BeginObject,
-            Part::Number("version", 1),
-            Part::Array("files"),
+            Part::Number(Member::Version, 1),
+            Part::Array(Member::Files),
         ],
     )
 }
 
 /// Writes what comes after the files: the numbers of errors and warnings in all.
-#[tactic(auto, unfolding(crate::specs::JsonForm::document_end, crate::specs::JsonForm::count_members))]
+#[tactic(auto, unfolding(crate::specs::JsonForm::document_end))]
 pub fn put_document_end(
     writer: &mut Writer,
     errors: usize,
@@ -129,8 +110,8 @@ pub fn put_document_end(
         writer,
         &[
             Part::EndArray,
-            Part::Number("errors", errors),
-            Part::Number("warnings", warnings),
+            Part::Number(Member::Errors, errors),
+            Part::Number(Member::Warnings, warnings),
             Part::EndObject,
         ],
     )

@@ -3,8 +3,10 @@
 
 mod characters;
 mod column;
+mod documents;
 mod finding;
 mod json_form;
+mod member;
 mod parts;
 mod pieces;
 mod sarif_form;

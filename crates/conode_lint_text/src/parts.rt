@@ -1,13 +1,18 @@
 //! JSON in parts: brackets, and members of objects. Each function writes tokens. `Err`: out of
 //! memory; some tokens may be there.
 
-ghost use Rattle.std.specs.Prelude.{◌≡◌, ◌++◌, OnOk};
+ghost use Rattle.std.specs.Prelude.{◌≡◌, ◌++◌, [], ◌∷◌, OnOk};
 ghost use Rattle.std.specs.List.{flat_map};
-ghost use Rattle.conode_lint_text.specs.JsonForm.{message_member, part_tokens, text_member};
+ghost use Rattle.json.specs.Print.{IsPrintable};
+ghost use Rattle.json.specs.Reads.{token_of};
+ghost use Rattle.json.specs.Token.{key};
+ghost use Rattle.conode_lint_text.specs.JsonForm.{message_member, number_member, part_tokens};
+ghost use Rattle.conode_lint_text.specs.Members.{member_name};
 
 use crate::finding::Severity;
+use crate::member::Member;
 use crate::words::severity_name;
-use json::Writer;
+use json::{Token, Writer};
 use std::alloc::AllocError;
 
 /// A part of a document.
@@ -17,39 +22,45 @@ pub(crate) enum Part<'a> {
     EndObject,
     EndArray,
     /// The beginning of a member that is an object.
-    Object(&'a str),
+    Object(Member),
     /// The beginning of a member that is an array.
-    Array(&'a str),
-    Text(&'a str, &'a str),
+    Array(Member),
+    Text(Member, &'a str),
     /// A member that is an object with a member `text`.
-    Message(&'a str, &'a str),
-    Number(&'a str, usize),
-    Flag(&'a str, bool),
+    Message(Member, &'a str),
+    Number(Member, usize),
+    Flag(Member, bool),
     /// A member that is the severity of a finding, in a word.
-    Severity(&'a str, Severity),
+    Severity(Member, Severity),
 }
 
-#[tactic(auto, unfolding(crate::specs::JsonForm::text_member))]
-fn put_text(writer: &mut Writer, name: &str, text: &str) -> Result<(), AllocError>
-    ensures { OnOk result
-        (writer.new.tokens ≡ writer.old.tokens ++ text_member name.now text.now) }
+// a member whose value is, or begins with, a token that is no number
+fn put_member(writer: &mut Writer, member: Member, value: Token<'_>) -> Result<(), AllocError>
+    requires { IsPrintable (token_of value) }
+    ensures { OnOk result (writer.new.tokens
+        ≡ writer.old.tokens ++ key (member_name member) ∷ token_of value.entry ∷ []) }
 {
-    writer.key(name)?;
-    writer.string(text)
+    writer.key(member.name())?;
+    writer.token(value)
 }
 
-#[tactic(auto, unfolding(crate::specs::JsonForm::message_member, crate::specs::JsonForm::object_begin))]
-fn put_message(writer: &mut Writer, name: &str, text: &str) -> Result<(), AllocError>
+fn put_number(writer: &mut Writer, member: Member, count: usize) -> Result<(), AllocError>
     ensures { OnOk result
-        (writer.new.tokens ≡ writer.old.tokens ++ message_member name.now text.now) }
+        (writer.new.tokens ≡ writer.old.tokens ++ number_member (member_name member) count) }
 {
-    writer.key(name)?;
-    writer.begin_object()?;
-    put_text(writer, "text", text)?;
+    writer.key(member.name())?;
+    writer.u64(count as u64)
+}
+
+fn put_message(writer: &mut Writer, member: Member, text: &str) -> Result<(), AllocError>
+    ensures { OnOk result
+        (writer.new.tokens ≡ writer.old.tokens ++ message_member (member_name member) text.now) }
+{
+    put_member(writer, member, Token::BeginObject)?;
+    put_member(writer, Member::Text, Token::String(text))?;
     writer.end_object()
 }
 
-#[tactic(auto, unfolding(crate::specs::JsonForm::object_begin, crate::specs::JsonForm::array_begin, crate::specs::JsonForm::number_member, crate::specs::JsonForm::flag_member))]
 fn put_part(writer: &mut Writer, part: &Part<'_>) -> Result<(), AllocError>
     ensures { OnOk result (writer.new.tokens ≡ writer.old.tokens ++ part_tokens part.now) }
 {
@@ -57,25 +68,15 @@ fn put_part(writer: &mut Writer, part: &Part<'_>) -> Result<(), AllocError>
         Part::BeginObject => writer.begin_object(),
         Part::EndObject => writer.end_object(),
         Part::EndArray => writer.end_array(),
-        Part::Object(name) => {
-            writer.key(name)?;
-            writer.begin_object()
+        Part::Object(member) => put_member(writer, member, Token::BeginObject),
+        Part::Array(member) => put_member(writer, member, Token::BeginArray),
+        Part::Text(member, text) => put_member(writer, member, Token::String(text)),
+        Part::Message(member, text) => put_message(writer, member, text),
+        Part::Severity(member, severity) => {
+            put_member(writer, member, Token::String(severity_name(severity)))
         }
-        Part::Array(name) => {
-            writer.key(name)?;
-            writer.begin_array()
-        }
-        Part::Text(name, text) => put_text(writer, name, text),
-        Part::Message(name, text) => put_message(writer, name, text),
-        Part::Severity(name, severity) => put_text(writer, name, severity_name(severity)),
-        Part::Number(name, count) => {
-            writer.key(name)?;
-            writer.u64(count as u64)
-        }
-        Part::Flag(name, is) => {
-            writer.key(name)?;
-            writer.boolean(is)
-        }
+        Part::Number(member, count) => put_number(writer, member, count),
+        Part::Flag(member, is) => put_member(writer, member, Token::Bool(is)),
     }
 }
 

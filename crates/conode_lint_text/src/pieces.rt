@@ -3,7 +3,7 @@
 
 ghost use Rattle.std.specs.Prelude.{◌≡◌, ◌++◌, OnOk, string_bytes};
 ghost use Rattle.std.specs.List.{flat_map};
-ghost use Rattle.conode_lint_text.specs.TextForm.{counted, piece_text};
+ghost use Rattle.conode_lint_text.specs.TextForm.{counted, piece_text, position_text};
 
 use crate::characters::push_all_shown;
 use crate::finding::Severity;
@@ -21,6 +21,8 @@ pub(crate) enum Piece<'a> {
     Shown(&'a [char]),
     /// A number in decimal digits.
     Decimal(usize),
+    /// A line and a column, nothing for line 0.
+    Position(usize, usize),
     /// A number of things, as `2 errors`.
     Counted(usize, &'a str),
     Severity(Severity),
@@ -28,6 +30,17 @@ pub(crate) enum Piece<'a> {
     Word(u16),
     /// Two hexadecimal digits.
     Byte(u8),
+}
+
+#[tactic(auto, unfolding(crate::specs::TextForm::position_text))]
+fn push_position(text: &mut String, line: usize, column: usize) -> Result<(), AllocError>
+    ensures { OnOk result
+        (string_bytes text.new ≡ string_bytes text.old ++ position_text line column) }
+{
+    if line == 0 {
+        return Ok(());
+    }
+    write!(text, "{line}:{column}:")
 }
 
 #[tactic(auto, unfolding(crate::specs::TextForm::counted))]
@@ -48,6 +61,7 @@ fn push_piece(text: &mut String, piece: &Piece<'_>) -> Result<(), AllocError>
         Piece::Colour(false, _) => Ok(()),
         Piece::Shown(characters) => push_all_shown(text, characters),
         Piece::Decimal(number) => push_decimal(text, number as u64),
+        Piece::Position(line, column) => push_position(text, line, column),
         Piece::Counted(number, thing) => push_counted(text, number, thing),
         Piece::Severity(severity) => text.push_str(severity_name(severity)),
         Piece::Word(word) => push_u16(text, word),

@@ -15,18 +15,18 @@ ghost use Rattle.conode_lint_text.specs.SarifForm.{
   tool_begin,
 };
 
-use crate::characters::utf8_of;
-use crate::column::own_column;
+use crate::documents::{Document, put_findings};
 use crate::finding::{Finding, Rule};
+use crate::member::Member;
 use crate::parts::{Part, put_parts};
-use crate::words::{help_of, message_of};
+use crate::words::help_of;
 use json::Writer;
 use std::alloc::{AllocError, Global};
 
 /// The JSON schema of SARIF 2.1.0.
 const SCHEMA: &str = "https://json.schemastore.org/sarif-2.1.0.json";
 
-#[tactic(auto, unfolding(crate::specs::SarifForm::rule_tokens, crate::specs::SarifForm::level_member))]
+#[tactic(auto, unfolding(crate::specs::SarifForm::rule_tokens))]
 fn put_rule_members<'p>(
     writer: &mut Writer,
     rule: &'p Rule<'p>,
@@ -39,11 +39,11 @@ fn put_rule_members<'p>(
         writer,
         &[
             Part::BeginObject,
-            Part::Text("id", rule.name),
-            Part::Message("shortDescription", rule.meaning),
-            Part::Message("help", help),
-            Part::Object("defaultConfiguration"),
-            Part::Severity("level", rule.severity),
+            Part::Text(Member::Id, rule.name),
+            Part::Message(Member::ShortDescription, rule.meaning),
+            Part::Message(Member::Help, help),
+            Part::Object(Member::DefaultConfiguration),
+            Part::Severity(Member::Level, rule.severity),
             Part::EndObject,
             Part::EndObject,
         ],
@@ -68,7 +68,7 @@ fn put_rules(alloc: Global, writer: &mut Writer, rules: &[Rule<'_>]) -> Result<(
 }
 
 // the region, if a line is to blame
-#[tactic(auto, unfolding(crate::specs::SarifForm::region_members, crate::specs::JsonForm::message_member))]
+#[tactic(auto, unfolding(crate::specs::SarifForm::region_members))]
 fn put_region(
     writer: &mut Writer,
     finding: &Finding<'_>,
@@ -86,19 +86,20 @@ fn put_region(
     put_parts(
         writer,
         &[
-            Part::Object("region"),
-            Part::Number("startLine", finding.line),
-            Part::Number("startColumn", column),
-            Part::Object("snippet"),
-            Part::Text("text", snippet),
+            Part::Object(Member::Region),
+            Part::Number(Member::StartLine, finding.line),
+            Part::Number(Member::StartColumn, column),
+            Part::Object(Member::Snippet),
+            Part::Text(Member::Text, snippet),
             Part::EndObject,
             Part::EndObject,
         ],
     )
 }
 
-#[tactic(auto, unfolding(crate::specs::SarifForm::result_tokens, crate::specs::SarifForm::said_tokens, crate::specs::SarifForm::locations_member, crate::specs::SarifForm::location_tokens, crate::specs::SarifForm::uri_member))]
-fn put_result_members<'p>(
+/// Writes a result: its column, what is wrong and the line itself are given.
+#[tactic(auto, unfolding(crate::specs::SarifForm::result_tokens))]
+pub(crate) fn put_result_members<'p>(
     writer: &mut Writer,
     uri: &'p str,
     finding: &'p Finding<'p>,
@@ -116,14 +117,14 @@ fn put_result_members<'p>(
         writer,
         &[
             Part::BeginObject,
-            Part::Text("ruleId", finding.name),
-            Part::Severity("level", finding.severity),
-            Part::Message("message", message),
-            Part::Array("locations"),
+            Part::Text(Member::RuleId, finding.name),
+            Part::Severity(Member::Level, finding.severity),
+            Part::Message(Member::Message, message),
+            Part::Array(Member::Locations),
             Part::BeginObject,
-            Part::Object("physicalLocation"),
-            Part::Object("artifactLocation"),
-            Part::Text("uri", uri),
+            Part::Object(Member::PhysicalLocation),
+            Part::Object(Member::ArtifactLocation),
+            Part::Text(Member::Uri, uri),
             Part::EndObject,
         ],
     )?;
@@ -139,28 +140,6 @@ fn put_result_members<'p>(
     )
 }
 
-fn put_result(
-    alloc: Global,
-    writer: &mut Writer,
-    uri: &str,
-    finding: &Finding<'_>,
-) -> Result<(), AllocError>
-    ensures { OnOk result
-        (writer.new.tokens ≡ writer.old.tokens ++ result_tokens uri.now finding.now) }
-{
-    let column = own_column(alloc, finding)?;
-    let snippet = utf8_of(alloc, finding.text)?;
-    let message = message_of(alloc, finding)?;
-    put_result_members(
-        writer,
-        uri,
-        finding,
-        column,
-        message.as_str(),
-        snippet.as_str(),
-    )
-}
-
 /// Writes the results of a file, which has this URI.
 pub fn put_results(
     alloc: Global,
@@ -171,10 +150,7 @@ pub fn put_results(
     ensures { OnOk result (writer.new.tokens
         ≡ writer.old.tokens ++ flat_map (result_tokens uri.now) findings.now) }
 {
-    for finding in findings {
-        put_result(alloc, writer, uri, finding)?;
-    }
-    Ok(())
+    put_findings(alloc, writer, Document::Sarif(uri), findings)
 }
 
 // the tool before its rules, after the schema and the version of SARIF
@@ -187,15 +163,15 @@ fn put_tool_begin(writer: &mut Writer, version: &str) -> Result<(), AllocError>
         writer,
         &[
             Part::BeginObject,
-            Part::Text("$schema", SCHEMA),
-            Part::Text("version", "2.1.0"),
-            Part::Array("runs"),
+            Part::Text(Member::Schema, SCHEMA),
+            Part::Text(Member::Version, "2.1.0"),
+            Part::Array(Member::Runs),
             Part::BeginObject,
-            Part::Object("tool"),
-            Part::Object("driver"),
-            Part::Text("name", "conode"),
-            Part::Text("version", version),
-            Part::Array("rules"),
+            Part::Object(Member::Tool),
+            Part::Object(Member::Driver),
+            Part::Text(Member::Name, "conode"),
+            Part::Text(Member::Version, version),
+            Part::Array(Member::Rules),
         ],
     )
 }
@@ -219,8 +195,8 @@ pub fn put_log_head(
             Part::EndArray,
             Part::EndObject,
             Part::EndObject,
-            Part::Text("columnKind", "unicodeCodePoints"),
-            Part::Array("results"),
+            Part::Text(Member::ColumnKind, "unicodeCodePoints"),
+            Part::Array(Member::Results),
         ],
     )
 }

@@ -3,12 +3,10 @@
 
 ghost use Rattle.std.specs.Prelude.{◌≡◌, ◌++◌, ◌∷◌, codes, OnOk, string_bytes};
 ghost use Rattle.conode_lint_text.specs.Characters.{characters_of};
+ghost use Rattle.conode_lint_text.specs.Findings.{column_of};
 ghost use Rattle.conode_lint_text.specs.TextForm.{
   severity_colour,
-  position_text,
   head_line,
-  label_part,
-  place_part,
   quoted_line,
   help_line,
   finding_lines,
@@ -39,41 +37,17 @@ fn label_colour(severity: Severity) -> &'static str
     }
 }
 
-#[tactic(auto, unfolding(crate::specs::TextForm::position_text))]
-fn push_position(
-    text: &mut String,
-    finding: &Finding<'_>,
-    characters: &[char],
-) -> Result<(), AllocError>
-    requires { characters.now ≡ characters_of finding.now.text.now }
-    ensures { OnOk result
-        (string_bytes text.new ≡ string_bytes text.old ++ position_text finding.now) }
-{
-    if finding.line == 0 {
-        return Ok(());
-    }
-    push_pieces(
-        text,
-        &[
-            Piece::Decimal(finding.line),
-            Piece::Text(":"),
-            Piece::Decimal(column_of(finding, characters)),
-            Piece::Text(":"),
-        ],
-    )
-}
-
-#[tactic(auto, unfolding(crate::specs::TextForm::place_part, crate::specs::TextForm::coloured, crate::specs::TextForm::place_text, crate::specs::TextForm::begin_colour, crate::specs::TextForm::end_colour))]
-fn push_place_part<'p>(
+#[tactic(auto, unfolding(crate::specs::TextForm::head_line))]
+fn push_head<'p>(
     text: &mut String,
     colours: bool,
     file: &'p [char],
     finding: &'p Finding<'p>,
-    characters: &'p [char],
+    column: usize,
 ) -> Result<(), AllocError>
-    requires { characters.now ≡ characters_of finding.now.text.now }
+    requires { column ≡ column_of finding.now }
     ensures { OnOk result (string_bytes text.new
-        ≡ string_bytes text.old ++ place_part colours file.now finding.now) }
+        ≡ string_bytes text.old ++ head_line colours file.now finding.now) }
 {
     push_pieces(
         text,
@@ -81,50 +55,18 @@ fn push_place_part<'p>(
             Piece::Colour(colours, PLACE),
             Piece::Shown(file),
             Piece::Text(":"),
-        ],
-    )?;
-    push_position(text, finding, characters)?;
-    push_pieces(text, &[Piece::Colour(colours, END)])
-}
-
-#[tactic(auto, unfolding(crate::specs::TextForm::label_part, crate::specs::TextForm::coloured, crate::specs::TextForm::label_text, crate::specs::TextForm::begin_colour, crate::specs::TextForm::end_colour))]
-fn push_label_part(
-    text: &mut String,
-    colours: bool,
-    finding: &Finding<'_>,
-) -> Result<(), AllocError>
-    ensures { OnOk result
-        (string_bytes text.new ≡ string_bytes text.old ++ label_part colours finding.now) }
-{
-    push_pieces(
-        text,
-        &[
+            Piece::Position(finding.line, column),
+            Piece::Colour(colours, END),
+            Piece::Text(" "),
             Piece::Colour(colours, label_colour(finding.severity)),
             Piece::Severity(finding.severity),
             Piece::Text("["),
             Piece::Text(finding.name),
             Piece::Text("]:"),
             Piece::Colour(colours, END),
+            Piece::Text(" "),
         ],
-    )
-}
-
-#[tactic(auto, unfolding(crate::specs::TextForm::head_line))]
-fn push_head(
-    text: &mut String,
-    colours: bool,
-    file: &[char],
-    finding: &Finding<'_>,
-    characters: &[char],
-) -> Result<(), AllocError>
-    requires { characters.now ≡ characters_of finding.now.text.now }
-    ensures { OnOk result (string_bytes text.new
-        ≡ string_bytes text.old ++ head_line colours file.now finding.now) }
-{
-    push_place_part(text, colours, file, finding, characters)?;
-    text.push_str(" ")?;
-    push_label_part(text, colours, finding)?;
-    text.push_str(" ")?;
+    )?;
     push_message(text, finding)?;
     text.push_str("\n")
 }
@@ -152,7 +94,7 @@ fn push_quoted(
     )
 }
 
-#[tactic(auto, unfolding(crate::specs::TextForm::help_line, crate::specs::TextForm::coloured, crate::specs::TextForm::begin_colour, crate::specs::TextForm::end_colour))]
+#[tactic(auto, unfolding(crate::specs::TextForm::help_line))]
 fn push_help_line(text: &mut String, colours: bool, finding: &Finding<'_>) -> Result<(), AllocError>
     ensures { OnOk result
         (string_bytes text.new ≡ string_bytes text.old ++ help_line colours finding.now) }
@@ -183,7 +125,8 @@ fn push_lines(
     ensures { OnOk result (string_bytes text.new
         ≡ string_bytes text.old ++ finding_lines colours file.now finding.now) }
 {
-    push_head(text, colours, file, finding, characters)?;
+    let column = column_of(finding, characters);
+    push_head(text, colours, file, finding, column)?;
     push_quoted(text, finding, characters)?;
     push_help_line(text, colours, finding)
 }

@@ -21,7 +21,7 @@ use Rattle.conode_show_text.specs.CobIds.{cob_id_text, identifier_text, pdo_cob_
 use Rattle.conode_show_text.specs.Meanings.{mapped_text, millis_text, said, time_text, word_text}
 use Rattle.conode_show_text.specs.Entries.{entry_type, type_name, type_text}
 use Rattle.conode_show_text.specs.Services.{service_name}
-use Rattle.conode_show.specs.JsonForm.{chapter_member, document_tokens, entry_tokens, json_document, key_members, limit_member, mapped_members, mapped_tokens, named_members, object_tokens, property_member, quantity_member, said_at_member, said_member, said_members, section_tokens, service_of_section, service_tokens, value_member, value_members}
+use Rattle.conode_show.specs.JsonForm.{chapter_member, document_tokens, entry_begin, entry_tokens, json_document, limit_member, mapped_members, mapped_tokens, object_tokens, property_member, quantity_member, said_at_member, said_member, said_members, section_tokens, service_of_section, service_tokens, value_member}
 
 abbrev key_at : ℕ → ℕ → Key
 key_at index sub = record { index = index; sub = sub }
@@ -74,18 +74,18 @@ whole_entry : section_tokens (Some 5) (section (SubIndex (key_at 0x2000 1)) (pro
     ∷ key (codes "low") ∷ begin_object ∷ key (codes "number") ∷ number (codes "-2") ∷ key (codes "text") ∷ string (codes "0xFFFE") ∷ end_object
     ∷ key (codes "high") ∷ begin_object ∷ key (codes "text") ∷ string (codes "x") ∷ end_object
     ∷ key (codes "mappable") ∷ boolean true ∷ end_object ∷ []
-unfolding entry_tokens key_members named_members value_members value_member limit_member property_member flag_member quantity_member object_begin text_member number_member characters_of is_utf8 chars encode type_text entry_type type_name digits
+unfolding entry_tokens entry_begin value_member limit_member property_member flag_member quantity_member object_begin text_member number_member characters_of is_utf8 chars encode type_text entry_type type_name digits
 whole_entry = refl
 
 object_of_records : section_tokens None (section (Object 0x1018) (property (codes "ObjectType") (codes "9") ∷ []))
     ≡ begin_object ∷ key (codes "index") ∷ number (codes "4120") ∷ key (codes "type") ∷ string (codes "RECORD") ∷ end_object ∷ []
-unfolding object_tokens named_members property_member text_member number_member type_text digits
+unfolding object_tokens property_member text_member number_member type_text digits
 object_of_records = refl
 
 bare_entry : section_tokens None (section (Object 0x1001) [])
     ≡ begin_object ∷ key (codes "index") ∷ number (codes "4097") ∷ key (codes "subIndex") ∷ number (codes "0")
     ∷ key (codes "type") ∷ string [] ∷ key (codes "mappable") ∷ boolean false ∷ end_object ∷ []
-unfolding entry_tokens key_members named_members value_members value_member limit_member property_member flag_member text_member number_member type_text entry_type digits
+unfolding entry_tokens entry_begin value_member limit_member property_member flag_member text_member number_member type_text entry_type digits
 bare_entry = refl
 
 no_entry : section_tokens None (section DeviceInfo []) ≡ []
@@ -106,12 +106,12 @@ large = refl
 
 cob_id_of_node : said_member (codes "cobId") PdoCobId (Some 5) (section (SubIndex (key_at 0x1800 1)) (property (codes "DefaultValue") (codes "$NODEID+0x180") ∷ []))
     ≡ key (codes "cobId") ∷ begin_object ∷ key (codes "number") ∷ number (codes "389") ∷ key (codes "words") ∷ string (codes "185h, enabled") ∷ end_object ∷ []
-unfolding said_member said_members object_begin number_member text_member said word_text pdo_cob_id_text cob_id_text identifier_text hex_text digits
+unfolding said_member object_begin number_member text_member said word_text pdo_cob_id_text cob_id_text identifier_text hex_text digits
 cob_id_of_node = refl
 
 cob_id_without_node : said_members PdoCobId None (section (SubIndex (key_at 0x1800 1)) (property (codes "DefaultValue") (codes "$NODEID+0x180") ∷ []))
     ≡ key (codes "words") ∷ string (codes "$NODEID+180h, enabled") ∷ []
-unfolding said_members text_member said word_text pdo_cob_id_text cob_id_text identifier_text hex_text digits
+unfolding text_member said word_text pdo_cob_id_text cob_id_text identifier_text hex_text digits
 cob_id_without_node = refl
 
 not_there : said_at_member (codes "inhibitTime") PdoCobId None [] (key_at 0x1800 3) ≡ []
@@ -121,7 +121,7 @@ not_there = refl
 producer : service_of_section None (section (Object 0x1017) (property (codes "DefaultValue") (codes "7") ∷ []))
     ≡ begin_object ∷ key (codes "index") ∷ number (codes "4119") ∷ key (codes "subIndex") ∷ number (codes "0") ∷ key (codes "service") ∷ string (codes "Heartbeat producer")
     ∷ key (codes "number") ∷ number (codes "7") ∷ key (codes "words") ∷ string (codes "every 7 ms") ∷ end_object ∷ []
-unfolding service_tokens key_members said_members text_member number_member service_name said word_text time_text millis_text digits
+unfolding service_tokens text_member number_member service_name said word_text time_text millis_text digits
 producer = refl
 
 no_service : service_of_section None (section (Object 0x1018) []) ≡ []
@@ -133,7 +133,7 @@ mapped_word value = section (SubIndex (key_at 0x1A00 1)) (property (codes "Defau
 mapped : mapped_tokens None (section (SubIndex (key_at 0x6000 1)) (property (codes "ParameterName") (codes "a") ∷ []) ∷ []) (mapped_word (codes "0x60000108"))
     ≡ begin_object ∷ key (codes "index") ∷ number (codes "24576") ∷ key (codes "subIndex") ∷ number (codes "1") ∷ key (codes "bits") ∷ number (codes "8")
     ∷ key (codes "name") ∷ string (codes "a") ∷ key (codes "words") ∷ string (codes "6000:01, 8 bits") ∷ end_object ∷ []
-unfolding mapped_tokens mapped_members key_members property_member text_member number_member characters_of said word_text mapped_text is_utf8 chars encode digits digits_text
+unfolding mapped_tokens mapped_members property_member text_member number_member characters_of said word_text mapped_text is_utf8 chars encode digits digits_text
 mapped = refl
 
 mapped_unread : mapped_tokens None [] (mapped_word (codes "x"))

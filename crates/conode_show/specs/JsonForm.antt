@@ -49,29 +49,33 @@ limit_member name t limit =
     option_map_or (λ k. quantity_member name (limit_number t k.value) k.value) limit []
 
 -- name and type
-unfoldable pub named_members : TextSection → List Token
+abbrev pub named_members : TextSection → List Token
 named_members section =
     property_member (codes "name") (codes "ParameterName") section
     ++ text_member (codes "type") (type_text section)
 
 -- the default, the value of a device configuration file, and the limits
-unfoldable pub value_members : Option ℕ → TextSection → List Token
+abbrev pub value_members : Option ℕ → TextSection → List Token
 value_members node section =
     value_member (codes "default") node (type_of section) (property_at (codes "DefaultValue") section)
     ++ value_member (codes "value") node (type_of section) (property_at (codes "ParameterValue") section)
     ++ limit_member (codes "low") (type_of section) (property_at (codes "LowLimit") section)
     ++ limit_member (codes "high") (type_of section) (property_at (codes "HighLimit") section)
 
-unfoldable pub key_members : Key → List Token
+abbrev pub key_members : Key → List Token
 key_members k = number_member (codes "index") (pos k.index) ++ number_member (codes "subIndex") (pos k.sub)
+
+-- an entry before its values: its key, name, type and access
+unfoldable pub entry_begin : Key → TextSection → List Token
+entry_begin k section =
+    begin_object
+    ∷ (key_members k ++ named_members section
+    ++ property_member (codes "access") (codes "AccessType") section)
 
 unfoldable pub entry_tokens : Option ℕ → Key → TextSection → List Token
 entry_tokens node k section =
-    begin_object
-    ∷ (key_members k ++ named_members section
-    ++ property_member (codes "access") (codes "AccessType") section
-    ++ value_members node section
-    ++ flag_member (codes "mappable") (is_mappable section) ++ end_object ∷ [])
+    entry_begin k section ++ value_members node section
+    ++ flag_member (codes "mappable") (is_mappable section) ++ end_object ∷ []
 
 -- an object with sub-indices
 unfoldable pub object_tokens : ℕ → TextSection → List Token
@@ -99,7 +103,7 @@ abbrev pub word_number : Option ℕ → TextSection → Option ℤ
 word_number node section = option_and_then absolute_number (section_word node section)
 
 -- the value of an entry: its number, left out if it isn't known, and its words
-unfoldable pub said_members : Meaning → Option ℕ → TextSection → List Token
+abbrev pub said_members : Meaning → Option ℕ → TextSection → List Token
 said_members meaning node section =
     number_if (codes "number") (word_number node section)
     ++ text_member (codes "words") (said meaning node section)
@@ -142,7 +146,7 @@ mapping_tokens node sections index =
     flat_map (counted_tokens node sections index (mapping_count node sections index)) sections
 
 -- the COB-ID, transmission type and timers of a PDO
-unfoldable pub pdo_members : Option ℕ → List TextSection → ℕ → TextSection → List Token
+abbrev pub pdo_members : Option ℕ → List TextSection → ℕ → TextSection → List Token
 pdo_members node sections index section =
     text_member (codes "pdo") (pdo_name index) ++ number_member (codes "index") (pos index)
     ++ said_member (codes "cobId") PdoCobId node section
@@ -150,11 +154,15 @@ pdo_members node sections index section =
     ++ said_at_member (codes "inhibitTime") PdoInhibit node sections (record { index = index; sub = 3 })
     ++ said_at_member (codes "eventTimer") EventTimer node sections (record { index = index; sub = 5 })
 
+-- a PDO before what it maps
+unfoldable pub pdo_begin : Option ℕ → List TextSection → ℕ → TextSection → List Token
+pdo_begin node sections index section =
+    begin_object ∷ (pdo_members node sections index section ++ array_begin (codes "mapped"))
+
 unfoldable pub pdo_tokens : Option ℕ → List TextSection → ℕ → TextSection → List Token
 pdo_tokens node sections index section =
-    begin_object
-    ∷ (pdo_members node sections index section ++ array_begin (codes "mapped")
-    ++ mapping_tokens node sections (mapping_index index) ++ (end_array ∷ end_object ∷ []))
+    pdo_begin node sections index section ++ mapping_tokens node sections (mapping_index index)
+    ++ (end_array ∷ end_object ∷ [])
 
 abbrev pub pdo_with : Option ℕ → List TextSection → TextSection → SectionKind → List Token
 pdo_with given sections section (SubIndex k) =

@@ -1,3 +1,4 @@
+pub mod Members
 pub mod JsonForm
 pub mod Parts
 pub mod Shown

@@ -16,6 +16,7 @@ ghost use Rattle.conode_show.specs.JsonForm.{
 use crate::json_entries::put_section;
 use crate::json_pdos::put_pdo;
 use crate::json_services::put_service;
+use crate::member::Member;
 use crate::parts::{Part, put_parts};
 use co_sheet_text::TextSection;
 use conode_json::JsonWriter;
@@ -93,8 +94,8 @@ fn put_document<'p>(
         writer,
         &[
             Part::BeginObject,
-            Part::Number("version", Some(1)),
-            Part::Number("node", node_number(node)),
+            Part::Number(Member::Version, Some(1)),
+            Part::Number(Member::Node, node_number(node)),
         ],
     )?;
     put_chapter(alloc, writer, Chapter::Entries, node, sections)?;
@@ -122,10 +123,16 @@ pub(crate) fn json_document(
 fn put_reason(alloc: Global, writer: &mut JsonWriter, words: &str) -> Result<(), AllocError>
     ensures { OnOk result (writer.new ≡ writer.old ++ reason_tokens words.now) }
 {
-    writer.begin_object()?;
-    writer.put_number(alloc, "version", 1)?;
-    writer.put_text("fault", words)?;
-    writer.end_object()
+    put_parts(
+        alloc,
+        writer,
+        &[
+            Part::BeginObject,
+            Part::Number(Member::Version, Some(1)),
+            Part::Text(Member::Fault, words),
+            Part::EndObject,
+        ],
+    )
 }
 
 /// Why a text isn't shown, as a JSON document. `Err`: out of memory.

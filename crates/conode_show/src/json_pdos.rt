@@ -9,11 +9,12 @@ ghost use Rattle.conode_show.specs.JsonForm.{
   mapped_members,
   mapped_tokens,
   mapping_tokens,
-  pdo_members,
+  pdo_begin,
   pdo_of,
   pdo_tokens,
 };
 
+use crate::member::Member;
 use crate::parts::{Part, put_parts};
 use co_sheet_text::{SectionKind, TextSection};
 use co_value::Key;
@@ -24,7 +25,7 @@ use conode_show_text::{
 use std::alloc::{AllocError, Global};
 
 // what a word of a mapping names, nothing if it is no number
-#[tactic(auto, unfolding(crate::specs::JsonForm::mapped_members, crate::specs::JsonForm::key_members))]
+#[tactic(auto, unfolding(crate::specs::JsonForm::mapped_members))]
 fn put_mapped_if<'p>(
     alloc: Global,
     writer: &mut JsonWriter,
@@ -42,9 +43,9 @@ fn put_mapped_if<'p>(
         alloc,
         writer,
         &[
-            Part::Number("index", Some(i128::from(key.index))),
-            Part::Number("subIndex", Some(i128::from(key.sub))),
-            Part::Number("bits", Some(i128::from(word.number % 0x100))),
+            Part::Number(Member::Index, Some(i128::from(key.index))),
+            Part::Number(Member::SubIndex, Some(i128::from(key.sub))),
+            Part::Number(Member::Bits, Some(i128::from(word.number % 0x100))),
             Part::NameAt(sections, key),
         ],
     )
@@ -67,7 +68,7 @@ fn put_mapped<'p>(
         alloc,
         writer,
         &[
-            Part::Shown("words", node, Content::Said(Meaning::Mapped, section)),
+            Part::Shown(Member::Words, node, Content::Said(Meaning::Mapped, section)),
             Part::EndObject,
         ],
     )
@@ -111,9 +112,9 @@ fn put_mapping<'p>(
     Ok(())
 }
 
-// the COB-ID, transmission type and timers of a PDO
-#[tactic(auto, unfolding(crate::specs::JsonForm::pdo_members))]
-fn put_pdo_members<'p>(
+// a PDO before what it maps: its COB-ID, transmission type and timers
+#[tactic(auto, unfolding(crate::specs::JsonForm::pdo_begin))]
+fn put_pdo_begin<'p>(
     alloc: Global,
     writer: &mut JsonWriter,
     node: Option<u8>,
@@ -121,8 +122,9 @@ fn put_pdo_members<'p>(
     index: u16,
     section: &'p TextSection<'p, 'p>,
 ) -> Result<(), AllocError>
-    ensures { OnOk result (writer.new ≡ writer.old ++ pdo_members node
-        (map section_view sections.entry.now) index (section_view section.entry.now)) }
+    ensures { OnOk result (writer.new ≡ writer.old
+        ++ pdo_begin node (map section_view sections.entry.now) index
+        (section_view section.entry.now)) }
 {
     let transmission = Key { index, sub: 2 };
     let inhibit = Key { index, sub: 3 };
@@ -131,18 +133,32 @@ fn put_pdo_members<'p>(
         alloc,
         writer,
         &[
-            Part::Shown("pdo", None, Content::Pdo(index)),
-            Part::Number("index", Some(i128::from(index))),
-            Part::Said("cobId", Meaning::PdoCobId, node, section),
+            Part::BeginObject,
+            Part::Shown(Member::Pdo, None, Content::Pdo(index)),
+            Part::Number(Member::Index, Some(i128::from(index))),
+            Part::Said(Member::CobId, Meaning::PdoCobId, node, section),
             Part::SaidAt(
-                "transmissionType",
+                Member::TransmissionType,
                 Meaning::Transmission,
                 node,
                 sections,
                 transmission,
             ),
-            Part::SaidAt("inhibitTime", Meaning::PdoInhibit, node, sections, inhibit),
-            Part::SaidAt("eventTimer", Meaning::EventTimer, node, sections, timer),
+            Part::SaidAt(
+                Member::InhibitTime,
+                Meaning::PdoInhibit,
+                node,
+                sections,
+                inhibit,
+            ),
+            Part::SaidAt(
+                Member::EventTimer,
+                Meaning::EventTimer,
+                node,
+                sections,
+                timer,
+            ),
+            Part::Array(Member::Mapped),
         ],
     )
 }
@@ -160,12 +176,9 @@ fn put_pdo_tokens<'p>(
     ensures { OnOk result (writer.new ≡ writer.old ++ pdo_tokens node
         (map section_view sections.entry.now) index (section_view section.entry.now)) }
 {
-    writer.begin_object()?;
-    put_pdo_members(alloc, writer, node, sections, index, section)?;
-    writer.begin_array_of("mapped")?;
+    put_pdo_begin(alloc, writer, node, sections, index, section)?;
     put_mapping(alloc, writer, node, sections, index + 0x200)?;
-    writer.end_array()?;
-    writer.end_object()
+    put_parts(alloc, writer, &[Part::EndArray, Part::EndObject])
 }
 
 /// Appends a PDO, by the section of its COB-ID; nothing for any other section.

@@ -4,6 +4,7 @@ ghost use Rattle.std.specs.Prelude.{◌≡◌, ◌++◌, OnOk};
 ghost use Rattle.co_sheet_text.specs.Views.{section_view};
 ghost use Rattle.conode_show.specs.JsonForm.{service_of_section};
 
+use crate::member::Member;
 use crate::parts::{Part, put_parts, word_number};
 use co_sheet_text::TextSection;
 use conode_json::JsonWriter;
@@ -12,7 +13,7 @@ use std::alloc::{AllocError, Global};
 
 /// Appends an entry of a service; nothing for any other section. `Err`: out of memory; some tokens
 /// may be there.
-#[tactic(auto, unfolding(crate::specs::JsonForm::service_tokens, crate::specs::JsonForm::key_members, crate::specs::JsonForm::said_members))]
+#[tactic(auto, unfolding(crate::specs::JsonForm::service_tokens))]
 pub(crate) fn put_service<'p>(
     alloc: Global,
     writer: &mut JsonWriter,
@@ -33,11 +34,15 @@ pub(crate) fn put_service<'p>(
         writer,
         &[
             Part::BeginObject,
-            Part::Number("index", Some(i128::from(key.index))),
-            Part::Number("subIndex", Some(i128::from(key.sub))),
-            Part::Shown("service", None, Content::Service(service)),
-            Part::Number("number", word_number(node, section)),
-            Part::Shown("words", node, Content::Said(service.meaning(), section)),
+            Part::Number(Member::Index, Some(i128::from(key.index))),
+            Part::Number(Member::SubIndex, Some(i128::from(key.sub))),
+            Part::Shown(Member::Service, None, Content::Service(service)),
+            Part::Number(Member::Number, word_number(node, section)),
+            Part::Shown(
+                Member::Words,
+                node,
+                Content::Said(service.meaning(), section),
+            ),
             Part::EndObject,
         ],
     )

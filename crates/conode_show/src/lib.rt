@@ -6,6 +6,7 @@ mod json_entries;
 mod json_form;
 mod json_pdos;
 mod json_services;
+mod member;
 mod parts;
 mod retyped;
 mod shown_file;

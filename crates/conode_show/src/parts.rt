@@ -15,11 +15,13 @@ ghost use Rattle.conode_show.specs.JsonForm.{
   value_member,
   word_number,
 };
+ghost use Rattle.conode_show.specs.Members.{member_name};
 ghost use Rattle.conode_show.specs.Parts.{part_tokens};
 ghost use Rattle.conode_show_text.specs.Cells.{cell_text};
 ghost use Rattle.conode_show_text.specs.Values.{type_of};
 ghost use Rattle.co_sheet_text.specs.Sections.{property_at};
 
+use crate::member::Member;
 use co_sheet::section_at;
 use co_sheet_text::{SectionKind, TextSection};
 use co_value::Key;
@@ -35,20 +37,26 @@ use std::alloc::{AllocError, Global};
 pub(crate) enum Part<'p> {
     BeginObject,
     EndObject,
+    EndArray,
+    /// The beginning of a member that is an array.
+    Array(Member),
+    Flag(Member, bool),
+    /// Words of the program.
+    Text(Member, &'p str),
     /// A number, nothing for `None`.
-    Number(&'static str, Option<i128>),
+    Number(Member, Option<i128>),
     /// The text of a property, nothing if the section doesn't have it.
-    Property(&'static str, &'static [u8], &'p TextSection<'p, 'p>),
+    Property(Member, &'static [u8], &'p TextSection<'p, 'p>),
     /// A value by the property that states it, nothing if the section doesn't have it.
-    Value(&'static str, Option<u8>, &'static [u8], &'p TextSection<'p, 'p>),
+    Value(Member, Option<u8>, &'static [u8], &'p TextSection<'p, 'p>),
     /// A limit in the same way.
-    Limit(&'static str, &'static [u8], &'p TextSection<'p, 'p>),
+    Limit(Member, &'static [u8], &'p TextSection<'p, 'p>),
     /// What a cell of the lines has.
-    Shown(&'static str, Option<u8>, Content<'p>),
+    Shown(Member, Option<u8>, Content<'p>),
     /// The value of an entry of the communication profile: its number, and its words.
-    Said(&'static str, Meaning, Option<u8>, &'p TextSection<'p, 'p>),
+    Said(Member, Meaning, Option<u8>, &'p TextSection<'p, 'p>),
     /// The value of a sub-index in the same way, nothing if it isn't there.
-    SaidAt(&'static str, Meaning, Option<u8>, &'p [TextSection<'p, 'p>], Key),
+    SaidAt(Member, Meaning, Option<u8>, &'p [TextSection<'p, 'p>], Key),
     /// The name of an entry, nothing if it isn't there.
     NameAt(&'p [TextSection<'p, 'p>], Key),
 }
@@ -67,15 +75,15 @@ pub(crate) fn word_number(node: Option<u8>, section: &TextSection<'_, '_>) -> Op
 fn put_property(
     alloc: Global,
     writer: &mut JsonWriter,
-    name: &str,
+    member: Member,
     property: &[u8],
     section: &TextSection<'_, '_>,
 ) -> Result<(), AllocError>
-    ensures { OnOk result (writer.new
-        ≡ writer.old ++ property_member name.now property.now (section_view section.now)) }
+    ensures { OnOk result (writer.new ≡ writer.old
+        ++ property_member (member_name member) property.now (section_view section.now)) }
 {
     match section.property(property) {
-        Some(property) => writer.put_bytes(alloc, name, property.value),
+        Some(property) => writer.put_bytes(alloc, member.name(), property.value),
         None => Ok(()),
     }
 }
@@ -85,13 +93,14 @@ fn put_property(
 fn put_quantity(
     alloc: Global,
     writer: &mut JsonWriter,
-    name: &str,
+    member: Member,
     number: Option<i128>,
     value: &[u8],
 ) -> Result<(), AllocError>
-    ensures { OnOk result (writer.new ≡ writer.old ++ quantity_member name.now number value.now) }
+    ensures { OnOk result
+        (writer.new ≡ writer.old ++ quantity_member (member_name member) number value.now) }
 {
-    writer.begin_object_of(name)?;
+    writer.begin_object_of(member.name())?;
     writer.put_number_if(alloc, "number", number)?;
     writer.put_bytes(alloc, "text", value)?;
     writer.end_object()
@@ -101,18 +110,19 @@ fn put_quantity(
 fn put_value(
     alloc: Global,
     writer: &mut JsonWriter,
-    name: &str,
+    member: Member,
     node: Option<u8>,
     property: &[u8],
     section: &TextSection<'_, '_>,
 ) -> Result<(), AllocError>
-    ensures { OnOk result (writer.new ≡ writer.old ++ value_member name.now node
-        (type_of (section_view section.now)) (property_at property.now (section_view section.now))) }
+    ensures { OnOk result (writer.new ≡ writer.old ++ value_member (member_name member) node
+        (type_of (section_view section.now))
+        (property_at property.now (section_view section.now))) }
 {
     match section.property(property) {
         Some(property) => {
             let number = value_number(node, type_of(section), property.value);
-            put_quantity(alloc, writer, name, number, property.value)
+            put_quantity(alloc, writer, member, number, property.value)
         }
         None => Ok(()),
     }
@@ -122,17 +132,18 @@ fn put_value(
 fn put_limit(
     alloc: Global,
     writer: &mut JsonWriter,
-    name: &str,
+    member: Member,
     property: &[u8],
     section: &TextSection<'_, '_>,
 ) -> Result<(), AllocError>
-    ensures { OnOk result (writer.new ≡ writer.old ++ limit_member name.now
-        (type_of (section_view section.now)) (property_at property.now (section_view section.now))) }
+    ensures { OnOk result (writer.new ≡ writer.old ++ limit_member (member_name member)
+        (type_of (section_view section.now))
+        (property_at property.now (section_view section.now))) }
 {
     match section.property(property) {
         Some(property) => {
             let number = limit_number(type_of(section), property.value);
-            put_quantity(alloc, writer, name, number, property.value)
+            put_quantity(alloc, writer, member, number, property.value)
         }
         None => Ok(()),
     }
@@ -141,36 +152,37 @@ fn put_limit(
 fn put_shown(
     alloc: Global,
     writer: &mut JsonWriter,
-    name: &str,
+    member: Member,
     node: Option<u8>,
     content: &Content<'_>,
 ) -> Result<(), AllocError>
     ensures { OnOk result
-        (writer.new ≡ writer.old ++ text_member name.now (cell_text node content.now)) }
+        (writer.new ≡ writer.old
+        ++ text_member (member_name member) (cell_text node content.now)) }
 {
     let mut text = String::new(alloc);
     push_content(&mut text, node, content)?;
-    writer.put_text(name, text.as_str())
+    writer.put_text(member.name(), text.as_str())
 }
 
-#[tactic(auto, unfolding(crate::specs::JsonForm::said_member, crate::specs::JsonForm::said_members))]
+#[tactic(auto, unfolding(crate::specs::JsonForm::said_member))]
 fn put_said<'p>(
     alloc: Global,
     writer: &mut JsonWriter,
-    name: &str,
+    member: Member,
     meaning: Meaning,
     node: Option<u8>,
     section: &'p TextSection<'p, 'p>,
 ) -> Result<(), AllocError>
-    ensures { OnOk result (writer.new
-        ≡ writer.old ++ said_member name.now meaning node (section_view section.entry.now)) }
+    ensures { OnOk result (writer.new ≡ writer.old
+        ++ said_member (member_name member) meaning node (section_view section.entry.now)) }
 {
-    writer.begin_object_of(name)?;
+    writer.begin_object_of(member.name())?;
     writer.put_number_if(alloc, "number", word_number(node, section))?;
     put_shown(
         alloc,
         writer,
-        "words",
+        Member::Words,
         node,
         &Content::Said(meaning, section),
     )?;
@@ -181,17 +193,18 @@ fn put_said<'p>(
 fn put_said_at<'p>(
     alloc: Global,
     writer: &mut JsonWriter,
-    name: &str,
+    member: Member,
     meaning: Meaning,
     node: Option<u8>,
     sections: &'p [TextSection<'p, 'p>],
     key: Key,
 ) -> Result<(), AllocError>
     ensures { OnOk result (writer.new ≡ writer.old
-        ++ said_at_member name.now meaning node (map section_view sections.entry.now) key) }
+        ++ said_at_member (member_name member) meaning node
+        (map section_view sections.entry.now) key) }
 {
     match section_at(sections, SectionKind::SubIndex(key)) {
-        Some(section) => put_said(alloc, writer, name, meaning, node, section),
+        Some(section) => put_said(alloc, writer, member, meaning, node, section),
         None => Ok(()),
     }
 }
@@ -206,7 +219,7 @@ fn put_name_at(
         (writer.new ≡ writer.old ++ name_at (map section_view sections.now) key) }
 {
     match entry_section(sections, key) {
-        Some(section) => put_property(alloc, writer, "name", b"ParameterName", section),
+        Some(section) => put_property(alloc, writer, Member::Name, b"ParameterName", section),
         None => Ok(()),
     }
 }
@@ -217,20 +230,26 @@ fn put_part(alloc: Global, writer: &mut JsonWriter, part: &Part<'_>) -> Result<(
     match *part {
         Part::BeginObject => writer.begin_object(),
         Part::EndObject => writer.end_object(),
-        Part::Number(name, number) => writer.put_number_if(alloc, name, number),
-        Part::Property(name, property, section) => {
-            put_property(alloc, writer, name, property, section)
+        Part::EndArray => writer.end_array(),
+        Part::Array(member) => writer.begin_array_of(member.name()),
+        Part::Flag(member, is) => writer.put_flag(member.name(), is),
+        Part::Text(member, words) => writer.put_text(member.name(), words),
+        Part::Number(member, number) => writer.put_number_if(alloc, member.name(), number),
+        Part::Property(member, property, section) => {
+            put_property(alloc, writer, member, property, section)
         }
-        Part::Value(name, node, property, section) => {
-            put_value(alloc, writer, name, node, property, section)
+        Part::Value(member, node, property, section) => {
+            put_value(alloc, writer, member, node, property, section)
         }
-        Part::Limit(name, property, section) => put_limit(alloc, writer, name, property, section),
-        Part::Shown(name, node, content) => put_shown(alloc, writer, name, node, &content),
-        Part::Said(name, meaning, node, section) => {
-            put_said(alloc, writer, name, meaning, node, section)
+        Part::Limit(member, property, section) => put_limit(
+            alloc, writer, member, property, section,
+        ),
+        Part::Shown(member, node, content) => put_shown(alloc, writer, member, node, &content),
+        Part::Said(member, meaning, node, section) => {
+            put_said(alloc, writer, member, meaning, node, section)
         }
-        Part::SaidAt(name, meaning, node, sections, key) => {
-            put_said_at(alloc, writer, name, meaning, node, sections, key)
+        Part::SaidAt(member, meaning, node, sections, key) => {
+            put_said_at(alloc, writer, member, meaning, node, sections, key)
         }
         Part::NameAt(sections, key) => put_name_at(alloc, writer, sections, key),
     }

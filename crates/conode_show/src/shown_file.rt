@@ -196,10 +196,8 @@ fn reason(alloc: Global, text: &[u8]) -> Result<Option<&'static str>, AllocError
 fn reason_line(alloc: Global, words: &str) -> Result<Vec<u8>, AllocError>
     ensures { IfOk result (λ text. text.items ≡ words.now ++ 10 ∷ []) }
 {
-    let mut text = Vec::new(alloc);
-    text.extend_from_slice(words.as_bytes())?;
-    text.push(b'\n')?;
-    Ok(text)
+    let text = format!(in alloc; "{words}\n")?;
+    Ok(text.into_bytes())
 }
 
 fn reason_in(alloc: Global, form: Form, words: &str) -> Result<Vec<u8>, AllocError>

@@ -1,5 +1,5 @@
 -- The lines of entries and objects (CiA 306, object description).
-use Rattle.std.specs.Prelude.{ℕ, ◌==◌, ◌||◌, Bool, if◌then◌else◌, List, [], ◌∷◌, ◌++◌, codes, Option, option_map, find}
+use Rattle.std.specs.Prelude.{ℕ, ◌||◌, Bool, if◌then◌else◌, List, [], ◌∷◌, ◌++◌, codes, Option}
 use Rattle.std.specs.Option.{option_map_or}
 use Rattle.std.specs.List.{flat_map}
 use Rattle.co_text.specs.Printed.{digits_text}
@@ -13,6 +13,7 @@ use Rattle.co_sheet.specs.ObjectLists.{is_one_of}
 use Rattle.co_sheet.specs.Entries.{object_code, is_other_than_zero}
 use Rattle.conode_show_text.specs.declared.format.Format.{Format}
 use Rattle.conode_show_text.specs.declared.format.Format.TheVariants.{Text, Markdown}
+use Rattle.conode_show_text.specs.Names.{name_among}
 use Rattle.conode_show_text.specs.Numbers.{hex_text}
 use Rattle.conode_show_text.specs.Texts.{plain_text, property_text}
 use Rattle.conode_show_text.specs.Values.{default_text, limits_text}
@@ -32,8 +33,7 @@ type_names =
 -- the name of a data type, or its number if the code has no name
 unfoldable pub type_name : ℕ → List ℕ
 type_name code =
-    option_map_or (λ name. name) (option_map (λ row. row.1) (find (λ row. row.0 == code) type_names))
-    (codes "type " ++ hex_text code)
+    option_map_or (λ name. name) (name_among code type_names) (codes "type " ++ hex_text code)
 
 -- whether an object is an ARRAY, or a RECORD (CiA 301, object codes)
 abbrev pub is_array : TextSection → Bool

@@ -1,5 +1,5 @@
 -- What the numbers of the communication profile mean, in words (CiA 301, 7.5.2).
-use Rattle.std.specs.Prelude.{ℕ, ◌/◌, ◌%◌, ◌==◌, nat_le, Bool, true, false, not, ◌&&◌, if◌then◌else◌, List, [], ◌∷◌, ◌++◌, codes, decimal, Option, option_map, find}
+use Rattle.std.specs.Prelude.{ℕ, ◌/◌, ◌%◌, ◌==◌, nat_le, Bool, true, false, not, ◌&&◌, if◌then◌else◌, List, [], ◌∷◌, ◌++◌, codes, decimal, Option}
 use Rattle.std.specs.Option.{option_map_or}
 use Rattle.co_value.specs.declared.key.Key.{Key}
 use Rattle.co_value.specs.KeyTexts.{key_text}
@@ -7,6 +7,7 @@ use Rattle.co_sheet_text.specs.Sections.{TextSection}
 use Rattle.conode_show_text.specs.declared.meaning.Meaning.{Meaning}
 use Rattle.conode_show_text.specs.declared.meaning.Meaning.TheVariants.{PdoCobId, CobId, SyncCobId, Transmission, PdoInhibit, EventTimer, EmcyInhibit, Consumer, Producer, Mapped}
 use Rattle.co_sheet.specs.Commissioning.{is_node_number}
+use Rattle.conode_show_text.specs.Names.{name_among}
 use Rattle.conode_show_text.specs.CobIds.{pdo_cob_id_text, cob_id_text, sync_text}
 use Rattle.conode_show_text.specs.Texts.{plain_text}
 use Rattle.conode_show_text.specs.declared.values.Word.{Word}
@@ -20,7 +21,7 @@ transmission_names =
     ∷ (255, codes "255: event-driven, device profile") ∷ []
 
 abbrev pub transmission_name : ℕ → Option (List ℕ)
-transmission_name n = option_map (λ row. row.1) (find (λ row. row.0 == n) transmission_names)
+transmission_name n = name_among n transmission_names
 
 -- the others: up to 240 by SYNCs, above it reserved
 unfoldable pub counted_syncs : ℕ → List ℕ

@@ -11,7 +11,7 @@ ghost use Rattle.conode_show_text.specs.CobIds.{
   use_name,
 };
 
-use crate::numbers::push_words;
+use crate::numbers::{push_hex_between, push_words};
 use crate::values::Word;
 use std::alloc::AllocError;
 
@@ -41,12 +41,13 @@ fn frame_name(number: u64) -> &'static str
 }
 
 /// Appends an identifier, and words after it.
-#[tactic(auto, unfolding(crate::specs::CobIds::identifier_text, crate::specs::Numbers::hex_text))]
+#[tactic(auto, unfolding(crate::specs::CobIds::identifier_text))]
 pub(crate) fn push_identifier(text: &mut String, number: u64, end: &str) -> Result<(), AllocError>
     ensures { OnOk result (string_bytes text.new
         ≡ string_bytes text.old ++ identifier_text number ++ end.now) }
 {
-    write!(text, "{:X}h{}{end}", number % EXTENDED, frame_name(number))
+    push_hex_between(text, "", number % EXTENDED, frame_name(number))?;
+    push_words(text, end)
 }
 
 // whether it is identifier 0 of 11 bits, which is that of NMT

@@ -1,6 +1,6 @@
 //! The lines of entries and objects (CiA 306, object description).
 
-ghost use Rattle.std.specs.Prelude.{◌≡◌, ◌++◌, OnOk, string_bytes};
+ghost use Rattle.std.specs.Prelude.{◌≡◌, ◌++◌, OnOk, flat_map, string_bytes};
 ghost use Rattle.co_sheet_text.specs.Views.{section_view};
 ghost use Rattle.conode_show_text.specs.Entries.{
   entries_head,
@@ -123,6 +123,16 @@ pub(crate) fn entries_head(format: Format) -> &'static str
     }
 }
 
+fn push_all(text: &mut Vec<u8>, parts: &[&str]) -> Result<(), AllocError>
+    ensures { OnOk result
+        (text.new.items ≡ text.old.items ++ flat_map (λ part. part.now) parts.now) }
+{
+    for part in parts {
+        text.extend_from_slice(part.as_bytes())?;
+    }
+    Ok(())
+}
+
 // the heading of an object, and the head of its table
 #[tactic(auto, unfolding(crate::specs::Entries::object_heading))]
 fn push_heading(
@@ -135,13 +145,10 @@ fn push_heading(
         (text.new.items ≡ text.old.items ++ object_heading index (section_view section.now)) }
 {
     part.clear();
-    write!(part, "\n### {}h ", word_digits(index).as_str())?;
-    text.extend_from_slice(part.as_bytes())?;
-    part.clear();
     push_property(part, section, b"ParameterName")?;
+    push_all(text, &["\n### ", word_digits(index).as_str(), "h "])?;
     push_cell(text, part.as_bytes())?;
-    text.extend_from_slice(b"\n\n")?;
-    text.extend_from_slice(entries_head(Format::Markdown).as_bytes())
+    push_all(text, &["\n\n", entries_head(Format::Markdown)])
 }
 
 // what comes before the entries of an object

@@ -3,7 +3,15 @@
 
 ghost use Rattle.std.specs.Prelude.{◌≡◌, ◌++◌, replicate, OnOk};
 ghost use Rattle.std.specs.List.{flat_map};
-ghost use Rattle.conode_show_text.specs.Layout.{begins_character, begun, cell_byte, columns, gap, is_markup, placed};
+ghost use Rattle.conode_show_text.specs.Layout.{
+  begins_character,
+  begun,
+  cell_byte,
+  columns,
+  gap,
+  is_markup,
+  placed,
+};
 
 use crate::format::Format;
 use std::alloc::AllocError;

@@ -9,6 +9,7 @@ mod entries;
 mod format;
 mod layout;
 mod meaning;
+mod names;
 mod numbers;
 mod ordering;
 mod pdos;

@@ -18,7 +18,8 @@ ghost use Rattle.conode_show_text.specs.Meanings.{
 };
 
 use crate::cob_ids::{push_identifier, push_pdo_cob_id, sync_name, use_name};
-use crate::numbers::push_words;
+use crate::names::name_among;
+use crate::numbers::{push_between, push_words};
 use crate::texts::push_plain;
 use crate::values::{Word, value_of, word_of};
 use co_sheet_text::TextSection;
@@ -50,19 +51,20 @@ pub enum Meaning {
     Mapped,
 }
 
-// a transmission type that has words of its own
+/// The transmission types that have words of their own (CiA 301, 7.5.2.35 and 7.5.2.37).
+const TRANSMISSION_NAMES: [(u64, &str); 6] = [
+    (0, "0: synchronous, acyclic"),
+    (1, "1: every SYNC"),
+    (252, "252: remote, synchronous"),
+    (253, "253: remote, event-driven"),
+    (254, "254: event-driven, manufacturer"),
+    (255, "255: event-driven, device profile"),
+];
+
 fn transmission_name(number: u64) -> Option<&'static str>
     ensures { option_copied result ≡ transmission_name number }
 {
-    match number {
-        0 => Some("0: synchronous, acyclic"),
-        1 => Some("1: every SYNC"),
-        252 => Some("252: remote, synchronous"),
-        253 => Some("253: remote, event-driven"),
-        254 => Some("254: event-driven, manufacturer"),
-        255 => Some("255: event-driven, device profile"),
-        _ => None,
-    }
+    name_among(number, &TRANSMISSION_NAMES)
 }
 
 // a transmission type: by name, by a number of SYNCs, or reserved
@@ -75,9 +77,10 @@ fn push_transmission(text: &mut String, number: u64) -> Result<(), AllocError>
         return push_words(text, name);
     }
     if 240 < number {
-        return write!(text, "{number}: reserved");
+        return push_between(text, "", number, ": reserved");
     }
-    write!(text, "{number}: every {number} SYNCs")
+    push_between(text, "", number, ": every ")?;
+    push_between(text, "", number, " SYNCs")
 }
 
 // a time after the words `before`, or the words `off` for 0; in ms, with tenths if the number is in
@@ -97,9 +100,10 @@ fn push_time(
         return push_words(text, off);
     }
     if in_tenths {
-        write!(text, "{before}{}.{} ms", number / 10, number % 10)
+        push_between(text, before, number / 10, ".")?;
+        push_between(text, "", number % 10, " ms")
     } else {
-        write!(text, "{before}{number} ms")
+        push_between(text, before, number, " ms")
     }
 }
 
@@ -129,13 +133,9 @@ fn push_consumer(text: &mut String, number: u64) -> Result<(), AllocError>
     if !is_consumer_used(number) {
         return push_words(text, "not used");
     }
-    let node = number / 0x1_0000 % 0x100;
-    let time = number % 0x1_0000;
-    write!(
-        text,
-        "node {node}, within {time} ms{}",
-        consumer_reserved(number)
-    )
+    push_between(text, "node ", number / 0x1_0000 % 0x100, ", within ")?;
+    push_between(text, "", number % 0x1_0000, " ms")?;
+    push_words(text, consumer_reserved(number))
 }
 
 /// The key that a word of a mapping names (CiA 301, 7.5.2.36).
@@ -153,7 +153,8 @@ fn push_mapped(text: &mut String, number: u64) -> Result<(), AllocError>
     ensures { OnOk result (string_bytes text.new ≡ string_bytes text.old ++ mapped_text number) }
 {
     let key = mapped_key(number).text();
-    write!(text, "{}, {} bits", key.as_str(), number % 0x100)
+    push_words(text, key.as_str())?;
+    push_between(text, ", ", number % 0x100, " bits")
 }
 
 #[tactic(auto, unfolding(crate::specs::CobIds::cob_id_text, crate::specs::CobIds::sync_text))]

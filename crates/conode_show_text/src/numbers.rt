@@ -1,10 +1,10 @@
 //! Numbers in both bases. Each function appends a text. `Err`: out of memory; a part of the text
 //! may be there.
 
-ghost use Rattle.std.specs.Prelude.{◌≡◌, ◌≤◌, ◌++◌, ◌*◌, ◌^◌, pos, OnOk, string_bytes};
+ghost use Rattle.std.specs.Prelude.{◌≡◌, ◌≤◌, ◌++◌, ◌*◌, ◌^◌, pos, decimal, OnOk, string_bytes};
 ghost use Rattle.std.specs.Fmt.{signed_decimal};
 ghost use Rattle.co_value.specs.Numbers.{bits_of};
-ghost use Rattle.conode_show_text.specs.Numbers.{if_small, is_one_digit, number_text};
+ghost use Rattle.conode_show_text.specs.Numbers.{hex_text, if_small, is_one_digit, number_text};
 
 use std::alloc::AllocError;
 
@@ -12,6 +12,33 @@ pub(crate) fn push_words(text: &mut String, words: &str) -> Result<(), AllocErro
     ensures { OnOk result (string_bytes text.new ≡ string_bytes text.old ++ words.now) }
 {
     text.push_str(words)
+}
+
+/// Appends a number in decimal between two texts.
+pub(crate) fn push_between(
+    text: &mut String,
+    before: &str,
+    number: u64,
+    after: &str,
+) -> Result<(), AllocError>
+    ensures { OnOk result (string_bytes text.new
+        ≡ string_bytes text.old ++ before.now ++ decimal number ++ after.now) }
+{
+    write!(text, "{before}{number}{after}")
+}
+
+/// Appends a number in hexadecimal digits with `h` between two texts.
+#[tactic(auto, unfolding(crate::specs::Numbers::hex_text))]
+pub(crate) fn push_hex_between(
+    text: &mut String,
+    before: &str,
+    number: u64,
+    after: &str,
+) -> Result<(), AllocError>
+    ensures { OnOk result (string_bytes text.new
+        ≡ string_bytes text.old ++ before.now ++ hex_text number ++ after.now) }
+{
+    write!(text, "{before}{number:X}h{after}")
 }
 
 // 2 ^ bits
@@ -57,7 +84,7 @@ pub(crate) fn push_decimal_of(text: &mut String, number: i128) -> Result<(), All
 
 /// Appends a number of a type of `width` bytes: in decimal, and in hexadecimal digits if these
 /// differ.
-#[tactic(auto, unfolding(crate::specs::Numbers::number_text, crate::specs::Numbers::in_parentheses, crate::specs::Numbers::hex_text))]
+#[tactic(auto, unfolding(crate::specs::Numbers::number_text, crate::specs::Numbers::in_parentheses))]
 pub(crate) fn push_number(text: &mut String, width: usize, number: i128) -> Result<(), AllocError>
     requires { width ≤ 8 }
     ensures { OnOk result
@@ -70,5 +97,5 @@ pub(crate) fn push_number(text: &mut String, width: usize, number: i128) -> Resu
     let Some(bits) = small_bits(width, number) else {
         return Ok(());
     };
-    write!(text, " ({bits:X}h)")
+    push_hex_between(text, " (", bits, ")")
 }

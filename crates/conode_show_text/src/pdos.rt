@@ -12,7 +12,6 @@ ghost use Rattle.conode_show_text.specs.Pdos.{
   mapped_lines,
   mapped_name,
   mapping_count,
-  mapping_index,
   pdo_lines,
   pdo_name,
   pdo_text,
@@ -23,6 +22,7 @@ ghost use Rattle.conode_show_text.specs.Pdos.{
 use crate::cells::{Cell, Content, push_line};
 use crate::format::Format;
 use crate::meaning::{Meaning, mapped_key};
+use crate::numbers::push_between;
 use crate::values::{Word, value_of, word_of};
 use co_profile::IndexRange;
 use co_sheet::section_at;
@@ -46,9 +46,9 @@ pub(crate) fn push_pdo_name(text: &mut String, index: u16) -> Result<(), AllocEr
     ensures { OnOk result (string_bytes text.new ≡ string_bytes text.old ++ pdo_name index) }
 {
     if IndexRange::RPDO_COMMUNICATION.contains(index) {
-        write!(text, "RPDO {}", index.saturating_sub(0x13FF))
+        push_between(text, "RPDO ", u64::from(index.saturating_sub(0x13FF)), "")
     } else {
-        write!(text, "TPDO {}", index.saturating_sub(0x17FF))
+        push_between(text, "TPDO ", u64::from(index.saturating_sub(0x17FF)), "")
     }
 }
 

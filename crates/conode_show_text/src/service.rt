@@ -2,12 +2,19 @@
 
 ghost use Rattle.std.specs.Prelude.{◌≡◌, ◌++◌, OnOk, string_bytes};
 ghost use Rattle.co_sheet_text.specs.Views.{section_view};
-ghost use Rattle.conode_show_text.specs.Services.{channel_name, key_of, service_meaning, service_name, service_of, service_text};
+ghost use Rattle.conode_show_text.specs.Services.{
+  channel_name,
+  key_of,
+  service_meaning,
+  service_name,
+  service_of,
+  service_text,
+};
 
 use crate::cells::{Cell, Content, push_line};
 use crate::format::Format;
 use crate::meaning::Meaning;
-use crate::numbers::push_words;
+use crate::numbers::{push_between, push_words};
 use co_sheet_text::{SectionKind, TextSection};
 use co_value::Key;
 use std::alloc::AllocError;
@@ -73,7 +80,7 @@ fn push_channel(text: &mut String, end: &str, channel: u16, way: &str) -> Result
     ensures { OnOk result
         (string_bytes text.new ≡ string_bytes text.old ++ channel_name end.now channel way.now) }
 {
-    write!(text, "{end}{channel}{way}")
+    push_between(text, end, u64::from(channel), way)
 }
 
 /// Appends the name of a service. `Err`: out of memory; a part of the text may be there.

@@ -5,7 +5,13 @@ ghost use Rattle.std.specs.Prelude.{◌≡◌, ◌++◌, OnOk, not, string_bytes
 ghost use Rattle.std.specs.List.{flat_map, list_all};
 ghost use Rattle.std.specs.Option.{option_copied};
 ghost use Rattle.co_sheet_text.specs.Views.{section_view};
-ghost use Rattle.conode_show_text.specs.Texts.{escaped_byte, if_plain, is_control, plain_text, property_text};
+ghost use Rattle.conode_show_text.specs.Texts.{
+  escaped_byte,
+  if_plain,
+  is_control,
+  plain_text,
+  property_text,
+};
 
 use crate::numbers::push_words;
 use co_sheet_text::TextSection;

@@ -1,7 +1,16 @@
 //! The values that a sheet states (CiA 306, object description, device configuration file). Each
 //! function with a text appends to it. `Err`: out of memory; a part of the text may be there.
 
-ghost use Rattle.std.specs.Prelude.{◌≡◌, ◌++◌, ◌+◌, ◌≤◌, OnOk, option_map, option_and_then, string_bytes};
+ghost use Rattle.std.specs.Prelude.{
+  ◌≡◌,
+  ◌++◌,
+  ◌+◌,
+  ◌≤◌,
+  OnOk,
+  option_map,
+  option_and_then,
+  string_bytes,
+};
 ghost use Rattle.co_sheet_text.specs.Views.{property_view, section_view};
 ghost use Rattle.co_sheet.specs.Views.{default_view};
 ghost use Rattle.conode_show_text.specs.Numbers.{if_small};
@@ -24,7 +33,7 @@ ghost use Rattle.conode_show_text.specs.Values.{
   word_of,
 };
 
-use crate::numbers::{push_decimal_of, push_number, push_words};
+use crate::numbers::{push_decimal_of, push_hex_between, push_number, push_words};
 use crate::texts::push_plain;
 use co_sheet::{data_type_with, numeric_default};
 use co_sheet_rows::Preset;
@@ -61,16 +70,16 @@ fn sum_of(node: Option<u8>, addend: u64) -> Option<u64>
     }
 }
 
-#[tactic(auto, unfolding(crate::specs::Values::sum_text, crate::specs::Numbers::hex_text))]
+#[tactic(auto, unfolding(crate::specs::Values::sum_text))]
 fn push_sum(text: &mut String, node: Option<u8>, addend: u64) -> Result<(), AllocError>
     ensures { OnOk result (string_bytes text.new ≡ string_bytes text.old ++ sum_text node addend) }
 {
     push_words(text, "$NODEID")?;
     if addend != 0 {
-        write!(text, "+{addend:X}h")?;
+        push_hex_between(text, "+", addend, "")?;
     }
     match sum_of(node, addend) {
-        Some(sum) => write!(text, " = {sum:X}h"),
+        Some(sum) => push_hex_between(text, " = ", sum, ""),
         None => Ok(()),
     }
 }

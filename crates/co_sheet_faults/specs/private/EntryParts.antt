@@ -1,5 +1,5 @@
 -- What the code reads of an entry on the way (CiA 306, object description).
-use Rattle.std.specs.Prelude.{◌≡◌, Bool, not, ◌&&◌, ◌||◌, is_none, codes, false, ℕ, List, ◌++◌, Option, Some, ℤ}
+use Rattle.std.specs.Prelude.{◌≡◌, Bool, not, ◌&&◌, ◌||◌, is_none, codes, true, false, ℕ, List, ◌++◌, Option, Some, ℤ}
 use Rattle.co_value.specs.declared.data_type.DataType.{DataType}
 use Rattle.co_sheet_rows.specs.declared.fault.FaultKind.TheVariants.{BadLimits}
 use Rattle.co_sheet_rows.specs.declared.fault.SheetFault.{SheetFault}
@@ -35,6 +35,7 @@ is_beyond t low high (number value) =
 is_beyond t low high (pairs digits) = not (is_pairs digits)
 is_beyond t low high default = false
 
--- the object types
-abbrev pub object_codes : List ℕ
-object_codes = single_codes ++ compound_codes
+-- the object types of a sub-index, and those of an object
+abbrev pub codes_of : Bool → List ℕ
+codes_of true = single_codes
+codes_of false = single_codes ++ compound_codes

@@ -14,12 +14,30 @@ use Rattle.co_sheet_warnings.specs.declared.repeats.PlacedName.{PlacedName}
 use Rattle.co_sheet_warnings.specs.declared.repeats.ScopedName.{ScopedName as CodeName}
 use Rattle.co_sheet_warnings.specs.declared.warning.WarningKind.{WarningKind}
 use Rattle.co_sheet_warnings.specs.declared.warning.WarningKind.TheVariants.{
+  SubNumber,
+  SubIndex0,
   FileInfoKeys,
   DeviceInfoKeys,
+  PdoCount,
+  WrongList,
+  Unlisted,
+  IdentityNumber,
+  FixedCobId,
+  NodeIdPlace,
+  MisspeltKey,
+  SharedCobId,
+  InhibitTime,
+  OwnHeartbeat,
+  HeartbeatTwice,
   NoErrorControl,
+  LongLine,
   Utf8,
   NotAscii,
+  ListOrder,
+  EqualNames,
+  MissingName,
   UnknownKey,
+  DateFormat,
   LineEnds,
 }
 use Rattle.co_sheet_text.specs.declared.section_kind.SectionKind.{SectionKind}
@@ -33,6 +51,34 @@ use Rattle.co_sheet_warnings.specs.Lists.{first_fall, wrong_listing}
 use Rattle.co_sheet_warnings.specs.ReadTexts.{ReadText}
 use Rattle.co_sheet_warnings.specs.Repeats.{Placed, ScopedName, equal_names, identifier_in, name_in, shared_cob_ids}
 use Rattle.co_sheet_warnings.specs.SubIndices.{is_constant_word}
+
+-- the row of a kind in the tables of words
+abbrev pub kind_row : WarningKind → ℕ
+kind_row SubNumber = 0
+kind_row SubIndex0 = 1
+kind_row FileInfoKeys = 2
+kind_row DeviceInfoKeys = 3
+kind_row PdoCount = 4
+kind_row WrongList = 5
+kind_row Unlisted = 6
+kind_row IdentityNumber = 7
+kind_row FixedCobId = 8
+kind_row NodeIdPlace = 9
+kind_row (MisspeltKey meant) = 10
+kind_row SharedCobId = 11
+kind_row InhibitTime = 12
+kind_row OwnHeartbeat = 13
+kind_row HeartbeatTwice = 14
+kind_row NoErrorControl = 15
+kind_row LongLine = 16
+kind_row Utf8 = 17
+kind_row NotAscii = 18
+kind_row ListOrder = 19
+kind_row EqualNames = 20
+kind_row MissingName = 21
+kind_row UnknownKey = 22
+kind_row DateFormat = 23
+kind_row LineEnds = 24
 
 -- the kinds that apply at one line of a text at most
 abbrev pub has_one_place : WarningKind → Bool

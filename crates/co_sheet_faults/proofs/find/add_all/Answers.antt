@@ -1,0 +1,33 @@
+use Rattle.std.proofs.Common.{◌≡◌, ◌∙◌, ◌++◌, ◌≤◌, List, [], ◌∷◌, ap, subst, sym, length, Contains, arith}
+use Rattle.std.proofs.lemmas.Result.{on_ok_weaker}
+use Rattle.std.specs.List.Sorted.{IsStrictlySortedBy}
+use Rattle.co_sheet_rows.specs.declared.fault.SheetFault.{SheetFault}
+use Rattle.co_sheet_rows.specs.declared.fault.FaultKind.TheVariants.{TooLarge}
+use Rattle.co_sheet.specs.Faults.{fault_at}
+use Rattle.co_sheet_faults.specs.FaultOrder.{fault_cmp}
+use Rattle.co_sheet_text.specs.Text.{lines_of}
+use Rattle.co_sheet_faults.specs.private.Collected.{text_collected}
+use Rattle.co_sheet_faults.proofs.TextCodeLemmas.{text-found, found-text}
+use Rattle.co_sheet_faults.proofs.find.add_all.Goals as goal
+
+pub returns-then-text-gt-GREATEST_SIZE-clause-increase : goal.returns-then-text-gt-GREATEST_SIZE-clause-increase
+unfolding IsStrictlySortedBy
+returns-then-text-gt-GREATEST_SIZE-clause-increase c =
+    let alone : c.push.new.self.items ≡ fault_at 0 TooLarge ∷ [] = c.in_ok-push.ensures.items ∙ ap (λ (l : List SheetFault). l ++ fault_at 0 TooLarge ∷ []) c.requires in
+    subst (IsStrictlySortedBy fault_cmp) (sym alone) (tt, tt)
+
+pub returns-clause-all : goal.returns-clause-all
+returns-clause-all c =
+    let few : length c.args.text.now ≤ 1048576 = omega arith in
+    let collected = c.in_ok-add_collected.ensures ∙ ap (λ (l : List SheetFault). l ++ text_collected (lines_of c.args.text.now)) c.requires in
+    on_ok_weaker c.put_in_order.result
+    (λ all. λ fault h. all fault (subst (λ (l : List SheetFault). Contains l fault) (sym collected) (found-text c.args.text.now few fault h)))
+    c.put_in_order.ensures.all
+
+pub returns-clause-only : goal.returns-clause-only
+returns-clause-only c =
+    let few : length c.args.text.now ≤ 1048576 = omega arith in
+    let collected = c.in_ok-add_collected.ensures ∙ ap (λ (l : List SheetFault). l ++ text_collected (lines_of c.args.text.now)) c.requires in
+    on_ok_weaker c.put_in_order.result
+    (λ only. λ fault h. text-found c.args.text.now few fault (subst (λ (l : List SheetFault). Contains l fault) collected (only fault h)))
+    c.put_in_order.ensures.only

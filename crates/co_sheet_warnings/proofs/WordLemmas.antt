@@ -1,0 +1,128 @@
+-- The tables of words have each kind's words in its row.
+use Rattle.std.proofs.Common.{◌≡◌, ℕ, List, [], get_or, map, refl}
+use Rattle.co_sheet_warnings.specs.declared.known_key.KnownKey.{KnownKey}
+use Rattle.co_sheet_warnings.specs.declared.warning.WarningKind.{WarningKind}
+use Rattle.co_sheet_warnings.specs.declared.warning.WarningKind.TheVariants.{SubNumber, SubIndex0, FileInfoKeys, DeviceInfoKeys, PdoCount, WrongList, Unlisted, IdentityNumber, FixedCobId, NodeIdPlace, MisspeltKey, SharedCobId, InhibitTime, OwnHeartbeat, HeartbeatTwice, NoErrorControl, LongLine, Utf8, NotAscii, ListOrder, EqualNames, MissingName, UnknownKey, DateFormat, LineEnds}
+use Rattle.co_sheet_warnings.specs.declared.words.TheConstants.{NAMES, MEANINGS, FIXES, SUBJECTS}
+use Rattle.co_sheet_warnings.specs.WarningWords.{name_of, meaning_of, fix_of, subject_of}
+use Rattle.co_sheet_warnings.specs.private.Views.{kind_row}
+
+abbrev pub names : List (List ℕ)
+names = map (λ text. text.now) NAMES
+
+abbrev pub meanings : List (List ℕ)
+meanings = map (λ text. text.now) MEANINGS
+
+abbrev pub fixes : List (List ℕ)
+fixes = map (λ text. text.now) FIXES
+
+abbrev pub subjects : List (List ℕ)
+subjects = map (λ text. text.now) SUBJECTS
+
+pub named : (kind : WarningKind) → get_or names (kind_row kind) [] ≡ name_of kind
+named SubNumber = refl
+named SubIndex0 = refl
+named FileInfoKeys = refl
+named DeviceInfoKeys = refl
+named PdoCount = refl
+named WrongList = refl
+named Unlisted = refl
+named IdentityNumber = refl
+named FixedCobId = refl
+named NodeIdPlace = refl
+named (MisspeltKey key) = refl
+named SharedCobId = refl
+named InhibitTime = refl
+named OwnHeartbeat = refl
+named HeartbeatTwice = refl
+named NoErrorControl = refl
+named LongLine = refl
+named Utf8 = refl
+named NotAscii = refl
+named ListOrder = refl
+named EqualNames = refl
+named MissingName = refl
+named UnknownKey = refl
+named DateFormat = refl
+named LineEnds = refl
+
+pub meant : (kind : WarningKind) → get_or meanings (kind_row kind) [] ≡ meaning_of kind
+meant SubNumber = refl
+meant SubIndex0 = refl
+meant FileInfoKeys = refl
+meant DeviceInfoKeys = refl
+meant PdoCount = refl
+meant WrongList = refl
+meant Unlisted = refl
+meant IdentityNumber = refl
+meant FixedCobId = refl
+meant NodeIdPlace = refl
+meant (MisspeltKey key) = refl
+meant SharedCobId = refl
+meant InhibitTime = refl
+meant OwnHeartbeat = refl
+meant HeartbeatTwice = refl
+meant NoErrorControl = refl
+meant LongLine = refl
+meant Utf8 = refl
+meant NotAscii = refl
+meant ListOrder = refl
+meant EqualNames = refl
+meant MissingName = refl
+meant UnknownKey = refl
+meant DateFormat = refl
+meant LineEnds = refl
+
+pub ruled : (kind : WarningKind) → get_or subjects (kind_row kind) [] ≡ subject_of kind
+ruled SubNumber = refl
+ruled SubIndex0 = refl
+ruled FileInfoKeys = refl
+ruled DeviceInfoKeys = refl
+ruled PdoCount = refl
+ruled WrongList = refl
+ruled Unlisted = refl
+ruled IdentityNumber = refl
+ruled FixedCobId = refl
+ruled NodeIdPlace = refl
+ruled (MisspeltKey key) = refl
+ruled SharedCobId = refl
+ruled InhibitTime = refl
+ruled OwnHeartbeat = refl
+ruled HeartbeatTwice = refl
+ruled NoErrorControl = refl
+ruled LongLine = refl
+ruled Utf8 = refl
+ruled NotAscii = refl
+ruled ListOrder = refl
+ruled EqualNames = refl
+ruled MissingName = refl
+ruled UnknownKey = refl
+ruled DateFormat = refl
+ruled LineEnds = refl
+
+pub fixed : (kind : WarningKind) → ((key : KnownKey) → kind ≡ MisspeltKey key → ⊥) → get_or fixes (kind_row kind) [] ≡ fix_of kind
+fixed SubNumber other = refl
+fixed SubIndex0 other = refl
+fixed FileInfoKeys other = refl
+fixed DeviceInfoKeys other = refl
+fixed PdoCount other = refl
+fixed WrongList other = refl
+fixed Unlisted other = refl
+fixed IdentityNumber other = refl
+fixed FixedCobId other = refl
+fixed NodeIdPlace other = refl
+fixed (MisspeltKey key) other = absurd (other key refl)
+fixed SharedCobId other = refl
+fixed InhibitTime other = refl
+fixed OwnHeartbeat other = refl
+fixed HeartbeatTwice other = refl
+fixed NoErrorControl other = refl
+fixed LongLine other = refl
+fixed Utf8 other = refl
+fixed NotAscii other = refl
+fixed ListOrder other = refl
+fixed EqualNames other = refl
+fixed MissingName other = refl
+fixed UnknownKey other = refl
+fixed DateFormat other = refl
+fixed LineEnds other = refl

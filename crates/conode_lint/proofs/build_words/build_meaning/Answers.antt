@@ -1,0 +1,9 @@
+use Rattle.std.proofs.Common.{ℕ, [], ◌∙◌, ap, get_or}
+use Rattle.conode_lint.proofs.WordLemmas.{few_faults, meant, meanings}
+use Rattle.conode_lint.proofs.build_words.build_meaning.Goals as goal
+
+pub text_at-requires : goal.text_at-requires
+text_at-requires c = rw c.number.ensures (few_faults c.args.fault)
+
+pub returns : goal.returns
+returns c = c.text_at.ensures ∙ ap (λ (n : ℕ). get_or meanings n []) c.number.ensures ∙ meant c.args.fault

@@ -1,8 +1,0 @@
-use Rattle.std.proofs.Common.{[], arith}
-use Rattle.conode_lint.specs.Marks.{fault_mark}
-use Rattle.conode_lint.proofs.LoopLemmas.{pushed_more}
-use Rattle.conode_lint.proofs.marks.fault_marks.Goals as goal
-
-pub loop-fault-preserved : goal.loop-fault-preserved
-loop-fault-preserved c =
-    pushed_more fault_mark c.args.faults.now c.loop-fault.fault-index _ [] _ _ (omega arith) c.loop-fault.invariant c.in_ok-push.ensures.items
