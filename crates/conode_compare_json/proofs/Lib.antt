@@ -1,3 +1,4 @@
+pub mod Ended
 pub mod Firsts
 pub mod Pairs
 pub mod Reported

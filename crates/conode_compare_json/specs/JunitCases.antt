@@ -1,5 +1,5 @@
 -- The test cases of JUnit: one a kind of difference.
-use Rattle.std.specs.Prelude.{ℕ, ◌-◌, ◌==◌, nat_lt, Bool, if◌then◌else◌, List, [], ◌∷◌, ◌++◌, length, min, take, filter, codes, decimal}
+use Rattle.std.specs.Prelude.{ℕ, ◌+◌, ◌-◌, ◌==◌, nat_lt, Bool, ◌&&◌, if◌then◌else◌, List, [], ◌∷◌, ◌++◌, length, min, take, filter, codes, decimal}
 use Rattle.std.specs.List.{concat, flat_map}
 use Rattle.conode_compare_text.specs.FindingTexts.{finding_line}
 use Rattle.conode_compare_report.specs.declared.kind.Counted.{Counted}
@@ -16,6 +16,16 @@ is_of_kind kind noted = kind_number (kind_of noted.finding) == kind_number kind
 -- the line of a difference, as the text has it
 unfoldable pub line_markup : List ℕ → Noted → List ℕ
 line_markup recording noted = escaped (finding_line recording noted.line noted.value_type noted.finding)
+
+-- whether a difference is of this kind, and fewer than a hundred have a line; its line then, and how many have one after it
+abbrev pub has_line : Kind → ℕ → Noted → Bool
+has_line kind count noted = nat_lt count 100 && is_of_kind kind noted
+
+abbrev pub own_line : List ℕ → Kind → ℕ → Noted → List ℕ
+own_line recording kind count noted = if has_line kind count noted then line_markup recording noted else []
+
+abbrev pub own_count : Kind → ℕ → Noted → ℕ
+own_count kind count noted = if has_line kind count noted then count + 1 else count
 
 -- how many differences have no line
 abbrev pub more_markup : ℕ → List ℕ

@@ -1,9 +1,9 @@
-//! The document of JUnit. Each function with a text appends to it. `Err`: out of memory; a
-//! part of it may be there.
+//! The document of JUnit.
 
-ghost use Rattle.std.specs.Prelude.{◌≡◌, ◌++◌, count_by, IfOk, OnOk, string_bytes};
+ghost use Rattle.std.specs.Prelude.{◌≡◌, count_by, IfOk, string_bytes};
 ghost use Rattle.std.specs.List.{flat_map};
 ghost use Rattle.conode_compare_report.specs.Abouts.{about_view};
+ghost use Rattle.conode_json.specs.Appended.{Appended};
 ghost use Rattle.conode_compare_json.specs.JunitCases.{case_markup};
 ghost use Rattle.conode_compare_json.specs.JunitDocument.{
   error_count,
@@ -15,9 +15,9 @@ ghost use Rattle.conode_compare_json.specs.JunitDocument.{
   suite_begin,
 };
 
-use crate::cases::{push_case, push_outcome, push_words};
-use conode_compare_report::{About, Counted, Outcome, Report};
-use conode_json::{Value, push_filled};
+use crate::cases::{push_case, push_outcome};
+use conode_compare_report::{About, Counted, Noted, Outcome, Report};
+use conode_json::{Markup, Value};
 use std::alloc::{AllocError, Global};
 
 /// The document up to the name of its test cases.
@@ -99,20 +99,10 @@ fn numbers_of(about: &About<'_, '_>, report: &Report) -> Numbers
 }
 
 // up to the test cases: their numbers, and what was compared
-#[tactic(auto, unfolding(crate::specs::JunitDocument::suite_begin))]
-fn begin_suite(
-    alloc: Global,
-    text: &mut String,
-    about: &About<'_, '_>,
-    numbers: Numbers,
-    micros: u64,
-) -> Result<(), AllocError>
-    ensures { OnOk result (string_bytes text.new
-        ≡ string_bytes text.old ++ suite_begin (about_view about.now) numbers micros) }
+fn begin_suite(suite: &mut Markup, about: &About<'_, '_>, numbers: Numbers, micros: u64)
+    ensures { Appended suite.old (suite_begin (about_view about.now) numbers micros) suite.new }
 {
-    push_filled(
-        alloc,
-        text,
+    suite.put(
         "%%\" tests=\"%\" failures=\"%\" errors=\"%\" skipped=\"%\" time=\"%\">\n<properties>\n\
         <property name=\"version\" value=\"%\"/>\n<property name=\"sheet\" value=\"%\"/>\n\
         <property name=\"recording\" value=\"%\"/>\n<property name=\"node\" value=\"%\"/>\n\
@@ -130,39 +120,38 @@ fn begin_suite(
             Value::Name(about.recording),
             Value::Number(about.node as u64),
         ],
-    )
+    );
 }
 
 fn push_cases(
     alloc: Global,
-    text: &mut String,
+    suite: &mut Markup,
     recording: &str,
-    report: &Report,
-) -> Result<(), AllocError>
-    ensures { OnOk result (string_bytes text.new ≡ string_bytes text.old
-        ++ flat_map (case_markup recording.now report.now.noted) report.now.kinds) }
+    kinds: &[Counted],
+    noted: &[Noted],
+)
+    ensures { Appended suite.old (flat_map
+        (case_markup recording.now noted.now) kinds.now) suite.new }
 {
-    for counted in &report.kinds {
-        push_case(alloc, text, recording, *counted, report)?;
+    for counted in kinds {
+        push_case(alloc, suite, recording, *counted, noted);
     }
-    Ok(())
 }
 
-#[tactic(auto, unfolding(crate::specs::JunitDocument::junit_document))]
-fn push_document(
-    alloc: Global,
-    text: &mut String,
-    about: &About<'_, '_>,
-    report: &Report,
-) -> Result<(), AllocError>
-    ensures { OnOk result (string_bytes text.new
-        ≡ string_bytes text.old ++ junit_document (about_view about.now) report.now) }
+fn push_document(alloc: Global, suite: &mut Markup, about: &About<'_, '_>, report: &Report)
+    ensures { Appended suite.old (junit_document (about_view about.now) report.now) suite.new }
 {
     let numbers = numbers_of(about, report);
-    begin_suite(alloc, text, about, numbers, span_of(report))?;
-    push_cases(alloc, text, about.recording, report)?;
-    push_outcome(alloc, text, about)?;
-    push_words(text, "</testsuite>\n</testsuites>\n")
+    begin_suite(suite, about, numbers, span_of(report));
+    push_cases(
+        alloc,
+        suite,
+        about.recording,
+        report.kinds.as_slice(),
+        report.noted.as_slice(),
+    );
+    push_outcome(suite, about);
+    suite.put_words("</testsuite>\n</testsuites>\n");
 }
 
 /// The comparison as a document of JUnit: a test case a kind of difference, with the recording's span
@@ -175,7 +164,7 @@ pub fn junit_document(
     ensures { IfOk result
         (λ text. string_bytes text ≡ junit_document (about_view about.now) report.now) }
 {
-    let mut text = String::new(alloc);
-    push_document(alloc, &mut text, about, report)?;
-    Ok(text)
+    let mut suite = Markup::new(alloc);
+    push_document(alloc, &mut suite, about, report);
+    suite.into_text()
 }

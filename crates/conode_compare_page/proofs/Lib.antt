@@ -1,1 +1,2 @@
+pub mod Enumerated
 mod Examples

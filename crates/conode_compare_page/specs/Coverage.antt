@@ -1,7 +1,7 @@
 -- What the recording tested, and what it didn't.
-use Rattle.std.specs.Prelude.{ℕ, ◌==◌, Bool, true, false, not, ◌||◌, if◌then◌else◌, List, [], ◌∷◌, ◌++◌, filter, length, codes, decimal, Option, Some, None}
+use Rattle.std.specs.Prelude.{ℕ, ◌==◌, Bool, true, false, not, ◌||◌, if◌then◌else◌, List, [], ◌∷◌, ◌++◌, filter, length, codes, decimal}
 use Rattle.std.specs.List.{concat, flat_map, slice_get}
-use Rattle.std.specs.Option.{option_map_or}
+use Rattle.std.specs.Option.{option_map, option_map_or}
 use Rattle.co_value.specs.KeyTexts.{key_text}
 use Rattle.co_sheet.specs.Content.{Row}
 use Rattle.conode_compare_report.specs.Abouts.{Described}
@@ -15,7 +15,7 @@ use Rattle.conode_compare_report.specs.declared.service.Served.{Served}
 use Rattle.conode_compare_report.specs.Kinds.{kind_name, kind_rule}
 use Rattle.conode_compare_report.specs.Services.{service_name}
 use Rattle.conode_json.specs.Escapes.{escaped}
-use Rattle.conode_json.specs.Filled.{code_digits}
+use Rattle.conode_json.specs.Filled.{any_text, code_digits}
 use Rattle.conode_compare_page.specs.declared.coverage.Listed.{Listed}
 use Rattle.conode_compare_page.specs.declared.coverage.Listed.TheVariants.{TransmissionTypes, AbortCodes}
 use Rattle.conode_compare_page.specs.declared.coverage.TheConstants.{TYPES, NO_TYPES, ABORTS, NO_ABORTS}
@@ -77,14 +77,10 @@ covered_at entries at = option_map_or (λ covered. covered) (slice_get entries a
 abbrev pub transferred_count : List Covered → ℕ
 transferred_count entries = length (filter is_transferred entries)
 
--- a name, empty where there is none
-abbrev pub name_of : Option (List ℕ) → List ℕ
-name_of None = []
-name_of (Some name) = name
-
+-- an entry, with its name if it has one
 unfoldable pub entry_text : Covered → Row → List ℕ
 entry_text covered row = concat (
-    codes "<li><code>" ∷ key_text row.key ∷ codes "</code>" ∷ escaped (name_of row.name) ∷ entry_end covered ∷ [])
+    codes "<li><code>" ∷ key_text row.key ∷ codes "</code>" ∷ any_text [] (option_map escaped row.name) [] ∷ entry_end covered ∷ [])
 
 -- an entry in the list of those that were transferred, or in that of the others
 abbrev pub is_listed : Bool → Covered → Bool

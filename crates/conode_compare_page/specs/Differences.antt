@@ -51,11 +51,8 @@ list_end unlisted =
     if unlisted == 0 then codes "</table>\n</section>\n"
     else concat (codes "</table>\n<p>" ∷ decimal unlisted ∷ codes " more came after these, and aren't listed.</p>\n</section>\n" ∷ [])
 
-unfoldable pub difference_list : Kept → List Noted → List ℕ
-difference_list report noted = OPENING.now ++ indexed (difference report) 0 noted
-
 unfoldable pub difference_table : Kept → List ℕ
-difference_table report = difference_list report report.noted ++ list_end report.unlisted
+difference_table report = OPENING.now ++ indexed (difference report) 0 report.noted ++ list_end report.unlisted
 
 -- the table, if there is a difference
 abbrev pub differences : Kept → List ℕ

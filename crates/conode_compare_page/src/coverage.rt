@@ -1,7 +1,7 @@
 //! What a recording tested, and what it didn't. Each function appends a text. `Err`: out of memory;
 //! a part of it may be there.
 
-ghost use Rattle.std.specs.Prelude.{◌≡◌, ◌++◌, OnOk, string_bytes};
+ghost use Rattle.conode_json.specs.Appended.{Appended};
 ghost use Rattle.conode_compare_report.specs.Abouts.{about_view};
 ghost use Rattle.conode_compare_page.specs.Coverage.{
   numbered_item,
@@ -9,18 +9,14 @@ ghost use Rattle.conode_compare_page.specs.Coverage.{
   seen_text,
   service_item,
   services_text,
-  state_begin,
-  state_end,
   states_text,
   tested,
 };
 
 use crate::entries::push_entries;
 use crate::kinds::push_kinds;
-use crate::words::either;
 use conode_compare_report::{About, Coverage, Numbered, Report, Served, States};
-use conode_json::{Value, push_filled};
-use std::alloc::{AllocError, Global};
+use conode_json::{Markup, Value};
 
 /// What a list of numbers has.
 #[derive(Clone, Copy)]
@@ -38,90 +34,67 @@ const ABORTS: &str = "<h3>SDO abort codes</h3>\n<ul>\n";
 
 const NO_ABORTS: &str = "<h3>SDO abort codes</h3>\n<p class=\"not\">No transfer was aborted.</p>\n";
 
-#[tactic(auto, unfolding(crate::specs::Coverage::service_item))]
-fn push_service(alloc: Global, text: &mut String, served: &Served) -> Result<(), AllocError>
-    ensures { OnOk result
-        (string_bytes text.new ≡ string_bytes text.old ++ service_item served.now) }
+/// The beginning of an item of what wasn't seen.
+const SOFT: &str = "<li class=\"not\">";
+
+/// The ends of the items of the states.
+const SEEN: &str = "<b>seen</b></li>\n";
+
+const NOT_SEEN: &str = "<b>not seen</b></li>\n";
+
+fn push_service(page: &mut Markup, served: &Served)
+    ensures { Appended page.old (service_item served.now) page.new }
 {
-    push_filled(
-        alloc,
-        text,
+    page.put(
         "%%<b>%</b></li>\n",
         &[
-            Value::Words(either(served.count == 0, "<li class=\"not\">", "<li>")),
+            Value::Either(served.count == 0, SOFT, "<li>"),
             Value::Words(served.service.name()),
             Value::Count(served.count, "not seen"),
         ],
-    )
+    );
 }
 
-#[tactic(auto, unfolding(crate::specs::Coverage::services_text))]
-fn push_services(alloc: Global, text: &mut String, services: &[Served]) -> Result<(), AllocError>
-    ensures { OnOk result (string_bytes text.new
-        ≡ string_bytes text.old ++ services_text services.now) }
+fn push_services(page: &mut Markup, services: &[Served])
+    ensures { Appended page.old (services_text services.now) page.new }
 {
-    text.push_str("<h3>Services</h3>\n<ul>\n")?;
+    page.put_words("<h3>Services</h3>\n<ul>\n");
     for served in services {
-        push_service(alloc, text, served)?;
+        push_service(page, served);
     }
-    text.push_str("</ul>\n")
+    page.put_words("</ul>\n");
 }
 
-fn state_begin(seen: bool) -> &'static str
-    ensures { result.now ≡ state_begin seen }
+fn push_states(page: &mut Markup, states: States)
+    ensures { Appended page.old (states_text states) page.new }
 {
-    either(seen, "<li>", "<li class=\"not\">")
-}
-
-fn state_end(seen: bool) -> &'static str
-    ensures { result.now ≡ state_end seen }
-{
-    either(seen, "<b>seen</b></li>\n", "<b>not seen</b></li>\n")
-}
-
-#[tactic(auto, unfolding(crate::specs::Coverage::states_text))]
-fn push_states(alloc: Global, text: &mut String, states: States) -> Result<(), AllocError>
-    ensures { OnOk result (string_bytes text.new ≡ string_bytes text.old ++ states_text states) }
-{
-    push_filled(
-        alloc,
-        text,
+    page.put(
         "<h3>NMT states</h3>\n<ul>\n%initialising%%pre-operational%%operational%%stopped%</ul>\n",
         &[
-            Value::Words(state_begin(states.initialising)),
-            Value::Words(state_end(states.initialising)),
-            Value::Words(state_begin(states.pre_operational)),
-            Value::Words(state_end(states.pre_operational)),
-            Value::Words(state_begin(states.operational)),
-            Value::Words(state_end(states.operational)),
-            Value::Words(state_begin(states.stopped)),
-            Value::Words(state_end(states.stopped)),
+            Value::Either(states.initialising, "<li>", SOFT),
+            Value::Either(states.initialising, SEEN, NOT_SEEN),
+            Value::Either(states.pre_operational, "<li>", SOFT),
+            Value::Either(states.pre_operational, SEEN, NOT_SEEN),
+            Value::Either(states.operational, "<li>", SOFT),
+            Value::Either(states.operational, SEEN, NOT_SEEN),
+            Value::Either(states.stopped, "<li>", SOFT),
+            Value::Either(states.stopped, SEEN, NOT_SEEN),
         ],
-    )
+    );
 }
 
-fn push_numbered(
-    alloc: Global,
-    text: &mut String,
-    listed: Listed,
-    numbered: &Numbered,
-) -> Result<(), AllocError>
-    ensures { OnOk result
-        (string_bytes text.new ≡ string_bytes text.old ++ numbered_item listed numbered.now) }
+fn push_numbered(page: &mut Markup, listed: Listed, numbered: &Numbered)
+    ensures { Appended page.old (numbered_item listed numbered.now) page.new }
 {
     match listed {
-        Listed::TransmissionTypes => push_filled(
-            alloc,
-            text,
+        Listed::TransmissionTypes => page.put(
             "<li>type %<b>%</b></li>\n",
             &[
                 Value::Number(numbered.number as u64),
                 Value::Number(numbered.count),
             ],
         ),
-        Listed::AbortCodes => push_filled(
-            alloc,
-            text,
+        Listed::AbortCodes => page.put(
             "<li><code>%</code><b>%</b></li>\n",
             &[
                 Value::Code(Some(numbered.number as u64), ""),
@@ -132,60 +105,35 @@ fn push_numbered(
 }
 
 // a list under its head; of no number other words
-#[tactic(auto, unfolding(crate::specs::Coverage::numbers_text))]
-fn push_numbers(
-    alloc: Global,
-    text: &mut String,
-    listed: Listed,
-    head: &str,
-    none: &str,
-    numbers: &[Numbered],
-) -> Result<(), AllocError>
-    ensures { OnOk result (string_bytes text.new
-        ≡ string_bytes text.old ++ numbers_text listed head.now none.now numbers.now) }
+fn push_numbers(page: &mut Markup, listed: Listed, head: &str, none: &str, numbers: &[Numbered])
+    ensures { Appended page.old (numbers_text listed head.now none.now numbers.now) page.new }
 {
     if numbers.is_empty() {
-        return text.push_str(none);
+        return page.put_words(none);
     }
-    text.push_str(head)?;
+    page.put_words(head);
     for numbered in numbers {
-        push_numbered(alloc, text, listed, numbered)?;
+        push_numbered(page, listed, numbered);
     }
-    text.push_str("</ul>\n")
+    page.put_words("</ul>\n");
 }
 
-#[tactic(auto, unfolding(crate::specs::Coverage::seen_text))]
-fn push_seen(alloc: Global, text: &mut String, coverage: &Coverage) -> Result<(), AllocError>
-    ensures { OnOk result
-        (string_bytes text.new ≡ string_bytes text.old ++ seen_text coverage.now) }
+fn push_seen(page: &mut Markup, coverage: &Coverage)
+    ensures { Appended page.old (seen_text coverage.now) page.new }
 {
-    push_services(alloc, text, coverage.services.as_slice())?;
-    push_states(alloc, text, coverage.states)?;
+    push_services(page, coverage.services.as_slice());
+    push_states(page, coverage.states);
     let types = coverage.types.as_slice();
-    push_numbers(
-        alloc,
-        text,
-        Listed::TransmissionTypes,
-        TYPES,
-        NO_TYPES,
-        types,
-    )?;
+    push_numbers(page, Listed::TransmissionTypes, TYPES, NO_TYPES, types);
     let aborts = coverage.aborts.as_slice();
-    push_numbers(alloc, text, Listed::AbortCodes, ABORTS, NO_ABORTS, aborts)
+    push_numbers(page, Listed::AbortCodes, ABORTS, NO_ABORTS, aborts);
 }
 
 /// Appends what the recording tested, without the end of the section.
-#[tactic(auto, unfolding(crate::specs::Coverage::tested))]
-pub(crate) fn push_coverage(
-    alloc: Global,
-    text: &mut String,
-    about: &About<'_, '_>,
-    report: &Report,
-) -> Result<(), AllocError>
-    ensures { OnOk result (string_bytes text.new
-        ≡ string_bytes text.old ++ tested (about_view about.now) report.now) }
+pub(crate) fn push_coverage(page: &mut Markup, about: &About<'_, '_>, report: &Report)
+    ensures { Appended page.old (tested (about_view about.now) report.now) page.new }
 {
-    push_kinds(alloc, text, report.kinds.as_slice())?;
-    push_entries(alloc, text, about.rows, report.coverage.entries.as_slice())?;
-    push_seen(alloc, text, &report.coverage)
+    push_kinds(page, report.kinds.as_slice());
+    push_entries(page, about.rows, report.coverage.entries.as_slice());
+    push_seen(page, &report.coverage);
 }

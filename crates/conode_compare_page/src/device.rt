@@ -1,13 +1,11 @@
-//! What was compared, and how the page was made. Each function appends a text. `Err`: out of
-//! memory; a part of it may be there.
+//! What was compared, and how the page was made.
 
-ghost use Rattle.std.specs.Prelude.{◌≡◌, ◌++◌, OnOk, string_bytes};
+ghost use Rattle.conode_json.specs.Appended.{Appended};
 ghost use Rattle.conode_compare_report.specs.Abouts.{about_view};
 ghost use Rattle.conode_compare_page.specs.Device.{device, device_rows, foot, stamps_row};
 
 use conode_compare_report::{About, Identity, Report};
-use conode_json::{Value, push_filled};
-use std::alloc::{AllocError, Global};
+use conode_json::{Markup, Value};
 
 /// The page from its last word on.
 const CLOSING: &str = "</code>. Its page docs/COMPARE.md says what each kind of difference is, \
@@ -23,22 +21,18 @@ const LACKING: &str = "not in the data sheet";
 
 // the names of vendor and product, the identity by the sheet and by the recording, the node-ID, the
 // data sheet with so many entries, the recording with its lines, and the interface
-#[tactic(auto, unfolding(crate::specs::Device::device_rows))]
 fn push_rows(
-    alloc: Global,
-    text: &mut String,
+    page: &mut Markup,
     about: &About<'_, '_>,
     shown: Identity,
     entries: usize,
     lines: u64,
     bad: u64,
-) -> Result<(), AllocError>
-    ensures { OnOk result (string_bytes text.new
-        ≡ string_bytes text.old ++ device_rows (about_view about.now) shown entries lines bad) }
+)
+    ensures { Appended page.old
+        (device_rows (about_view about.now) shown entries lines bad) page.new }
 {
-    push_filled(
-        alloc,
-        text,
+    page.put(
         "<section>\n<h2>Device</h2>\n<dl>\n%%<dt>Vendor-ID</dt><dd>%</dd>\n\
         <dt>Product code</dt><dd>%</dd>\n<dt>Revision number</dt><dd>%</dd>\n%%\
         <dt>Node-ID</dt><dd>%</dd>\n<dt>Data sheet</dt><dd>%, % entries</dd>\n\
@@ -63,24 +57,16 @@ fn push_rows(
             Value::Number(bad),
             Value::AnyText("<dt>Interface</dt><dd>", about.interface, END),
         ],
-    )
+    );
 }
 
 // the stamps of the first and of the newest frame, if there is one, and the end of the section
-fn push_stamps(
-    alloc: Global,
-    text: &mut String,
-    begin: Option<u64>,
-    end: u64,
-) -> Result<(), AllocError>
-    ensures { OnOk result
-        (string_bytes text.new ≡ string_bytes text.old ++ stamps_row begin end) }
+fn push_stamps(page: &mut Markup, begin: Option<u64>, end: u64)
+    ensures { Appended page.old (stamps_row begin end) page.new }
 {
     match begin {
-        None => text.push_str("</dl>\n</section>\n"),
-        Some(begin) => push_filled(
-            alloc,
-            text,
+        None => page.put_words("</dl>\n</section>\n"),
+        Some(begin) => page.put(
             "<dt>Stamps</dt><dd>% to % s</dd>\n</dl>\n</section>\n",
             &[Value::Seconds(begin), Value::Seconds(end)],
         ),
@@ -88,41 +74,25 @@ fn push_stamps(
 }
 
 /// Appends what was compared.
-#[tactic(auto, unfolding(crate::specs::Device::device))]
-pub(crate) fn push_device(
-    alloc: Global,
-    text: &mut String,
-    about: &About<'_, '_>,
-    report: &Report,
-) -> Result<(), AllocError>
-    ensures { OnOk result (string_bytes text.new
-        ≡ string_bytes text.old ++ device (about_view about.now) report.now) }
+pub(crate) fn push_device(page: &mut Markup, about: &About<'_, '_>, report: &Report)
+    ensures { Appended page.old (device (about_view about.now) report.now) page.new }
 {
     push_rows(
-        alloc,
-        text,
+        page,
         about,
         report.coverage.identity,
         about.rows.len(),
         report.lines,
         report.bad_lines,
-    )?;
-    push_stamps(alloc, text, report.begin, report.end)
+    );
+    push_stamps(page, report.begin, report.end);
 }
 
 /// Ends the last section, and appends how the page was made.
-#[tactic(auto, unfolding(crate::specs::Device::foot))]
-pub(crate) fn push_foot(
-    alloc: Global,
-    text: &mut String,
-    about: &About<'_, '_>,
-) -> Result<(), AllocError>
-    ensures { OnOk result (string_bytes text.new
-        ≡ string_bytes text.old ++ foot (about_view about.now)) }
+pub(crate) fn push_foot(page: &mut Markup, about: &About<'_, '_>)
+    ensures { Appended page.old (foot (about_view about.now)) page.new }
 {
-    push_filled(
-        alloc,
-        text,
+    page.put(
         "</section>\n<footer>Made by conode %, as <code>conode compare --format html \
         --tolerance % --drift % --answer % --boot %%",
         &[
@@ -133,5 +103,5 @@ pub(crate) fn push_foot(
             Value::Number(about.limits.boot as u64),
             Value::Words(CLOSING),
         ],
-    )
+    );
 }

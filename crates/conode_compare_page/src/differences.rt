@@ -1,14 +1,15 @@
 //! The differences, each with the lines of the recording around it. Each function appends a text.
 //! `Err`: out of memory; a part of it may be there.
 
-ghost use Rattle.std.specs.Prelude.{◌≡◌, ◌++◌, OnOk, string_bytes};
+ghost use Rattle.std.specs.Prelude.{◌≡◌, IfOk, string_bytes};
 ghost use Rattle.std.specs.List.{flat_map};
+ghost use Rattle.conode_compare_text.specs.FindingTexts.{finding_text};
+ghost use Rattle.conode_json.specs.Appended.{Appended};
 ghost use Rattle.conode_compare_page.specs.Indexed.{indexed};
 ghost use Rattle.conode_compare_page.specs.Differences.{
   after_name,
   context_line,
   difference,
-  difference_list,
   difference_row,
   difference_table,
   differences,
@@ -16,10 +17,9 @@ ghost use Rattle.conode_compare_page.specs.Differences.{
   row_cells,
 };
 
-use crate::words::either;
 use conode_compare_report::{ContextLine, Kind, Noted, Report};
 use conode_compare_text::push_finding;
-use conode_json::{Value, push_filled};
+use conode_json::{Markup, Value};
 use std::alloc::{AllocError, Global};
 
 /// The section up to the rows of its table.
@@ -40,62 +40,46 @@ fn after_name<'t>(name: &str, text: &'t [u8]) -> &'t [u8]
     &text[begin..]
 }
 
+// what differs, in words. `Err`: out of memory
+fn finding_words(alloc: Global, noted: &Noted) -> Result<String, AllocError>
+    ensures { IfOk result (λ text.
+        string_bytes text ≡ finding_text noted.now.value_type noted.now.finding) }
+{
+    let mut text = String::new(alloc);
+    push_finding(&mut text, noted.value_type, noted.finding)?;
+    Ok(text)
+}
+
 // a line of the recording with its number, marked if it has the number of the difference's
 #[tactic(auto, unfolding(crate::specs::Differences::context_line))]
-fn push_context_line(
-    alloc: Global,
-    text: &mut String,
-    number: u64,
-    line: &ContextLine,
-) -> Result<(), AllocError>
-    ensures { OnOk result
-        (string_bytes text.new ≡ string_bytes text.old ++ context_line number line.now) }
+fn push_context_line(page: &mut Markup, number: u64, line: &ContextLine)
+    ensures { Appended page.old (context_line number line.now) page.new }
 {
     let marked = line.number == number;
-    push_filled(
-        alloc,
-        text,
+    page.put(
         "%%: %%",
         &[
-            Value::Words(either(marked, "<mark>", "")),
+            Value::Either(marked, "<mark>", ""),
             Value::Number(line.number),
             Value::Text(line.bytes.as_slice()),
-            Value::Words(either(marked, "\n</mark>", "\n")),
+            Value::Either(marked, "\n</mark>", "\n"),
         ],
-    )
+    );
 }
 
-fn push_context(
-    alloc: Global,
-    text: &mut String,
-    number: u64,
-    lines: &[ContextLine],
-) -> Result<(), AllocError>
-    ensures { OnOk result (string_bytes text.new
-        ≡ string_bytes text.old ++ flat_map (context_line number) lines.now) }
+fn push_context(page: &mut Markup, number: u64, lines: &[ContextLine])
+    ensures { Appended page.old (flat_map (context_line number) lines.now) page.new }
 {
     for line in lines {
-        push_context_line(alloc, text, number, line)?;
+        push_context_line(page, number, line);
     }
-    Ok(())
 }
 
-#[tactic(auto, unfolding(crate::specs::Differences::row_cells))]
-fn push_cells(
-    alloc: Global,
-    text: &mut String,
-    begin: u64,
-    at: usize,
-    noted: &Noted,
-    said: &[u8],
-) -> Result<(), AllocError>
-    ensures { OnOk result (string_bytes text.new
-        ≡ string_bytes text.old ++ row_cells begin at noted.now said.now) }
+fn push_cells(page: &mut Markup, begin: u64, at: usize, noted: &Noted, said: &[u8])
+    ensures { Appended page.old (row_cells begin at noted.now said.now) page.new }
 {
     let kind = Kind::of(noted.finding);
-    push_filled(
-        alloc,
-        text,
+    page.put(
         "<tbody class=\"one\" id=\"d%\">\n<tr><td class=\"n\" data-is=\"Line\">%</td>\
         <td class=\"n\" data-is=\"Seconds\">%</td><td><span class=\"found\">%</span> %</td>\
         <td data-is=\"Prescribed:\">%</td></tr>\n<tr class=\"around\"><td colspan=\"4\"><pre>",
@@ -107,107 +91,66 @@ fn push_cells(
             Value::Text(said),
             Value::Words(kind.rule()),
         ],
-    )
+    );
 }
 
 // the row of a difference, up to the lines around it
-fn push_row(
-    alloc: Global,
-    text: &mut String,
-    report: &Report,
-    at: usize,
-    noted: &Noted,
-) -> Result<(), AllocError>
-    ensures { OnOk result (string_bytes text.new
-        ≡ string_bytes text.old ++ difference_row report.now at noted.now) }
+fn push_row(alloc: Global, page: &mut Markup, report: &Report, at: usize, noted: &Noted)
+    ensures { Appended page.old (difference_row report.now at noted.now) page.new }
 {
-    let mut whole = String::new(alloc);
-    push_finding(&mut whole, noted.value_type, noted.finding)?;
-    let said = after_name(Kind::of(noted.finding).name(), whole.as_bytes());
-    push_cells(alloc, text, report.lanes.begin, at, noted, said)
+    match finding_words(alloc, noted) {
+        Ok(whole) => {
+            let said = after_name(Kind::of(noted.finding).name(), whole.as_bytes());
+            push_cells(page, report.lanes.begin, at, noted, said);
+        }
+        Err(_) => page.fail(),
+    }
 }
 
-#[tactic(auto, unfolding(crate::specs::Differences::difference))]
-fn push_difference(
-    alloc: Global,
-    text: &mut String,
-    report: &Report,
-    at: usize,
-    noted: &Noted,
-) -> Result<(), AllocError>
-    ensures { OnOk result (string_bytes text.new
-        ≡ string_bytes text.old ++ difference report.now at noted.now) }
+fn push_difference(alloc: Global, page: &mut Markup, report: &Report, at: usize, noted: &Noted)
+    ensures { Appended page.old (difference report.now at noted.now) page.new }
 {
-    push_row(alloc, text, report, at, noted)?;
-    push_context(alloc, text, noted.line, report.around(noted))?;
-    text.push_str("</pre></td></tr>\n</tbody>\n")
+    push_row(alloc, page, report, at, noted);
+    push_context(page, noted.line, report.around(noted));
+    page.put_words("</pre></td></tr>\n</tbody>\n");
 }
 
 // the end of the table, and how many differences aren't in it
-fn push_end(alloc: Global, text: &mut String, unlisted: u64) -> Result<(), AllocError>
-    ensures { OnOk result (string_bytes text.new ≡ string_bytes text.old ++ list_end unlisted) }
+fn push_end(page: &mut Markup, unlisted: u64)
+    ensures { Appended page.old (list_end unlisted) page.new }
 {
     if unlisted == 0 {
-        return text.push_str("</table>\n</section>\n");
+        return page.put_words("</table>\n</section>\n");
     }
-    push_filled(
-        alloc,
-        text,
+    page.put(
         "</table>\n<p>% more came after these, and aren't listed.</p>\n</section>\n",
         &[Value::Number(unlisted)],
     )
 }
 
-fn push_rows(
-    alloc: Global,
-    text: &mut String,
-    report: &Report,
-    noted: &[Noted],
-) -> Result<(), AllocError>
-    ensures { OnOk result (string_bytes text.new
-        ≡ string_bytes text.old ++ indexed (difference report.now) 0 noted.now) }
+fn push_rows(alloc: Global, page: &mut Markup, report: &Report, noted: &[Noted])
+    ensures { Appended page.old (indexed (difference report.now) 0 noted.now) page.new }
 {
     for (at, one) in noted.iter().enumerate() {
-        push_difference(alloc, text, report, at, one)?;
+        push_difference(alloc, page, report, at, one);
     }
-    Ok(())
 }
 
-#[tactic(auto, unfolding(crate::specs::Differences::difference_list))]
-fn push_list(
-    alloc: Global,
-    text: &mut String,
-    report: &Report,
-    noted: &[Noted],
-) -> Result<(), AllocError>
-    ensures { OnOk result (string_bytes text.new
-        ≡ string_bytes text.old ++ difference_list report.now noted.now) }
+fn push_table(alloc: Global, page: &mut Markup, report: &Report)
+    ensures { Appended page.old (difference_table report.now) page.new }
 {
-    text.push_str(OPENING)?;
-    push_rows(alloc, text, report, noted)
-}
-
-#[tactic(auto, unfolding(crate::specs::Differences::difference_table))]
-fn push_table(alloc: Global, text: &mut String, report: &Report) -> Result<(), AllocError>
-    ensures { OnOk result (string_bytes text.new
-        ≡ string_bytes text.old ++ difference_table report.now) }
-{
-    push_list(alloc, text, report, report.noted.as_slice())?;
-    push_end(alloc, text, report.unlisted)
+    page.put_words(OPENING);
+    push_rows(alloc, page, report, report.noted.as_slice());
+    push_end(page, report.unlisted);
 }
 
 /// Appends the differences.
-pub(crate) fn push_differences(
-    alloc: Global,
-    text: &mut String,
-    report: &Report,
-) -> Result<(), AllocError>
-    ensures { OnOk result (string_bytes text.new
-        ≡ string_bytes text.old ++ differences report.now) }
+pub(crate) fn push_differences(alloc: Global, page: &mut Markup, report: &Report)
+    ensures { Appended page.old (differences report.now) page.new }
 {
     if report.noted.is_empty() {
-        text.push_str(NONE)
+        page.put_words(NONE);
     } else {
-        push_table(alloc, text, report)
+        push_table(alloc, page, report);
     }
 }

@@ -1,7 +1,8 @@
 //! The page.
 
-ghost use Rattle.std.specs.Prelude.{◌≡◌, ◌++◌, IfOk, OnOk, string_bytes};
+ghost use Rattle.std.specs.Prelude.{◌≡◌, IfOk, string_bytes};
 ghost use Rattle.conode_compare_report.specs.Abouts.{about_view};
+ghost use Rattle.conode_json.specs.Appended.{Appended};
 ghost use Rattle.conode_compare_page.specs.Page.{page};
 
 use crate::coverage::push_coverage;
@@ -12,35 +13,28 @@ use crate::head::{
 };
 use crate::picture::push_picture;
 use conode_compare_report::{About, Outcome, Report};
+use conode_json::Markup;
 use std::alloc::{AllocError, Global};
 
-// the sections of the page, one after another. `Err`: out of memory; a part may be there
-#[tactic(auto, unfolding(crate::specs::Page::page))]
-fn push_page(
-    alloc: Global,
-    text: &mut String,
-    about: &About<'_, '_>,
-    report: &Report,
-) -> Result<(), AllocError>
-    ensures { OnOk result (string_bytes text.new
-        ≡ string_bytes text.old ++ page (about_view about.now) report.now) }
+// the sections of the page, one after another
+fn push_sections(alloc: Global, markup: &mut Markup, about: &About<'_, '_>, report: &Report)
+    ensures { Appended markup.old (page (about_view about.now) report.now) markup.new }
 {
     let outcome = Outcome::of(about);
     let count = difference_count(report);
     push_head(
-        alloc,
-        text,
+        markup,
         about,
         headline_number(outcome, count),
         headline_words(outcome, count),
         outcome_class(outcome),
         reason(outcome),
-    )?;
-    push_device(alloc, text, about, report)?;
-    push_differences(alloc, text, report)?;
-    push_picture(alloc, text, report)?;
-    push_coverage(alloc, text, about, report)?;
-    push_foot(alloc, text, about)
+    );
+    push_device(markup, about, report);
+    push_differences(alloc, markup, report);
+    push_picture(markup, report);
+    push_coverage(markup, about, report);
+    push_foot(markup, about);
 }
 
 /// A comparison as one page of HTML, which is XML too: the verdict, the device, the differences,
@@ -49,7 +43,7 @@ fn push_page(
 pub fn page(alloc: Global, about: &About<'_, '_>, report: &Report) -> Result<String, AllocError>
     ensures { IfOk result (λ text. string_bytes text ≡ page (about_view about.now) report.now) }
 {
-    let mut text = String::new(alloc);
-    push_page(alloc, &mut text, about, report)?;
-    Ok(text)
+    let mut markup = Markup::new(alloc);
+    push_sections(alloc, &mut markup, about, report);
+    markup.into_text()
 }

@@ -1,11 +1,11 @@
 //! Which entries of the data sheet a recording transfers. Each function appends a text. `Err`: out
 //! of memory; a part of it may be there.
 
-ghost use Rattle.std.specs.Prelude.{◌≡◌, ◌++◌, OnOk, map, string_bytes};
+ghost use Rattle.std.specs.Prelude.{◌≡◌, map};
 ghost use Rattle.co_sheet.specs.SheetViews.{row_view};
+ghost use Rattle.conode_json.specs.Appended.{Appended};
 ghost use Rattle.conode_compare_page.specs.Coverage.{
   covered_at,
-  entries_begin,
   entries_text,
   entry_end,
   entry_item,
@@ -18,8 +18,7 @@ ghost use Rattle.conode_compare_page.specs.Coverage.{
 
 use co_sheet::EntryRow;
 use conode_compare_report::Covered;
-use conode_json::{Value, push_filled};
-use std::alloc::{AllocError, Global};
+use conode_json::{Markup, Value};
 
 // the end of an entry's item: which transfers came, in words
 fn entry_end(covered: Covered) -> &'static str
@@ -93,98 +92,57 @@ fn transferred_count(entries: &[Covered]) -> usize
 }
 
 #[tactic(auto, unfolding(crate::specs::Coverage::entry_text))]
-fn push_entry(
-    alloc: Global,
-    text: &mut String,
-    covered: Covered,
-    row: &EntryRow<'_>,
-) -> Result<(), AllocError>
-    ensures { OnOk result (string_bytes text.new
-        ≡ string_bytes text.old ++ entry_text covered (row_view row.now)) }
+fn push_entry(page: &mut Markup, covered: Covered, row: &EntryRow<'_>)
+    ensures { Appended page.old (entry_text covered (row_view row.now)) page.new }
 {
-    let name = match row.name {
-        Some(name) => name,
-        None => &[],
-    };
-    push_filled(
-        alloc,
-        text,
+    page.put(
         "<li><code>%</code>%%",
         &[
             Value::Key(row.key),
-            Value::Text(name),
+            Value::AnyText("", row.name, ""),
             Value::Words(entry_end(covered)),
         ],
-    )
+    );
 }
 
 fn push_item(
-    alloc: Global,
-    text: &mut String,
+    page: &mut Markup,
     transferred: bool,
     entries: &[Covered],
     at: usize,
     row: &EntryRow<'_>,
-) -> Result<(), AllocError>
-    ensures { OnOk result (string_bytes text.new
-        ≡ string_bytes text.old ++ entry_item transferred entries.now at (row_view row.now)) }
+)
+    ensures { Appended page.old
+        (entry_item transferred entries.now at (row_view row.now)) page.new }
 {
     let covered = covered_at(entries, at);
     if is_listed(transferred, covered) {
-        push_entry(alloc, text, covered, row)
-    } else {
-        Ok(())
+        push_entry(page, covered, row);
     }
 }
 
-fn push_items(
-    alloc: Global,
-    text: &mut String,
-    transferred: bool,
-    rows: &[EntryRow<'_>],
-    entries: &[Covered],
-) -> Result<(), AllocError>
-    ensures { OnOk result (string_bytes text.new
-        ≡ string_bytes text.old ++ entry_items transferred (map row_view rows.now) entries.now) }
+fn push_items(page: &mut Markup, transferred: bool, rows: &[EntryRow<'_>], entries: &[Covered])
+    ensures { Appended page.old
+        (entry_items transferred (map row_view rows.now) entries.now) page.new }
 {
     for (at, row) in rows.iter().enumerate() {
-        push_item(alloc, text, transferred, entries, at, row)?;
+        push_item(page, transferred, entries, at, row);
     }
-    Ok(())
-}
-
-#[tactic(auto, unfolding(crate::specs::Coverage::entries_begin))]
-fn begin_entries(
-    alloc: Global,
-    text: &mut String,
-    transferred: usize,
-    all: usize,
-) -> Result<(), AllocError>
-    ensures { OnOk result (string_bytes text.new
-        ≡ string_bytes text.old ++ entries_begin transferred all) }
-{
-    push_filled(
-        alloc,
-        text,
-        "<h3>Entries that were transferred by SDO: % of %</h3>\n<ul>\n",
-        &[Value::Number(transferred as u64), Value::Number(all as u64)],
-    )
 }
 
 /// Appends the entries: those that were transferred, and the others.
-#[tactic(auto, unfolding(crate::specs::Coverage::entries_text))]
-pub(crate) fn push_entries(
-    alloc: Global,
-    text: &mut String,
-    rows: &[EntryRow<'_>],
-    entries: &[Covered],
-) -> Result<(), AllocError>
-    ensures { OnOk result (string_bytes text.new
-        ≡ string_bytes text.old ++ entries_text (map row_view rows.now) entries.now) }
+pub(crate) fn push_entries(page: &mut Markup, rows: &[EntryRow<'_>], entries: &[Covered])
+    ensures { Appended page.old (entries_text (map row_view rows.now) entries.now) page.new }
 {
-    begin_entries(alloc, text, transferred_count(entries), rows.len())?;
-    push_items(alloc, text, true, rows, entries)?;
-    text.push_str("</ul>\n<h3>Entries that weren't</h3>\n<ul class=\"not\">\n")?;
-    push_items(alloc, text, false, rows, entries)?;
-    text.push_str("</ul>\n")
+    page.put(
+        "<h3>Entries that were transferred by SDO: % of %</h3>\n<ul>\n",
+        &[
+            Value::Number(transferred_count(entries) as u64),
+            Value::Number(rows.len() as u64),
+        ],
+    );
+    push_items(page, true, rows, entries);
+    page.put_words("</ul>\n<h3>Entries that weren't</h3>\n<ul class=\"not\">\n");
+    push_items(page, false, rows, entries);
+    page.put_words("</ul>\n");
 }

@@ -1,7 +1,7 @@
-//! The beginning of the page: how the comparison ended. Each function appends a text. `Err`: out of
-//! memory; a part of it may be there.
+//! The beginning of the page: how the comparison ended.
 
-ghost use Rattle.std.specs.Prelude.{◌≡◌, ◌++◌, OnOk, string_bytes};
+ghost use Rattle.std.specs.Prelude.{◌≡◌};
+ghost use Rattle.conode_json.specs.Appended.{Appended};
 ghost use Rattle.conode_compare_report.specs.Abouts.{about_view};
 ghost use Rattle.conode_json.specs.Filled.{value_text};
 ghost use Rattle.conode_compare_page.specs.Head.{
@@ -14,10 +14,8 @@ ghost use Rattle.conode_compare_page.specs.Head.{
 };
 
 use crate::style::STYLE;
-use crate::words::either;
 use conode_compare_report::{About, Outcome, Report};
-use conode_json::{Value, push_filled};
-use std::alloc::{AllocError, Global};
+use conode_json::{Markup, Value};
 
 /// The page up to its title.
 const OPENING: &str = "<!DOCTYPE html>\n\
@@ -26,6 +24,17 @@ const OPENING: &str = "<!DOCTYPE html>\n\
     <meta charset=\"utf-8\"/>\n\
     <meta name=\"viewport\" content=\"width=device-width, initial-scale=1\"/>\n\
     <title>";
+
+/// The classes of the colours, in the order of `Outcome`.
+static CLASSES: [&str; 4] = ["good", "bad", "open", "open"];
+
+/// Why nothing was compared, in this order.
+static REASONS: [&str; 4] = [
+    "",
+    "",
+    "<p>It has no frame of this node.</p>\n",
+    "<p>It has frames of several interfaces: name one with <code>--interface</code>.</p>\n",
+];
 
 /// How many differences there are, listed or not.
 pub(crate) fn difference_count(report: &Report) -> u64
@@ -50,7 +59,13 @@ pub(crate) fn headline_words(outcome: Outcome, count: u64) -> &'static str
 {
     match outcome {
         Outcome::NoDifference => "No difference",
-        Outcome::Differences => either(count == 1, " difference", " differences"),
+        Outcome::Differences => {
+            if count == 1 {
+                " difference"
+            } else {
+                " differences"
+            }
+        }
         Outcome::NoFrame | Outcome::SeveralInterfaces => "Not compared",
     }
 }
@@ -59,44 +74,30 @@ pub(crate) fn headline_words(outcome: Outcome, count: u64) -> &'static str
 pub(crate) fn outcome_class(outcome: Outcome) -> &'static str
     ensures { result.now ≡ outcome_class outcome }
 {
-    match outcome {
-        Outcome::NoDifference => "good",
-        Outcome::Differences => "bad",
-        Outcome::NoFrame | Outcome::SeveralInterfaces => "open",
-    }
+    CLASSES[outcome as usize]
 }
 
 /// Why nothing was compared, if so.
 pub(crate) fn reason(outcome: Outcome) -> &'static str
     ensures { result.now ≡ reason outcome }
 {
-    match outcome {
-        Outcome::NoDifference | Outcome::Differences => "",
-        Outcome::NoFrame => "<p>It has no frame of this node.</p>\n",
-        Outcome::SeveralInterfaces => {
-            "<p>It has frames of several interfaces: name one with <code>--interface</code>.</p>\n"
-        }
-    }
+    REASONS[outcome as usize]
 }
 
 /// Appends what comes before the page's body, and how the comparison ended, of what: the headline,
 /// the class of its colour, and why nothing was compared.
-#[tactic(auto, unfolding(crate::specs::Head::head))]
 pub(crate) fn push_head(
-    alloc: Global,
-    text: &mut String,
+    page: &mut Markup,
     about: &About<'_, '_>,
     number: Value<'static>,
     words: &'static str,
     class: &'static str,
     why: &'static str,
-) -> Result<(), AllocError>
-    ensures { OnOk result (string_bytes text.new ≡ string_bytes text.old
-        ++ head (about_view about.now) (value_text number.entry) words.now class.now why.now) }
+)
+    ensures { Appended page.old (head (about_view about.now)
+        (value_text number.entry) words.now class.now why.now) page.new }
 {
-    push_filled(
-        alloc,
-        text,
+    page.put(
         "%%%: %</title>\n<style>\n%</style>\n</head>\n<body>\n<header class=\"%\">\n<h1>%%</h1>\n\
         <p>Node % in <code>%</code>, against its data sheet <code>%</code> and CiA 301</p>\n%\
         <dl class=\"counts\">\n<div><dt>frames as prescribed</dt><dd>%</dd></div>\n\
@@ -119,5 +120,5 @@ pub(crate) fn push_head(
             Value::Number(about.tally.different),
             Value::Number(about.tally.unjudged),
         ],
-    )
+    );
 }

@@ -1,7 +1,8 @@
 //! Lanes whose height is how many frames came. Each function appends a text. `Err`: out of memory;
 //! a part of it may be there.
 
-ghost use Rattle.std.specs.Prelude.{◌≡◌, ◌++◌, OnOk, string_bytes};
+ghost use Rattle.std.specs.Prelude.{◌≡◌};
+ghost use Rattle.conode_json.specs.Appended.{Appended};
 ghost use Rattle.conode_compare_page.specs.Picture.{
   count_in,
   frames_lane,
@@ -13,24 +14,20 @@ ghost use Rattle.conode_compare_page.specs.Picture.{
 };
 
 use conode_compare_report::{Bin, Lane};
-use conode_json::{Value, push_filled};
-use std::alloc::{AllocError, Global};
+use conode_json::{Markup, Value};
 
 /// The beginning of an outline, and what ends it and its lane.
 const OUTLINE: &str = "<path class=\"frames\" d=\"M0 100";
 
 const OUTLINE_END: &str = "V100Z\"/><use href=\"#across\"/></svg></div>\n";
 
+/// The names of the lanes, in the order of `Lane`.
+static NAMES: [&str; 5] = ["Heartbeat", "EMCY", "SDO", "TPDOs", "RPDOs"];
+
 fn lane_name(lane: Lane) -> &'static str
     ensures { result.now ≡ lane_name lane }
 {
-    match lane {
-        Lane::Heartbeats => "Heartbeat",
-        Lane::Emergencies => "EMCY",
-        Lane::Transfers => "SDO",
-        Lane::Tpdos => "TPDOs",
-        Lane::Rpdos => "RPDOs",
-    }
+    NAMES[lane as usize]
 }
 
 fn count_in(lane: Lane, bin: &Bin) -> u32
@@ -63,20 +60,10 @@ fn top_of(count: u32) -> u8
 }
 
 /// Appends a lane up to its picture, and what its picture begins with.
-#[tactic(auto, unfolding(crate::specs::Picture::lane_begin))]
-pub(crate) fn begin_lane<'t>(
-    alloc: Global,
-    text: &mut String,
-    name: &'t str,
-    spans: usize,
-    within: &'t str,
-) -> Result<(), AllocError>
-    ensures { OnOk result (string_bytes text.new
-        ≡ string_bytes text.old ++ lane_begin name.now spans within.now) }
+pub(crate) fn begin_lane<'t>(page: &mut Markup, name: &'t str, spans: usize, within: &'t str)
+    ensures { Appended page.old (lane_begin name.now spans within.now) page.new }
 {
-    push_filled(
-        alloc,
-        text,
+    page.put(
         "<div class=\"lane\"><span>%</span><svg xmlns=\"http://www.w3.org/2000/svg\" \
         viewBox=\"0 0 % 100\" preserveAspectRatio=\"none\">%",
         &[
@@ -84,63 +71,40 @@ pub(crate) fn begin_lane<'t>(
             Value::Number(spans as u64),
             Value::Words(within),
         ],
-    )
+    );
 }
 
-fn push_step(
-    alloc: Global,
-    text: &mut String,
-    at: usize,
-    before: u8,
-    top: u8,
-) -> Result<(), AllocError>
-    ensures { OnOk result (string_bytes text.new ≡ string_bytes text.old ++ step at before top) }
+fn push_step(page: &mut Markup, at: usize, before: u8, top: u8)
+    ensures { Appended page.old (step at before top) page.new }
 {
     if top == before {
-        return Ok(());
+        return;
     }
-    push_filled(
-        alloc,
-        text,
+    page.put(
         "H%V%",
         &[Value::Number(at as u64), Value::Number(top as u64)],
     )
 }
 
-fn push_outline(
-    alloc: Global,
-    text: &mut String,
-    lane: Lane,
-    bins: &[Bin],
-) -> Result<(), AllocError>
-    ensures { OnOk result (string_bytes text.new
-        ≡ string_bytes text.old ++ outline lane 0 100 bins.now) }
+fn push_outline(page: &mut Markup, lane: Lane, bins: &[Bin])
+    ensures { Appended page.old (outline lane 0 100 bins.now) page.new }
 {
     let mut before = 100;
     for (at, bin) in bins.iter().enumerate() {
         let top = top_of(count_in(lane, bin));
-        push_step(alloc, text, at, before, top)?;
+        push_step(page, at, before, top);
         before = top;
     }
-    push_filled(
-        alloc,
-        text,
+    page.put(
         "H%%",
         &[Value::Number(bins.len() as u64), Value::Words(OUTLINE_END)],
     )
 }
 
 /// Appends a lane of frames.
-#[tactic(auto, unfolding(crate::specs::Picture::frames_lane))]
-pub(crate) fn push_frames(
-    alloc: Global,
-    text: &mut String,
-    bins: &[Bin],
-    lane: Lane,
-) -> Result<(), AllocError>
-    ensures { OnOk result (string_bytes text.new
-        ≡ string_bytes text.old ++ frames_lane bins.now lane) }
+pub(crate) fn push_frames(page: &mut Markup, bins: &[Bin], lane: Lane)
+    ensures { Appended page.old (frames_lane bins.now lane) page.new }
 {
-    begin_lane(alloc, text, lane_name(lane), bins.len(), OUTLINE)?;
-    push_outline(alloc, text, lane, bins)
+    begin_lane(page, lane_name(lane), bins.len(), OUTLINE);
+    push_outline(page, lane, bins);
 }

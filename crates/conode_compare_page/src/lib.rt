@@ -12,6 +12,5 @@ mod lane;
 mod picture;
 mod states;
 mod style;
-mod words;
 
 pub use document::page;

@@ -1,9 +1,9 @@
 //! The bus over time, in lanes. Each function appends a text. `Err`: out of memory; a part of it
 //! may be there.
 
-ghost use Rattle.std.specs.Prelude.{◌≡◌, ◌++◌, ◌-◌, ◌*◌, ◌≤◌, ◌^◌, OnOk, string_bytes};
+ghost use Rattle.std.specs.Prelude.{◌≡◌, ◌-◌, ◌*◌, ◌≤◌, ◌^◌};
 ghost use Rattle.std.specs.List.{flat_map};
-ghost use Rattle.conode_compare_page.specs.Indexed.{indexed};
+ghost use Rattle.conode_json.specs.Appended.{Appended};
 ghost use Rattle.conode_compare_page.specs.Picture.{
   across,
   across_text,
@@ -23,8 +23,7 @@ ghost use Rattle.conode_compare_page.specs.Picture.{
 use crate::lane::{begin_lane, push_frames};
 use crate::states::push_states;
 use conode_compare_report::{Bin, Kind, Lane, Lanes, Noted, Report};
-use conode_json::{Value, push_filled};
-use std::alloc::{AllocError, Global};
+use conode_json::{Markup, Value};
 
 /// The end of the times, the colours of the states, and the end of the section.
 const LEGEND: &str = " s</span></div>\n\
@@ -50,32 +49,22 @@ const LANES: [Lane; 5] = [
 ];
 
 // a line across the lanes, if a span has differences
-fn push_across(alloc: Global, text: &mut String, at: usize, bin: &Bin) -> Result<(), AllocError>
-    ensures { OnOk result (string_bytes text.new ≡ string_bytes text.old ++ across at bin.now) }
+fn push_across(page: &mut Markup, at: usize, bin: &Bin)
+    ensures { Appended page.old (across at bin.now) page.new }
 {
     if bin.differences == 0 {
-        return Ok(());
+        return;
     }
-    push_filled(alloc, text, "M%.5 0v100", &[Value::Number(at as u64)])
+    page.put("M%.5 0v100", &[Value::Number(at as u64)]);
 }
 
-fn push_all_across(alloc: Global, text: &mut String, bins: &[Bin]) -> Result<(), AllocError>
-    ensures { OnOk result (string_bytes text.new
-        ≡ string_bytes text.old ++ indexed across 0 bins.now) }
+fn push_across_text(page: &mut Markup, bins: &[Bin])
+    ensures { Appended page.old (across_text bins.now) page.new }
 {
     for (at, bin) in bins.iter().enumerate() {
-        push_across(alloc, text, at, bin)?;
+        push_across(page, at, bin);
     }
-    Ok(())
-}
-
-#[tactic(auto, unfolding(crate::specs::Picture::across_text))]
-fn push_across_text(alloc: Global, text: &mut String, bins: &[Bin]) -> Result<(), AllocError>
-    ensures { OnOk result
-        (string_bytes text.new ≡ string_bytes text.old ++ across_text bins.now) }
-{
-    push_all_across(alloc, text, bins)?;
-    text.push_str("\"/></defs>\n")
+    page.put_words("\"/></defs>\n");
 }
 
 // the span of a stamp
@@ -89,21 +78,10 @@ fn span_of(lanes: &Lanes, micros: u64) -> u64
     at.min(lanes.bins.len().saturating_sub(1) as u64)
 }
 
-#[tactic(auto, unfolding(crate::specs::Picture::mark_text))]
-fn push_mark_text(
-    alloc: Global,
-    text: &mut String,
-    at: usize,
-    span: u64,
-    since: u64,
-    noted: &Noted,
-) -> Result<(), AllocError>
-    ensures { OnOk result (string_bytes text.new
-        ≡ string_bytes text.old ++ mark_text at span since noted.now) }
+fn push_mark_text(page: &mut Markup, at: usize, span: u64, since: u64, noted: &Noted)
+    ensures { Appended page.old (mark_text at span since noted.now) page.new }
 {
-    push_filled(
-        alloc,
-        text,
+    page.put(
         "<a href=\"#d%\"><path class=\"hit\" d=\"M%.5 0v100\"><title>line %, % s: %</title>\
         </path></a>\n",
         &[
@@ -113,54 +91,32 @@ fn push_mark_text(
             Value::Seconds(since),
             Value::Words(Kind::of(noted.finding).name()),
         ],
-    )
+    );
 }
 
-fn push_mark(
-    alloc: Global,
-    text: &mut String,
-    lanes: &Lanes,
-    at: usize,
-    noted: &Noted,
-) -> Result<(), AllocError>
-    ensures { OnOk result (string_bytes text.new
-        ≡ string_bytes text.old ++ difference_mark lanes.now at noted.now) }
+fn push_mark(page: &mut Markup, lanes: &Lanes, at: usize, noted: &Noted)
+    ensures { Appended page.old (difference_mark lanes.now at noted.now) page.new }
 {
     let span = span_of(lanes, noted.micros);
     let since = noted.micros.saturating_sub(lanes.begin);
-    push_mark_text(alloc, text, at, span, since, noted)
+    push_mark_text(page, at, span, since, noted);
 }
 
-#[tactic(auto, unfolding(crate::specs::Picture::marks_text))]
-fn push_marks(
-    alloc: Global,
-    text: &mut String,
-    lanes: &Lanes,
-    noted: &[Noted],
-) -> Result<(), AllocError>
-    ensures { OnOk result (string_bytes text.new
-        ≡ string_bytes text.old ++ marks_text lanes.now noted.now) }
+fn push_marks(page: &mut Markup, lanes: &Lanes, noted: &[Noted])
+    ensures { Appended page.old (marks_text lanes.now noted.now) page.new }
 {
     for (at, difference) in noted.iter().enumerate() {
-        push_mark(alloc, text, lanes, at, difference)?;
+        push_mark(page, lanes, at, difference);
     }
-    text.push_str("</svg></div>\n")
+    page.put_words("</svg></div>\n");
 }
 
-#[tactic(auto, unfolding(crate::specs::Picture::differences_lane))]
-fn push_differences_lane(
-    alloc: Global,
-    text: &mut String,
-    bins: &[Bin],
-    lanes: &Lanes,
-    noted: &[Noted],
-) -> Result<(), AllocError>
-    ensures { OnOk result (string_bytes text.new
-        ≡ string_bytes text.old ++ differences_lane bins.now lanes.now noted.now) }
+fn push_differences_lane(page: &mut Markup, bins: &[Bin], lanes: &Lanes, noted: &[Noted])
+    ensures { Appended page.old (differences_lane bins.now lanes.now noted.now) page.new }
 {
-    begin_lane(alloc, text, "Differences", bins.len(), ACROSS)?;
-    push_across_text(alloc, text, bins)?;
-    push_marks(alloc, text, lanes, noted)
+    begin_lane(page, "Differences", bins.len(), ACROSS);
+    push_across_text(page, bins);
+    push_marks(page, lanes, noted);
 }
 
 fn quarter_of(lanes: &Lanes) -> u64
@@ -171,14 +127,11 @@ fn quarter_of(lanes: &Lanes) -> u64
 }
 
 // the times below the lanes, since the first frame, and the colours of the states
-#[tactic(auto, unfolding(crate::specs::Picture::axis_text))]
-fn push_axis(alloc: Global, text: &mut String, quarter: u64) -> Result<(), AllocError>
+fn push_axis(page: &mut Markup, quarter: u64)
     requires { quarter * 4 ≤ 2 ^ 64 - 1 }
-    ensures { OnOk result (string_bytes text.new ≡ string_bytes text.old ++ axis_text quarter) }
+    ensures { Appended page.old (axis_text quarter) page.new }
 {
-    push_filled(
-        alloc,
-        text,
+    page.put(
         "<div class=\"axis\"><span>% s</span><span>% s</span><span>% s</span><span>% s</span>\
         <span>%%",
         &[
@@ -189,66 +142,41 @@ fn push_axis(alloc: Global, text: &mut String, quarter: u64) -> Result<(), Alloc
             Value::Seconds(quarter * 4),
             Value::Words(LEGEND),
         ],
-    )
+    );
 }
 
-fn push_frame_lanes(
-    alloc: Global,
-    text: &mut String,
-    bins: &[Bin],
-    lanes: &[Lane],
-) -> Result<(), AllocError>
-    ensures { OnOk result (string_bytes text.new
-        ≡ string_bytes text.old ++ flat_map (frames_lane bins.now) lanes.now) }
+fn push_frame_lanes(page: &mut Markup, bins: &[Bin], lanes: &[Lane])
+    ensures { Appended page.old (flat_map (frames_lane bins.now) lanes.now) page.new }
 {
     for lane in lanes {
-        push_frames(alloc, text, bins, *lane)?;
+        push_frames(page, bins, *lane);
     }
-    Ok(())
 }
 
-#[tactic(auto, unfolding(crate::specs::Picture::lanes_picture))]
-fn push_lanes(
-    alloc: Global,
-    text: &mut String,
-    lanes: &Lanes,
-    noted: &[Noted],
-) -> Result<(), AllocError>
-    ensures { OnOk result (string_bytes text.new
-        ≡ string_bytes text.old ++ lanes_picture lanes.now noted.now) }
+fn push_lanes(page: &mut Markup, lanes: &Lanes, noted: &[Noted])
+    ensures { Appended page.old (lanes_picture lanes.now noted.now) page.new }
 {
     let bins = lanes.bins.as_slice();
-    push_differences_lane(alloc, text, bins, lanes, noted)?;
-    push_states(alloc, text, bins)?;
-    push_frame_lanes(alloc, text, bins, &LANES)?;
-    push_axis(alloc, text, quarter_of(lanes))
+    push_differences_lane(page, bins, lanes, noted);
+    push_states(page, bins);
+    push_frame_lanes(page, bins, &LANES);
+    push_axis(page, quarter_of(lanes));
 }
 
-fn push_any(
-    alloc: Global,
-    text: &mut String,
-    lanes: &Lanes,
-    report: &Report,
-) -> Result<(), AllocError>
-    ensures { OnOk result (string_bytes text.new
-        ≡ string_bytes text.old ++ any_picture lanes.now report.now.noted) }
+fn push_any(page: &mut Markup, lanes: &Lanes, report: &Report)
+    ensures { Appended page.old (any_picture lanes.now report.now.noted) page.new }
 {
     if lanes.bins.is_empty() {
-        text.push_str("<p>No frame was compared.</p>\n</section>\n")
+        page.put_words("<p>No frame was compared.</p>\n</section>\n")
     } else {
-        push_lanes(alloc, text, lanes, report.noted.as_slice())
+        push_lanes(page, lanes, report.noted.as_slice())
     }
 }
 
 /// Appends the picture.
-#[tactic(auto, unfolding(crate::specs::Picture::picture))]
-pub(crate) fn push_picture(
-    alloc: Global,
-    text: &mut String,
-    report: &Report,
-) -> Result<(), AllocError>
-    ensures { OnOk result (string_bytes text.new ≡ string_bytes text.old ++ picture report.now) }
+pub(crate) fn push_picture(page: &mut Markup, report: &Report)
+    ensures { Appended page.old (picture report.now) page.new }
 {
-    text.push_str("<section>\n<h2>The bus over time</h2>\n")?;
-    push_any(alloc, text, report.lanes(), report)
+    page.put_words("<section>\n<h2>The bus over time</h2>\n");
+    push_any(page, report.lanes(), report);
 }

@@ -1,7 +1,8 @@
 //! The lane of the NMT states. Each function appends a text. `Err`: out of memory; a part of it may
 //! be there.
 
-ghost use Rattle.std.specs.Prelude.{◌≡◌, ◌++◌, OnOk, string_bytes};
+ghost use Rattle.std.specs.Prelude.{◌≡◌};
+ghost use Rattle.conode_json.specs.Appended.{Appended};
 ghost use Rattle.conode_compare_page.specs.Picture.{
   any_area,
   areas,
@@ -16,8 +17,7 @@ ghost use Rattle.conode_compare_page.specs.Picture.{
 
 use crate::lane::begin_lane;
 use conode_compare_report::{Bin, States};
-use conode_json::{Value, push_filled};
-use std::alloc::{AllocError, Global};
+use conode_json::{Markup, Value};
 
 /// What a span shows of the states.
 #[derive(Clone, Copy)]
@@ -29,6 +29,19 @@ pub(crate) enum Shown {
     Operational,
     Several,
 }
+
+/// Where the tops of the states are, in this order: the more a device does in one, the higher.
+static TOPS: [u8; 6] = [100, 85, 65, 40, 0, 20];
+
+/// Their classes, in this order.
+static CLASSES: [&str; 6] = [
+    "",
+    "initialising",
+    "stopped",
+    "pre-operational",
+    "operational",
+    "several",
+];
 
 fn shown_of(states: States) -> Shown
     ensures { result ≡ shown_of states }
@@ -82,49 +95,23 @@ fn next_shown(shown: Shown, bin: &Bin) -> Shown
     }
 }
 
-// where its top is: the more a device does in a state, the higher
 fn state_top(shown: Shown) -> u8
     ensures { result ≡ state_top shown }
 {
-    match shown {
-        Shown::Nothing => 100,
-        Shown::Initialising => 85,
-        Shown::Stopped => 65,
-        Shown::PreOperational => 40,
-        Shown::Operational => 0,
-        Shown::Several => 20,
-    }
+    TOPS[shown as usize]
 }
 
 fn state_class(shown: Shown) -> &'static str
     ensures { result.now ≡ state_class shown }
 {
-    match shown {
-        Shown::Nothing => "",
-        Shown::Initialising => "initialising",
-        Shown::Stopped => "stopped",
-        Shown::PreOperational => "pre-operational",
-        Shown::Operational => "operational",
-        Shown::Several => "several",
-    }
+    CLASSES[shown as usize]
 }
 
 // an area of a class, with its top, from a span on, so many spans wide
-#[tactic(auto, unfolding(crate::specs::Picture::state_area))]
-fn push_area(
-    alloc: Global,
-    text: &mut String,
-    class: &'static str,
-    top: u8,
-    from: usize,
-    width: usize,
-) -> Result<(), AllocError>
-    ensures { OnOk result (string_bytes text.new
-        ≡ string_bytes text.old ++ state_area class.now top from width) }
+fn push_area(page: &mut Markup, class: &'static str, top: u8, from: usize, width: usize)
+    ensures { Appended page.old (state_area class.now top from width) page.new }
 {
-    push_filled(
-        alloc,
-        text,
+    page.put(
         "<rect class=\"%\" x=\"%\" y=\"%\" width=\"%\" height=\"100\"><title>%</title></rect>\n",
         &[
             Value::Words(class),
@@ -133,57 +120,40 @@ fn push_area(
             Value::Number(width as u64),
             Value::Words(class),
         ],
-    )
+    );
 }
 
-fn push_any_area(
-    alloc: Global,
-    text: &mut String,
-    shown: Shown,
-    from: usize,
-    to: usize,
-) -> Result<(), AllocError>
-    ensures { OnOk result (string_bytes text.new
-        ≡ string_bytes text.old ++ any_area shown from to) }
+fn push_any_area(page: &mut Markup, shown: Shown, from: usize, to: usize)
+    ensures { Appended page.old (any_area shown from to) page.new }
 {
     let top = state_top(shown);
     if top == 100 {
-        return Ok(());
+        return;
     }
-    push_area(
-        alloc,
-        text,
-        state_class(shown),
-        top,
-        from,
-        to.saturating_sub(from),
-    )
+    push_area(page, state_class(shown), top, from, to.saturating_sub(from));
 }
 
-fn push_areas(alloc: Global, text: &mut String, bins: &[Bin]) -> Result<(), AllocError>
-    ensures { OnOk result (string_bytes text.new
-        ≡ string_bytes text.old ++ areas Shown.Nothing 0 0 bins.now) }
+fn push_areas(page: &mut Markup, bins: &[Bin])
+    ensures { Appended page.old (areas Shown.Nothing 0 0 bins.now) page.new }
 {
     let mut shown = Shown::Nothing;
     let mut from = 0;
     for (at, bin) in bins.iter().enumerate() {
         let next = next_shown(shown, bin);
         if state_top(next) != state_top(shown) {
-            push_any_area(alloc, text, shown, from, at)?;
+            push_any_area(page, shown, from, at);
             shown = next;
             from = at;
         }
     }
-    push_any_area(alloc, text, shown, from, bins.len())
+    push_any_area(page, shown, from, bins.len());
 }
 
 /// Appends the lane.
-#[tactic(auto, unfolding(crate::specs::Picture::states_lane))]
-pub(crate) fn push_states(alloc: Global, text: &mut String, bins: &[Bin]) -> Result<(), AllocError>
-    ensures { OnOk result
-        (string_bytes text.new ≡ string_bytes text.old ++ states_lane bins.now) }
+pub(crate) fn push_states(page: &mut Markup, bins: &[Bin])
+    ensures { Appended page.old (states_lane bins.now) page.new }
 {
-    begin_lane(alloc, text, "NMT state", bins.len(), "")?;
-    push_areas(alloc, text, bins)?;
-    text.push_str("<use href=\"#across\"/></svg></div>\n")
+    begin_lane(page, "NMT state", bins.len(), "");
+    push_areas(page, bins);
+    page.put_words("<use href=\"#across\"/></svg></div>\n");
 }

@@ -6,6 +6,7 @@ ghost use Rattle.std.specs.Option.{option_copied};
 ghost use Rattle.co_sheet.specs.SheetViews.{row_view};
 ghost use Rattle.co_value.specs.Keys.{is_key_before};
 ghost use Rattle.conode_compare_report.specs.Occasions.{
+  all_passed,
   answer_passed,
   command_passed,
   control_passed,
@@ -85,6 +86,15 @@ pub(crate) fn pass(counts: &mut [Counted], could: bool, kind: Kind)
     }
 }
 
+// a frame could have shown differences of these kinds, each where the test holds
+fn pass_all(counts: &mut [Counted], kinds: &[(bool, Kind)])
+    ensures { counts.new ≡ all_passed kinds.now counts.old }
+{
+    for (could, kind) in kinds {
+        pass(counts, *could, *kind);
+    }
+}
+
 /// A difference of this kind was found.
 #[tactic(auto, unfolding(crate::specs::Occasions::counts_found))]
 pub(crate) fn find(counts: &mut [Counted], kind: Kind)
@@ -126,18 +136,18 @@ fn pass_control(counts: &mut [Counted], before: &Before, byte: u8)
     ensures { counts.new ≡ control_passed before.now byte counts.old }
 {
     let is_boot_up = byte == 0;
-    pass(counts, true, Kind::HeartbeatLength);
-    pass(counts, !is_boot_up, Kind::HeartbeatState);
-    pass(
+    pass_all(
         counts,
-        !is_boot_up && is_set(before.entries.period),
-        Kind::HeartbeatLate,
-    );
-    pass(counts, is_boot_up, Kind::SecondSender);
-    pass(
-        counts,
-        is_boot_up && is_booting(before.state),
-        Kind::BootMissing,
+        &[
+            (true, Kind::HeartbeatLength),
+            (!is_boot_up, Kind::HeartbeatState),
+            (
+                !is_boot_up && is_set(before.entries.period),
+                Kind::HeartbeatLate,
+            ),
+            (is_boot_up, Kind::SecondSender),
+            (is_boot_up && is_booting(before.state), Kind::BootMissing),
+        ],
     );
 }
 
@@ -145,13 +155,14 @@ fn pass_control(counts: &mut [Counted], before: &Before, byte: u8)
 fn pass_emergency(counts: &mut [Counted], before: &Before)
     ensures { counts.new ≡ emergency_passed before.now counts.old }
 {
-    pass(counts, true, Kind::EmergencyLength);
-    pass(counts, true, Kind::EmergencyState);
-    pass(counts, true, Kind::EmergencyRegister);
-    pass(
+    pass_all(
         counts,
-        is_set(before.entries.inhibit),
-        Kind::EmergencyInhibit,
+        &[
+            (true, Kind::EmergencyLength),
+            (true, Kind::EmergencyState),
+            (true, Kind::EmergencyRegister),
+            (is_set(before.entries.inhibit), Kind::EmergencyInhibit),
+        ],
     );
 }
 
@@ -180,15 +191,16 @@ fn pass_tpdo(counts: &mut [Counted], parameters: Parameters)
     ensures { counts.new ≡ tpdo_passed parameters counts.old }
 {
     let by_event = is_by_event(parameters.kind);
-    pass(counts, parameters.length.is_some(), Kind::PdoLength);
-    pass(counts, true, Kind::PdoState);
-    pass(counts, is_synchronous(parameters.kind), Kind::PdoSync);
-    pass(
+    pass_all(
         counts,
-        by_event && is_set(parameters.inhibit),
-        Kind::PdoInhibit,
+        &[
+            (parameters.length.is_some(), Kind::PdoLength),
+            (true, Kind::PdoState),
+            (is_synchronous(parameters.kind), Kind::PdoSync),
+            (by_event && is_set(parameters.inhibit), Kind::PdoInhibit),
+            (by_event && is_set(parameters.timer), Kind::PdoLate),
+        ],
     );
-    pass(counts, by_event && is_set(parameters.timer), Kind::PdoLate);
 }
 
 fn pass_role(counts: &mut [Counted], role: Role)
@@ -234,9 +246,14 @@ fn has_key(command: u8) -> bool
 fn pass_command(counts: &mut [Counted], command: u8)
     ensures { counts.new ≡ command_passed command counts.old }
 {
-    pass(counts, command < 0x40, Kind::AnswerToggle);
-    pass(counts, has_key(command), Kind::AnswerKey);
-    pass(counts, command == 0x80, Kind::AbortKey);
+    pass_all(
+        counts,
+        &[
+            (command < 0x40, Kind::AnswerToggle),
+            (has_key(command), Kind::AnswerKey),
+            (command == 0x80, Kind::AbortKey),
+        ],
+    );
 }
 
 #[tactic(auto, unfolding(crate::specs::Occasions::answer_passed))]
@@ -246,9 +263,14 @@ fn pass_answer(counts: &mut [Counted], in_sub_block: bool, command: u8)
     if !in_sub_block {
         pass_command(counts, command);
     }
-    pass(counts, true, Kind::NoAnswer);
-    pass(counts, true, Kind::SecondSender);
-    pass(counts, true, Kind::AnswerForm);
+    pass_all(
+        counts,
+        &[
+            (true, Kind::NoAnswer),
+            (true, Kind::SecondSender),
+            (true, Kind::AnswerForm),
+        ],
+    );
 }
 
 fn first_byte(bytes: &[u8]) -> u8
@@ -313,9 +335,14 @@ fn pass_entry(counts: &mut [Counted], row: Option<&EntryRow<'_>>, done: bool)
         ≡ entry_of_upload (option_map row_view (option_copied row.entry)) done counts.old }
 {
     if let Some(row) = row {
-        pass(counts, done, Kind::ValueLength);
-        pass(counts, done && is_held(row), Kind::ValueConst);
-        pass(counts, is_readable(row.access), Kind::AccessRead);
+        pass_all(
+            counts,
+            &[
+                (done, Kind::ValueLength),
+                (done && is_held(row), Kind::ValueConst),
+                (is_readable(row.access), Kind::AccessRead),
+            ],
+        );
     }
 }
 
@@ -326,16 +353,26 @@ fn pass_upload(counts: &mut [Counted], row: Option<&EntryRow<'_>>, done: bool, p
 {
     let expedited = is_expedited(protocol);
     pass_entry(counts, row, done);
-    pass(counts, done && !expedited, Kind::AnswerSize);
-    pass(counts, done && is_block(protocol), Kind::AnswerCrc);
+    pass_all(
+        counts,
+        &[
+            (done && !expedited, Kind::AnswerSize),
+            (done && is_block(protocol), Kind::AnswerCrc),
+        ],
+    );
 }
 
 fn pass_download(counts: &mut [Counted], row: Option<&EntryRow<'_>>)
     ensures { counts.new ≡ download_passed (option_map row_view (option_copied row.entry)) counts.old }
 {
     if let Some(row) = row {
-        pass(counts, is_read_only(row.access), Kind::AccessWrite);
-        pass(counts, has_limits(row), Kind::AccessLimits);
+        pass_all(
+            counts,
+            &[
+                (is_read_only(row.access), Kind::AccessWrite),
+                (has_limits(row), Kind::AccessLimits),
+            ],
+        );
     }
 }
 

@@ -3,4 +3,4 @@ use Rattle.conode_compare_json.proofs.cases.push_passed.Goals as goal
 
 pub returns : goal.returns
 unfolding passed_markup
-returns c = rw (c.name.ensures, c.case_end.ensures) at c.push_filled.ensures
+returns c = rw c.name.ensures at c.put.ensures

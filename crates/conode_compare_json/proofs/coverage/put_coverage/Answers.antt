@@ -1,8 +1,12 @@
 -- One part after another.
-use Rattle.conode_compare_json.specs.CoverageTokens.{coverage_member}
-use Rattle.conode_json.proofs.Appending.{seven}
+use Rattle.conode_json.proofs.Appending.{both}
+use Rattle.conode_json.specs.Members.{array_begin, object_begin}
+use Rattle.conode_compare_json.specs.CoverageTokens.{coverage_member, entries_member}
+use Rattle.conode_compare_json.proofs.Ended.{regrouped}
 use Rattle.conode_compare_json.proofs.coverage.put_coverage.Goals as goal
 
 pub returns : goal.returns
-unfolding coverage_member
-returns c = seven c.end_object.result _ _ _ _ _ _ _ _ _ _ _ _ _ _ _ c.in_ok-begin_object_of.ensures c.in_ok-put_entries.ensures c.in_ok-put_services.ensures c.in_ok-put_all_states.ensures c.in_ok-put_types.ensures c.in_ok-put_aborts.ensures c.end_object.ensures
+unfolding coverage_member entries_member object_begin array_begin
+returns c =
+    both (both (both (both (both (regrouped c.put.ensures (rw c.as_slice.ensures.value at c.put_rows.ensures) c.put-2.ensures) (rw c.as_slice-2.ensures.value at c.put_services.ensures)) c.put_states.ensures)
+    (rw c.as_slice-3.ensures.value at c.put_types.ensures)) (rw c.as_slice-4.ensures.value at c.put_aborts.ensures)) c.put-3.ensures

@@ -1,10 +1,10 @@
 -- One part after another.
+use Rattle.conode_json.proofs.Appending.{both}
 use Rattle.conode_compare_json.specs.JsonDocument.{document_tokens}
-use Rattle.conode_json.proofs.Appending.{six}
 use Rattle.conode_compare_json.proofs.document.put_document.Goals as goal
 
 pub returns : goal.returns
 unfolding document_tokens
 returns c =
-    six c.end_object.result _ _ _ _ _ _ _ _ _ _ _ _ _ c.in_ok-put_compared.ensures c.in_ok-put_outcome.ensures
-    c.in_ok-put_findings.ensures c.in_ok-put_kinds.ensures c.in_ok-put_covered.ensures c.end_object.ensures
+    both (both (both (both (both c.begin_document.ensures (rw (c.name-verdict.ensures, c.of.ensures, c.end_of.ensures) at c.put_ended.ensures)) c.put_findings.ensures)
+    (rw c.as_slice.ensures.value at c.put_kinds.ensures)) c.put_coverage.ensures) c.put.ensures

@@ -3,4 +3,4 @@ use Rattle.conode_compare_json.proofs.junit.begin_suite.Goals as goal
 
 pub returns : goal.returns
 unfolding suite_begin
-returns c = c.push_filled.ensures
+returns c = c.put.ensures

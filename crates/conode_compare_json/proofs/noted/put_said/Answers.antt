@@ -3,4 +3,4 @@ use Rattle.conode_compare_json.proofs.noted.put_said.Goals as goal
 
 pub returns : goal.returns
 unfolding said_tokens
-returns c = rw (c.name.ensures, c.rule.ensures, c.of-kind.ensures) at c.put_parts.ensures
+returns c = rw (c.name.ensures, c.rule.ensures, c.of-kind.ensures) at c.put.ensures

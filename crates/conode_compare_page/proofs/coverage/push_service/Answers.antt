@@ -3,4 +3,4 @@ use Rattle.conode_compare_page.proofs.coverage.push_service.Goals as goal
 
 pub returns : goal.returns
 unfolding service_item
-returns c = rw (c.either.ensures, c.name.ensures) at c.push_filled.ensures
+returns c = rw c.name.ensures at c.put.ensures

@@ -1,12 +1,15 @@
--- The head, the items, and the end.
+-- The head, the rows, and the end.
 use Rattle.std.proofs.Common.{take_all}
-use Rattle.conode_compare_page.specs.Coverage.{services_text}
-use Rattle.conode_json.proofs.Appending.{on_ok, three}
+use Rattle.conode_compare_page.specs.Coverage.{service_item, services_text}
+use Rattle.conode_json.proofs.Appending.{both, nothing, one_more}
 use Rattle.conode_compare_page.proofs.coverage.push_services.Goals as goal
+
+pub loop-served-init : goal.loop-served-init
+loop-served-init c = nothing _
+
+pub loop-served-preserved : goal.loop-served-preserved
+loop-served-preserved c = one_more service_item c.args.services.now c.loop-served.served-index _ c.loop-served-test.true c.loop-served.invariant c.push_service.ensures
 
 pub returns : goal.returns
 unfolding services_text
-returns c =
-    three c.push_str-2.result _ _ _ _ _ _ _ c.in_ok-push_str.ensures.bytes
-    (rw (take_all c.loop-served.served-index c.args.services.now c.loop-served-test.false) at c.loop-served.invariant)
-    (on_ok c.push_str-2.result _ _ _ c.push_str-2.ensures.bytes)
+returns c = both (both c.put_words.ensures (rw (take_all c.loop-served.served-index c.args.services.now c.loop-served-test.false) at c.loop-served.invariant)) c.put_words-2.ensures

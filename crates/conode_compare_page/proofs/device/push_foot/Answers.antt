@@ -3,4 +3,4 @@ use Rattle.conode_compare_page.proofs.device.push_foot.Goals as goal
 
 pub returns : goal.returns
 unfolding foot
-returns c = c.push_filled.ensures
+returns c = c.put.ensures

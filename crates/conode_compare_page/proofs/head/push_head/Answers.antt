@@ -3,4 +3,4 @@ use Rattle.conode_compare_page.proofs.head.push_head.Goals as goal
 
 pub returns : goal.returns
 unfolding head
-returns c = c.push_filled.ensures
+returns c = c.put.ensures

@@ -3,4 +3,4 @@ use Rattle.conode_compare_page.proofs.kinds.push_kind.Goals as goal
 
 pub returns : goal.returns
 unfolding kind_row
-returns c = rw (c.either.ensures, c.name.ensures, c.rule.ensures, c.either-2.ensures) at c.push_filled.ensures
+returns c = rw (c.name.ensures, c.rule.ensures) at c.put.ensures

@@ -3,4 +3,4 @@ use Rattle.conode_compare_page.proofs.lane.begin_lane.Goals as goal
 
 pub returns : goal.returns
 unfolding lane_begin
-returns c = c.push_filled.ensures
+returns c = c.put.ensures

@@ -1,8 +1,15 @@
--- The lines, and their end.
-use Rattle.conode_compare_page.specs.Picture.{across_text}
-use Rattle.conode_json.proofs.Appending.{on_ok, two}
+-- One after another.
+use Rattle.conode_compare_page.specs.Picture.{across, across_text}
+use Rattle.conode_json.proofs.Appending.{both}
+use Rattle.conode_compare_page.proofs.Enumerated.{last_one, next_one}
 use Rattle.conode_compare_page.proofs.picture.push_across_text.Goals as goal
+
+pub loop-at-init : goal.loop-at-init
+loop-at-init c = λ end rest. rest
+
+pub loop-at-preserved : goal.loop-at-preserved
+loop-at-preserved c = next_one across c.args.bins.now c.loop-at.at _ c.loop-at-test.true c.loop-at.invariant c.push_across.ensures
 
 pub returns : goal.returns
 unfolding across_text
-returns c = two c.push_str.result _ _ _ _ _ c.in_ok-push_all_across.ensures (on_ok c.push_str.result _ _ _ c.push_str.ensures.bytes)
+returns c = both (last_one across c.args.bins.now c.loop-at.at c.loop-at-test.false c.loop-at.invariant) c.put_words.ensures

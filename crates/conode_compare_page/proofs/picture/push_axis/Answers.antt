@@ -3,4 +3,4 @@ use Rattle.conode_compare_page.proofs.picture.push_axis.Goals as goal
 
 pub returns : goal.returns
 unfolding axis_text
-returns c = c.push_filled.ensures
+returns c = c.put.ensures

@@ -3,4 +3,4 @@ use Rattle.conode_compare_page.proofs.picture.push_mark_text.Goals as goal
 
 pub returns : goal.returns
 unfolding mark_text
-returns c = rw (c.name.ensures, c.of.ensures) at c.push_filled.ensures
+returns c = rw (c.name.ensures, c.of.ensures) at c.put.ensures

@@ -3,4 +3,4 @@ use Rattle.conode_compare_page.proofs.states.push_area.Goals as goal
 
 pub returns : goal.returns
 unfolding state_area
-returns c = c.push_filled.ensures
+returns c = c.put.ensures
