@@ -1,5 +1,5 @@
 -- What is handed over of a document, and a member's parts in one.
-use Rattle.std.proofs.Common.{◌≡◌, ◌∙◌, List, [], ◌++◌, Option, Some, Result, Ok, Err, ap, append_assoc, sym, subst}
+use Rattle.std.proofs.Common.{◌≡◌, ◌∙◌, List, [], ◌++◌, Option, Some, None, refl, Result, Ok, Err, ap, append_assoc, sym, subst}
 use Rattle.std.specs.Prelude.{option_map}
 use Rattle.std.specs.Result.{IfOk}
 use Rattle.conode_json.specs.Appended.{Appended}
@@ -22,6 +22,6 @@ ended_as (Ok text) form text_of {part = part} {begin = begin} {end = end} e f g 
 ended_as (Err fault) form text_of e f g = tt
 
 -- where the first part ends with the begin of the second
-pub regrouped : {X : Type 0} {t u v w : Option (List X)} {a b c d : List X} → Appended t (a ++ b) u → Appended u c v → Appended v d w → Appended t (a ++ (b ++ c ++ d)) w
-regrouped {t = t} {w = w} {a = a} {b = b} {c = c} {d = d} f g h =
+pub regrouped : {X : Type 0} (a b : List X) {t u v w : Option (List X)} {c d : List X} → Appended t (a ++ b) u → Appended u c v → Appended v d w → Appended t (a ++ (b ++ c ++ d)) w
+regrouped a b {t = t} {w = w} {c = c} {d = d} f g h =
     subst (λ part. Appended t part w) (ap (λ xs. xs ++ d) (append_assoc a b c) ∙ append_assoc a (b ++ c) d) (both (both f g) h)

@@ -12,7 +12,6 @@ ghost use Rattle.conode_compare_json.specs.JunitCases.{
   has_line,
   is_of_kind,
   line_markup,
-  lines_markup,
   more_markup,
   outcome_case,
   own_count,
@@ -117,21 +116,6 @@ fn push_more(suite: &mut Markup, count: u64)
     suite.put("and % more\n", &[Value::Number(count)]);
 }
 
-// the lines of the differences of a kind, of which so many were found
-fn push_first_lines(
-    alloc: Global,
-    suite: &mut Markup,
-    recording: &str,
-    counted: Counted,
-    noted: &[Noted],
-)
-    ensures { Appended suite.old (lines_markup recording.now counted.found
-        (filter (is_of_kind counted.kind) noted.now)) suite.new }
-{
-    let count = push_own_lines(alloc, suite, recording, counted.kind, noted);
-    push_more(suite, counted.found.saturating_sub(count as u64));
-}
-
 // a test case that failed
 fn push_failed(
     alloc: Global,
@@ -153,7 +137,8 @@ fn push_failed(
             Value::Name(counted.kind.rule()),
         ],
     );
-    push_first_lines(alloc, suite, recording, counted, noted);
+    let count = push_own_lines(alloc, suite, recording, counted.kind, noted);
+    push_more(suite, counted.found.saturating_sub(count as u64));
     suite.put_words("</failure></testcase>\n");
 }
 
@@ -193,7 +178,8 @@ pub(crate) fn push_outcome(suite: &mut Markup, about: &About<'_, '_>)
         (outcome_case about.now.node (outcome_of (about_view about.now))) suite.new }
 {
     match Outcome::of(about) {
-        Outcome::NoDifference | Outcome::Differences => {}
+        Outcome::NoDifference => {}
+        Outcome::Differences => {}
         Outcome::NoFrame => suite.put(
             "<testcase classname=\"conode.compare\" name=\"compared\">\
             <error type=\"not-compared\" message=\"no frame of node %\"/></testcase>\n",

@@ -9,13 +9,12 @@ ghost use Rattle.conode_compare_json.specs.CoverageTokens.{
   coverage_member,
   entry_tokens,
   services_member,
-  states_member,
   types_member,
 };
 
 use crate::parts::{Document, Part};
 use co_sheet::EntryRow;
-use conode_compare_report::{Coverage, Covered, Numbered, Served, States};
+use conode_compare_report::{Coverage, Covered, Numbered, Served};
 
 fn put_entry(document: &mut Document, row: &EntryRow<'_>, covered: Covered)
     ensures { Appended document.old (entry_tokens (row_view row.now, covered)) document.new }
@@ -59,19 +58,6 @@ fn put_services(document: &mut Document, services: &[Served])
     document.put(&[Part::EndArray]);
 }
 
-fn put_states(document: &mut Document, states: States)
-    ensures { Appended document.old (states_member states) document.new }
-{
-    document.put(&[
-        Part::Object("states"),
-        Part::Flag("initialising", states.initialising),
-        Part::Flag("preOperational", states.pre_operational),
-        Part::Flag("operational", states.operational),
-        Part::Flag("stopped", states.stopped),
-        Part::EndObject,
-    ]);
-}
-
 // the transmission types that were seen
 fn put_types(document: &mut Document, types: &[Numbered])
     ensures { Appended document.old (types_member types.now) document.new }
@@ -113,7 +99,14 @@ pub(crate) fn put_coverage(document: &mut Document, rows: &[EntryRow<'_>], cover
     put_rows(document, rows, coverage.entries.as_slice());
     document.put(&[Part::EndArray]);
     put_services(document, coverage.services.as_slice());
-    put_states(document, coverage.states);
+    document.put(&[
+        Part::Object("states"),
+        Part::Flag("initialising", coverage.states.initialising),
+        Part::Flag("preOperational", coverage.states.pre_operational),
+        Part::Flag("operational", coverage.states.operational),
+        Part::Flag("stopped", coverage.states.stopped),
+        Part::EndObject,
+    ]);
     put_types(document, coverage.types.as_slice());
     put_aborts(document, coverage.aborts.as_slice());
     document.put(&[Part::EndObject]);

@@ -5,7 +5,6 @@ ghost use Rattle.conode_compare_report.specs.Abouts.{about_view};
 ghost use Rattle.conode_json.specs.Appended.{Appended};
 ghost use Rattle.conode_compare_json.specs.JsonDocument.{
   document_begin,
-  document_tokens,
   end_of,
   ended_members,
   json_document,
@@ -15,7 +14,7 @@ ghost use Rattle.conode_compare_json.specs.JsonDocument.{
 use crate::coverage::put_coverage;
 use crate::noted::put_findings;
 use crate::parts::{Document, Part};
-use conode_compare_report::{About, Counted, Identity, Outcome, Report};
+use conode_compare_report::{About, Counted, Coverage, Outcome, Report};
 use conode_compare_text::Tally;
 use std::alloc::{AllocError, Global};
 
@@ -23,10 +22,11 @@ use std::alloc::{AllocError, Global};
 const VERSION: u64 = 1;
 
 // what was compared, and how
-fn begin_document(document: &mut Document, about: &About<'_, '_>, shown: Identity)
+fn begin_document(document: &mut Document, about: &About<'_, '_>, coverage: &Coverage)
     ensures { Appended document.old
-        (document_begin (about_view about.now) shown) document.new }
+        (document_begin (about_view about.now) coverage.now.identity) document.new }
 {
+    let shown = coverage.identity;
     document.put(&[
         Part::BeginObject,
         Part::Number("version", VERSION),
@@ -103,19 +103,6 @@ fn put_kinds(document: &mut Document, kinds: &[Counted])
     document.put(&[Part::EndArray]);
 }
 
-fn put_document(alloc: Global, document: &mut Document, about: &About<'_, '_>, report: &Report)
-    ensures { Appended document.old
-        (document_tokens (about_view about.now) report.now) document.new }
-{
-    begin_document(document, about, report.coverage.identity);
-    let verdict = Outcome::of(about).name();
-    put_ended(document, verdict, about.tally, report, end_of(report));
-    put_findings(alloc, document, report);
-    put_kinds(document, report.kinds.as_slice());
-    put_coverage(document, about.rows, &report.coverage);
-    document.put(&[Part::EndObject]);
-}
-
 /// The comparison as one document of JSON, with a line feed at its end. `Err`: out of memory.
 pub fn json_document(
     alloc: Global,
@@ -125,6 +112,12 @@ pub fn json_document(
     ensures { IfOk result (λ text. text.items ≡ json_document (about_view about.now) report.now) }
 {
     let mut document = Document::new(alloc);
-    put_document(alloc, &mut document, about, report);
+    begin_document(&mut document, about, &report.coverage);
+    let verdict = Outcome::of(about).name();
+    put_ended(&mut document, verdict, about.tally, report, end_of(report));
+    put_findings(alloc, &mut document, report, report.noted.as_slice());
+    put_kinds(&mut document, report.kinds.as_slice());
+    put_coverage(&mut document, about.rows, &report.coverage);
+    document.put(&[Part::EndObject]);
     document.into_text()
 }

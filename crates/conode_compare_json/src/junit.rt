@@ -138,22 +138,6 @@ fn push_cases(
     }
 }
 
-fn push_document(alloc: Global, suite: &mut Markup, about: &About<'_, '_>, report: &Report)
-    ensures { Appended suite.old (junit_document (about_view about.now) report.now) suite.new }
-{
-    let numbers = numbers_of(about, report);
-    begin_suite(suite, about, numbers, span_of(report));
-    push_cases(
-        alloc,
-        suite,
-        about.recording,
-        report.kinds.as_slice(),
-        report.noted.as_slice(),
-    );
-    push_outcome(suite, about);
-    suite.put_words("</testsuite>\n</testsuites>\n");
-}
-
 /// The comparison as a document of JUnit: a test case a kind of difference, with the recording's span
 /// in seconds as its time. `Err`: out of memory.
 pub fn junit_document(
@@ -165,6 +149,16 @@ pub fn junit_document(
         (λ text. string_bytes text ≡ junit_document (about_view about.now) report.now) }
 {
     let mut suite = Markup::new(alloc);
-    push_document(alloc, &mut suite, about, report);
+    let numbers = numbers_of(about, report);
+    begin_suite(&mut suite, about, numbers, span_of(report));
+    push_cases(
+        alloc,
+        &mut suite,
+        about.recording,
+        report.kinds.as_slice(),
+        report.noted.as_slice(),
+    );
+    push_outcome(&mut suite, about);
+    suite.put_words("</testsuite>\n</testsuites>\n");
     suite.into_text()
 }

@@ -5,6 +5,7 @@ ghost use Rattle.conode_compare_text.specs.FindingTexts.{finding_text};
 ghost use Rattle.conode_json.specs.Appended.{Appended};
 ghost use Rattle.conode_compare_json.specs.NotedTokens.{
   context_member,
+  context_tokens,
   findings_member,
   noted_tokens,
   said_tokens,
@@ -15,18 +16,25 @@ use conode_compare_report::{ContextLine, Kind, Noted, Report};
 use conode_compare_text::push_finding;
 use std::alloc::{AllocError, Global};
 
+#[tactic(auto, unfolding(crate::specs::NotedTokens::context_tokens))]
+fn put_context_line(document: &mut Document, line: &ContextLine)
+    ensures { Appended document.old (context_tokens line.now) document.new }
+{
+    document.put(&[
+        Part::BeginObject,
+        Part::Number("line", line.number),
+        Part::Bytes("text", Some(line.bytes.as_slice())),
+        Part::EndObject,
+    ]);
+}
+
 // the lines around a difference
 fn put_context(document: &mut Document, lines: &[ContextLine])
     ensures { Appended document.old (context_member lines.now) document.new }
 {
     document.put(&[Part::Array("context")]);
     for line in lines {
-        document.put(&[
-            Part::BeginObject,
-            Part::Number("line", line.number),
-            Part::Bytes("text", Some(line.bytes.as_slice())),
-            Part::EndObject,
-        ]);
+        put_context_line(document, line);
     }
     document.put(&[Part::EndArray]);
 }
@@ -75,12 +83,17 @@ fn put_noted(alloc: Global, document: &mut Document, report: &Report, noted: &No
 }
 
 /// Writes the member with the differences.
-pub(crate) fn put_findings(alloc: Global, document: &mut Document, report: &Report)
+pub(crate) fn put_findings(
+    alloc: Global,
+    document: &mut Document,
+    report: &Report,
+    listed: &[Noted],
+)
     ensures { Appended document.old
-        (findings_member report.now.context report.now.noted) document.new }
+        (findings_member report.now.context listed.now) document.new }
 {
     document.put(&[Part::Array("findings")]);
-    for noted in &report.noted {
+    for noted in listed {
         put_noted(alloc, document, report, noted);
     }
     document.put(&[Part::EndArray]);

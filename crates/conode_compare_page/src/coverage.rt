@@ -7,7 +7,6 @@ ghost use Rattle.conode_compare_page.specs.Coverage.{
   numbered_item,
   numbers_text,
   seen_text,
-  service_item,
   services_text,
   states_text,
   tested,
@@ -42,25 +41,19 @@ const SEEN: &str = "<b>seen</b></li>\n";
 
 const NOT_SEEN: &str = "<b>not seen</b></li>\n";
 
-fn push_service(page: &mut Markup, served: &Served)
-    ensures { Appended page.old (service_item served.now) page.new }
-{
-    page.put(
-        "%%<b>%</b></li>\n",
-        &[
-            Value::Either(served.count == 0, SOFT, "<li>"),
-            Value::Words(served.service.name()),
-            Value::Count(served.count, "not seen"),
-        ],
-    );
-}
-
 fn push_services(page: &mut Markup, services: &[Served])
     ensures { Appended page.old (services_text services.now) page.new }
 {
     page.put_words("<h3>Services</h3>\n<ul>\n");
     for served in services {
-        push_service(page, served);
+        page.put(
+            "%%<b>%</b></li>\n",
+            &[
+                Value::Either(served.count == 0, SOFT, "<li>"),
+                Value::Words(served.service.name()),
+                Value::Count(served.count, "not seen"),
+            ],
+        );
     }
     page.put_words("</ul>\n");
 }

@@ -2,7 +2,6 @@
 
 ghost use Rattle.std.specs.Prelude.{◌≡◌, IfOk, string_bytes};
 ghost use Rattle.conode_compare_report.specs.Abouts.{about_view};
-ghost use Rattle.conode_json.specs.Appended.{Appended};
 ghost use Rattle.conode_compare_page.specs.Page.{page};
 
 use crate::coverage::push_coverage;
@@ -16,27 +15,6 @@ use conode_compare_report::{About, Outcome, Report};
 use conode_json::Markup;
 use std::alloc::{AllocError, Global};
 
-// the sections of the page, one after another
-fn push_sections(alloc: Global, markup: &mut Markup, about: &About<'_, '_>, report: &Report)
-    ensures { Appended markup.old (page (about_view about.now) report.now) markup.new }
-{
-    let outcome = Outcome::of(about);
-    let count = difference_count(report);
-    push_head(
-        markup,
-        about,
-        headline_number(outcome, count),
-        headline_words(outcome, count),
-        outcome_class(outcome),
-        reason(outcome),
-    );
-    push_device(markup, about, report);
-    push_differences(alloc, markup, report);
-    push_picture(markup, report);
-    push_coverage(markup, about, report);
-    push_foot(markup, about);
-}
-
 /// A comparison as one page of HTML, which is XML too: the verdict, the device, the differences,
 /// the bus over time, what the recording tested, how the page was made. It has no script and needs
 /// no other file. `Err`: out of memory.
@@ -44,6 +22,20 @@ pub fn page(alloc: Global, about: &About<'_, '_>, report: &Report) -> Result<Str
     ensures { IfOk result (λ text. string_bytes text ≡ page (about_view about.now) report.now) }
 {
     let mut markup = Markup::new(alloc);
-    push_sections(alloc, &mut markup, about, report);
+    let outcome = Outcome::of(about);
+    let count = difference_count(report);
+    push_head(
+        &mut markup,
+        about,
+        headline_number(outcome, count),
+        headline_words(outcome, count),
+        outcome_class(outcome),
+        reason(outcome),
+    );
+    push_device(&mut markup, about, report);
+    push_differences(alloc, &mut markup, report);
+    push_picture(&mut markup, report);
+    push_coverage(&mut markup, about, report);
+    push_foot(&mut markup, about);
     markup.into_text()
 }

@@ -1,7 +1,7 @@
 //! Which kinds of differences a recording could show.
 
 ghost use Rattle.conode_json.specs.Appended.{Appended};
-ghost use Rattle.conode_compare_page.specs.Coverage.{kind_row, kinds_table};
+ghost use Rattle.conode_compare_page.specs.Coverage.{kinds_table};
 
 use conode_compare_report::Counted;
 use conode_json::{Markup, Value};
@@ -17,33 +17,27 @@ const OPENING: &str = "<section>\n\
     <th class=\"n\">Occasions</th><th class=\"n\">Found</th></tr></thead>\n\
     <tbody>\n";
 
-fn push_kind(page: &mut Markup, counted: &Counted)
-    ensures { Appended page.old (kind_row counted.now) page.new }
-{
-    page.put(
-        "%%</td><td>%</td><td class=\"n\" data-is=\"Occasions\">%%%</td></tr>\n",
-        &[
-            Value::Either(counted.occasions == 0, "<tr class=\"not\"><td>", "<tr><td>"),
-            Value::Words(counted.kind.name()),
-            Value::Words(counted.kind.rule()),
-            Value::Count(counted.occasions, "none"),
-            Value::Either(
-                counted.found == 0,
-                "</td><td class=\"n\" data-is=\"Found\">",
-                "</td><td class=\"n found\" data-is=\"Found\">",
-            ),
-            Value::Number(counted.found),
-        ],
-    );
-}
-
 /// Begins the section, and appends the table of the kinds.
 pub(crate) fn push_kinds(page: &mut Markup, kinds: &[Counted])
     ensures { Appended page.old (kinds_table kinds.now) page.new }
 {
     page.put_words(OPENING);
     for counted in kinds {
-        push_kind(page, counted);
+        page.put(
+            "%%</td><td>%</td><td class=\"n\" data-is=\"Occasions\">%%%</td></tr>\n",
+            &[
+                Value::Either(counted.occasions == 0, "<tr class=\"not\"><td>", "<tr><td>"),
+                Value::Words(counted.kind.name()),
+                Value::Words(counted.kind.rule()),
+                Value::Count(counted.occasions, "none"),
+                Value::Either(
+                    counted.found == 0,
+                    "</td><td class=\"n\" data-is=\"Found\">",
+                    "</td><td class=\"n found\" data-is=\"Found\">",
+                ),
+                Value::Number(counted.found),
+            ],
+        );
     }
     page.put_words("</tbody>\n</table>\n");
 }

@@ -10,9 +10,9 @@ loop-one-init c = record { lines = nothing _; count = refl; bound = omega arith 
 
 pub loop-one-preserved : goal.loop-one-preserved
 loop-one-preserved c =
-    let more = count_more (is_of_kind c.args.kind) (line_markup c.args.recording.now) 100 c.args.noted.now c.loop-one.one-index _ c.loop-one.count _ c.loop-one-test.true c.loop-one.invariant.count c.push_own_line.ensures.count in
+    let more = count_more (is_of_kind c.args.kind) (line_markup c.args.recording.now) 100 c.args.noted.now c.loop-one.one-index _ c.loop-one.count _ c.loop-one-test.true c.loop-one.invariant.count c.push_own_line-count.ensures.count in
     record {
-      lines = one_more (is_of_kind c.args.kind) (line_markup c.args.recording.now) 100 c.args.noted.now c.loop-one.one-index _ c.loop-one.count c.loop-one-test.true c.loop-one.invariant.count c.loop-one.invariant.lines c.push_own_line.ensures.line;
+      lines = one_more (is_of_kind c.args.kind) (line_markup c.args.recording.now) 100 c.args.noted.now c.loop-one.one-index _ c.loop-one.count c.loop-one-test.true c.loop-one.invariant.count c.loop-one.invariant.lines c.push_own_line-count.ensures.line;
       count = more;
       bound = omega (arith, more);
     }

@@ -10,8 +10,8 @@ loop-numbered-init c = nothing _
 
 pub loop-numbered-preserved : goal.loop-numbered-preserved
 unfolding abort_tokens
-loop-numbered-preserved c = one_more abort_tokens c.args.aborts.now c.loop-numbered.numbered-index _ c.loop-numbered-test.true c.loop-numbered.invariant c.put-2.ensures
+loop-numbered-preserved c = one_more abort_tokens c.args.aborts.now c.loop-numbered.numbered-index _ c.loop-numbered-test.true c.loop-numbered.invariant c.put-in-loop-numbered.ensures
 
 pub returns : goal.returns
 unfolding aborts_member array_begin
-returns c = both (both c.put.ensures (rw (take_all c.loop-numbered.numbered-index c.args.aborts.now c.loop-numbered-test.false) at c.loop-numbered.invariant)) c.put-3.ensures
+returns c = both (both c.put.ensures (rw (take_all c.loop-numbered.numbered-index c.args.aborts.now c.loop-numbered-test.false) at c.loop-numbered.invariant)) c.put-2.ensures

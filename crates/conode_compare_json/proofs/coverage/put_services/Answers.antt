@@ -10,8 +10,8 @@ loop-served-init c = nothing _
 
 pub loop-served-preserved : goal.loop-served-preserved
 unfolding served_tokens
-loop-served-preserved c = one_more served_tokens c.args.services.now c.loop-served.served-index _ c.loop-served-test.true c.loop-served.invariant (rw c.name.ensures at c.put-2.ensures)
+loop-served-preserved c = one_more served_tokens c.args.services.now c.loop-served.served-index _ c.loop-served-test.true c.loop-served.invariant (rw c.name.ensures at c.put-in-loop-served.ensures)
 
 pub returns : goal.returns
 unfolding services_member array_begin
-returns c = both (both c.put.ensures (rw (take_all c.loop-served.served-index c.args.services.now c.loop-served-test.false) at c.loop-served.invariant)) c.put-3.ensures
+returns c = both (both c.put.ensures (rw (take_all c.loop-served.served-index c.args.services.now c.loop-served-test.false) at c.loop-served.invariant)) c.put-2.ensures

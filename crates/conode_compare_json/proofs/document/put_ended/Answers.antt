@@ -3,4 +3,4 @@ use Rattle.conode_compare_json.proofs.document.put_ended.Goals as goal
 
 pub returns : goal.returns
 unfolding ended_members
-returns c = c.put.ensures
+returns c = rw (← c.report.view_is) c.put.ensures

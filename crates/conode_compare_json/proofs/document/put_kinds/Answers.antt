@@ -10,8 +10,8 @@ loop-counted-init c = nothing _
 
 pub loop-counted-preserved : goal.loop-counted-preserved
 unfolding kind_tokens
-loop-counted-preserved c = one_more kind_tokens c.args.kinds.now c.loop-counted.counted-index _ c.loop-counted-test.true c.loop-counted.invariant (rw (c.name.ensures, c.rule.ensures) at c.put-2.ensures)
+loop-counted-preserved c = one_more kind_tokens c.args.kinds.now c.loop-counted.counted-index _ c.loop-counted-test.true c.loop-counted.invariant (rw (c.name.ensures, c.rule.ensures) at c.put-in-loop-counted.ensures)
 
 pub returns : goal.returns
 unfolding kinds_member array_begin
-returns c = both (both c.put.ensures (rw (take_all c.loop-counted.counted-index c.args.kinds.now c.loop-counted-test.false) at c.loop-counted.invariant)) c.put-3.ensures
+returns c = both (both c.put.ensures (rw (take_all c.loop-counted.counted-index c.args.kinds.now c.loop-counted-test.false) at c.loop-counted.invariant)) c.put-2.ensures

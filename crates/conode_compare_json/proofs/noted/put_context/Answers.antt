@@ -9,9 +9,8 @@ pub loop-line-init : goal.loop-line-init
 loop-line-init c = nothing _
 
 pub loop-line-preserved : goal.loop-line-preserved
-unfolding context_tokens
-loop-line-preserved c = one_more context_tokens c.args.lines.now c.loop-line.line-index _ c.loop-line-test.true c.loop-line.invariant c.put-2.ensures
+loop-line-preserved c = one_more context_tokens c.args.lines.now c.loop-line.line-index _ c.loop-line-test.true c.loop-line.invariant (rw c.line-item.is at c.put_context_line.ensures)
 
 pub returns : goal.returns
 unfolding context_member array_begin
-returns c = both (both c.put.ensures (rw (take_all c.loop-line.line-index c.args.lines.now c.loop-line-test.false) at c.loop-line.invariant)) c.put-3.ensures
+returns c = both (both c.put.ensures (rw (take_all c.loop-line.line-index c.args.lines.now c.loop-line-test.false) at c.loop-line.invariant)) c.put-2.ensures

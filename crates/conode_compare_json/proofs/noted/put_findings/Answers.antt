@@ -9,8 +9,8 @@ pub loop-noted-init : goal.loop-noted-init
 loop-noted-init c = nothing _
 
 pub loop-noted-preserved : goal.loop-noted-preserved
-loop-noted-preserved c = one_more (noted_tokens c.args.report.now.context) c.args.report.now.noted c.loop-noted.noted-index _ c.loop-noted-test.true c.loop-noted.invariant c.put_noted.ensures
+loop-noted-preserved c = one_more (noted_tokens c.args.report.now.context) c.args.listed.now c.loop-noted.noted-index _ c.loop-noted-test.true c.loop-noted.invariant c.put_noted.ensures
 
 pub returns : goal.returns
 unfolding findings_member array_begin
-returns c = both (both c.put.ensures (rw (take_all c.loop-noted.noted-index c.args.report.now.noted c.loop-noted-test.false) at c.loop-noted.invariant)) c.put-2.ensures
+returns c = both (both c.put.ensures (rw (take_all c.loop-noted.noted-index c.args.listed.now c.loop-noted-test.false) at c.loop-noted.invariant)) c.put-2.ensures

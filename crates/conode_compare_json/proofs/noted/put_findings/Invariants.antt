@@ -5,4 +5,4 @@ use Rattle.conode_compare_json.specs.NotedTokens.{noted_tokens}
 use Rattle.conode_compare_json.proofs.noted.put_findings.Given as goal
 
 abbrev pub invariant-loop-noted : goal.invariant-loop-noted
-invariant-loop-noted l = Appended l.initial.document (flat_map (noted_tokens l.report.context) (take l.noted-index l.report.noted)) l.document
+invariant-loop-noted l = Appended l.initial.document (flat_map (noted_tokens l.report.context) (take l.noted-index l.listed)) l.document

@@ -8,7 +8,8 @@ pub loop-served-init : goal.loop-served-init
 loop-served-init c = nothing _
 
 pub loop-served-preserved : goal.loop-served-preserved
-loop-served-preserved c = one_more service_item c.args.services.now c.loop-served.served-index _ c.loop-served-test.true c.loop-served.invariant c.push_service.ensures
+unfolding service_item
+loop-served-preserved c = one_more service_item c.args.services.now c.loop-served.served-index _ c.loop-served-test.true c.loop-served.invariant (rw c.name.ensures at c.put.ensures)
 
 pub returns : goal.returns
 unfolding services_text

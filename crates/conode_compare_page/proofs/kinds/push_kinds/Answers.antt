@@ -8,7 +8,8 @@ pub loop-counted-init : goal.loop-counted-init
 loop-counted-init c = nothing _
 
 pub loop-counted-preserved : goal.loop-counted-preserved
-loop-counted-preserved c = one_more kind_row c.args.kinds.now c.loop-counted.counted-index _ c.loop-counted-test.true c.loop-counted.invariant c.push_kind.ensures
+unfolding kind_row
+loop-counted-preserved c = one_more kind_row c.args.kinds.now c.loop-counted.counted-index _ c.loop-counted-test.true c.loop-counted.invariant (rw (c.name.ensures, c.rule.ensures) at c.put.ensures)
 
 pub returns : goal.returns
 unfolding kinds_table
