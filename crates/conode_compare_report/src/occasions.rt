@@ -8,7 +8,6 @@ ghost use Rattle.co_value.specs.Keys.{is_key_before};
 ghost use Rattle.conode_compare_report.specs.Occasions.{
   all_passed,
   answer_passed,
-  command_passed,
   control_passed,
   counts_found,
   counts_passed,
@@ -37,7 +36,6 @@ ghost use Rattle.conode_compare_report.specs.Occasions.{
   passes,
   role_passed,
   side_passed,
-  tpdo_passed,
   upload_passed,
   way_passed,
 };
@@ -46,7 +44,6 @@ use crate::before::{Before, Role};
 use crate::kind::{Counted, KINDS, Kind};
 use co_sheet::EntryRow;
 use co_sheet_changes::row_at;
-use conode_compare_pdos::Parameters;
 use conode_compare_rules::{FrameKind, NmtState, Verdict};
 use conode_compare_values::{has_limits, is_held, is_read_only, is_readable};
 use conode_explain_transfers::{Direction, Ended, Ending, Heard, Protocol, Side, What};
@@ -186,10 +183,14 @@ fn is_by_event(kind: Option<u8>) -> bool
     }
 }
 
+// a data frame: a TPDO
 #[tactic(auto, unfolding(crate::specs::Occasions::tpdo_passed))]
-fn pass_tpdo(counts: &mut [Counted], parameters: Parameters)
-    ensures { counts.new ≡ tpdo_passed parameters counts.old }
+fn pass_role(counts: &mut [Counted], role: Role)
+    ensures { counts.new ≡ role_passed role counts.old }
 {
+    let Role::Tpdo(_, parameters) = role else {
+        return;
+    };
     let by_event = is_by_event(parameters.kind);
     pass_all(
         counts,
@@ -201,14 +202,6 @@ fn pass_tpdo(counts: &mut [Counted], parameters: Parameters)
             (by_event && is_set(parameters.timer), Kind::PdoLate),
         ],
     );
-}
-
-fn pass_role(counts: &mut [Counted], role: Role)
-    ensures { counts.new ≡ role_passed role counts.old }
-{
-    if let Role::Tpdo(_, parameters) = role {
-        pass_tpdo(counts, parameters);
-    }
 }
 
 // a segment of a sub-block, which has no command
@@ -241,27 +234,20 @@ fn has_key(command: u8) -> bool
         || command == 0xC6
 }
 
-// an answer with a command
-#[tactic(auto, unfolding(crate::specs::Occasions::command_passed))]
-fn pass_command(counts: &mut [Counted], command: u8)
-    ensures { counts.new ≡ command_passed command counts.old }
-{
-    pass_all(
-        counts,
-        &[
-            (command < 0x40, Kind::AnswerToggle),
-            (has_key(command), Kind::AnswerKey),
-            (command == 0x80, Kind::AbortKey),
-        ],
-    );
-}
-
-#[tactic(auto, unfolding(crate::specs::Occasions::answer_passed))]
+// an answer, with a command where it is no segment of a sub-block
+#[tactic(auto, unfolding(crate::specs::Occasions::answer_passed, crate::specs::Occasions::command_passed))]
 fn pass_answer(counts: &mut [Counted], in_sub_block: bool, command: u8)
     ensures { counts.new ≡ answer_passed in_sub_block command counts.old }
 {
     if !in_sub_block {
-        pass_command(counts, command);
+        pass_all(
+            counts,
+            &[
+                (command < 0x40, Kind::AnswerToggle),
+                (has_key(command), Kind::AnswerKey),
+                (command == 0x80, Kind::AbortKey),
+            ],
+        );
     }
     pass_all(
         counts,

@@ -1,6 +1,0 @@
-pub mod Ended
-pub mod Firsts
-pub mod Pairs
-pub mod Reported
-mod JsonExamples
-mod JunitExamples

@@ -1,6 +1,0 @@
-use Rattle.conode_compare_json.specs.JunitCases.{line_markup}
-use Rattle.conode_compare_json.proofs.cases.push_line.Goals as goal
-
-pub returns-in-Ok : goal.returns-in-Ok
-unfolding line_markup
-returns-in-Ok c = rw (c.as_str.ensures.value, c.in-Ok.ensures) at c.put.ensures

@@ -1,6 +1,0 @@
-use Rattle.conode_compare_json.specs.CoverageTokens.{entry_tokens}
-use Rattle.conode_compare_json.proofs.coverage.put_entry.Goals as goal
-
-pub returns : goal.returns
-unfolding entry_tokens
-returns c = c.put.ensures

@@ -1,2 +1,0 @@
-pub mod Enumerated
-mod Examples

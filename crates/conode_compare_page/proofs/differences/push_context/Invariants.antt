@@ -1,8 +1,0 @@
-use Rattle.std.proofs.Common.{take}
-use Rattle.std.specs.List.{flat_map}
-use Rattle.conode_json.specs.Appended.{Appended}
-use Rattle.conode_compare_page.specs.Differences.{context_line}
-use Rattle.conode_compare_page.proofs.differences.push_context.Given as goal
-
-abbrev pub invariant-loop-line : goal.invariant-loop-line
-invariant-loop-line l = Appended l.fn.page (flat_map (context_line l.number) (take l.line-index l.lines)) l.page

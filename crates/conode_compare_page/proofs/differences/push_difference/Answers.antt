@@ -1,8 +1,0 @@
--- The row, the lines around it, and the end.
-use Rattle.conode_compare_page.specs.Differences.{difference}
-use Rattle.conode_json.proofs.Appending.{both}
-use Rattle.conode_compare_page.proofs.differences.push_difference.Goals as goal
-
-pub returns : goal.returns
-unfolding difference
-returns c = both (both c.push_row.ensures (rw (c.around.ensures.kept) at c.push_context.ensures)) c.put_words.ensures
