@@ -6,9 +6,9 @@ use Rattle.conode_compare_pdos.specs.SheetNumbers.{preset_at}
 use Rattle.conode_compare_report.specs.Abouts.{Described}
 use Rattle.conode_compare_report.specs.Reports.{nothing_kept}
 use Rattle.conode_compare_report.specs.Views.{Kept}
-use Rattle.conode_compare_json.specs.JsonDocument.{json_document}
-use Rattle.conode_compare_json.specs.JunitDocument.{junit_document}
-use Rattle.conode_compare_page.specs.Page.{page}
+use Rattle.conode_compare_documents.specs.JsonDocument.{json_document}
+use Rattle.conode_compare_documents.specs.JunitDocument.{junit_document}
+use Rattle.conode_compare_documents.specs.Page.{page}
 use Rattle.conode_compare.specs.declared.comparing.Comparing.{Comparing}
 use Rattle.conode_compare.specs.declared.document.Format.{Format}
 use Rattle.conode_compare.specs.declared.document.Format.TheVariants.{Text, Json, JUnit, Html}

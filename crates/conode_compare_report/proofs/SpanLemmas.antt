@@ -1,14 +1,51 @@
 -- Spans that are joined, and filled up.
-use Rattle.std.proofs.Common.{◌≡◌, ℕ, zero, suc, ◌+◌, ◌-◌, ◌<◌, ◌≤◌, true, false, ltb, List, [], ◌∷◌, ◌++◌, length, min, take, drop, replicate, refl, sym, ap, ◌∙◌, arith, append-nil}
+use Rattle.std.proofs.Common.{◌≡◌, ℕ, zero, suc, ◌+◌, ◌-◌, ◌<◌, ◌≤◌, true, false, ltb, List, [], ◌∷◌, ◌++◌, length, min, take, drop, get_or, set, replicate, refl, sym, ap, ◌∙◌, arith, append-nil, append_assoc}
+use Rattle.std.proofs.Math.Seq.{drop-cons}
 use Rattle.std.proofs.lemmas.Bool.Decides.{nat_tests}
+use Rattle.std.proofs.lemmas.List.{drop_all, drop-set-lt, take_more_set}
 use Rattle.conode_compare_report.specs.declared.lanes.Bin.{Bin}
-use Rattle.conode_compare_report.specs.Spans.{LanesView, doubled, empty_bin, filled, joined, place_in, widened}
+use Rattle.conode_compare_report.specs.Spans.{LanesView, both_bins, doubled, empty_bin, filled, joined, place_in, widened}
 
-pub at_most_one : (bins : List Bin) → length bins < 2 → joined bins ≡ bins
-unfolding joined
-at_most_one [] few = refl
-at_most_one (bin ∷ []) few = refl
-at_most_one (a ∷ b ∷ more) few = absurd (omega (arith, few))
+-- ---- joined two by two, in place
+
+module _ (bins : List Bin) (count next : ℕ) (d : Bin) (all : List Bin) where
+  abbrev two : Bin
+  two = both_bins (get_or bins next d) (get_or bins (next + 1) d)
+
+  next_two : next + 1 < length bins → joined (drop next bins) ≡ two ∷ joined (drop (next + 2) bins)
+  unfolding joined
+  next_two h =
+      let first : next < length bins = omega (arith, h) in
+      let second : suc next < length bins = omega (arith, h) in
+      let one_on : next + 1 ≡ suc next = omega arith in
+      let two_on : next + 2 ≡ suc (suc next) = omega arith in
+      rw (one_on, two_on, drop-cons bins next d, drop-cons bins (suc next) d) refl
+
+  pub two_joined : count ≤ next → next + 1 < length bins → take count bins ++ joined (drop next bins) ≡ all
+      → take (count + 1) (set bins count two) ++ joined (drop (next + 2) (set bins count two)) ≡ all
+  two_joined le h so_far =
+      let within : count < length bins = omega (arith, le, h) in
+      let before : count < next + 2 = omega (arith, le) in
+      rw (take_more_set bins count two within, drop-set-lt (next + 2) bins count two before)
+      (append_assoc (take count bins) (two ∷ []) (joined (drop (next + 2) bins)) ∙ ap (λ xs. take count bins ++ xs) (sym (next_two h)) ∙ so_far)
+
+  last_one : next < length bins → length bins ≤ next + 1 → joined (drop next bins) ≡ get_or bins next d ∷ []
+  unfolding joined
+  last_one h le =
+      let past : length bins ≤ suc next = omega (arith, le) in
+      rw (drop-cons bins next d, drop_all (suc next) bins past) refl
+
+  pub last_joined : count ≤ next → next < length bins → length bins ≤ next + 1 → take count bins ++ joined (drop next bins) ≡ all
+      → take (count + 1) (set bins count (get_or bins next d)) ≡ all
+  last_joined le h past so_far =
+      let within : count < length bins = omega (arith, le, h) in
+      take_more_set bins count (get_or bins next d) within ∙ ap (λ xs. take count bins ++ xs) (sym (last_one h past)) ∙ so_far
+
+  pub all_joined : length bins ≤ next → take count bins ++ joined (drop next bins) ≡ all → take count bins ≡ all
+  unfolding joined
+  all_joined le so_far =
+      let none : joined (drop next bins) ≡ [] = ap joined (drop_all next bins le) in
+      sym (append-nil (take count bins)) ∙ ap (λ xs. take count bins ++ xs) (sym none) ∙ so_far
 
 -- a place past the end
 pub dropped_within : {A : Type 0} (n : ℕ) (xs : List A) → drop (min n (length xs)) xs ≡ drop n xs

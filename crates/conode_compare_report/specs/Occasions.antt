@@ -59,6 +59,11 @@ found counted = record counted { found = one_more counted.found; occasions = one
 unfoldable pub counts_passed : Bool → Kind → List Counted → List Counted
 counts_passed could kind counts = if could then changed_at (none_of kind) (kind_number kind) passed counts else counts
 
+-- each of these kinds, where the test holds
+abbrev pub all_passed : List (Bool × Kind) → List Counted → List Counted
+all_passed [] counts = counts
+all_passed (one ∷ rest) counts = all_passed rest (counts_passed one.0 one.1 counts)
+
 unfoldable pub counts_found : Kind → List Counted → List Counted
 counts_found kind counts = changed_at (none_of kind) (kind_number kind) found counts
 

@@ -75,7 +75,7 @@ pub(crate) const KINDS: [Kind; 28] = [
 ];
 
 /// Their names, in this order.
-const NAMES: [&str; 28] = [
+static NAMES: [&str; 28] = [
     "heartbeat-late",
     "heartbeat-state",
     "heartbeat-length",
@@ -107,7 +107,7 @@ const NAMES: [&str; 28] = [
 ];
 
 /// What CiA 301 prescribes of each, in this order.
-const RULES: [&str; 28] = [
+static RULES: [&str; 28] = [
     "a heartbeat comes within the producer heartbeat time, 1017:00 (CiA 301, 7.2.8.3.2)",
     "a heartbeat has the NMT state that the commands gave (CiA 301, 7.3.2.2)",
     "a frame of error control has one byte (CiA 301, 7.2.8.3.2)",

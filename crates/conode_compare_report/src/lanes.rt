@@ -1,6 +1,6 @@
 //! The bus over time, in a bounded number of spans.
 
-ghost use Rattle.std.specs.Prelude.{◌≡◌, ◌<◌, OnOk, IfOk};
+ghost use Rattle.std.specs.Prelude.{◌≡◌, ◌<◌, OnOk, take};
 ghost use Rattle.conode_compare_report.specs.Spans.{
   bin_with,
   begun_at,
@@ -196,19 +196,22 @@ fn place_in(width: u64, passed: u64) -> u64
     if width == 0 { 0 } else { passed / width }
 }
 
-// each two neighbours as one
-#[tactic(auto, unfolding(crate::specs::Spans::joined), using(crate::proofs::SpanLemmas::at_most_one))]
-fn joined(alloc: Global, bins: &[Bin]) -> Result<Vec<Bin>, AllocError>
-    ensures { IfOk result (λ halves. halves.items ≡ joined bins.now) }
+// puts each two neighbours as one at the beginning: so many spans
+fn join(bins: &mut [Bin]) -> usize
+    ensures { take result bins.new ≡ joined bins.old }
 {
-    let mut halves = Vec::new(alloc);
-    let mut rest = bins;
-    while let [a, b, more @ ..] = rest {
-        halves.push(a.with(*b))?;
-        rest = more;
+    let mut count = 0;
+    let mut next = 0;
+    'pairs: while bins.len() - next > 1 {
+        bins[count] = bins[next].with(bins[next + 1]);
+        count += 1;
+        next += 2;
     }
-    halves.extend_from_slice(rest)?;
-    Ok(halves)
+    if next == bins.len() {
+        return count;
+    }
+    bins[count] = bins[next];
+    count + 1
 }
 
 impl Lanes {
@@ -224,28 +227,27 @@ impl Lanes {
     }
 
     // doubles the width
-    fn double(&mut self, alloc: Global) -> Result<(), AllocError>
-        ensures { OnOk result (self.new ≡ doubled self.old) }
+    fn double(&mut self)
+        ensures { self.new ≡ doubled self.old }
     {
-        self.bins = joined(alloc, self.bins.as_slice())?;
+        let count = join(&mut self.bins);
+        self.bins.truncate(count);
         self.width = self.width.saturating_mul(2);
-        Ok(())
     }
 
     // makes the spans wide enough for a stamp so many microseconds after the begin
     #[tactic(auto, using(crate::proofs::SpanLemmas::one_step, crate::proofs::SpanLemmas::no_step, crate::proofs::SpanLemmas::no_more))]
-    fn widen(&mut self, alloc: Global, passed: u64) -> Result<(), AllocError>
-        ensures { OnOk result (self.new ≡ widened 64 passed self.old) }
+    fn widen(&mut self, passed: u64)
+        ensures { self.new ≡ widened 64 passed self.old }
     {
         let mut steps = MOST_STEPS;
         while steps > 0 {
             if place_in(self.width, passed) < MOST_BINS {
-                return Ok(());
+                return;
             }
             steps -= 1;
-            self.double(alloc)?;
+            self.double();
         }
-        Ok(())
     }
 
     // they begin with the first frame
@@ -264,7 +266,7 @@ impl Lanes {
         ensures { OnOk result (self.new ≡ record self.old { bins = filled place self.old.bins }) }
     {
         if self.bins.len() <= place {
-            self.bins.resize(place + 1, Bin::empty())?;
+            return self.bins.resize(place + 1, Bin::empty());
         }
         Ok(())
     }
@@ -294,7 +296,6 @@ impl Lanes {
     #[tactic(auto, unfolding(crate::specs::Spans::lanes_with))]
     pub(crate) fn add(
         &mut self,
-        alloc: Global,
         micros: u64,
         state: NmtState,
         lane: Option<Lane>,
@@ -304,7 +305,7 @@ impl Lanes {
             ≡ lanes_with micros (bin_with state lane differences) self.old) }
     {
         self.begin_at(micros);
-        self.widen(alloc, micros.saturating_sub(self.begin))?;
+        self.widen(micros.saturating_sub(self.begin));
         self.place(micros, state, lane, differences)
     }
 }

@@ -6,8 +6,8 @@ ghost use Rattle.std.specs.Option.{option_copied};
 ghost use Rattle.co_sheet.specs.SheetViews.{row_view};
 ghost use Rattle.co_value.specs.Keys.{is_key_before};
 ghost use Rattle.conode_compare_report.specs.Occasions.{
+  all_passed,
   answer_passed,
-  command_passed,
   control_passed,
   counts_found,
   counts_passed,
@@ -36,7 +36,6 @@ ghost use Rattle.conode_compare_report.specs.Occasions.{
   passes,
   role_passed,
   side_passed,
-  tpdo_passed,
   upload_passed,
   way_passed,
 };
@@ -45,7 +44,6 @@ use crate::before::{Before, Role};
 use crate::kind::{Counted, KINDS, Kind};
 use co_sheet::EntryRow;
 use co_sheet_changes::row_at;
-use conode_compare_pdos::Parameters;
 use conode_compare_rules::{FrameKind, NmtState, Verdict};
 use conode_compare_values::{has_limits, is_held, is_read_only, is_readable};
 use conode_explain_transfers::{Direction, Ended, Ending, Heard, Protocol, Side, What};
@@ -82,6 +80,15 @@ pub(crate) fn pass(counts: &mut [Counted], could: bool, kind: Kind)
     if could && place < counts.len() {
         let counted = &mut counts[place];
         counted.occasions = counted.occasions.saturating_add(1);
+    }
+}
+
+// a frame could have shown differences of these kinds, each where the test holds
+fn pass_all(counts: &mut [Counted], kinds: &[(bool, Kind)])
+    ensures { counts.new ≡ all_passed kinds.now counts.old }
+{
+    for (could, kind) in kinds {
+        pass(counts, *could, *kind);
     }
 }
 
@@ -126,18 +133,18 @@ fn pass_control(counts: &mut [Counted], before: &Before, byte: u8)
     ensures { counts.new ≡ control_passed before.now byte counts.old }
 {
     let is_boot_up = byte == 0;
-    pass(counts, true, Kind::HeartbeatLength);
-    pass(counts, !is_boot_up, Kind::HeartbeatState);
-    pass(
+    pass_all(
         counts,
-        !is_boot_up && is_set(before.entries.period),
-        Kind::HeartbeatLate,
-    );
-    pass(counts, is_boot_up, Kind::SecondSender);
-    pass(
-        counts,
-        is_boot_up && is_booting(before.state),
-        Kind::BootMissing,
+        &[
+            (true, Kind::HeartbeatLength),
+            (!is_boot_up, Kind::HeartbeatState),
+            (
+                !is_boot_up && is_set(before.entries.period),
+                Kind::HeartbeatLate,
+            ),
+            (is_boot_up, Kind::SecondSender),
+            (is_boot_up && is_booting(before.state), Kind::BootMissing),
+        ],
     );
 }
 
@@ -145,13 +152,14 @@ fn pass_control(counts: &mut [Counted], before: &Before, byte: u8)
 fn pass_emergency(counts: &mut [Counted], before: &Before)
     ensures { counts.new ≡ emergency_passed before.now counts.old }
 {
-    pass(counts, true, Kind::EmergencyLength);
-    pass(counts, true, Kind::EmergencyState);
-    pass(counts, true, Kind::EmergencyRegister);
-    pass(
+    pass_all(
         counts,
-        is_set(before.entries.inhibit),
-        Kind::EmergencyInhibit,
+        &[
+            (true, Kind::EmergencyLength),
+            (true, Kind::EmergencyState),
+            (true, Kind::EmergencyRegister),
+            (is_set(before.entries.inhibit), Kind::EmergencyInhibit),
+        ],
     );
 }
 
@@ -175,28 +183,25 @@ fn is_by_event(kind: Option<u8>) -> bool
     }
 }
 
+// a data frame: a TPDO
 #[tactic(auto, unfolding(crate::specs::Occasions::tpdo_passed))]
-fn pass_tpdo(counts: &mut [Counted], parameters: Parameters)
-    ensures { counts.new ≡ tpdo_passed parameters counts.old }
-{
-    let by_event = is_by_event(parameters.kind);
-    pass(counts, parameters.length.is_some(), Kind::PdoLength);
-    pass(counts, true, Kind::PdoState);
-    pass(counts, is_synchronous(parameters.kind), Kind::PdoSync);
-    pass(
-        counts,
-        by_event && is_set(parameters.inhibit),
-        Kind::PdoInhibit,
-    );
-    pass(counts, by_event && is_set(parameters.timer), Kind::PdoLate);
-}
-
 fn pass_role(counts: &mut [Counted], role: Role)
     ensures { counts.new ≡ role_passed role counts.old }
 {
-    if let Role::Tpdo(_, parameters) = role {
-        pass_tpdo(counts, parameters);
-    }
+    let Role::Tpdo(_, parameters) = role else {
+        return;
+    };
+    let by_event = is_by_event(parameters.kind);
+    pass_all(
+        counts,
+        &[
+            (parameters.length.is_some(), Kind::PdoLength),
+            (true, Kind::PdoState),
+            (is_synchronous(parameters.kind), Kind::PdoSync),
+            (by_event && is_set(parameters.inhibit), Kind::PdoInhibit),
+            (by_event && is_set(parameters.timer), Kind::PdoLate),
+        ],
+    );
 }
 
 // a segment of a sub-block, which has no command
@@ -229,26 +234,29 @@ fn has_key(command: u8) -> bool
         || command == 0xC6
 }
 
-// an answer with a command
-#[tactic(auto, unfolding(crate::specs::Occasions::command_passed))]
-fn pass_command(counts: &mut [Counted], command: u8)
-    ensures { counts.new ≡ command_passed command counts.old }
-{
-    pass(counts, command < 0x40, Kind::AnswerToggle);
-    pass(counts, has_key(command), Kind::AnswerKey);
-    pass(counts, command == 0x80, Kind::AbortKey);
-}
-
-#[tactic(auto, unfolding(crate::specs::Occasions::answer_passed))]
+// an answer, with a command where it is no segment of a sub-block
+#[tactic(auto, unfolding(crate::specs::Occasions::answer_passed, crate::specs::Occasions::command_passed))]
 fn pass_answer(counts: &mut [Counted], in_sub_block: bool, command: u8)
     ensures { counts.new ≡ answer_passed in_sub_block command counts.old }
 {
     if !in_sub_block {
-        pass_command(counts, command);
+        pass_all(
+            counts,
+            &[
+                (command < 0x40, Kind::AnswerToggle),
+                (has_key(command), Kind::AnswerKey),
+                (command == 0x80, Kind::AbortKey),
+            ],
+        );
     }
-    pass(counts, true, Kind::NoAnswer);
-    pass(counts, true, Kind::SecondSender);
-    pass(counts, true, Kind::AnswerForm);
+    pass_all(
+        counts,
+        &[
+            (true, Kind::NoAnswer),
+            (true, Kind::SecondSender),
+            (true, Kind::AnswerForm),
+        ],
+    );
 }
 
 fn first_byte(bytes: &[u8]) -> u8
@@ -313,9 +321,14 @@ fn pass_entry(counts: &mut [Counted], row: Option<&EntryRow<'_>>, done: bool)
         ≡ entry_of_upload (option_map row_view (option_copied row.entry)) done counts.old }
 {
     if let Some(row) = row {
-        pass(counts, done, Kind::ValueLength);
-        pass(counts, done && is_held(row), Kind::ValueConst);
-        pass(counts, is_readable(row.access), Kind::AccessRead);
+        pass_all(
+            counts,
+            &[
+                (done, Kind::ValueLength),
+                (done && is_held(row), Kind::ValueConst),
+                (is_readable(row.access), Kind::AccessRead),
+            ],
+        );
     }
 }
 
@@ -326,16 +339,26 @@ fn pass_upload(counts: &mut [Counted], row: Option<&EntryRow<'_>>, done: bool, p
 {
     let expedited = is_expedited(protocol);
     pass_entry(counts, row, done);
-    pass(counts, done && !expedited, Kind::AnswerSize);
-    pass(counts, done && is_block(protocol), Kind::AnswerCrc);
+    pass_all(
+        counts,
+        &[
+            (done && !expedited, Kind::AnswerSize),
+            (done && is_block(protocol), Kind::AnswerCrc),
+        ],
+    );
 }
 
 fn pass_download(counts: &mut [Counted], row: Option<&EntryRow<'_>>)
     ensures { counts.new ≡ download_passed (option_map row_view (option_copied row.entry)) counts.old }
 {
     if let Some(row) = row {
-        pass(counts, is_read_only(row.access), Kind::AccessWrite);
-        pass(counts, has_limits(row), Kind::AccessLimits);
+        pass_all(
+            counts,
+            &[
+                (is_read_only(row.access), Kind::AccessWrite),
+                (has_limits(row), Kind::AccessLimits),
+            ],
+        );
     }
 }
 

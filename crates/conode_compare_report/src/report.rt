@@ -1,6 +1,6 @@
 //! What is kept of a comparison.
 
-ghost use Rattle.std.specs.Prelude.{◌≡◌, ℕ, ◌++◌, ◌-◌, ◌^◌, ◌<◌, true, map, length, List, OnOk, IfOk};
+ghost use Rattle.std.specs.Prelude.{◌≡◌, ℕ, [], ◌∷◌, ◌++◌, ◌-◌, ◌^◌, ◌<◌, true, map, length, List, OnOk, IfOk};
 ghost use Rattle.std.specs.List.{AllPairs, Contains};
 ghost use Rattle.co_sheet.specs.Content.{Row};
 ghost use Rattle.co_sheet.specs.SheetViews.{row_view};
@@ -101,7 +101,22 @@ const MOST_LISTED: usize = 10_000;
 /// How many lines before a difference are kept, with its own.
 const MOST_RECENT: usize = 4;
 
-// adds a line after the newest four
+// adds a line to others
+fn add_line(
+    alloc: Global,
+    lines: &mut Vec<ContextLine>,
+    number: u64,
+    bytes: &[u8],
+) -> Result<(), AllocError>
+    ensures { OnOk result (lines.new.items
+        ≡ lines.old.items ++ (record { number = number; bytes = bytes.now }) ∷ []) }
+{
+    let bytes = Vec::from_slice(alloc, bytes)?;
+    lines.push(ContextLine { number, bytes })?;
+    Ok(())
+}
+
+// adds a line after the newest ones, of which four are kept
 fn add_recent(
     alloc: Global,
     recent: &mut Vec<ContextLine>,
@@ -112,16 +127,10 @@ fn add_recent(
         ≡ newest_with recent.old.items (record { number = number; bytes = bytes.now })) }
 {
     if recent.len() < MOST_RECENT {
-        let bytes = Vec::from_slice(alloc, bytes)?;
-        recent.push(ContextLine { number, bytes })?;
-        return Ok(());
+        return add_line(alloc, recent, number, bytes);
     }
-    let mut line = recent.remove(0);
-    line.number = number;
-    line.bytes.clear();
-    line.bytes.extend_from_slice(bytes)?;
-    recent.push(line)?;
-    Ok(())
+    recent.remove(0);
+    add_line(alloc, recent, number, bytes)
 }
 
 // a frame on the device's SDO channel; a boot-up ends what is open
@@ -194,9 +203,7 @@ impl Report {
         if self.wanted < number {
             return add_recent(self.alloc, &mut self.recent, number, bytes);
         }
-        let bytes = Vec::from_slice(self.alloc, bytes)?;
-        self.context.push(ContextLine { number, bytes })?;
-        Ok(())
+        add_line(self.alloc, &mut self.context, number, bytes)
     }
 
     /// The newest line is bad.
@@ -234,8 +241,7 @@ impl Report {
         self.coverage
             .add(rows, kind, before.role, state, ended_in(&heard))?;
         let lane = lane_of(kind, before.role);
-        self.lanes
-            .add(self.alloc, micros, state, lane, number_found(found))?;
+        self.lanes.add(micros, state, lane, number_found(found))?;
         self.begin = self.begin.or(Some(micros));
         self.end = micros;
         Ok(())

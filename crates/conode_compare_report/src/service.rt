@@ -85,7 +85,7 @@ const SERVICES: [Service; 25] = [
 ];
 
 // their names, in this order
-const NAMES: [&str; 25] = [
+static NAMES: [&str; 25] = [
     "NMT start",
     "NMT stop",
     "NMT enter pre-operational",
@@ -219,7 +219,9 @@ fn transfer_service(direction: Direction, protocol: Protocol) -> Option<Service>
 fn ended_service(ended: Option<&Ended>) -> Option<Service>
     ensures { result ≡ ended_service (option_copied ended.entry) }
 {
-    let ended = ended?;
+    let Some(ended) = ended else {
+        return None;
+    };
     match ended.ending {
         Ending::Done { crc: _ } => transfer_service(ended.direction, ended.protocol),
         _ => None,

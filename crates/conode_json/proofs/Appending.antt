@@ -1,40 +1,63 @@
 -- What is appended in parts is appended as a whole.
-use Rattle.std.proofs.Common.{◌≡◌, ◌∙◌, List, ◌++◌, Result, Ok, Err, ap, append_assoc}
-use Rattle.std.specs.Prelude.{if◌then◌else◌}
-use Rattle.std.specs.Result.{OnOk, is_ok}
+use Rattle.std.proofs.Common.{◌≡◌, ◌∙◌, ℕ, ◌+◌, ◌<◌, Bool, true, false, List, [], ◌∷◌, ◌++◌, length, take, get_or, Option, Some, None, Result, Ok, Err, refl, ap, sym, append_assoc, append-nil}
+use Rattle.std.specs.Prelude.{if◌then◌else◌, option_map}
+use Rattle.std.specs.List.{flat_map}
+use Rattle.std.specs.Result.{IfOk, OnOk, is_ok}
+use Rattle.std.proofs.lemmas.List.{take_more}
+use Rattle.std.proofs.lemmas.Grind.{flat_map-append}
+use Rattle.conode_json.specs.Appended.{Appended}
 
--- at `Ok` what follows holds too
-follows : {A E P Q : Type 0} (r : Result A E) → (P → Q) → OnOk r P → OnOk r Q
-follows (Ok x) f h = f h
-follows (Err e) f h = h
+-- ---- one part
 
--- what is appended where all goes well
-pub on_ok : {X A E : Type 0} (r : Result A E) (now all old : List X) → now ≡ (if is_ok r then all else old) → OnOk r (now ≡ all)
-on_ok (Ok x) now all old h = h
-on_ok (Err e) now all old h = tt
+-- where all goes well a text is there, and what is appended comes after it
+pub kept : {X A E : Type 0} (r : Result A E) (old now part : List X) → OnOk r (now ≡ old ++ part)
+    → Appended (Some old) part (if is_ok r then Some now else None)
+kept (Ok x) old now part h = record { whole = λ all e. ap Some (sym h) ∙ e }
+kept (Err x) old now part h = record { whole = λ all e. cc }
 
-both : {X : Type 0} (old first now a b : List X) → first ≡ old ++ a → now ≡ first ++ b → now ≡ old ++ (a ++ b)
-both old first now a b e f = f ∙ ap (λ xs. xs ++ b) e ∙ append_assoc old a b
+-- once memory ran out nothing is said
+pub never_whole : {X : Type 0} (before : Option (List X)) (part : List X) → Appended before part None
+never_whole before part = record { whole = λ all e. cc }
 
-module _ {X A E : Type 0} (r : Result A E) (old : List X) where
-  pub two : (t now a b : List X) → t ≡ old ++ a → OnOk r (now ≡ t ++ b) → OnOk r (now ≡ old ++ (a ++ b))
-  two t now a b e last = follows r (both old t now a b e) last
+-- no part
+pub nothing : {X : Type 0} (text : Option (List X)) → Appended text [] text
+nothing None = record { whole = λ all e. e }
+nothing (Some text) = record { whole = λ all e. ap Some (append-nil text) ∙ e }
 
-  pub three : (t u now a b c : List X) → t ≡ old ++ a → u ≡ t ++ b → OnOk r (now ≡ u ++ c) → OnOk r (now ≡ old ++ (a ++ b ++ c))
-  three t u now a b c e f last = two u now (a ++ b) c (both old t u a b e f) last
+-- ---- one part after another
 
-  pub four : (t u v now a b c d : List X) → t ≡ old ++ a → u ≡ t ++ b → v ≡ u ++ c → OnOk r (now ≡ v ++ d)
-      → OnOk r (now ≡ old ++ (a ++ b ++ c ++ d))
-  four t u v now a b c d e f g last = three u v now (a ++ b) c d (both old t u a b e f) g last
+module _ {X : Type 0} where
+  joined : (t u : Option (List X)) (a b all : List X) → ((some : List X) → u ≡ Some some → option_map (λ text. text ++ a) t ≡ Some some)
+      → option_map (λ text. text ++ b) u ≡ Some all → option_map (λ text. text ++ (a ++ b)) t ≡ Some all
+  joined t None a b all f e = cc
+  joined None (Some some) a b all f e = let g : None ≡ Some some = f some refl in cc
+  joined (Some text) (Some some) a b all f e =
+      let g : Some (text ++ a) ≡ Some some = f some refl in
+      let h : text ++ a ≡ some = cc in
+      ap Some (sym (append_assoc text a b) ∙ ap (λ xs. xs ++ b) h) ∙ e
 
-  pub five : (t u v w now a b c d i : List X) → t ≡ old ++ a → u ≡ t ++ b → v ≡ u ++ c → w ≡ v ++ d → OnOk r (now ≡ w ++ i)
-      → OnOk r (now ≡ old ++ (a ++ b ++ c ++ d ++ i))
-  five t u v w now a b c d i e f g h last = three v w now (a ++ b ++ c) d i (both old u v (a ++ b) c (both old t u a b e f) g) h last
+  pub both : {t u v : Option (List X)} {a b : List X} → Appended t a u → Appended u b v → Appended t (a ++ b) v
+  both {t = t} {u = u} {a = a} {b = b} f g = record { whole = λ all e. joined t u a b all f.whole (g.whole all e) }
 
-  pub six : (t u v w x now a b c d i j : List X) → t ≡ old ++ a → u ≡ t ++ b → v ≡ u ++ c → w ≡ v ++ d → x ≡ w ++ i → OnOk r (now ≡ x ++ j)
-      → OnOk r (now ≡ old ++ (a ++ b ++ c ++ d ++ i ++ j))
-  six t u v w x now a b c d i j e f g h k last = five u v w x now (a ++ b) c d i j (both old t u a b e f) g h k last
+-- ---- in a loop
 
-  pub seven : (t u v w x y now a b c d i j k : List X) → t ≡ old ++ a → u ≡ t ++ b → v ≡ u ++ c → w ≡ v ++ d → x ≡ w ++ i → y ≡ x ++ j
-      → OnOk r (now ≡ y ++ k) → OnOk r (now ≡ old ++ (a ++ b ++ c ++ d ++ i ++ j ++ k))
-  seven t u v w x y now a b c d i j k e f g h l m last = six u v w x y now (a ++ b) c d i j k (both old t u a b e f) g h l m last
+pub one_more : {X A : Type 0} (part : A → List X) (xs : List A) (i : ℕ) (d : A) {t u v : Option (List X)} → i < length xs
+    → Appended t (flat_map part (take i xs)) u → Appended u (part (get_or xs i d)) v → Appended t (flat_map part (take (i + 1) xs)) v
+one_more part xs i d h f g =
+    rw (ap (flat_map part) (take_more xs i d h) ∙ flat_map-append part (take i xs) (get_or xs i d ∷ []) ∙ ap (λ ts. flat_map part (take i xs) ++ ts) (append-nil (part (get_or xs i d))))
+    (both f g)
+
+-- ---- the end
+
+module _ {X : Type 0} (part all : List X) where
+  from_nothing : (begin end : Option (List X)) → begin ≡ Some [] → Appended begin part end → end ≡ Some all → all ≡ part
+  from_nothing begin end e f g =
+      let h : option_map (λ text. text ++ part) begin ≡ Some all = f.whole all g in
+      let i : option_map (λ text. text ++ part) begin ≡ Some part = ap (option_map (λ text. text ++ part)) e in
+      cc
+
+-- what is handed over of a text that began with nothing is what was appended
+pub ended : {X A E : Type 0} (r : Result A E) (text_of : A → List X) {part : List X} {begin end : Option (List X)} → begin ≡ Some [] → Appended begin part end
+    → IfOk r (λ text. end ≡ Some (text_of text)) → IfOk r (λ text. text_of text ≡ part)
+ended (Ok text) text_of {part = part} {begin = begin} {end = end} e f g = from_nothing part (text_of text) begin end e f g
+ended (Err fault) text_of e f g = tt

@@ -6,7 +6,7 @@ use Rattle.std.specs.List.{flat_map}
 use Rattle.std.specs.Str.{chars, is_utf8}
 use Rattle.co_text.specs.Printed.{digits_text}
 use Rattle.conode_lint_text.specs.Characters.{characters_of, windows_1252}
-use Rattle.conode_json.specs.declared.filled.Value.TheVariants.{AnyCode, AnyText, Words, Number, Count, Seconds, Key, Code}
+use Rattle.conode_json.specs.declared.filled.Value.TheVariants.{AnyCode, AnyText, Words, Either, Number, Count, Seconds, Key, Code}
 use Rattle.conode_json.specs.Escapes.{escaped, escaped_character, is_character_data, is_plain}
 use Rattle.conode_json.specs.Filled.{code_digits, filled, seconds_text}
 
@@ -93,6 +93,10 @@ places = refl
 counts : filled (codes "%,%") (Count 12 (words (codes "none")) ∷ Count 0 (words (codes "none")) ∷ []) ≡ codes "12,none"
 unfolding digits
 counts = refl
+
+-- one of two words
+choices : filled (codes "%,%") (Either true (words (codes "yes")) (words (codes "no")) ∷ Either false (words (codes "yes")) (words (codes "no")) ∷ []) ≡ codes "yes,no"
+choices = refl
 
 -- the lowest 32 bits, and words for none
 numbers : filled (codes "%,%,%,%,%") (Code (Some 0x06020000) (words []) ∷ Code (Some 0x1F0000001) (words []) ∷ Code None (words (codes "none")) ∷ AnyCode (words (codes "<i>")) (Some 1) (words (codes "</i>")) ∷ AnyCode (words (codes "<i>")) None (words (codes "</i>")) ∷ [])

@@ -4,7 +4,7 @@ use Rattle.std.specs.Option.{option_copied, option_map}
 use Rattle.co_text.specs.Printed.{digits_text}
 use Rattle.co_value.specs.KeyTexts.{key_text}
 use Rattle.conode_json.specs.declared.filled.Value.{Value}
-use Rattle.conode_json.specs.declared.filled.Value.TheVariants.{Text, Name, AnyText, Words, Number, Count, Seconds, Key, Code, AnyCode}
+use Rattle.conode_json.specs.declared.filled.Value.TheVariants.{Text, Name, AnyText, Words, Either, Number, Count, Seconds, Key, Code, AnyCode}
 use Rattle.conode_json.specs.Escapes.{escaped}
 
 -- microseconds, in seconds with six digits after the point
@@ -30,6 +30,7 @@ value_text (Text bytes) = escaped bytes.now
 value_text (Name name) = escaped name.now
 value_text (AnyText before bytes after) = any_text before.now (option_map escaped (option_copied bytes)) after.now
 value_text (Words words) = words.now
+value_text (Either is word other) = if is then word.now else other.now
 value_text (Number number) = decimal number
 value_text (Count count none) = if count == 0 then none.now else decimal count
 value_text (Seconds micros) = seconds_text micros

@@ -1,3 +1,4 @@
+pub mod Appended
 pub mod Escapes
 pub mod Members
 pub mod Filled

@@ -59,7 +59,7 @@ fn push_characters(text: &mut String, characters: &[char]) -> Result<(), AllocEr
 /// valid, else as Windows-1252. The characters `&`, `<`, `>`, `"` and `'` become references;
 /// control characters but the line feed are shown, as `\t` and `\x1B`.
 #[tactic(auto, using(crate::proofs::EscapeLaws::escaped_plain))]
-pub fn push_escaped(alloc: Global, text: &mut String, bytes: &[u8]) -> Result<(), AllocError>
+pub(crate) fn push_escaped(alloc: Global, text: &mut String, bytes: &[u8]) -> Result<(), AllocError>
     ensures text { OnOk result
         (string_bytes text.new ≡ string_bytes text.old ++ escaped bytes.now) }
     // It ends no element and no value, and begins none.

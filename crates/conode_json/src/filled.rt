@@ -1,7 +1,7 @@
 //! Markup with values in it. Each function appends a text. `Err`: out of memory; a part of it may be
 //! there.
 
-ghost use Rattle.std.specs.Prelude.{◌≡◌, ◌++◌, ◌<◌, ◌^◌, IfNone, IfSome, List, OnOk, drop, length, string_bytes};
+ghost use Rattle.std.specs.Prelude.{◌≡◌, ◌++◌, ◌<◌, IfNone, IfSome, List, OnOk, drop, length, string_bytes};
 ghost use Rattle.std.specs.Option.{option_copied, option_map};
 ghost use Rattle.co_text.specs.Printed.{digits_text};
 ghost use Rattle.conode_json.specs.Escapes.{escaped};
@@ -32,6 +32,8 @@ pub enum Value<'a> {
     AnyText(&'a str, Option<&'a [u8]>, &'a str),
     /// Words of the program, as they are.
     Words(&'a str),
+    /// The first of two words if a test holds, else the second.
+    Either(bool, &'a str, &'a str),
     /// A number in decimal digits.
     Number(u64),
     /// How often something came, in decimal digits; these words for 0.
@@ -46,17 +48,16 @@ pub enum Value<'a> {
     AnyCode(&'a str, Option<u64>, &'a str),
 }
 
+// the last digits of a number, so many
 #[tactic(auto, unfolding(co_text::specs::Printed::digits_text))]
-fn push_six_digits(text: &mut String, number: u32) -> Result<(), AllocError>
-    requires { number < 10 ^ 6 }
+fn push_last_digits(text: &mut String, count: u8, number: u64) -> Result<(), AllocError>
     ensures { OnOk result
-        (string_bytes text.new ≡ string_bytes text.old ++ digits_text 10 6 number) }
+        (string_bytes text.new ≡ string_bytes text.old ++ digits_text 10 count number) }
 {
-    push_digit(text, (number / 10 / 10 / 10 / 10 / 10 % 10) as u8)?;
-    push_digit(text, (number / 10 / 10 / 10 / 10 % 10) as u8)?;
-    push_digit(text, (number / 10 / 10 / 10 % 10) as u8)?;
-    push_digit(text, (number / 10 / 10 % 10) as u8)?;
-    push_digit(text, (number / 10 % 10) as u8)?;
+    if count == 0 {
+        return Ok(());
+    }
+    push_last_digits(text, count - 1, number / 10)?;
     push_digit(text, (number % 10) as u8)
 }
 
@@ -66,7 +67,7 @@ fn push_seconds(text: &mut String, micros: u64) -> Result<(), AllocError>
 {
     push_decimal(text, micros / 1_000_000)?;
     text.push('.')?;
-    push_six_digits(text, (micros % 1_000_000) as u32)
+    push_last_digits(text, 6, micros % 1_000_000)
 }
 
 // text from outside between these words, if there is one
@@ -131,7 +132,9 @@ fn push_value(alloc: Global, text: &mut String, value: &Value<'_>) -> Result<(),
         Value::Text(bytes) => push_escaped(alloc, text, bytes),
         Value::Name(name) => push_escaped(alloc, text, name.as_bytes()),
         Value::AnyText(before, bytes, after) => push_any(alloc, text, before, bytes, after),
-        Value::Words(words) => text.push_str(words),
+        Value::Words(words) | Value::Either(true, words, _) | Value::Either(false, _, words) => {
+            text.push_str(words)
+        }
         Value::Number(number) => push_decimal(text, number),
         Value::Count(0, none) => text.push_str(none),
         Value::Count(count, _) => push_decimal(text, count),
@@ -175,7 +178,7 @@ fn first_place(markup: &str) -> Option<(&str, &str)>
 
 /// Appends markup, tags and words of the program as they are, with these values in its places, one
 /// after another: each percent sign is a place.
-pub fn push_filled(
+pub(crate) fn push_filled(
     alloc: Global,
     text: &mut String,
     markup: &str,

@@ -5,7 +5,8 @@
 mod escape;
 mod filled;
 mod json_writer;
+mod markup;
 
-pub use escape::push_escaped;
-pub use filled::{Value, push_filled};
+pub use filled::Value;
 pub use json_writer::JsonWriter;
+pub use markup::Markup;

@@ -1,0 +1,6 @@
+use Rattle.conode_compare_documents.specs.CoverageTokens.{entry_tokens}
+use Rattle.conode_compare_documents.proofs.json_coverage.put_entry.Goals as goal
+
+pub returns : goal.returns
+unfolding entry_tokens
+returns c = c.put.ensures

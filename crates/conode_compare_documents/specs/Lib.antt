@@ -1,0 +1,13 @@
+pub mod Parts
+pub mod NotedTokens
+pub mod CoverageTokens
+pub mod JsonDocument
+pub mod JunitCases
+pub mod JunitDocument
+pub mod Indexed
+pub mod Coverage
+pub mod Device
+pub mod Differences
+pub mod Head
+pub mod Picture
+pub mod Page

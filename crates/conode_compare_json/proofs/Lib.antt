@@ -1,5 +1,0 @@
-pub mod Firsts
-pub mod Pairs
-pub mod Reported
-mod JsonExamples
-mod JunitExamples

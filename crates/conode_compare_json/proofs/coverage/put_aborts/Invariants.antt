@@ -1,7 +1,0 @@
-use Rattle.std.proofs.Common.{◌≡◌, ◌++◌, take}
-use Rattle.std.specs.List.{flat_map}
-use Rattle.conode_compare_json.specs.CoverageTokens.{abort_tokens}
-use Rattle.conode_compare_json.proofs.coverage.put_aborts.Given as goal
-
-abbrev pub invariant-loop-numbered : goal.invariant-loop-numbered
-invariant-loop-numbered l = l.writer ≡ l.initial.writer ++ flat_map abort_tokens (take l.numbered-index l.coverage.aborts)

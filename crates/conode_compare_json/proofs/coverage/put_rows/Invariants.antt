@@ -1,8 +1,0 @@
-use Rattle.std.proofs.Common.{◌≡◌, ◌++◌, map, take, zip}
-use Rattle.std.specs.List.{flat_map}
-use Rattle.co_sheet.specs.SheetViews.{row_view}
-use Rattle.conode_compare_json.specs.CoverageTokens.{entry_tokens}
-use Rattle.conode_compare_json.proofs.coverage.put_rows.Given as goal
-
-abbrev pub invariant-loop-place : goal.invariant-loop-place
-invariant-loop-place l = l.writer ≡ l.fn.writer ++ flat_map entry_tokens (zip (map row_view (take l.place l.rows)) (take l.place l.covered))

@@ -1,7 +1,0 @@
-use Rattle.std.proofs.Common.{◌≡◌, ◌++◌, take}
-use Rattle.std.specs.List.{flat_map}
-use Rattle.conode_compare_json.specs.CoverageTokens.{served_tokens}
-use Rattle.conode_compare_json.proofs.coverage.put_services.Given as goal
-
-abbrev pub invariant-loop-served : goal.invariant-loop-served
-invariant-loop-served l = l.writer ≡ l.initial.writer ++ flat_map served_tokens (take l.served-index l.coverage.services)

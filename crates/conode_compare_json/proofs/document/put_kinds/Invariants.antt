@@ -1,7 +1,0 @@
-use Rattle.std.proofs.Common.{◌≡◌, ◌++◌, take}
-use Rattle.std.specs.List.{flat_map}
-use Rattle.conode_compare_json.specs.JsonDocument.{kind_tokens}
-use Rattle.conode_compare_json.proofs.document.put_kinds.Given as goal
-
-abbrev pub invariant-loop-counted : goal.invariant-loop-counted
-invariant-loop-counted l = l.writer ≡ l.initial.writer ++ flat_map kind_tokens (take l.counted-index l.report.kinds)

@@ -1,6 +1,0 @@
-use Rattle.conode_compare_json.specs.JunitDocument.{suite_begin}
-use Rattle.conode_compare_json.proofs.junit.begin_suite.Goals as goal
-
-pub returns : goal.returns
-unfolding suite_begin
-returns c = c.push_filled.ensures

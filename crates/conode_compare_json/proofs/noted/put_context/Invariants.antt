@@ -1,7 +1,0 @@
-use Rattle.std.proofs.Common.{◌≡◌, ◌++◌, take}
-use Rattle.std.specs.List.{flat_map}
-use Rattle.conode_compare_json.specs.NotedTokens.{context_tokens}
-use Rattle.conode_compare_json.proofs.noted.put_context.Given as goal
-
-abbrev pub invariant-loop-line : goal.invariant-loop-line
-invariant-loop-line l = l.writer ≡ l.initial.writer ++ flat_map context_tokens (take l.line-index l.lines)

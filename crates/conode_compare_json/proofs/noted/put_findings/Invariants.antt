@@ -1,7 +1,0 @@
-use Rattle.std.proofs.Common.{◌≡◌, ◌++◌, take}
-use Rattle.std.specs.List.{flat_map}
-use Rattle.conode_compare_json.specs.NotedTokens.{noted_tokens}
-use Rattle.conode_compare_json.proofs.noted.put_findings.Given as goal
-
-abbrev pub invariant-loop-noted : goal.invariant-loop-noted
-invariant-loop-noted l = l.writer ≡ l.initial.writer ++ flat_map (noted_tokens l.report.context) (take l.noted-index l.report.noted)

@@ -1,8 +1,0 @@
-use Rattle.std.proofs.Common.{◌≡◌, ◌++◌, take}
-use Rattle.std.specs.Prelude.{string_bytes}
-use Rattle.std.specs.List.{flat_map}
-use Rattle.conode_compare_page.specs.Coverage.{numbered_item}
-use Rattle.conode_compare_page.proofs.coverage.push_numbers.Given as goal
-
-abbrev pub invariant-loop-numbered : goal.invariant-loop-numbered
-invariant-loop-numbered l = string_bytes l.text ≡ string_bytes l.initial.text ++ flat_map (numbered_item l.listed) (take l.numbered-index l.numbers)

@@ -1,8 +1,0 @@
-use Rattle.std.proofs.Common.{◌≡◌, ◌++◌, take}
-use Rattle.std.specs.Prelude.{string_bytes}
-use Rattle.std.specs.List.{flat_map}
-use Rattle.conode_compare_page.specs.Coverage.{service_item}
-use Rattle.conode_compare_page.proofs.coverage.push_services.Given as goal
-
-abbrev pub invariant-loop-served : goal.invariant-loop-served
-invariant-loop-served l = string_bytes l.text ≡ string_bytes l.initial.text ++ flat_map service_item (take l.served-index l.services)

@@ -1,6 +1,0 @@
-use Rattle.conode_compare_page.specs.Device.{foot}
-use Rattle.conode_compare_page.proofs.device.push_foot.Goals as goal
-
-pub returns : goal.returns
-unfolding foot
-returns c = c.push_filled.ensures

@@ -1,6 +1,0 @@
-use Rattle.conode_compare_page.specs.Differences.{row_cells}
-use Rattle.conode_compare_page.proofs.differences.push_cells.Goals as goal
-
-pub returns : goal.returns
-unfolding row_cells
-returns c = rw (c.saturating_sub.ensures, c.name.ensures, c.rule.ensures, c.of-kind.ensures) at c.push_filled.ensures

@@ -1,6 +1,0 @@
-use Rattle.conode_compare_page.specs.Coverage.{kind_row}
-use Rattle.conode_compare_page.proofs.kinds.push_kind.Goals as goal
-
-pub returns : goal.returns
-unfolding kind_row
-returns c = rw (c.either.ensures, c.name.ensures, c.rule.ensures, c.either-2.ensures) at c.push_filled.ensures

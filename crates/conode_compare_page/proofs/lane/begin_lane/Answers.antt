@@ -1,6 +1,0 @@
-use Rattle.conode_compare_page.specs.Picture.{lane_begin}
-use Rattle.conode_compare_page.proofs.lane.begin_lane.Goals as goal
-
-pub returns : goal.returns
-unfolding lane_begin
-returns c = c.push_filled.ensures

@@ -1,6 +1,0 @@
-use Rattle.conode_compare_page.specs.Picture.{axis_text}
-use Rattle.conode_compare_page.proofs.picture.push_axis.Goals as goal
-
-pub returns : goal.returns
-unfolding axis_text
-returns c = c.push_filled.ensures

@@ -1,6 +1,0 @@
-use Rattle.conode_compare_page.specs.Picture.{mark_text}
-use Rattle.conode_compare_page.proofs.picture.push_mark_text.Goals as goal
-
-pub returns : goal.returns
-unfolding mark_text
-returns c = rw (c.name.ensures, c.of.ensures) at c.push_filled.ensures

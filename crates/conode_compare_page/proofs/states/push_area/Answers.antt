@@ -1,6 +1,0 @@
-use Rattle.conode_compare_page.specs.Picture.{state_area}
-use Rattle.conode_compare_page.proofs.states.push_area.Goals as goal
-
-pub returns : goal.returns
-unfolding state_area
-returns c = c.push_filled.ensures
