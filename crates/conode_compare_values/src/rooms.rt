@@ -30,10 +30,10 @@ pub struct Rooms {
 }
 
 // how many bytes a string's default has
-fn default_length(default: Preset<'_>) -> usize
-    ensures { result ≡ default_length (default_view default) }
+fn default_length(default: &Preset<'_>) -> usize
+    ensures { result ≡ default_length (default_view default.now) }
 {
-    match default {
+    match *default {
         Preset::Text(bytes) => bytes.len(),
         Preset::Pairs(digits) => digits.len() / 2,
         Preset::Absent | Preset::Number(_) | Preset::NodeId(_) => 0,
@@ -84,7 +84,7 @@ impl Rooms {
     {
         match row.data_type {
             DataType::VisibleString | DataType::OctetString => {
-                string_room(default_length(row.default), self.strings)
+                string_room(default_length(&row.default), self.strings)
             }
             DataType::Domain => domain_room(self.domains),
             _ => None,
