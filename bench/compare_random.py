@@ -2,7 +2,7 @@
 """compare_random.py [COUNT [SEED [PROGRAM]]]: random sessions of a device that keeps to the standard, compared with its data sheet.
 
 A session is a random trace for the sensor or the I/O module of examples/: SDO requests of every kind, also broken ones, NMT commands to
-the device, to others and to all, SYNCs, RPDOs, another node's heartbeats. What `conode replay` says that the device sends is put into the
+the device, to others and to all, SYNCs, RPDOs, another node's heartbeats, texts in segments. What `conode replay` says that the device sends is put into the
 trace behind the input that it follows. Such a recording has no difference: `conode compare` has to find none.
 """
 import os
@@ -45,6 +45,19 @@ def data_of(it, node):
     return 0x200 + node, bytes(it.randrange(256) for _ in range(it.randrange(9)))
 
 
+def text_of(it, node):
+    """The frames of a download of a text in segments, with its size or without."""
+    size = it.randrange(40)
+    key = it.choice([0x2002, 0x2011]).to_bytes(2, "little") + b"\0"
+    indicated = it.choice([True, False])
+    yield 0x600 + node, (b"\x21" + key + size.to_bytes(4, "little") if indicated else b"\x20" + key + bytes(4))
+    for place in range(0, max(size, 1), 7):
+        count = min(7, size - place)
+        unused = 7 - count if indicated or it.random() < 0.7 else 0
+        first = (place // 7 % 2) << 4 | unused << 1 | (place + 7 >= size)
+        yield 0x600 + node, bytes([first]) + bytes(it.randrange(0x41, 0x5B) for _ in range(count)) + bytes(7 - count)
+
+
 def line(stamp, identifier, data):
     return f"({stamp:.6f}) can0 {identifier:03X}#{data.hex().upper()}"
 
@@ -58,7 +71,12 @@ def recording(it, sheet, node, folder):
     stamp, inputs = 1000.0, []
     for _ in range(it.randrange(5, 120)):
         stamp += it.choice([0.001, 0.003, 0.01, 0.1, 0.5, 1.0, 1.5, 3.0])
-        inputs.append(line(stamp, *data_of(it, node)))
+        if it.random() < 0.1:
+            for frame in text_of(it, node):
+                inputs.append(line(stamp, *frame))
+                stamp += 0.001
+        else:
+            inputs.append(line(stamp, *data_of(it, node)))
     with open(f"{folder}/inputs.log", "w", encoding="ascii") as file:
         file.write("\n".join(inputs) + "\n")
     words = [*PROGRAM, "replay", sheet, f"{folder}/inputs.log", "--node", str(node)]
@@ -83,7 +101,8 @@ def main():
             file = f"{folder}/session.log"
             with open(file, "w", encoding="ascii") as recorded:
                 recorded.write("\n".join(recording(it, sheet, node, folder)) + "\n")
-            words = [*PROGRAM, "compare", sheet, file, "--node", str(node), "--held", held]
+            # with the room that the device has
+            words = [*PROGRAM, "compare", sheet, file, "--node", str(node), "--held", held, "--strings", "16", "--domains", "889"]
             ran = subprocess.run(words, capture_output=True, text=True, check=False)
             if ran.returncode:
                 different += 1

@@ -10,6 +10,7 @@ use conode_adapt::{AdaptWords, LeadingZeros as ZerosRead, adapt_file};
 use conode_check::check_file;
 use conode_compare::{Asked, Format as ComparedFormat, compare_files};
 use conode_compare_rules::Limits as CompareLimits;
+use conode_compare_values::Rooms;
 use conode_convert::{Form as RecordedForm, convert_file};
 use conode_decode::decode_files;
 use conode_explain::{ExplainOptions, LineFormat, StampForm, explain_files};
@@ -267,6 +268,7 @@ fn carry_out_task<O: Write, E: Write>(
             node,
             interface,
             held,
+            rooms,
             choices,
             learned,
             form,
@@ -279,9 +281,14 @@ fn carry_out_task<O: Write, E: Write>(
                 answer: timing.answer,
                 boot: timing.boot,
             };
+            let rooms = Rooms {
+                strings: rooms.strings,
+                domains: rooms.domains,
+            };
             let asked = Asked {
                 node,
                 limits,
+                rooms,
                 interface,
                 held,
                 form: recorded_form(form),

@@ -21,6 +21,7 @@ use conode_compare_held::{HeldEntries, HeldFault};
 use conode_compare_report::SheetNames;
 use conode_compare_rules::{Limits, Subject, facts_of};
 use conode_compare_text::Tally;
+use conode_compare_values::Rooms;
 use conode_io::{
     CmdFault, cannot_read, faulty_sheet, file_text, flushed, no_node_id, no_text, out_of_memory,
     stopped,
@@ -45,6 +46,8 @@ pub struct Asked<'s> {
     pub node: Option<u8>,
     /// How exactly the device is judged.
     pub limits: Limits,
+    /// The room of its strings and DOMAINs, as far as it is known.
+    pub rooms: Rooms,
     /// The interface whose frames are compared; `None`: the only one that there is.
     pub interface: Option<&'s str>,
     /// The keys of the entries that are held to what was written, with a comma between two; `None`:
@@ -255,6 +258,7 @@ fn compare_sheet<R: Files + AllocGlobal + Input, O: Write, E: Write>(
         limits: asked.limits,
         facts: facts_of(rows, node, configured),
         held,
+        rooms: asked.rooms,
     };
     let interface = match asked.interface {
         Some(name) => Some(name.as_bytes()),

@@ -90,6 +90,7 @@ subject = record {
   limits = record { tolerance = 10; drift = 1; answer = 1000; boot = 10000 };
   facts = facts;
   held = record { entries = record { items = [] } };
+  rooms = record { strings = None; domains = None };
 }
 
 -- what the recording shows in a state at a stamp

@@ -39,6 +39,7 @@ subject = record {
   limits = record { tolerance = 10; drift = 1; answer = 1000; boot = 10000 };
   facts = record { before = sheet; booted = sheet; pdos = unknown_pdos; starts_itself = false; modular = false; stores = false };
   held = record { entries = record { items = [] } };
+  rooms = record { strings = None; domains = None };
 }
 
 abbrev answers_found : List Recorded → List Finding

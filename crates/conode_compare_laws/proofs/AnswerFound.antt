@@ -53,7 +53,7 @@ pub no_end : (subject : Subject) (rows : List Row) (frame : FrameContent) (ended
 no_end subject rows frame None = refl
 no_end subject rows frame (Some e) = by (refuses_other frame e)
   where
-    by : (b : Bool) → of_answers (if b then None else value_finding (mismatch_at subject.node subject.facts.modular rows (is_exact e.protocol frame) e)) ≡ []
+    by : (b : Bool) → of_answers (if b then None else value_finding (mismatch_at subject.node subject.facts.modular subject.rooms rows (is_exact e.protocol frame) e)) ≡ []
     by true = refl
     by false = no_value _
 

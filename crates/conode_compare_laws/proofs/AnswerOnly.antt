@@ -55,7 +55,7 @@ module _ (only : Option Finding → List Finding) (nothing : only None ≡ []) (
 
   no_end : (subject : Subject) (rows : List Row) (frame : FrameContent) (ended : Option Ended) → only (ended_finding subject rows frame ended) ≡ []
   no_end subject rows frame None = nothing
-  no_end subject rows frame (Some e) = unless (refuses_other frame e) _ (no_value (mismatch_at subject.node subject.facts.modular rows (is_exact e.protocol frame) e))
+  no_end subject rows frame (Some e) = unless (refuses_other frame e) _ (no_value (mismatch_at subject.node subject.facts.modular subject.rooms rows (is_exact e.protocol frame) e))
 
   no_held : (m : Option HeldMismatch) → only (option_map (λ m. Held m) m) ≡ []
   no_held None = nothing

@@ -64,3 +64,4 @@ pub mod TpdoLates
 mod TpdoExamples
 pub mod TpdoKept
 pub mod TpdoSheets
+pub mod RoomsOfDevices

@@ -9,3 +9,4 @@ pub mod TpdoSheets
 pub mod AnswerFindings
 pub mod AnswerSenders
 pub mod AnswerEntries
+pub mod GivenRooms

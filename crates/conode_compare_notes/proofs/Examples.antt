@@ -178,6 +178,7 @@ subject = record {
   limits = record { tolerance = 10; drift = 1; answer = 1000; boot = 10000 };
   facts = record (facts_of [] 5 false) { stores = true };
   held = record { entries = record { items = record { key = entry_key 1 0; width = 2; mappable = false } ∷ [] } };
+  rooms = record { strings = None; domains = None };
 }
 
 -- 1017:00 (7 in the sheet), 2000:00 (read only), 2000:01, 2001:00, 2002:00 (in a PDO)

@@ -3,17 +3,17 @@ use Rattle.std.proofs.Common.{◌≡◌, ℕ, Bool, true, false, List, [], ◌�
 use Rattle.std.specs.Prelude.{pos}
 use Rattle.co_frame.specs.FrameContent.{FrameContent}
 use Rattle.co_frame.specs.declared.nmt.NmtService.TheVariants.{Stop}
-use Rattle.co_profile.specs.declared.access.Access.TheVariants.{Constant}
-use Rattle.co_sheet.specs.Limits.{number}
-use Rattle.co_value.specs.declared.data_type.DataType.TheVariants.{Unsigned32}
+use Rattle.co_profile.specs.declared.access.Access.TheVariants.{Rw, Constant}
+use Rattle.co_sheet.specs.Limits.{absent, number}
+use Rattle.co_value.specs.declared.data_type.DataType.TheVariants.{Unsigned32, VisibleString}
 use Rattle.conode_explain_transfers.specs.declared.ended.Ending.TheVariants.{Done}
-use Rattle.conode_explain_transfers.specs.declared.kinds.Direction.TheVariants.{Upload}
+use Rattle.conode_explain_transfers.specs.declared.kinds.Direction.TheVariants.{Download, Upload}
 use Rattle.conode_explain_transfers.specs.declared.kinds.Protocol.{Protocol}
 use Rattle.conode_explain_transfers.specs.declared.kinds.Protocol.TheVariants.{Expedited, Segmented, Block}
 use Rattle.conode_explain_transfers.specs.declared.kinds.What.TheVariants.{Part}
 use Rattle.conode_compare_transfers.specs.declared.breach.Breach.TheVariants.{Toggle}
 use Rattle.conode_compare_transfers.specs.declared.dialogue.Exchange.{Exchange}
-use Rattle.conode_compare_values.specs.declared.mismatch.Mismatch.TheVariants.{ValueConst, ValueLength}
+use Rattle.conode_compare_values.specs.declared.mismatch.Mismatch.TheVariants.{BeyondRoom, ValueConst, ValueLength}
 use Rattle.conode_compare_values.specs.SheetValues.{mismatch_at, row_mismatch, value_mismatch}
 use Rattle.conode_compare_held.specs.HeldNumbers.{held_mismatch, nothing_written}
 use Rattle.conode_compare_rules.specs.declared.finding.Finding.{Finding}
@@ -21,7 +21,7 @@ use Rattle.conode_compare_rules.specs.declared.finding.Finding.TheVariants.{Answ
 use Rattle.conode_compare_rules.specs.declared.finding.NmtState.TheVariants.{Operational, Stopped}
 use Rattle.conode_compare_rules.specs.declared.limits.Subject.{Subject}
 use Rattle.conode_compare_rules.specs.declared.nmt.Nmt.{Nmt}
-use Rattle.conode_compare_rules.specs.Answers.{confirmed_finding, held_finding, is_exact, stopped_finding}
+use Rattle.conode_compare_rules.specs.Answers.{confirmed_finding, ended_finding, held_finding, is_exact, stopped_finding}
 use Rattle.conode_compare_rules.specs.EntriesInForce.{facts_of}
 use Rattle.conode_compare_rules.specs.States.{is_settled}
 use Rattle.conode_compare_rules.proofs.Examples.{limits, key, row}
@@ -67,7 +67,13 @@ answered_operational = refl
 -- ---- by the client's confirmation
 
 abbrev device : Subject
-device = record { node = 5; limits = limits; facts = facts_of [] 5 false; held = record { entries = record { items = [] } } }
+device = record {
+  node = 5;
+  limits = limits;
+  facts = facts_of [] 5 false;
+  held = record { entries = record { items = [] } };
+  rooms = record { strings = Some 16; domains = None };
+}
 
 -- end SDO block upload, ccs = 5, cs = 1
 abbrev confirmation : FrameContent
@@ -121,3 +127,27 @@ confirmed = refl
 confirmed_in_doubt : confirmed_finding device [] nothing_written (answered_in false) confirmation ≡ None
 unfolding confirmed_finding
 confirmed_in_doubt = refl
+
+-- ---- the room that is given
+
+-- the confirmation of the last segment of a download, scs = 1
+abbrev segment_confirmed : FrameContent
+segment_confirmed = record { id = 0x585; bytes = 0x20 ∷ 0 ∷ 0 ∷ 0 ∷ 0 ∷ 0 ∷ 0 ∷ 0 ∷ [] }
+
+abbrev written_in_segments : ℕ → Option Finding
+written_in_segments count = ended_finding device (row 0x2005 0 VisibleString Rw absent ∷ []) segment_confirmed (Some (record {
+  key = key 0x2005 0;
+  direction = Download;
+  protocol = Segmented;
+  bytes = count;
+  first = record { items = [] };
+  frames = 8;
+  begun = 1;
+  newest = 2;
+  end = 3;
+  ending = Done false;
+}))
+
+beyond_the_room : written_in_segments 16 ∷ written_in_segments 17 ∷ [] ≡ None ∷ Some (Value (BeyondRoom (key 0x2005 0) 17 16)) ∷ []
+unfolding row_mismatch mismatch_at facts_of
+beyond_the_room = refl

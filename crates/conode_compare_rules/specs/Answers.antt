@@ -72,7 +72,7 @@ value_finding mismatch = option_map (λ m. Value m) mismatch
 abbrev pub known_finding : Subject → List Row → FrameContent → Ended → Option Finding
 known_finding subject rows frame ended =
     if refuses_other frame ended then None
-    else value_finding (mismatch_at subject.node subject.facts.modular rows (is_exact ended.protocol frame) ended)
+    else value_finding (mismatch_at subject.node subject.facts.modular subject.rooms rows (is_exact ended.protocol frame) ended)
 
 -- by the end of the transfer
 abbrev pub ended_finding : Subject → List Row → FrameContent → Option Ended → Option Finding

@@ -84,7 +84,7 @@ fn ended_finding(
         Some(ended) if !refuses_other(frame, ended) => {
             let exact = is_exact(ended.protocol, frame);
             let modular = subject.facts.modular;
-            match mismatch_at(subject.node, modular, rows, exact, ended) {
+            match mismatch_at(subject.node, modular, subject.rooms, rows, exact, ended) {
                 Some(mismatch) => Some(Finding::Value(mismatch)),
                 None => None,
             }

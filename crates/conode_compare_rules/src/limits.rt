@@ -5,6 +5,7 @@ ghost use Rattle.conode_compare_rules.specs.Times.{drift_of};
 
 use crate::entries::Facts;
 use conode_compare_held::HeldEntries;
+use conode_compare_values::Rooms;
 
 /// How exactly a device is judged.
 #[derive(Clone, Copy)]
@@ -30,6 +31,8 @@ pub struct Subject {
     pub facts: Facts,
     /// Which entries are held to what was written.
     pub held: HeldEntries,
+    /// The room of its strings and DOMAINs, as far as it is known.
+    pub rooms: Rooms,
 }
 
 /// By how many microseconds the clocks may differ after so many ms.

@@ -192,6 +192,24 @@ fn push_mismatch(
             key,
             " was written, with a value below its LowLimit",
         ),
+        Mismatch::BeyondRoom(key, bytes, room) => push_key_numbers(
+            text,
+            "access-limits: ",
+            key,
+            " was written, with ",
+            bytes,
+            " bytes, its room is ",
+            room,
+        ),
+        Mismatch::RoomRefused(key, bytes, room) => push_key_numbers(
+            text,
+            "access-limits: ",
+            key,
+            " refused as too long, with ",
+            bytes,
+            " bytes, its room is ",
+            room,
+        ),
     }
 }
 

@@ -4,18 +4,22 @@ use Rattle.std.specs.Prelude.{ℤ, pos, neg_ℤ}
 use Rattle.co_profile.specs.declared.access.Access.{Access}
 use Rattle.co_profile.specs.declared.access.Access.TheVariants.{Ro, Wo, Rw, Constant}
 use Rattle.co_sheet.specs.Content.{Row}
-use Rattle.co_sheet.specs.Limits.{Default, absent, number, node_id, text}
+use Rattle.co_sheet.specs.Limits.{Default, absent, number, node_id, text, pairs}
 use Rattle.co_value.specs.declared.data_type.DataType.{DataType}
-use Rattle.co_value.specs.declared.data_type.DataType.TheVariants.{Boolean, Integer16, Integer24, Integer64, Unsigned8, Unsigned16, Unsigned40, Unsigned64, VisibleString}
+use Rattle.co_value.specs.declared.data_type.DataType.TheVariants.{Boolean, Integer16, Integer24, Integer64, Unsigned8, Unsigned16, Unsigned40, Unsigned64, VisibleString, OctetString, Domain}
 use Rattle.co_value.specs.declared.key.Key.{Key}
 use Rattle.conode_explain_transfers.specs.declared.ended.Ended.{Ended}
-use Rattle.conode_explain_transfers.specs.declared.ended.Ending.TheVariants.{Done}
-use Rattle.conode_explain_transfers.specs.declared.kinds.Direction.TheVariants.{Upload}
+use Rattle.conode_explain_transfers.specs.declared.ended.Ending.{Ending}
+use Rattle.conode_explain_transfers.specs.declared.ended.Ending.TheVariants.{Done, Aborted}
+use Rattle.conode_explain_transfers.specs.declared.kinds.Direction.{Direction}
+use Rattle.conode_explain_transfers.specs.declared.kinds.Direction.TheVariants.{Download, Upload}
 use Rattle.conode_explain_transfers.specs.declared.kinds.Protocol.{Protocol}
 use Rattle.conode_explain_transfers.specs.declared.kinds.Protocol.TheVariants.{Expedited, Segmented, Block}
+use Rattle.conode_explain_transfers.specs.declared.kinds.Side.TheVariants.{Client, Server}
 use Rattle.conode_compare_values.specs.declared.mismatch.Mismatch.{Mismatch}
-use Rattle.conode_compare_values.specs.declared.mismatch.Mismatch.TheVariants.{ValueLength, ValueConst, ConstText, ReadRefused, Written, AboveLimit, BelowLimit}
-use Rattle.conode_compare_values.specs.SheetValues.{binds, refused_mismatch, value_mismatch, written_mismatch}
+use Rattle.conode_compare_values.specs.declared.mismatch.Mismatch.TheVariants.{ValueLength, ValueConst, ConstText, ReadRefused, Written, AboveLimit, BelowLimit, BeyondRoom, RoomRefused}
+use Rattle.conode_compare_values.specs.declared.rooms.Rooms.{Rooms}
+use Rattle.conode_compare_values.specs.SheetValues.{binds, refused_mismatch, row_mismatch, value_mismatch, written_mismatch}
 
 abbrev key : ℕ → ℕ → Key
 key index sub = record { index = index; sub = sub }
@@ -297,3 +301,132 @@ boolean = refl
 
 read_only_limits : written_mismatch (record (row 0x2000 0 Unsigned8 Ro absent) { high = Some (pos 1) }) (0xFF ∷ []) ≡ Some (Written (key 0x2000 0))
 read_only_limits = refl
+
+-- ---- room
+
+abbrev given : Option ℕ → Option ℕ → Rooms
+given strings domains = record { strings = strings; domains = domains }
+
+abbrev transfer : Row → Direction → Protocol → ℕ → Ending → Ended
+transfer entry direction protocol count ending = record {
+  key = entry.key;
+  direction = direction;
+  protocol = protocol;
+  bytes = count;
+  first = record { items = replicate count 0x41 };
+  frames = 2;
+  begun = 1;
+  newest = 1;
+  end = 2;
+  ending = ending;
+}
+
+-- a download of so many bytes is done, with this room of strings, and of DOMAINs
+abbrev write : Rooms → Row → Protocol → ℕ → Option Mismatch
+write rooms entry protocol count = row_mismatch 5 false rooms entry false (transfer entry Download protocol count (Done false))
+
+abbrev free_text : Row
+free_text = row 0x2005 0 VisibleString Rw absent
+
+abbrev beyond : ℕ → ℕ → Option Mismatch
+beyond count room = Some (BeyondRoom (key 0x2005 0) count room)
+
+-- of 16 bytes
+in_segments : map (write (given (Some 16) None) free_text Segmented) (0 ∷ 15 ∷ 16 ∷ 17 ∷ 64 ∷ []) ≡ None ∷ None ∷ None ∷ beyond 17 16 ∷ beyond 64 16 ∷ []
+unfolding row_mismatch
+in_segments = refl
+
+of_a_block : map (write (given (Some 16) None) free_text Block) (16 ∷ 17 ∷ []) ≡ None ∷ beyond 17 16 ∷ []
+unfolding row_mismatch
+of_a_block = refl
+
+-- 21 bytes, of which 15 count at least; in blocks all count, and of 22 too
+last_of_seven : map (λ room. write (given (Some room) None) free_text Segmented 21) (14 ∷ 15 ∷ []) ≡ beyond 21 14 ∷ None ∷ []
+unfolding row_mismatch
+last_of_seven = refl
+
+all_count : write (given (Some 20) None) free_text Block 21 ∷ write (given (Some 21) None) free_text Segmented 22 ∷ [] ≡ beyond 21 20 ∷ beyond 22 21 ∷ []
+unfolding row_mismatch
+all_count = refl
+
+-- in one frame: of four bytes one counts at least
+in_a_frame : map (write (given (Some 2) None) free_text Expedited) (2 ∷ 3 ∷ 4 ∷ []) ≡ None ∷ beyond 3 2 ∷ None ∷ []
+unfolding row_mismatch
+in_a_frame = refl
+
+no_room : map (write (given (Some 0) None) free_text Expedited) (1 ∷ 4 ∷ []) ∷ map (write (given (Some 0) None) free_text Segmented) (0 ∷ 1 ∷ []) ∷ []
+    ≡ (beyond 1 0 ∷ beyond 4 0 ∷ []) ∷ (None ∷ beyond 1 0 ∷ []) ∷ []
+unfolding row_mismatch
+no_room = refl
+
+-- a default of 17 bytes, and of 15, as a text and as pairs of digits
+abbrev with_text : ℕ → Row
+with_text count = record free_text { default = text (replicate count 0x41) }
+
+abbrev with_pairs : ℕ → Row
+with_pairs count = row 0x2005 0 OctetString Rw (pairs (replicate count 0x30))
+
+longer_defaults : write (given (Some 16) None) (with_text 17) Segmented 17 ∷ write (given (Some 16) None) (with_text 17) Segmented 18 ∷ write (given (Some 16) None) (with_pairs 34) Segmented 17 ∷ write (given (Some 16) None) (with_pairs 34) Segmented 18 ∷ []
+    ≡ None ∷ beyond 18 17 ∷ None ∷ beyond 18 17 ∷ []
+unfolding row_mismatch
+longer_defaults = refl
+
+shorter_defaults : write (given (Some 16) None) (with_text 15) Segmented 16 ∷ write (given (Some 16) None) (with_text 15) Segmented 17 ∷ write (given (Some 16) None) (with_pairs 30) Segmented 16 ∷ write (given (Some 16) None) (with_pairs 30) Segmented 17 ∷ []
+    ≡ None ∷ beyond 17 16 ∷ None ∷ beyond 17 16 ∷ []
+unfolding row_mismatch
+shorter_defaults = refl
+
+-- strings and DOMAINs have a room each, and numbers none that is given
+abbrev of_type : DataType → Rooms → ℕ → Option Mismatch
+of_type data_type rooms count = write rooms (row 0x2005 0 data_type Rw absent) Block count
+
+rooms_of_types : of_type Domain (given (Some 1) (Some 889)) 889 ∷ of_type Domain (given (Some 1) (Some 889)) 890 ∷ of_type OctetString (given (Some 16) (Some 1)) 16 ∷ of_type OctetString (given (Some 16) (Some 1)) 17 ∷ of_type Unsigned8 (given (Some 0) (Some 0)) 2 ∷ []
+    ≡ None ∷ beyond 890 889 ∷ None ∷ beyond 17 16 ∷ None ∷ []
+unfolding row_mismatch
+rooms_of_types = refl
+
+not_given : of_type Domain (given (Some 0) None) 890 ∷ of_type VisibleString (given None (Some 0)) 17 ∷ of_type OctetString (given None (Some 0)) 17 ∷ [] ≡ None ∷ None ∷ None ∷ []
+unfolding row_mismatch
+not_given = refl
+
+-- below 2000h entries have rooms of their own; an entry that is read only isn't written at all
+own_rooms : map (λ index. write (given None (Some 889)) (row index 1 Domain Rw absent) Block 890) (0x1F50 ∷ 0x1FFF ∷ 0x2000 ∷ []) ≡ None ∷ None ∷ Some (BeyondRoom (key 0x2000 1) 890 889) ∷ []
+unfolding row_mismatch
+own_rooms = refl
+
+by_access : map (λ access. write (given (Some 16) None) (record free_text { access = access }) Segmented 17) (Ro ∷ Constant ∷ Wo ∷ []) ≡ Some (Written (key 0x2005 0)) ∷ Some (Written (key 0x2005 0)) ∷ beyond 17 16 ∷ []
+unfolding row_mismatch
+by_access = refl
+
+-- nothing is said of an upload
+uploaded : row_mismatch 5 false (given (Some 16) (Some 16)) free_text false (transfer free_text Upload Segmented 17 (Done false)) ≡ None
+unfolding row_mismatch value_mismatch
+uploaded = refl
+
+-- 06070012h is too long; 06070010h may say something else, and 06070013h does
+abbrev refuse : Row → Protocol → ℕ → ℕ → Ending → Option Mismatch
+refuse entry protocol count room ending = row_mismatch 5 false (given (Some room) None) entry false (transfer entry Download protocol count ending)
+
+abbrev abort : ℕ → Ending
+abort code = Aborted Server (record { 0 = code })
+
+too_long_for_it : refuse free_text Expedited 4 4 (abort 0x06070012) ∷ refuse free_text Expedited 4 3 (abort 0x06070012) ∷ [] ≡ Some (RoomRefused (key 0x2005 0) 4 4) ∷ None ∷ []
+unfolding row_mismatch
+too_long_for_it = refl
+
+other_codes : map (λ code. refuse free_text Expedited 4 16 (abort code)) (0x06070010 ∷ 0x06070013 ∷ 0x08000022 ∷ []) ≡ None ∷ None ∷ None ∷ []
+unfolding row_mismatch
+other_codes = refl
+
+-- not all bytes may have come; the client aborts; it can't be written
+not_certain : map (λ protocol. refuse free_text protocol 4 16 (abort 0x06070012)) (Segmented ∷ Block ∷ []) ≡ None ∷ None ∷ []
+unfolding row_mismatch
+not_certain = refl
+
+by_client : refuse free_text Expedited 4 16 (Aborted Client (record { 0 = 0x06070012 })) ≡ None
+unfolding row_mismatch
+by_client = refl
+
+refused_otherwise : refuse (record free_text { access = Ro }) Expedited 4 16 (abort 0x06070012) ∷ refuse (row 0x1FFF 0 VisibleString Rw absent) Expedited 4 16 (abort 0x06070012) ∷ [] ≡ None ∷ None ∷ []
+unfolding row_mismatch
+refused_otherwise = refl

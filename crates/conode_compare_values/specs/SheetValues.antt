@@ -1,17 +1,17 @@
 -- The end of a transfer, compared with the row of its entry in the data sheet (CiA 301, 7.4 and
 -- 7.2.4.3; CiA 306).
-use Rattle.std.specs.Prelude.{ℕ, ◌+◌, ℤ, pos, ◌==◌, int_lt, nat_lt, nat_le, Bool, true, false, not, ◌&&◌, ◌||◌, if◌then◌else◌, List, length, take, slice_index, bytes_eq, Option, Some, None, option_and_then}
+use Rattle.std.specs.Prelude.{ℕ, ◌+◌, ◌-◌, ◌/◌, ◌%◌, ℤ, pos, ◌==◌, int_lt, nat_lt, nat_le, max, Bool, true, false, not, ◌&&◌, ◌||◌, if◌then◌else◌, List, length, take, slice_index, bytes_eq, Option, Some, None, option_map, option_and_then}
 use Rattle.std.specs.List.{list_all}
-use Rattle.std.specs.Option.{option_map_or}
+use Rattle.std.specs.Option.{option_map_or, option_or}
 use Rattle.co_frame.specs.declared.abort_code.AbortCode.{AbortCode}
-use Rattle.co_frame.specs.AbortCodes.{write_only, object_missing, sub_index_missing}
+use Rattle.co_frame.specs.AbortCodes.{write_only, object_missing, sub_index_missing, too_long}
 use Rattle.co_profile.specs.declared.access.Access.{Access}
 use Rattle.co_profile.specs.declared.access.Access.TheVariants.{Ro, Wo, Constant}
 use Rattle.co_profile.specs.Indices.{device_type}
 use Rattle.co_sheet.specs.Content.{Row}
-use Rattle.co_sheet.specs.Limits.{Default, text}
+use Rattle.co_sheet.specs.Limits.{Default, text, pairs}
 use Rattle.co_value.specs.declared.data_type.DataType.{DataType}
-use Rattle.co_value.specs.declared.data_type.DataType.TheVariants.{Boolean}
+use Rattle.co_value.specs.declared.data_type.DataType.TheVariants.{Boolean, VisibleString, OctetString, Domain}
 use Rattle.co_value.specs.declared.key.Key.{Key}
 use Rattle.co_value.specs.Numbers as numbers
 use Rattle.co_value.specs.Numbers.{unsigned_of}
@@ -23,11 +23,12 @@ use Rattle.conode_explain_transfers.specs.declared.ended.Ending.TheVariants.{Don
 use Rattle.conode_explain_transfers.specs.declared.kinds.Direction.{Direction}
 use Rattle.conode_explain_transfers.specs.declared.kinds.Direction.TheVariants.{Download, Upload}
 use Rattle.conode_explain_transfers.specs.declared.kinds.Protocol.{Protocol}
-use Rattle.conode_explain_transfers.specs.declared.kinds.Protocol.TheVariants.{Expedited}
+use Rattle.conode_explain_transfers.specs.declared.kinds.Protocol.TheVariants.{Expedited, Segmented, Block}
 use Rattle.conode_explain_transfers.specs.declared.kinds.Side.TheVariants.{Server}
 use Rattle.conode_compare_pdos.specs.SheetNumbers.{number_of}
 use Rattle.conode_compare_values.specs.declared.mismatch.Mismatch.{Mismatch}
-use Rattle.conode_compare_values.specs.declared.mismatch.Mismatch.TheVariants.{ValueLength, ValueConst, ConstText, ReadRefused, Written, AboveLimit, BelowLimit}
+use Rattle.conode_compare_values.specs.declared.mismatch.Mismatch.TheVariants.{ValueLength, ValueConst, ConstText, ReadRefused, Written, AboveLimit, BelowLimit, BeyondRoom, RoomRefused}
+use Rattle.conode_compare_values.specs.declared.rooms.Rooms.{Rooms}
 
 -- ---- values
 
@@ -197,6 +198,52 @@ beyond_mismatch row bytes =
 abbrev pub written_mismatch : Row → List ℕ → Option Mismatch
 written_mismatch row bytes = if is_read_only row.access then Some (Written row.key) else beyond_mismatch row bytes
 
+-- ---- room
+
+-- how many bytes a string's default has: those of its text, or of its pairs of hexadecimal digits
+abbrev pub default_length : Default → ℕ
+default_length (text bytes) = length bytes
+default_length (pairs digits) = length digits / 2
+default_length other = 0
+
+-- where a room is given: a string has it, or its default's length where that is longer; a DOMAIN has
+-- it; a number has its type's
+abbrev pub room_by : Rooms → Row → DataType → Option ℕ
+room_by rooms row VisibleString = option_map (max (default_length row.default)) rooms.strings
+room_by rooms row OctetString = option_map (max (default_length row.default)) rooms.strings
+room_by rooms row Domain = rooms.domains
+room_by rooms row numeric = None
+
+-- Of an entry that can be written. Below 2000h a DOMAIN has a room of its own, as that of a program
+-- (1F50h).
+abbrev pub room_of : Rooms → Row → Option ℕ
+room_of rooms row =
+    if nat_le 0x2000 row.key.index && not (is_read_only row.access) then room_by rooms row row.data_type else None
+
+-- So many bytes of a download count at least. A last segment with n = 0 has seven, of which up to six
+-- may not; of four in one frame the size may not be indicated.
+abbrev pub least_bytes : Protocol → ℕ → ℕ
+least_bytes Block count = count
+least_bytes Segmented count = if count % 7 == 0 then count - 6 else count
+least_bytes protocol count = if nat_lt count 4 then count else 1
+
+-- `access-limits`: more bytes were written than there is room for
+abbrev pub over_room : Row → Protocol → ℕ → ℕ → Option Mismatch
+over_room row protocol count room = if nat_lt room (least_bytes protocol count) then Some (BeyondRoom row.key count room) else None
+
+abbrev pub room_mismatch : Rooms → Row → Protocol → ℕ → Option Mismatch
+room_mismatch rooms row protocol count = option_and_then (over_room row protocol count) (room_of rooms row)
+
+-- `access-limits`: bytes that there is room for are too long for the device
+abbrev pub within_room : Row → ℕ → ℕ → Option Mismatch
+within_room row count room = if nat_le count room then Some (RoomRefused row.key count room) else None
+
+-- by an abort with this code; of a download in one frame, which has all its bytes
+abbrev pub room_refused : Rooms → Row → Protocol → ℕ → ℕ → Option Mismatch
+room_refused rooms row Expedited count code =
+    if code == too_long then option_and_then (within_room row count) (room_of rooms row) else None
+room_refused rooms row other count code = None
+
 -- ---- the end of a transfer
 
 -- by the width of the entry's type, if it is a number's
@@ -207,18 +254,26 @@ value_by node row exact ended None = text_mismatch row exact ended.first.items
 unfoldable pub value_mismatch : ℕ → Row → Bool → Ended → Option Mismatch
 value_mismatch node row exact ended = value_by node row exact ended (width_of row.data_type)
 
--- of a device with a node-ID; whether it is modular; whether the number of bytes of an upload is known
--- exactly
-abbrev pub mismatch_by : ℕ → Bool → Row → Bool → Ended → Direction → Ending → Option Mismatch
-mismatch_by node modular row exact ended Upload (Done crc) = value_mismatch node row exact ended
-mismatch_by node modular row exact ended Download (Done crc) = written_mismatch row ended.first.items
-mismatch_by node modular row exact ended Upload (Aborted Server code) = refused_mismatch modular row code
-mismatch_by node modular row exact ended direction ending = None
+-- of a download that is done: a number has no room that is given, and a string no limits
+abbrev pub download_mismatch : Rooms → Row → Ended → Option Mismatch
+download_mismatch rooms row ended =
+    option_or (written_mismatch row ended.first.items) (room_mismatch rooms row ended.protocol ended.bytes)
 
-unfoldable pub row_mismatch : ℕ → Bool → Row → Bool → Ended → Option Mismatch
-row_mismatch node modular row exact ended = mismatch_by node modular row exact ended ended.direction ended.ending
+-- of a device with a node-ID; whether it is modular; the rooms that are given; whether the number of
+-- bytes of an upload is known exactly
+abbrev pub mismatch_by : ℕ → Bool → Rooms → Row → Bool → Ended → Direction → Ending → Option Mismatch
+mismatch_by node modular rooms row exact ended Upload (Done crc) = value_mismatch node row exact ended
+mismatch_by node modular rooms row exact ended Download (Done crc) = download_mismatch rooms row ended
+mismatch_by node modular rooms row exact ended Upload (Aborted Server code) = refused_mismatch modular row code
+mismatch_by node modular rooms row exact ended Download (Aborted Server code) =
+    room_refused rooms row ended.protocol ended.bytes code.0
+mismatch_by node modular rooms row exact ended direction ending = None
+
+unfoldable pub row_mismatch : ℕ → Bool → Rooms → Row → Bool → Ended → Option Mismatch
+row_mismatch node modular rooms row exact ended =
+    mismatch_by node modular rooms row exact ended ended.direction ended.ending
 
 -- of an entry that the data sheet has
-unfoldable pub mismatch_at : ℕ → Bool → List Row → Bool → Ended → Option Mismatch
-mismatch_at node modular rows exact ended =
-    option_and_then (λ row. row_mismatch node modular row exact ended) (row_at rows ended.key)
+unfoldable pub mismatch_at : ℕ → Bool → Rooms → List Row → Bool → Ended → Option Mismatch
+mismatch_at node modular rooms rows exact ended =
+    option_and_then (λ row. row_mismatch node modular rooms row exact ended) (row_at rows ended.key)

@@ -11,6 +11,7 @@ ghost use Rattle.conode_compare_values.specs.SheetValues.{
   byte_of,
   constant_mismatch,
   denies,
+  download_mismatch,
   has_limits,
   has_room,
   has_width,
@@ -42,6 +43,7 @@ ghost use Rattle.conode_compare_values.specs.SheetValues.{
 };
 
 use crate::mismatch::Mismatch;
+use crate::rooms::Rooms;
 use co_frame::AbortCode;
 use co_profile::{Access, DEVICE_TYPE};
 use co_sheet::EntryRow;
@@ -361,7 +363,7 @@ pub fn beyond_mismatch(row: &EntryRow<'_>, bytes: &[u8]) -> Option<Mismatch>
     }
 }
 
-// the difference of a download that is done
+// the difference of bytes that were downloaded
 fn written_mismatch(row: &EntryRow<'_>, bytes: &[u8]) -> Option<Mismatch>
     ensures { result ≡ written_mismatch (row_view row.now) bytes.now }
 {
@@ -370,6 +372,13 @@ fn written_mismatch(row: &EntryRow<'_>, bytes: &[u8]) -> Option<Mismatch>
     } else {
         beyond_mismatch(row, bytes)
     }
+}
+
+// the difference of a download that is done
+fn download_mismatch(rooms: Rooms, row: &EntryRow<'_>, ended: &Ended) -> Option<Mismatch>
+    ensures { result ≡ download_mismatch rooms (row_view row.now) ended.now }
+{
+    written_mismatch(row, ended.first.as_slice()).or(rooms.mismatch(row, ended))
 }
 
 // the difference of an upload that is done
@@ -388,17 +397,16 @@ fn value_mismatch(node: u8, row: &EntryRow<'_>, exact: bool, ended: &Ended) -> O
 fn row_mismatch(
     node: u8,
     modular: bool,
+    rooms: Rooms,
     row: &EntryRow<'_>,
     exact: bool,
     ended: &Ended,
 ) -> Option<Mismatch>
-    ensures { result ≡ row_mismatch node modular (row_view row.now) exact ended.now }
+    ensures { result ≡ row_mismatch node modular rooms (row_view row.now) exact ended.now }
 {
     match (ended.direction, ended.ending) {
         (Direction::Upload, Ending::Done { crc: _ }) => value_mismatch(node, row, exact, ended),
-        (Direction::Download, Ending::Done { crc: _ }) => {
-            written_mismatch(row, ended.first.as_slice())
-        }
+        (Direction::Download, Ending::Done { crc: _ }) => download_mismatch(rooms, row, ended),
         (
             Direction::Upload,
             Ending::Aborted {
@@ -406,24 +414,32 @@ fn row_mismatch(
                 code,
             },
         ) => refused_mismatch(modular, row, code),
+        (
+            Direction::Download,
+            Ending::Aborted {
+                by: Side::Server,
+                code,
+            },
+        ) => rooms.refused(row, ended, code),
         _ => None,
     }
 }
 
 /// The difference of the end of a transfer of the device with a node-ID, by its data sheet, whose
-/// entries are in increasing key. `modular`: modules decide which entries it has. `exact`: an
-/// upload shows how many of its bytes count.
+/// entries are in increasing key. `modular`: modules decide which entries it has. `rooms`: what is
+/// known of their room. `exact`: an upload shows how many of its bytes count.
 #[tactic(auto, unfolding(crate::specs::SheetValues::mismatch_at))]
 pub fn mismatch_at(
     node: u8,
     modular: bool,
+    rooms: Rooms,
     rows: &[EntryRow<'_>],
     exact: bool,
     ended: &Ended,
 ) -> Option<Mismatch>
     requires { AllPairs (λ e f. is_key_before e.key f.key ≡ true) rows.now }
-    ensures { result ≡ mismatch_at node modular (map row_view rows.now) exact ended.now }
+    ensures { result ≡ mismatch_at node modular rooms (map row_view rows.now) exact ended.now }
 {
     let row = row_at(rows, ended.key)?;
-    row_mismatch(node, modular, row, exact, ended)
+    row_mismatch(node, modular, rooms, row, exact, ended)
 }

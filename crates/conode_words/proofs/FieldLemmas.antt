@@ -9,10 +9,11 @@ use Rattle.clap.specs.Words.{Row, Text, first_of}
 use Rattle.conode_words.specs.declared.tasks.DeviceWords.{DeviceWords}
 use Rattle.conode_words.specs.declared.tasks.DictionaryWords.{DictionaryWords}
 use Rattle.conode_words.specs.declared.tasks.Task.{Task}
+use Rattle.conode_words.specs.declared.tasks.RoomWords.{RoomWords}
 use Rattle.conode_words.specs.declared.tasks.TimingWords.{TimingWords}
-use Rattle.conode_words.specs.Fields.{AsksFor, GivesDevice, GivesDictionary, GivesTiming}
+use Rattle.conode_words.specs.Fields.{AsksFor, GivesDevice, GivesDictionary, GivesRooms, GivesTiming}
 use Rattle.conode_words.specs.Choices.{colours_for, colours_of, format_for, format_of, lines_as_for, lines_as_of, log_form_for, log_form_of, mode_for, mode_of, report_as_for, report_as_of, shown_as, shown_for, stamps_for, stamps_of, zeros_for, zeros_of}
-use Rattle.conode_words.specs.Tasks.{Asked, AskedAdapt, AskedCheck, AskedCompare, AskedConvert, AskedDecode, AskedExplain, AskedLint, AskedLoop, AskedReplay, AskedShow, AskedStats, adapt, asked_adapt, asked_by, asked_check, asked_compare, asked_convert, asked_decode, asked_device, asked_dictionary, asked_explain, asked_explain_of, asked_in, asked_lint, asked_lint_of, asked_loop, asked_of, asked_other, asked_replay, asked_show, asked_stats, asked_stats_of, asked_timing, check, compare, convert, decode, explain, lint, loop_back, number_for, number_of_bits, replay, show, stats}
+use Rattle.conode_words.specs.Tasks.{Asked, AskedAdapt, AskedCheck, AskedCompare, AskedConvert, AskedDecode, AskedExplain, AskedLint, AskedLoop, AskedReplay, AskedShow, AskedStats, adapt, asked_adapt, asked_by, asked_check, asked_compare, asked_convert, asked_decode, asked_device, asked_dictionary, asked_explain, asked_explain_of, asked_in, asked_lint, asked_lint_of, asked_loop, asked_of, asked_other, asked_replay, asked_rooms, asked_show, asked_stats, asked_stats_of, asked_timing, check, compare, convert, decode, explain, lint, loop_back, number_for, number_of_bits, replay, show, stats}
 
 -- a value that is made of another
 mapped : {A B P : Type 0} (f : A → B) (o : Option A) (b : B) → option_map f o ≡ Some b → ((a : A) → o ≡ Some a → f a ≡ b → P) → P
@@ -196,6 +197,10 @@ timing_fields rows t e =
       boot = chosen (number_of_bits 32) (first_of (codes "boot") rows) boot e3;
     })))))
 
+rooms_fields : (rows : List Row) → GivesRooms rows (asked_rooms rows)
+unfolding asked_rooms
+rooms_fields rows = record { strings = refl; domains = refl }
+
 compare_fields : (rows : List Row) (a : Asked) → asked_compare rows ≡ Some a → AsksFor (codes "compare") rows a
 unfolding asked_compare log_form_for report_as_for
 compare_fields rows a e =
@@ -211,6 +216,7 @@ compare_fields rows a e =
       refl,
       refl,
       refl,
+      rooms_fields rows,
       refl,
       refl,
       chosen log_form_of (first_of (codes "log") rows) form e2,
@@ -395,13 +401,18 @@ timing_is rows t h =
     let boot = choice_is (number_of_bits 32) (first_of (codes "boot") rows) t.boot h.boot in
     rw (tolerance, drift, answer, boot) refl
 
+rooms_is : (rows : List Row) (r : RoomWords) → GivesRooms rows r → asked_rooms rows ≡ r
+unfolding asked_rooms
+rooms_is rows r h = rw (← h.strings, ← h.domains) refl
+
 compare_is : (rows : List Row) (a : AskedCompare) → AsksFor (codes "compare") rows (compare a) → asked_compare rows ≡ Some (compare a)
 unfolding asked_compare log_form_for report_as_for
-compare_is rows a (name_is, sheet, trace, node, interface, held, choices, learned, f, r, t) =
+compare_is rows a (name_is, sheet, trace, node, interface, held, given, choices, learned, f, r, t) =
     let form = choice_is log_form_of (first_of (codes "log") rows) a.form f in
     let report_as = choice_is report_as_of (first_of (codes "format") rows) a.report_as r in
     let timing = timing_is rows a.timing t in
-    rw (sheet, trace, form, report_as, timing, ← node, ← interface, ← held, ← choices, ← learned) refl
+    let rooms = rooms_is rows a.rooms given in
+    rw (sheet, trace, form, report_as, timing, rooms, ← node, ← interface, ← held, ← choices, ← learned) refl
 
 pub only_asked : (name : Text) (rows : List Row) (a : Asked) → AsksFor name rows a → asked_in name rows ≡ Some a
 only_asked name rows (check a) h = ap (λ (n : Text). asked_in n rows) h.0 ∙ named_check rows ∙ check_is rows a (subst (λ (n : Text). AsksFor n rows (check a)) h.0 h)

@@ -309,6 +309,7 @@ compare_with_a_sheet : asked_after compare_command (codes "compare") (codes "s" 
       node = None;
       interface = None;
       held = None;
+      rooms = record { strings = None; domains = None };
       choices = false;
       learned = false;
       form = log_form.Auto;
@@ -318,13 +319,14 @@ compare_with_a_sheet : asked_after compare_command (codes "compare") (codes "s" 
 unfolding words_on_literals
 compare_with_a_sheet = refl
 
-compare_with_options : asked_after compare_command (codes "compare") (codes "s" ∷ codes "--node=5" ∷ codes "t" ∷ codes "--interface" ∷ codes "can0" ∷ codes "--log=trc" ∷ codes "--format=html" ∷ codes "--held=2001:00,2010:00" ∷ codes "--choices" ∷ codes "--learned" ∷ codes "--tolerance" ∷ codes "0" ∷ codes "--drift=100" ∷ codes "--answer=4294967295" ∷ codes "--boot=1" ∷ [])
+compare_with_options : asked_after compare_command (codes "compare") (codes "s" ∷ codes "--node=5" ∷ codes "t" ∷ codes "--interface" ∷ codes "can0" ∷ codes "--log=trc" ∷ codes "--format=html" ∷ codes "--held=2001:00,2010:00" ∷ codes "--strings" ∷ codes "65535" ∷ codes "--domains=0" ∷ codes "--choices" ∷ codes "--learned" ∷ codes "--tolerance" ∷ codes "0" ∷ codes "--drift=100" ∷ codes "--answer=4294967295" ∷ codes "--boot=1" ∷ [])
     ≡ Some (compare (record {
       sheet = codes "s";
       trace = codes "t";
       node = Some 5;
       interface = Some (codes "can0");
       held = Some (codes "2001:00,2010:00");
+      rooms = record { strings = Some 65535; domains = Some 0 };
       choices = true;
       learned = true;
       form = log_form.Trc;
@@ -337,6 +339,11 @@ compare_with_options = refl
 compare_with_too_much_drift : fault_of compare_command (codes "compare" ∷ codes "s" ∷ codes "t" ∷ codes "--drift=101" ∷ []) ≡ kind.ValueValidation ∷ []
 unfolding words_on_literals
 compare_with_too_much_drift = refl
+
+compare_with_too_much_room : map (λ word. fault_of compare_command (codes "compare" ∷ codes "s" ∷ codes "t" ∷ word ∷ [])) (codes "--strings=65536" ∷ codes "--domains=65536" ∷ [])
+    ≡ (kind.ValueValidation ∷ []) ∷ (kind.ValueValidation ∷ []) ∷ []
+unfolding words_on_literals
+compare_with_too_much_room = refl
 
 formats_of_compare : map report_as_of (codes "text" ∷ codes "json" ∷ codes "junit" ∷ codes "html" ∷ codes "xml" ∷ codes "" ∷ [])
     ≡ Some report_form.Text ∷ Some report_form.Json ∷ Some report_form.JUnit ∷ Some report_form.Html ∷ None ∷ None ∷ []

@@ -164,12 +164,18 @@ with_timing app =
     (numbered (codes "drift") 0 100 (codes "1" ∷ []))) (numbered (codes "answer") 0 most_ms (codes "1000" ∷ [])))
     (numbered (codes "boot") 0 most_ms (codes "10000" ∷ []))
 
--- `compare SHEET TRACE [--node N] [--interface NAME] [--held KEYS] [--choices] [--learned]
--- [--log FORM] [--format FORMAT] [--tolerance MS] [--drift PERCENT] [--answer MS] [--boot MS]`
+-- a command with `--strings N` and `--domains N`, without a default
+abbrev pub with_known_rooms : App → App
+with_known_rooms app =
+    with_rule (with_rule app (numbered (codes "strings") 0 65535 [])) (numbered (codes "domains") 0 65535 [])
+
+-- `compare SHEET TRACE [--node N] [--interface NAME] [--held KEYS] [--strings N] [--domains N]
+-- [--choices] [--learned] [--log FORM] [--format FORMAT] [--tolerance MS] [--drift PERCENT] [--answer MS]
+-- [--boot MS]`
 unfoldable pub compare_command : App
 compare_command =
-    with_timing (with_rule (with_rule (with_rule (with_rule (with_rule (with_rule (with_rule (with_rule (with_rule (new_app (codes "compare"))
-    (wanted (codes "SHEET"))) (wanted (codes "TRACE"))) node_option) (valued (codes "interface"))) (valued (codes "held")))
+    with_timing (with_rule (with_rule (with_rule (with_rule (with_known_rooms (with_rule (with_rule (with_rule (with_rule (with_rule (new_app (codes "compare"))
+    (wanted (codes "SHEET"))) (wanted (codes "TRACE"))) node_option) (valued (codes "interface"))) (valued (codes "held"))))
     (flag (codes "choices"))) (flag (codes "learned"))) log_option) (worded (codes "format") (codes "text")))
 
 -- a command with `--version`

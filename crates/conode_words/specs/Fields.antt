@@ -3,6 +3,7 @@ use Rattle.std.specs.Prelude.{◌≡◌, ℕ, List, codes, Option, Some, IsSomeA
 use Rattle.clap.specs.Words.{Row, Text, first_of}
 use Rattle.conode_words.specs.declared.tasks.DeviceWords.{DeviceWords}
 use Rattle.conode_words.specs.declared.tasks.DictionaryWords.{DictionaryWords}
+use Rattle.conode_words.specs.declared.tasks.RoomWords.{RoomWords}
 use Rattle.conode_words.specs.declared.tasks.TimingWords.{TimingWords}
 use Rattle.conode_words.specs.Choices.{colours_of, format_of, lines_as_of, log_form_of, mode_of, report_as_of, shown_as, stamps_of, zeros_of}
 use Rattle.conode_words.specs.Tasks.{Asked, check, lint, decode, replay, loop_back, show, adapt, explain, convert, stats, compare, asked_lines, is_used, number_for, number_of_bits, words_for}
@@ -50,6 +51,11 @@ pub record GivesTiming (rows : List Row) (t : TimingWords) : Type 0 where
   pub answer : IsNumberOf 32 (codes "answer") rows t.answer
   pub boot : IsNumberOf 32 (codes "boot") rows t.boot
 
+-- `--strings` and `--domains`, if they are used
+pub record GivesRooms (rows : List Row) (r : RoomWords) : Type 0 where
+  pub strings : r.strings ≡ number_for 16 (codes "strings") rows
+  pub domains : r.domains ≡ number_for 16 (codes "domains") rows
+
 -- the words after the name of a subcommand ask for this
 abbrev pub AsksFor : Text → List Row → Asked → Type 0
 AsksFor name rows (check a) =
@@ -92,5 +98,6 @@ AsksFor name rows (stats a) =
 AsksFor name rows (compare a) =
     (name ≡ codes "compare") × IsWord (codes "SHEET") rows a.sheet × IsWord (codes "TRACE") rows a.trace
     × IsNode rows a.node × (a.interface ≡ first_of (codes "interface") rows) × (a.held ≡ first_of (codes "held") rows)
+    × GivesRooms rows a.rooms
     × (a.choices ≡ is_used (codes "choices") rows) × (a.learned ≡ is_used (codes "learned") rows)
     × IsChoice log_form_of (codes "log") rows a.form × IsChoice report_as_of (codes "format") rows a.report_as × GivesTiming rows a.timing

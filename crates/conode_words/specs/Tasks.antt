@@ -22,6 +22,7 @@ use Rattle.conode_words.specs.declared.tasks.OnlyWords.{OnlyWords}
 use Rattle.conode_words.specs.declared.tasks.ReportAs.{ReportAs}
 use Rattle.conode_words.specs.declared.tasks.Stamps.{Stamps}
 use Rattle.conode_words.specs.declared.tasks.TimingWords.{TimingWords}
+use Rattle.conode_words.specs.declared.tasks.RoomWords.{RoomWords}
 use Rattle.conode_words.specs.declared.tasks.LogForm.{LogForm}
 use Rattle.conode_words.specs.declared.tasks.ShownAs.{ShownAs}
 
@@ -114,6 +115,7 @@ pub record AskedCompare : Type 0 where
   pub node : Option ℕ
   pub interface : Option Text
   pub held : Option Text
+  pub rooms : RoomWords
   pub choices : Bool
   pub learned : Bool
   pub form : LogForm
@@ -189,13 +191,14 @@ asked_by (Stats trace sheets bit_rate lines_as form) =
       lines_as = lines_as;
       form = form;
     })
-asked_by (Compare sheet trace node interface held choices learned form report_as timing) =
+asked_by (Compare sheet trace node interface held rooms choices learned form report_as timing) =
     compare (record {
       sheet = sheet.now;
       trace = trace.now;
       node = node;
       interface = option_copied interface;
       held = option_copied held;
+      rooms = rooms;
       choices = choices;
       learned = learned;
       form = form;
@@ -359,6 +362,10 @@ asked_timing rows =
     (number_for 32 (codes "boot") rows)) (number_for 32 (codes "answer") rows)) (number_for 8 (codes "drift") rows))
     (number_for 32 (codes "tolerance") rows)
 
+-- the rooms that the matches have
+unfoldable pub asked_rooms : List Row → RoomWords
+asked_rooms rows = record { strings = number_for 16 (codes "strings") rows; domains = number_for 16 (codes "domains") rows }
+
 -- what the matches of `compare` ask for
 unfoldable pub asked_compare : List Row → Option Asked
 asked_compare rows =
@@ -369,6 +376,7 @@ asked_compare rows =
       node = number_for 8 (codes "node") rows;
       interface = first_of (codes "interface") rows;
       held = first_of (codes "held") rows;
+      rooms = asked_rooms rows;
       choices = is_used (codes "choices") rows;
       learned = is_used (codes "learned") rows;
       form = form;

@@ -20,6 +20,7 @@ ghost use Rattle.conode_words.specs.Tasks.{
   asked_loop,
   asked_other,
   asked_replay,
+  asked_rooms,
   asked_show,
   asked_stats,
   asked_stats_of,
@@ -32,7 +33,9 @@ use crate::choices::{
     stamps_for, zeros_for,
 };
 use crate::found::{is, is_used, number_u8, number_u16, number_u32, word_for, words_for};
-use crate::tasks::{DeviceWords, DictionaryWords, LintWords, OnlyWords, Task, TimingWords};
+use crate::tasks::{
+    DeviceWords, DictionaryWords, LintWords, OnlyWords, RoomWords, Task, TimingWords,
+};
 use clap::ArgMatches;
 use std::alloc::{AllocError, Global};
 
@@ -288,6 +291,17 @@ fn timing_words(found: &ArgMatches<'_>) -> Option<TimingWords>
     })
 }
 
+// the rooms that the words have
+#[tactic(auto, unfolding(crate::specs::Tasks::asked_rooms))]
+fn room_words(found: &ArgMatches<'_>) -> RoomWords
+    ensures { result ≡ asked_rooms (rows_of (found_of found.now)) }
+{
+    RoomWords {
+        strings: number_u16(found, "strings"),
+        domains: number_u16(found, "domains"),
+    }
+}
+
 // what the words after `compare` ask for
 #[tactic(auto, unfolding(crate::specs::Tasks::asked_compare))]
 fn asked_compare<'a>(found: &ArgMatches<'a>) -> Option<Task<'a>>
@@ -304,6 +318,7 @@ fn asked_compare<'a>(found: &ArgMatches<'a>) -> Option<Task<'a>>
         node: number_u8(found, "node"),
         interface: word_for(found, "interface"),
         held: word_for(found, "held"),
+        rooms: room_words(found),
         choices: is_used(found, "choices"),
         learned: is_used(found, "learned"),
         form,

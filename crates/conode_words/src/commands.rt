@@ -270,7 +270,7 @@ const STATS: [Word; 5] = [
     RECORDING_FORM,
 ];
 
-const COMPARE: [Word; 13] = [
+const COMPARE: [Word; 15] = [
     DEVICE_SHEET,
     RECORDING,
     Word(
@@ -283,6 +283,16 @@ const COMPARE: [Word; 13] = [
         "held",
         Valued("KEYS"),
         "Entries that keep what is written, as 2001:00,2010:00",
+    ),
+    Word(
+        "strings",
+        Numbered(0, MOST_ROOM),
+        "Room of each writable string, in bytes, if known",
+    ),
+    Word(
+        "domains",
+        Numbered(0, MOST_ROOM),
+        "Room of each domain, in bytes, if known",
     ),
     Word("choices", Flag, "Lists what CiA 301 leaves to the device"),
     Word(

@@ -14,5 +14,5 @@ pub use command_line::task;
 pub use help::VERSION;
 pub use tasks::{
     Colours, DeviceWords, DictionaryWords, Format, LeadingZeros, LinesAs, LintWords, LogForm,
-    OnlyWords, ReportAs, ShownAs, Stamps, Task, TimingWords,
+    OnlyWords, ReportAs, RoomWords, ShownAs, Stamps, Task, TimingWords,
 };

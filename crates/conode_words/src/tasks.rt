@@ -83,6 +83,15 @@ pub struct TimingWords {
     pub boot: u32,
 }
 
+/// The room of a recorded device's strings and domains, in bytes; `None`: it isn't known.
+#[derive(Clone, Copy)]
+pub struct RoomWords {
+    /// Of each writable string.
+    pub strings: Option<u16>,
+    /// Of each domain.
+    pub domains: Option<u16>,
+}
+
 /// How `explain` and `stats` write.
 #[derive(Clone, Copy, PartialEq, Eq)]
 pub enum LinesAs {
@@ -272,6 +281,8 @@ pub enum Task<'a> {
         interface: Option<&'a str>,
         /// The keys of the entries that are held to what was written; `None`: none.
         held: Option<&'a str>,
+        /// The room of its strings and domains.
+        rooms: RoomWords,
         /// Whether choices have lines.
         choices: bool,
         /// Whether the values of entries have lines.
