@@ -25,7 +25,14 @@ pub struct Handle {
 }
 
 impl Handle {
-    ghost use Rattle.co_node_model.specs.Inputs.{Inputs, Framed, Ticked, Applied, Written, app_view};
+    ghost use Rattle.co_node_model.specs.Inputs.{
+      Inputs,
+      Framed,
+      Ticked,
+      Applied,
+      Written,
+      app_view,
+    };
     ghost use Rattle.co_node_model.specs.Moments.{Constants};
     ghost use Rattle.bafokun.specs.Changes.{and_set, changes_of};
     ghost use Rattle.bafokun.specs.Devices.{Gives, IsDevice, IsEmpty, IsQuiet, entries_of};
@@ -146,7 +153,8 @@ impl Handle {
         ensures entries { entries_of self.new ≡ entries_of self.old }
         ensures changes { changes_of self.new ≡ changes_of self.old }
         ensures events { (k : Constants) (before : Inputs) → IsDevice k self.old before →
-            events_of self.new ≡ and_input k before (Applied (app_view event.entry)) (events_of self.old) }
+            events_of self.new ≡ and_input k before (Applied (app_view event.entry))
+            (events_of self.old) }
     {
         match self.take(alloc) {
             Some(mut held) => {

@@ -266,8 +266,8 @@ impl Events {
         }
     }
 
-    /// The same, where the input was a frame with another identifier than 0, by what was seen of it:
-    /// only NMT commands change the NMT state, and no heartbeat is lost at a frame.
+    /// The same, where the input was a frame with another identifier than 0, by what was seen of
+    /// it: only NMT commands change the NMT state, and no heartbeat is lost at a frame.
     #[inline(always)]
     pub(crate) fn note_frame(&mut self, seen: Seen)
         ensures { (k : Constants) (past : Inputs) (frame : FrameContent) → (frame.id ≡ 0 → ⊥) →

@@ -1,7 +1,15 @@
 //! A device with the data that C reads of it.
 
 ghost use Rattle.std.specs.Prelude.{◌≡◌, [], ◌∷◌, true, false};
-ghost use Rattle.co_node_model.specs.Inputs.{Inputs, InputView, Framed, Ticked, Applied, Written, app_view};
+ghost use Rattle.co_node_model.specs.Inputs.{
+  Inputs,
+  InputView,
+  Framed,
+  Ticked,
+  Applied,
+  Written,
+  app_view,
+};
 ghost use Rattle.co_node_model.specs.Device.{state_of};
 ghost use Rattle.co_node_device.specs.Lasts.{last_seen};
 ghost use Rattle.co_node_model.specs.Moments.{Constants};

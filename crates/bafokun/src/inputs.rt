@@ -56,15 +56,19 @@ pub extern "C" fn bafokun_take(
     frame: &CanFrame,
     frames: &mut [CanFrame],
 ) -> usize
-    ensures gives { (k : Constants) (before : Inputs) → IsDevice k node.old before → IsCan frame.now →
+    ensures gives { (k : Constants) (before : Inputs) → IsDevice k node.old before →
+        IsCan frame.now →
         Gives k before (Framed (content_of frame.now)) node.new frames.old frames.new result }
     ensures empty { IsEmpty node.old → IsQuiet node.new frames.old frames.new result }
     ensures entries { entries_of node.new ≡ entries_of node.old }
-    ensures changes { (k : Constants) (before : Inputs) → IsDevice k node.old before → IsCan frame.now →
+    ensures changes { (k : Constants) (before : Inputs) → IsDevice k node.old before →
+        IsCan frame.now →
         changes_of node.new ≡ and_set k before (Framed (content_of frame.now)) (entries_of node.old)
         (changes_of node.old) }
-    ensures events { (k : Constants) (before : Inputs) → IsDevice k node.old before → IsCan frame.now →
-        events_of node.new ≡ and_input k before (Framed (content_of frame.now)) (events_of node.old) }
+    ensures events { (k : Constants) (before : Inputs) → IsDevice k node.old before →
+        IsCan frame.now →
+        events_of node.new ≡ and_input k before (Framed (content_of frame.now))
+        (events_of node.old) }
     ensures no_frame { (IsCan frame.now → ⊥) → node.new ≡ node.old }
     ensures nothing { (IsCan frame.now → ⊥) → result ≡ 0 }
     ensures untouched { (IsCan frame.now → ⊥) → frames.new ≡ frames.old }
@@ -127,8 +131,8 @@ pub extern "C" fn bafokun_ticks(
 }
 
 /// The application writes an entry, even if SDO clients may only read it; `bafokun_answer` returns
-/// the answer. C must pass what `bafokun_tick` requires, and as many bytes as it states, outside the
-/// array.
+/// the answer. C must pass what `bafokun_tick` requires, and as many bytes as it states, outside
+/// the array.
 #[unsafe(no_mangle)]
 pub extern "C" fn bafokun_write(
     alloc: Global,

@@ -66,7 +66,8 @@ pub extern "C" fn bafokun_value(
     ensures value { (k : Constants) (before : Inputs) → IsDevice k node.old before →
         IsRead (contents_of k before (record { index = index; sub = sub_index }))
         bytes.old bytes.new length.old length.new result }
-    ensures empty { IsEmpty node.old → IsRead None bytes.old bytes.new length.old length.new result }
+    ensures empty { IsEmpty node.old →
+        IsRead None bytes.old bytes.new length.old length.new result }
 {
     let key = Key {
         index,
@@ -82,7 +83,8 @@ pub extern "C" fn bafokun_value(
     }
 }
 
-/// The same of the entry with a number, without a search. C must pass what `bafokun_value` requires.
+/// The same of the entry with a number, without a search. C must pass what `bafokun_value`
+/// requires.
 #[unsafe(no_mangle)]
 pub extern "C" fn bafokun_value_at(
     alloc: Global,
@@ -95,7 +97,8 @@ pub extern "C" fn bafokun_value_at(
     ensures value { (k : Constants) (before : Inputs) → IsDevice k node.old before →
         IsRead (value_numbered (entries_of node.old) (contents_of k before) number)
         bytes.old bytes.new length.old length.new result }
-    ensures empty { IsEmpty node.old → IsRead None bytes.old bytes.new length.old length.new result }
+    ensures empty { IsEmpty node.old →
+        IsRead None bytes.old bytes.new length.old length.new result }
 {
     match node.take(alloc) {
         Some(held) => {

@@ -63,7 +63,8 @@ pub extern "C" fn bafokun_fault_fix(fault: &Fault, text: &mut [u8]) -> usize
 
 fn meaning(fault: &Fault) -> &'static str
     ensures sheet { (f : SheetFault) → fault.now ≡ sheet_fault f → result.now ≡ meaning_of f }
-    ensures device { (f : BuildFault) → fault.now ≡ device_fault f → result.now ≡ build_meaning_of f }
+    ensures device { (f : BuildFault) → fault.now ≡ device_fault f → result.now
+        ≡ build_meaning_of f }
     ensures none { fault.now ≡ no_fault → result.now ≡ [] }
 {
     match fault.stage {

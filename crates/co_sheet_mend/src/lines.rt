@@ -313,8 +313,8 @@ fn push_counted(
     push_list(alloc, made, more)
 }
 
-/// Appends what a line becomes that is about this entry, and which these lines follow. `Err`: out of
-/// memory.
+/// Appends what a line becomes that is about this entry, and which these lines follow. `Err`: out
+/// of memory.
 #[tactic(auto, unfolding(crate::specs::Repairs::line_as))]
 pub(crate) fn push_line(
     alloc: Global,

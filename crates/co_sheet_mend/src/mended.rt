@@ -2,7 +2,13 @@
 
 ghost use Rattle.std.specs.Prelude.{◌≡◌, ◌≤◌, ◌++◌, None, false, length, map, IfOk, OnOk};
 ghost use Rattle.co_sheet_changes.specs.Views.{line_view};
-ghost use Rattle.co_sheet_mend.specs.Repairs.{begun_list, is_counted, mandatory_lines, mended_by, mended_lines};
+ghost use Rattle.co_sheet_mend.specs.Repairs.{
+  begun_list,
+  is_counted,
+  mandatory_lines,
+  mended_by,
+  mended_lines,
+};
 ghost use Rattle.co_sheet_mend.specs.ReadableTexts.{mended, repair_in};
 
 use crate::lines::{key_at, push_ended, push_line, push_listed, push_mandatory_sections};

@@ -10,16 +10,16 @@ use co_sheet_faults::FaultKind;
 pub enum Repair {
     /// Nothing, and of a section line one that begins a section which nothing reads.
     Emptied,
-    /// Of a data type the one that CiA 301 fixes for the entry, else DOMAIN, whose values are bytes;
-    /// nothing of another property.
+    /// Of a data type the one that CiA 301 fixes for the entry, else DOMAIN, whose values are
+    /// bytes; nothing of another property.
     Typed,
     /// An entry that is read and written.
     ReadWrite,
     /// The section line, and after it a data type and an access type, those that the section lacks.
     Completed,
-    /// Of the section line of an object list: that line, and the objects that the list names, counted
-    /// and numbered from 1. Of line 0: the list of the mandatory objects, which counts 1000h, 1001h
-    /// and 1018h too.
+    /// Of the section line of an object list: that line, and the objects that the list names,
+    /// counted and numbered from 1. Of line 0: the list of the mandatory objects, which counts
+    /// 1000h, 1001h and 1018h too.
     Counted,
     /// Of the section line of an ARRAY or a RECORD: a section of sub-index 0, and that line.
     Numbered,

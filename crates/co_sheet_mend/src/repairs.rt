@@ -38,7 +38,8 @@ impl Repairs {
 
     // the repairs for faults
     fn of(alloc: Global, faults: &[SheetFault]) -> Result<Repairs, AllocError>
-        ensures { IfOk result (λ made. (line : _) → repair_in made line ≡ repair_at faults.now line) }
+        ensures { IfOk result (λ made. (line : _) → repair_in made line
+            ≡ repair_at faults.now line) }
     {
         let mut made = Repairs {
             by_line: IndexMap::new(alloc),

@@ -1,7 +1,13 @@
 //! The text by which a data sheet that isn't accepted is read all the same.
 
 ghost use Rattle.std.specs.Prelude.{◌≡◌, ◌≤◌, length, option_map, IfOk};
-ghost use Rattle.co_sheet_mend.specs.ReadableTexts.{is_accepted, mended_in, readable, rewritten, rewritten_view};
+ghost use Rattle.co_sheet_mend.specs.ReadableTexts.{
+  is_accepted,
+  mended_in,
+  readable,
+  rewritten,
+  rewritten_view,
+};
 
 use crate::mended::mended;
 use co_sheet::{FaultKind, GREATEST_SIZE, read};

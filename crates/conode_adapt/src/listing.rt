@@ -86,7 +86,8 @@ fn push_new(text: &mut Vec<u8>, lines: &[u8]) -> Result<(), AllocError>
 
 // the sections that an object in compact form is given
 fn push_sections(words: &mut String, index: u16, count: u8) -> Result<(), AllocError>
-    ensures { OnOk result (string_bytes words.new ≡ string_bytes words.old ++ sections_text index count) }
+    ensures { OnOk result (string_bytes words.new ≡ string_bytes words.old
+        ++ sections_text index count) }
 {
     words.push_str(", [")?;
     push_u16(words, index)?;

@@ -140,7 +140,8 @@ fn adapted_by<'a>(
     ensures text { IfOk result (λ made.
         made.text.items ≡ adapted_text (by_line version.now name.now) text.entry.now) }
     ensures stays { IfOk result (λ made. made.stays ≡ is_none (first_fault text.entry.now)) }
-    ensures accepted { IfOk result (λ made. made.is_accepted ≡ is_none (first_fault made.text.items)) }
+    ensures accepted { IfOk result (λ made. made.is_accepted ≡ is_none
+        (first_fault made.text.items)) }
 {
     let by = by_line(alloc, version, name)?;
     adapt(alloc, text, by.as_slice())

@@ -310,9 +310,9 @@ fn compare_text<R: Files + AllocGlobal + Input, O: Write, E: Write>(
 /// Compares the recording of a path, or of standard input where that is `-`, with the data sheet of
 /// a path: each difference has a line on `out`, and the last line counts the device's frames by
 /// verdict; or there is one document, by the format that is asked for. The status is 0 where there
-/// is no difference, 1 where there is one, and 2 where nothing can be compared: a file that can't be
-/// read, a sheet with a fault, no node-ID, no frame of the node, frames of several interfaces and
-/// none of them named.
+/// is no difference, 1 where there is one, and 2 where nothing can be compared: a file that can't
+/// be read, a sheet with a fault, no node-ID, no frame of the node, frames of several interfaces
+/// and none of them named.
 pub fn compare_files<R: Files + AllocGlobal + Input, O: Write, E: Write>(
     rt: &R,
     sheet: &str,

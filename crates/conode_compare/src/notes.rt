@@ -136,8 +136,8 @@ impl Notes {
         Ok(())
     }
 
-    /// Takes a frame, by what it is to the device, and what the recording shows with it. Returns what
-    /// is noted at it. On an `Err` memory ran out.
+    /// Takes a frame, by what it is to the device, and what the recording shows with it. Returns
+    /// what is noted at it. On an `Err` memory ran out.
     #[tactic(auto, unfolding(crate::specs::Noted::notes_with, crate::specs::Noted::noted_at))]
     pub(crate) fn take(
         &mut self,
@@ -146,7 +146,8 @@ impl Notes {
         progress: &Progress,
     ) -> Result<Noted, AllocError>
         requires { AllPairs (λ e f. is_key_before e.key f.key ≡ true) settings.now.rows.now }
-        ensures noted { IfOk result (λ noted. noted ≡ noted_at (comparison_view settings.now).choices
+        ensures noted { IfOk result (λ noted. noted ≡ noted_at
+            (comparison_view settings.now).choices
             (comparison_view settings.now).subject (comparison_view settings.now).rows
             self.old kind.now progress.now) }
         ensures next { OnOk result (self.new ≡ notes_with (comparison_view settings.now).choices

@@ -14,13 +14,13 @@ pub enum Choice {
     ShortSegment(Key, u8),
     /// `choice-crc`: the device doesn't support the CRC of a block transfer.
     NoCrc(Key),
-    /// `choice-block-size`: of a block download sub-blocks of so many segments are asked for, not of
-    /// 127.
+    /// `choice-block-size`: of a block download sub-blocks of so many segments are asked for, not
+    /// of 127.
     BlockSize(Key, u8),
     /// `choice-switch`: a block upload is answered by another protocol.
     Switched(Key),
-    /// `choice-code`: a request is refused with the first code, and by the data sheet the second fits
-    /// too.
+    /// `choice-code`: a request is refused with the first code, and by the data sheet the second
+    /// fits too.
     Code(Key, u32, u32),
     /// `choice-timeout`: the device aborts a transfer since it timed out.
     Timeout(Key),

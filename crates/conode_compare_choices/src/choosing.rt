@@ -111,8 +111,8 @@ impl Choosing {
         self.errors.take(subject, rows, kind, progress);
     }
 
-    /// Takes a frame by what it is to the device, and what the recording shows with it. Returns what
-    /// the device chose; `rows` are the data sheet's entries, in increasing key.
+    /// Takes a frame by what it is to the device, and what the recording shows with it. Returns
+    /// what the device chose; `rows` are the data sheet's entries, in increasing key.
     pub fn take(
         &mut self,
         subject: &Subject,

@@ -73,8 +73,8 @@ pub struct Awaited {
     pub micros: u64,
 }
 
-/// Which lengths are right, as far as the data sheet and a recording show them, and the EMCY that is
-/// awaited for another one.
+/// Which lengths are right, as far as the data sheet and a recording show them, and the EMCY that
+/// is awaited for another one.
 #[derive(Clone, Copy)]
 pub struct LengthErrors {
     /// How many bytes a SYNC has.

@@ -242,8 +242,8 @@ impl Request {
     }
 
     /// The code by which our device refuses what a download is to write, where the request and the
-    /// data sheet, whose entries are in increasing key, show it: its length, its limits, the rule of
-    /// its own that an entry has.
+    /// data sheet, whose entries are in increasing key, show it: its length, its limits, the rule
+    /// of its own that an entry has.
     #[tactic(auto, unfolding(crate::specs::Requests::request_code))]
     pub(crate) fn request_code(&self, rows: &[EntryRow<'_>], row: &EntryRow<'_>) -> Option<u32>
         requires { AllPairs (λ e f. is_key_before e.key f.key ≡ true) rows.now }

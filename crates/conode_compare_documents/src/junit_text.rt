@@ -138,8 +138,8 @@ fn push_cases(
     }
 }
 
-/// The comparison as a document of JUnit: a test case a kind of difference, with the recording's span
-/// in seconds as its time. `Err`: out of memory.
+/// The comparison as a document of JUnit: a test case a kind of difference, with the recording's
+/// span in seconds as its time. `Err`: out of memory.
 pub fn junit_document(
     alloc: Global,
     about: &About<'_, '_>,

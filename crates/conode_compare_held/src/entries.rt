@@ -1,6 +1,23 @@
 //! The entries that are held to what was written.
 
-ghost use Rattle.std.specs.Prelude.{◌≡◌, ◌∷◌, ◌++◌, [], ◌<◌, true, map, length, Some, None, IfOk, IfErr, IfSome, IfNone, OnOk, option_map};
+ghost use Rattle.std.specs.Prelude.{
+  ◌≡◌,
+  ◌∷◌,
+  ◌++◌,
+  [],
+  ◌<◌,
+  true,
+  map,
+  length,
+  Some,
+  None,
+  IfOk,
+  IfErr,
+  IfSome,
+  IfNone,
+  OnOk,
+  option_map,
+};
 ghost use Rattle.std.specs.List.{AllPairs};
 ghost use Rattle.std.specs.Option.{option_copied};
 ghost use Rattle.co_sheet.specs.SheetViews.{row_view};
@@ -37,7 +54,8 @@ pub struct HeldEntry {
 impl Default for HeldEntry {
     ghost use Rattle.std.specs.Prelude.{◌≡◌, false};
 
-    ghost is_default = { λ entry. entry ≡ record { key = record { index = 0; sub = 0 }; width = 0; mappable = false } };
+    ghost is_default = { λ entry. entry
+        ≡ record { key = record { index = 0; sub = 0 }; width = 0; mappable = false } };
 
     fn default() -> HeldEntry {
         HeldEntry {

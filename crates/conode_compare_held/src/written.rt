@@ -230,8 +230,8 @@ impl Written {
         }
     }
 
-    /// A data frame with an identifier came that is none of the device: an RPDO writes what is mapped
-    /// into it, and with a SYNC an earlier one may take effect.
+    /// A data frame with an identifier came that is none of the device: an RPDO writes what is
+    /// mapped into it, and with a SYNC an earlier one may take effect.
     pub fn take_process(&mut self, held: &HeldEntries, id: u16)
         ensures { self.new ≡ with_process held.now.entries.items self.old id }
     {

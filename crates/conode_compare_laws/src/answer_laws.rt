@@ -134,12 +134,12 @@ pub fn built_no_transfer_differences()
 /// with another number of bytes than the device named, or with another CRC: no `answer-size` and no
 /// `answer-crc`, expedited, in segments and in blocks (CiA 301, 7.2.4.3). Requests may come while
 /// the device is stopped, out of turn, with wrong toggle bits and numbers, and of any length;
-/// transfers may time out, and end when the recording begins anew; entries may be written while they
-/// are uploaded. Conditions: `compare` has the device's node-ID; frames have bytes (`HaveBytes`);
-/// the entries are those of a dictionary (`AllAreHeld`); no other node sends on the identifier of
-/// the answers (`AreElsewhere`); and the COB-IDs with which the device is built are apart from its
-/// default channel, from NMT and from its error control (`BeginsApart`, `BeginsAside`,
-/// `BeginsOther`). This is a law: a call of it changes nothing.
+/// transfers may time out, and end when the recording begins anew; entries may be written while
+/// they are uploaded. Conditions: `compare` has the device's node-ID; frames have bytes
+/// (`HaveBytes`); the entries are those of a dictionary (`AllAreHeld`); no other node sends on the
+/// identifier of the answers (`AreElsewhere`); and the COB-IDs with which the device is built are
+/// apart from its default channel, from NMT and from its error control (`BeginsApart`,
+/// `BeginsAside`, `BeginsOther`). This is a law: a call of it changes nothing.
 pub fn no_data_differences()
     ensures { (k : Constants) (subject : Subject) (rows : List Row) (inputs : List Stamped) →
         subject.node ≡ k.description.node → HaveBytes inputs → AllAreHeld k [] inputs →
@@ -168,9 +168,9 @@ pub fn built_no_data_differences()
 
 /// The recording of a device, over whatever inputs with whatever stamps, has no `answer-toggle`: no
 /// answer has the toggle bit of the one before, whatever transfers there are, in segments and in
-/// blocks (CiA 301, 7.2.4.3). Conditions: `compare` has the device's node-ID; no other node sends on
-/// the identifier of the answers (`AreElsewhere`); and the COB-IDs with which the device is built
-/// are apart from its default channel, from NMT and from its error control (`BeginsApart`,
+/// blocks (CiA 301, 7.2.4.3). Conditions: `compare` has the device's node-ID; no other node sends
+/// on the identifier of the answers (`AreElsewhere`); and the COB-IDs with which the device is
+/// built are apart from its default channel, from NMT and from its error control (`BeginsApart`,
 /// `BeginsAside`, `BeginsOther`). This is a law: a call of it changes nothing.
 pub fn no_toggle_differences()
     ensures { (k : Constants) (subject : Subject) (rows : List Row) (inputs : List Stamped) →

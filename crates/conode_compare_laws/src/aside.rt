@@ -11,8 +11,8 @@ use co_sdo::Bank;
 
 /// A device that is built with its SDO channels, EMCY and TPDOs aside from the identifiers of NMT
 /// and of its error control never sends one of these there, whatever inputs come: a write of such a
-/// COB-ID is refused, and nothing but a reset changes one otherwise (CiA 301, 7.3.5). This is a law:
-/// a call of it changes nothing.
+/// COB-ID is refused, and nothing but a reset changes one otherwise (CiA 301, 7.3.5). This is a
+/// law: a call of it changes nothing.
 pub fn sends_aside()
     ensures { (k : Constants) (inputs : List Stamped) → BeginsAside k → AllSendAside k [] inputs }
 {

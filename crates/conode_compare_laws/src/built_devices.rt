@@ -12,9 +12,10 @@ ghost use Rattle.conode_compare_laws.specs.Recordings.{Stamped, recording};
 
 use crate::states::no_state_differences;
 
-/// A device built from a data sheet, as by `Node::build` of `co_node`, begins with its SDO channels,
-/// EMCY and TPDOs aside from the identifiers of NMT and of its error control: else `build` reports
-/// `NodeId` or `BadCobId` (CiA 301, 7.3.5). This is a law: a call of it changes nothing.
+/// A device built from a data sheet, as by `Node::build` of `co_node`, begins with its SDO
+/// channels, EMCY and TPDOs aside from the identifiers of NMT and of its error control: else
+/// `build` reports `NodeId` or `BadCobId` (CiA 301, 7.3.5). This is a law: a call of it changes
+/// nothing.
 pub fn begins_aside()
     ensures { (plan : Plan) (k : Constants) → IsBuilt plan k → BeginsAside k }
 {}

@@ -22,8 +22,8 @@ use crate::aside::sends_aside;
 /// sheet has, if it is known by it (`KnowsInhibit`); no stamp is earlier than the ticks have it
 /// (`AreUnhurried`); no other node sends on the identifiers of its error control and of its EMCY
 /// (`AreElsewhere`), none of its own SDO channels and TPDOs on the latter, 80h + node-ID
-/// (`AllSendWithout`), and no frame is one of its default SDO channel (`AreNoSdo`). This is a law: a
-/// call of it changes nothing.
+/// (`AllSendWithout`), and no frame is one of its default SDO channel (`AreNoSdo`). This is a law:
+/// a call of it changes nothing.
 pub fn no_early_emergencies()
     ensures { (k : Constants) (subject : Subject) (rows : List Row) (inhibit : ℕ)
         (inputs : List Stamped) → subject.node ≡ k.description.node →

@@ -21,9 +21,9 @@ use crate::aside::sends_aside;
 /// while stopped, each with bit 0 of the error register, and of eight bytes. Conditions: `compare`
 /// has its node-ID; no other node sends on the identifiers of its error control and of its EMCY
 /// (`AreElsewhere`), and none of its own SDO channels and TPDOs sends on the latter, 80h + node-ID
-/// (`AllSendWithout`). CiA 301 doesn't restrict that one, and the dictionary permits it: where a TPDO
-/// has it by the data sheet, `compare` judges no EMCY, and nothing is asked of the device's frames
-/// (`JudgesNone`). This is a law: a call of it changes nothing.
+/// (`AllSendWithout`). CiA 301 doesn't restrict that one, and the dictionary permits it: where a
+/// TPDO has it by the data sheet, `compare` judges no EMCY, and nothing is asked of the device's
+/// frames (`JudgesNone`). This is a law: a call of it changes nothing.
 pub fn no_emergency_differences()
     ensures { (k : Constants) (subject : Subject) (rows : List Row) (inputs : List Stamped) →
         subject.node ≡ k.description.node → AreNoEvents inputs →

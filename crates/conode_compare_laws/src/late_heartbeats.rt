@@ -14,12 +14,12 @@ ghost use Rattle.conode_compare_laws.specs.Recordings.{AreTimed, Stamped, record
 use crate::aside::sends_aside;
 
 /// The recording of a device without transfers on its default SDO channel has no `heartbeat-late`
-/// (CiA 301, 7.2.8.3.2), whatever the tolerance and the drift. Conditions: `compare` has its node-ID;
-/// 1017:00 has the period from the build on, and isn't written (`AllKeepPeriod`); the data sheet has
-/// this period, if it is known by it (`KnowsPeriod`); no stamp is later than the ticks have it
-/// (`AreTimed`); no other node sends on the identifier of its error control (`AreElsewhere`), and no
-/// frame is one of its default SDO channel (`AreNoSdo`). This is a law: a call of it changes
-/// nothing.
+/// (CiA 301, 7.2.8.3.2), whatever the tolerance and the drift. Conditions: `compare` has its
+/// node-ID; 1017:00 has the period from the build on, and isn't written (`AllKeepPeriod`); the data
+/// sheet has this period, if it is known by it (`KnowsPeriod`); no stamp is later than the ticks
+/// have it (`AreTimed`); no other node sends on the identifier of its error control
+/// (`AreElsewhere`), and no frame is one of its default SDO channel (`AreNoSdo`). This is a law: a
+/// call of it changes nothing.
 pub fn no_late_heartbeats()
     ensures { (k : Constants) (subject : Subject) (rows : List Row) (period : ℕ)
         (inputs : List Stamped) → subject.node ≡ k.description.node →

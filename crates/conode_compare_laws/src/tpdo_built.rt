@@ -30,10 +30,10 @@ pub fn keeps_tpdos()
 }
 
 /// The transmission type, the inhibit time and the event timer that `compare` has of the first four
-/// TPDOs by a data sheet, and the identifier of SYNC, are those with which a device that is built of
-/// it begins. Conditions: the rows are those of a sheet that was read (`IsSheetRow`); no other TPDO
-/// has the identifier of one of the four, nor SYNC, and each maps as many bytes as `compare` has
-/// (`AreOnTheirOwn`). This is a law: a call of it changes nothing.
+/// TPDOs by a data sheet, and the identifier of SYNC, are those with which a device that is built
+/// of it begins. Conditions: the rows are those of a sheet that was read (`IsSheetRow`); no other
+/// TPDO has the identifier of one of the four, nor SYNC, and each maps as many bytes as `compare`
+/// has (`AreOnTheirOwn`). This is a law: a call of it changes nothing.
 pub fn tpdos_of_sheet()
     ensures { (plan : Plan) (k : Constants) → IsBuilt plan k → All IsSheetRow plan.rows →
         AreOnTheirOwn k (pdos_of plan.rows plan.node) →

@@ -1,5 +1,5 @@
-//! Warnings: that a device is of another version than its data sheet, that the code of an EMCY has no
-//! class.
+//! Warnings: that a device is of another version than its data sheet, that the code of an EMCY has
+//! no class.
 
 ghost use Rattle.std.specs.Prelude.{◌≡◌, true, map};
 ghost use Rattle.std.specs.List.{AllPairs};
@@ -129,7 +129,8 @@ pub(crate) fn version_warning(
     version_at(node, ended, row_at(rows, ended.key)?)
 }
 
-// Whether the code of an EMCY has a class: 00xxh; 1xxxh to 9xxxh, with those of device profiles; Fxxxh.
+// Whether the code of an EMCY has a class: 00xxh; 1xxxh to 9xxxh, with those of device profiles;
+// Fxxxh.
 fn has_class(code: u16) -> bool
     ensures { result ≡ has_class code }
 {

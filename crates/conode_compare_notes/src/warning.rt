@@ -12,8 +12,8 @@ pub enum Warning {
     Stored(Key, u64, u64),
     /// `changed-after-write`: an upload shows another number than the last download wrote.
     Changed(HeldMismatch),
-    /// `changed-after-write`: an upload of this entry shows as many other bytes as the last download
-    /// wrote.
+    /// `changed-after-write`: an upload of this entry shows as many other bytes as the last
+    /// download wrote.
     ChangedBytes(Key),
     /// `stepped-back`: the stamp of a frame is so many microseconds before that of the last one.
     SteppedBack(u64),

@@ -1,5 +1,5 @@
-//! Warnings: that a device restarted by itself, that it may have stored values, that a value changed
-//! after it was written; and those of versions and codes.
+//! Warnings: that a device restarted by itself, that it may have stored values, that a value
+//! changed after it was written; and those of versions and codes.
 
 ghost use Rattle.std.specs.Prelude.{◌≡◌, IfOk, OnOk, true, map};
 ghost use Rattle.std.specs.List.{AllPairs};
@@ -383,9 +383,9 @@ impl Watched {
         }
     }
 
-    /// Takes a frame by what it is to the device, and what the recording shows with it. Returns what
-    /// a user may want to know of the device; `rows` are the data sheet's entries, in increasing
-    /// key. On an `Err` memory ran out.
+    /// Takes a frame by what it is to the device, and what the recording shows with it. Returns
+    /// what a user may want to know of the device; `rows` are the data sheet's entries, in
+    /// increasing key. On an `Err` memory ran out.
     #[tactic(auto, unfolding(crate::specs::Warnings::watched_with, crate::specs::Warnings::warning_at))]
     pub fn take(
         &mut self,

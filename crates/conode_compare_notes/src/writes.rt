@@ -1,7 +1,12 @@
 //! The entries that clients asked to write.
 
 ghost use Rattle.std.specs.Prelude.{◌≡◌, ◌<◌, [], length, OnOk, IfSome};
-ghost use Rattle.conode_compare_notes.specs.WrittenContents.{content_of, noted_at, place_of, with_content};
+ghost use Rattle.conode_compare_notes.specs.WrittenContents.{
+  content_of,
+  noted_at,
+  place_of,
+  with_content,
+};
 
 use crate::contents::Content;
 use co_value::Key;
@@ -17,8 +22,8 @@ pub struct Wrote {
     pub content: Option<Content>,
 }
 
-/// The entries that clients asked to write. Contracts see them in the order in which they were asked
-/// for first.
+/// The entries that clients asked to write. Contracts see them in the order in which they were
+/// asked for first.
 #[derive(Drop)]
 pub struct Writes {
     all: Vec<Wrote>,

@@ -349,7 +349,8 @@ fn pass_upload(counts: &mut [Counted], row: Option<&EntryRow<'_>>, done: bool, p
 }
 
 fn pass_download(counts: &mut [Counted], row: Option<&EntryRow<'_>>)
-    ensures { counts.new ≡ download_passed (option_map row_view (option_copied row.entry)) counts.old }
+    ensures { counts.new ≡ download_passed (option_map row_view
+        (option_copied row.entry)) counts.old }
 {
     if let Some(row) = row {
         pass_all(

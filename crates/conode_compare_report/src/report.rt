@@ -1,6 +1,21 @@
 //! What is kept of a comparison.
 
-ghost use Rattle.std.specs.Prelude.{◌≡◌, ℕ, [], ◌∷◌, ◌++◌, ◌-◌, ◌^◌, ◌<◌, true, map, length, List, OnOk, IfOk};
+ghost use Rattle.std.specs.Prelude.{
+  ◌≡◌,
+  ℕ,
+  [],
+  ◌∷◌,
+  ◌++◌,
+  ◌-◌,
+  ◌^◌,
+  ◌<◌,
+  true,
+  map,
+  length,
+  List,
+  OnOk,
+  IfOk,
+};
 ghost use Rattle.std.specs.List.{AllPairs, Contains};
 ghost use Rattle.co_sheet.specs.Content.{Row};
 ghost use Rattle.co_sheet.specs.SheetViews.{row_view};

@@ -215,7 +215,8 @@ pub(crate) fn answer_finding(
     frame: &Frame,
 ) -> Option<Finding>
     requires { AllPairs (λ e f. is_key_before e.key f.key ≡ true) rows.now }
-    ensures { result ≡ answer_finding subject.now (map row_view rows.now) micros exchange.now frame.now }
+    ensures { result ≡ answer_finding subject.now
+        (map row_view rows.now) micros exchange.now frame.now }
 {
     if !exchange.certain {
         return None;

@@ -210,8 +210,8 @@ impl Entries {
     }
 }
 
-/// Whether a client asks to write what may give a TPDO the identifier of EMCY, whatever its frame is
-/// in the transfers of the channel: a server may have given up the one that was open.
+/// Whether a client asks to write what may give a TPDO the identifier of EMCY, whatever its frame
+/// is in the transfers of the channel: a server may have given up the one that was open.
 pub(crate) fn shares_id(node: u8, side: Side, frame: &Frame) -> bool
     ensures { result ≡ shares_id node side frame.now }
 {

@@ -30,7 +30,8 @@ impl Progress {
         &self.pdos
     }
 
-    /// Whether the recording begins with the newest frame, or begins anew; or that is an error frame.
+    /// Whether the recording begins with the newest frame, or begins anew; or that is an error
+    /// frame.
     pub fn is_begun(&self) -> bool
         ensures { result ≡ is_begun self.now }
     {

@@ -54,8 +54,8 @@ impl Progress {
         }
     }
 
-    /// A data frame that is none of the others comes: a SYNC, or a PDO. Returns what is found at it.
-    /// What an RPDO may have written to the entries that are held is unknown then.
+    /// A data frame that is none of the others comes: a SYNC, or a PDO. Returns what is found at
+    /// it. What an RPDO may have written to the entries that are held is unknown then.
     #[tactic(auto, unfolding(crate::specs::Progresses::process_findings, crate::specs::Progresses::after_process))]
     pub(crate) fn take_process(
         &mut self,

@@ -322,8 +322,8 @@ pub fn push_finding(
 /// Sets a text to the line of a difference, with its line feed, as `recording.log:123:
 /// heartbeat-late: ..`: the name of the recording, and the number of its line. The values of an
 /// entry are hexadecimal; those of the original type REAL32, which an adapted sheet has in
-/// `OriginalDataType`, are as `explain` shows them. On an `Err` memory ran out, and a part of it may
-/// be there.
+/// `OriginalDataType`, are as `explain` shows them. On an `Err` memory ran out, and a part of it
+/// may be there.
 #[tactic(auto, unfolding(crate::specs::FindingTexts::finding_line))]
 pub fn set_finding_line(
     text: &mut String,

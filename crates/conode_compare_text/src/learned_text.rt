@@ -2,7 +2,12 @@
 
 ghost use Rattle.std.specs.Prelude.{◌≡◌, ◌++◌, ◌≤◌, OnOk, string_bytes};
 ghost use Rattle.std.specs.Option.{option_copied};
-ghost use Rattle.conode_compare_text.specs.LearnedTexts.{learned_line, other_text, sheet_text, typed_text};
+ghost use Rattle.conode_compare_text.specs.LearnedTexts.{
+  learned_line,
+  other_text,
+  sheet_text,
+  typed_text,
+};
 
 use crate::parts::push_words;
 use co_value::{Key, bytes_of_u32};

@@ -385,7 +385,8 @@ pub(crate) fn push_numbers(
     third: u64,
 ) -> Result<(), AllocError>
     ensures { OnOk result (string_bytes text.new
-        ≡ string_bytes text.old ++ three_numbers front.now number middle.now second last.now third) }
+        ≡ string_bytes text.old
+        ++ three_numbers front.now number middle.now second last.now third) }
 {
     push_words(text, front)?;
     push_decimal(text, number)?;
@@ -407,7 +408,8 @@ pub(crate) fn push_number_times(
     other: u64,
 ) -> Result<(), AllocError>
     ensures { OnOk result (string_bytes text.new
-        ≡ string_bytes text.old ++ numbered_times front.now number middle.now micros last.now other) }
+        ≡ string_bytes text.old
+        ++ numbered_times front.now number middle.now micros last.now other) }
 {
     push_words(text, front)?;
     push_decimal(text, number)?;

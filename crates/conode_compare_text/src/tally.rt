@@ -1,7 +1,13 @@
 //! How many frames of the device have which verdict.
 
 ghost use Rattle.std.specs.Prelude.{◌≡◌, ◌++◌, OnOk, string_bytes};
-ghost use Rattle.conode_compare_text.specs.Tallies.{no_frames, summary, tally_text, tally_with, with_verdict};
+ghost use Rattle.conode_compare_text.specs.Tallies.{
+  no_frames,
+  summary,
+  tally_text,
+  tally_with,
+  with_verdict,
+};
 
 use crate::parts::push_number;
 use conode_compare_rules::Verdict;

@@ -112,8 +112,8 @@ fn push_warning(
 }
 
 /// Sets a text to the line of a warning, with its line feed: the name of the recording, and the
-/// number of its line. The values of an entry are shown as those of a difference. On an `Err` memory
-/// ran out, and a part of it may be there.
+/// number of its line. The values of an entry are shown as those of a difference. On an `Err`
+/// memory ran out, and a part of it may be there.
 #[tactic(auto, unfolding(crate::specs::WarningTexts::warning_line))]
 pub fn set_warning_line(
     text: &mut String,

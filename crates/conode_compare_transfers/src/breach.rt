@@ -22,7 +22,8 @@ use conode_explain_transfers::{Direction, Ended, Ending, Heard, Protocol, Side, 
 pub enum Breach {
     /// `answer-toggle`: a segment, or its confirmation, hasn't the toggle bit of its request.
     Toggle(Key),
-    /// `answer-form`: the protocol has no such answer there, or no segment of a block with this number.
+    /// `answer-form`: the protocol has no such answer there, or no segment of a block with this
+    /// number.
     Form(Key),
     /// `abort-key`: an abort has another multiplexer.
     AbortKey(Key),

@@ -236,8 +236,8 @@ pub fn word_written(frame: &Frame) -> Option<u64>
     Some(unsigned_of(&bytes))
 }
 
-// whether an initiate request is one of a block upload that may be answered by another protocol: ccs
-// = 5, and a threshold
+// whether an initiate request is one of a block upload that may be answered by another protocol:
+// ccs = 5, and a threshold
 fn may_switch(frame: &Frame) -> bool
     ensures { result ≡ may_switch frame.now }
 {
@@ -436,8 +436,8 @@ impl Dialogue {
     }
 
     /// Whether no earlier request can be answered any more: the recording shows all that came
-    /// within the time that an answer may take, nothing of it leaves a doubt, and no answer that may
-    /// take long is awaited.
+    /// within the time that an answer may take, nothing of it leaves a doubt, and no answer that
+    /// may take long is awaited.
     pub fn is_certain(&self, answer: u32, started: u64, micros: u64) -> bool
         ensures { result ≡ is_certain answer started self.now.slow self.now.doubted micros }
     {

@@ -35,8 +35,8 @@ fn first_node(claims: &[Claim]) -> Option<u8>
     }
 }
 
-/// The kind and the node of a frame that is these PDOs; on an SDO channel other than a default one of
-/// its server.
+/// The kind and the node of a frame that is these PDOs; on an SDO channel other than a default one
+/// of its server.
 pub(crate) fn subject_by(place: Option<Place>, claims: &[Claim], frame: &Record<'_>) -> Subject
     requires { IsIdentifier frame.now.id }
     ensures { result ≡ subject_by place claims.now frame.now }

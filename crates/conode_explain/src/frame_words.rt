@@ -4,7 +4,19 @@ ghost use Rattle.std.specs.Prelude.{◌≡◌, ◌++◌, ◌<◌, true, OnOk, st
 ghost use Rattle.co_sheet_changes.specs.Names.{names_view};
 ghost use Rattle.conode_explain_pdo.specs.Buses.{bus_view};
 ghost use Rattle.conode_record.specs.Grammar.{IsIdentifier};
-ghost use Rattle.conode_explain.specs.FrameWords.{assumed_front, assumed_mark, assumed_words, data_words, frame_words, is_default_pdo, other_words, plain_words, remote_content, served_words, words_of_content};
+ghost use Rattle.conode_explain.specs.FrameWords.{
+  assumed_front,
+  assumed_mark,
+  assumed_words,
+  data_words,
+  frame_words,
+  is_default_pdo,
+  other_words,
+  plain_words,
+  remote_content,
+  served_words,
+  words_of_content,
+};
 
 use crate::abort_words::push_abort_words;
 use crate::transfer::{push_transfer, transfer_in};
@@ -139,7 +151,8 @@ fn push_base_words(
 ) -> Result<(), AllocError>
     requires { id < 2048 }
     ensures { OnOk result (string_bytes said.new ≡ string_bytes said.old
-        ++ frame_words (bus_view bus.entry) claims.now last (record { id = id; bytes = bytes.now })) }
+        ++ frame_words (bus_view bus.entry) claims.now last
+        (record { id = id; bytes = bytes.now })) }
 {
     match claims {
         // most frames of most recordings
@@ -177,8 +190,8 @@ fn push_remote_words(said: &mut String, id: Identifier) -> Result<(), AllocError
     }
 }
 
-/// Sets `said` to what a frame says; `claims` are the PDOs that it is, `last` is what the last frames
-/// of its node had. On an `Err` memory ran out, and it is incomplete.
+/// Sets `said` to what a frame says; `claims` are the PDOs that it is, `last` is what the last
+/// frames of its node had. On an `Err` memory ran out, and it is incomplete.
 #[tactic(auto, unfolding(crate::specs::FrameWords::words_of_content))]
 pub(crate) fn set_words(
     said: &mut String,

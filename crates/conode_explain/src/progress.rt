@@ -60,8 +60,9 @@ pub struct Layout<'f> {
     pub signals: &'f [Signal],
 }
 
-/// What a recording showed so far: its stamps and interfaces, the SDO channels, those other than the
-/// default ones apart, entries of nodes, what the last frames of nodes had, and what was said last of identifiers.
+/// What a recording showed so far: its stamps and interfaces, the SDO channels, those other than
+/// the default ones apart, entries of nodes, what the last frames of nodes had, and what was said
+/// last of identifiers.
 #[derive(Drop)]
 pub(crate) struct Progress {
     pub(crate) seen: Seen,
@@ -149,8 +150,8 @@ impl Progress {
         }
     }
 
-    // Takes a data frame with an identifier of 11 bits into its default SDO channel. Returns what it is
-    // there; `None` for every other frame. On an `Err` memory ran out.
+    // Takes a data frame with an identifier of 11 bits into its default SDO channel. Returns what
+    // it is there; `None` for every other frame. On an `Err` memory ran out.
     #[tactic(auto, unfolding(crate::specs::Explained::telling_of))]
     fn tell(&mut self, frame: &Record<'_>) -> Result<Option<Told>, AllocError>
         requires { IsIdentifier frame.now.id }
@@ -176,8 +177,8 @@ impl Progress {
         Ok(or_boot_up(&packed, told))
     }
 
-    // Takes a data frame into its SDO channel other than a default one. Returns what it is there. On an
-    // `Err` memory ran out.
+    // Takes a data frame into its SDO channel other than a default one. Returns what it is there.
+    // On an `Err` memory ran out.
     #[tactic(auto, unfolding(crate::specs::Explained::further_of))]
     fn tell_further(&mut self, frame: &Record<'_>, place: Place) -> Result<Option<Told>, AllocError>
         requires { IsIdentifier frame.now.id }
@@ -202,8 +203,8 @@ impl Progress {
             .take(name, place, frame.micros, &Frame::packed(id, bytes))
     }
 
-    /// Takes a frame into its SDO channel: that of a place, or a default one. Returns what it is there.
-    /// On an `Err` memory ran out.
+    /// Takes a frame into its SDO channel: that of a place, or a default one. Returns what it is
+    /// there. On an `Err` memory ran out.
     pub(crate) fn tell_at(
         &mut self,
         frame: &Record<'_>,

@@ -165,8 +165,8 @@ impl Explaining {
     }
 
     /// Takes the next line: writes the line of its frame, if it has one, or names a bad line.
-    /// Returns 1 for a bad line that counts, and that ends it where that is asked for, else 0; `None`
-    /// if no line is left.
+    /// Returns 1 for a bad line that counts, and that ends it where that is asked for, else 0;
+    /// `None` if no line is left.
     pub(crate) fn take_line<R: Read, W: Write, E: Write>(
         &mut self,
         reader: &mut R,

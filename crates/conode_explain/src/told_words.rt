@@ -102,8 +102,8 @@ fn set_part_words(
 }
 
 /// Sets `said` to what a frame says that is read as one with this identifier; `claims` are the PDOs
-/// that it is, `last` is what the last frames of its node had, `told` what its SDO channel says about
-/// it. On an `Err` memory ran out, and it is incomplete.
+/// that it is, `last` is what the last frames of its node had, `told` what its SDO channel says
+/// about it. On an `Err` memory ran out, and it is incomplete.
 pub(crate) fn set_told_words(
     said: &mut String,
     bus: Bus<'_, '_, '_, '_, '_>,
@@ -157,8 +157,8 @@ fn push_channel(said: &mut String, ids: Option<ChannelIds>) -> Result<(), AllocE
     push_identifier(said, ids.answer)
 }
 
-/// Sets `said` to what is said of a node's transfer that ended; `ids` are those of its channel, where
-/// that isn't the default one. On an `Err` memory ran out, and it is incomplete.
+/// Sets `said` to what is said of a node's transfer that ended; `ids` are those of its channel,
+/// where that isn't the default one. On an `Err` memory ran out, and it is incomplete.
 #[tactic(auto, unfolding(crate::specs::ToldWords::ended_words))]
 pub(crate) fn set_ended_words(
     said: &mut String,

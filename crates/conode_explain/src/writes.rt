@@ -293,9 +293,9 @@ pub(crate) fn write_header<W: Write>(
     hand_over(line.as_slice(), out)
 }
 
-// Writes the line of a frame of which its SDO channel says this, and that of the transfer that ended
-// with it, those that are asked for, and adds the frame to what the recording showed; `claims` is
-// scratch space for its PDOs.
+// Writes the line of a frame of which its SDO channel says this, and that of the transfer that
+// ended with it, those that are asked for, and adds the frame to what the recording showed;
+// `claims` is scratch space for its PDOs.
 #[tactic(auto, using(conode_io::proofs::WriteLemmas::lines_after))]
 fn write_by<W: Write>(
     room: &mut Room,

@@ -1,6 +1,19 @@
 //! The value of a signal in a frame.
 
-ghost use Rattle.std.specs.Prelude.{◌≡◌, ◌++◌, ◌≤◌, [], OnOk, IfOk, IfSome, is_some, length, string_bytes, take, unwrap_or};
+ghost use Rattle.std.specs.Prelude.{
+  ◌≡◌,
+  ◌++◌,
+  ◌≤◌,
+  [],
+  OnOk,
+  IfOk,
+  IfSome,
+  is_some,
+  length,
+  string_bytes,
+  take,
+  unwrap_or,
+};
 ghost use Rattle.std.specs.Option.{option_copied};
 ghost use Rattle.co_sheet.specs.SheetViews.{row_view};
 ghost use Rattle.co_sheet_changes.specs.Names.{names_view};

@@ -1,6 +1,19 @@
 //! The words that name signals.
 
-ghost use Rattle.std.specs.Prelude.{◌≡◌, ◌∷◌, ◌++◌, [], ◌<◌, length, Ok, OnOk, IfOk, IfErr, IfSome, IfNone};
+ghost use Rattle.std.specs.Prelude.{
+  ◌≡◌,
+  ◌∷◌,
+  ◌++◌,
+  [],
+  ◌<◌,
+  length,
+  Ok,
+  OnOk,
+  IfOk,
+  IfErr,
+  IfSome,
+  IfNone,
+};
 ghost use Rattle.conode_explain_forms.specs.Words.{IsFault, signal_word, signals_in, words_in};
 
 use co_text::{decimal_in, split_at_first};

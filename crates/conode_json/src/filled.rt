@@ -1,7 +1,18 @@
-//! Markup with values in it. Each function appends a text. `Err`: out of memory; a part of it may be
-//! there.
+//! Markup with values in it. Each function appends a text. `Err`: out of memory; a part of it may
+//! be there.
 
-ghost use Rattle.std.specs.Prelude.{◌≡◌, ◌++◌, ◌<◌, IfNone, IfSome, List, OnOk, drop, length, string_bytes};
+ghost use Rattle.std.specs.Prelude.{
+  ◌≡◌,
+  ◌++◌,
+  ◌<◌,
+  IfNone,
+  IfSome,
+  List,
+  OnOk,
+  drop,
+  length,
+  string_bytes,
+};
 ghost use Rattle.std.specs.Option.{option_copied, option_map};
 ghost use Rattle.co_text.specs.Printed.{digits_text};
 ghost use Rattle.conode_json.specs.Escapes.{escaped};

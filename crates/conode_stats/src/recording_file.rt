@@ -166,7 +166,8 @@ fn add_facts<'a>(
     Ok(())
 }
 
-// Adds what the texts of sheets have. On an `Err` one is at fault, or memory ran out, and it is said.
+// Adds what the texts of sheets have. On an `Err` one is at fault, or memory ran out, and it is
+// said.
 fn take_all<'a, O: Write, E: Write>(
     alloc: Global,
     facts: &mut Vec<SheetFacts<'a>>,
@@ -259,8 +260,8 @@ fn bad_rate<E: Write>(word: &str, err: &mut E) -> ExitCode
 /// Writes the statistics of a recording on one page: of the file at the path, or of standard input
 /// for `-`. A word that is no bit rate, or names no sheet, is named on `err`, and the status is 2.
 /// Then the sheets are read: a fault of one goes to `out`, and where there are several, its path to
-/// `err`. Bad lines, and a file that can't be read, are named on `err`. The status is 0 if all lines
-/// are good, else 1.
+/// `err`. Bad lines, and a file that can't be read, are named on `err`. The status is 0 if all
+/// lines are good, else 1.
 pub fn stats_file<R: Files + AllocGlobal + Input, O: Write, E: Write>(
     rt: &R,
     path: &str,
