@@ -123,8 +123,7 @@ pub(crate) fn keys_in<'a>(
     lines: &[&'a [u8]],
 ) -> Result<Vec<WrittenKey<'a>>, AllocError>
     ensures { IfOk result
-        (λ keys. map key_view keys.items ≡ telling_keys (numbered 1
-        (map (λ line. line.now) lines.now))) }
+        (λ keys. map key_view keys.items ≡ telling_keys (numbered 1 (map (λ line. line.now) lines.now))) }
 {
     let mut keys = Vec::new(alloc);
     let mut topic = Topic::Other;

@@ -7,8 +7,8 @@ ghost use Rattle.co_sheet_warnings.specs.ReadTexts.{own_node};
 use co_sheet::section_at;
 use co_sheet_text::{SectionKind, TextSection};
 
-/// The node-ID that is given, or else the sections' own: the number of NodeID, where that is 1 to
-/// 127 (CiA 306, device commissioning).
+/// The node-ID that is given, or else the sections' own: the number of NodeID, where that is 1 to 127
+/// (CiA 306, device commissioning).
 pub(crate) fn own_node(node: Option<u8>, sections: &[TextSection]) -> Option<u8>
     ensures { result ≡ own_node node (map section_view sections.now) }
 {

@@ -42,8 +42,7 @@ impl<'s, 'a> Model for ReadText<'s, 'a> {
     ghost view = { λ t. text_view t.bytes.now (map (λ line. line.now) t.lines.now)
         t.tables t.keys.now t.node };
 
-    ghost invariant = { λ t. IsLookedUp t.tables (map
-        (λ line. line.now) t.lines.now) t.indices t.other };
+    ghost invariant = { λ t. IsLookedUp t.tables (map (λ line. line.now) t.lines.now) t.indices t.other };
 }
 
 impl<'s, 'a> ReadText<'s, 'a> {
