@@ -39,12 +39,12 @@ is_current() {
 }
 
 # Prints the checksum of what goes into the program and the library: the code of their crates, their lines of crates.txt, the
-# header, and the heap of the library on ARM.
+# header, the heap of the library on ARM, and how its functions are aligned.
 sources_sum() (
     cd "$root" || exit
     {
         crates_below conode bafokun
-        names_below conode bafokun | sed 's/.*/crates\/&\/src/' | xargs sh -c 'find "$@" include/bafokun.h share/heap.c -type f' find |
+        names_below conode bafokun | sed 's/.*/crates\/&\/src/' | xargs sh -c 'find "$@" include/bafokun.h share/heap.c bin/align.py -type f' find |
             LC_ALL=C sort | xargs sha256sum
     } | sha256sum | cut -d ' ' -f 1
 )
@@ -61,7 +61,7 @@ is_released() {
     [ -e "$release/MADE-OF" ] || return 1
     mark=$root/crates/conode/out/released
     if [ -e "$mark" ]; then
-        set -- "$root/crates.txt" "$root/include" "$root/share/heap.c" "$release"
+        set -- "$root/crates.txt" "$root/include" "$root/share/heap.c" "$root/bin/align.py" "$release"
         for name in $(names_below conode bafokun); do set -- "$@" "$root/crates/$name/src"; done
         [ -n "$(find "$@" -newer "$mark" -print 2> /dev/null | head -n 1)" ] || return 0
     fi
