@@ -29,10 +29,14 @@ tally_members tally =
     ∷ number_in (codes "smallestGap") (gap_of tally tally.smallest)
     ∷ number_in (codes "greatestGap") (gap_of tally tally.greatest) ∷ [])
 
+-- the beginning of an object: a text, and further members
+abbrev pub object_of : List ℕ → List ℕ → List Token → List Token
+object_of name text members = (begin_object ∷ []) ++ text_member name text ++ members
+
 -- an identifier
 unfoldable pub row_tokens : Row → List Token
 row_tokens row =
-    (begin_object ∷ []) ++ text_member (codes "id") (id_text row.can_id) ++ tally_members row.tally ++ end_object ∷ []
+    object_of (codes "id") (id_text row.can_id) (tally_members row.tally) ++ end_object ∷ []
 
 -- the bits of frames, and of the busiest second
 unfoldable pub load_members : Load → List Token

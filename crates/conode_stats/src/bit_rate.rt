@@ -3,7 +3,7 @@
 ghost use Rattle.std.specs.Prelude.{◌≤◌, IfSome};
 
 use co_sheet_text::{same_name, trim, unsigned_number};
-use co_text::{decimal_in, split_line};
+use co_text::{decimal_in, split_at_first, split_line};
 
 /// The greatest number that a word may have.
 const GREATEST: u32 = 1_000_000;
@@ -53,13 +53,13 @@ fn is_commissioning(name: &[u8]) -> bool {
 fn bit_rate_at(line: &[u8]) -> Option<u32>
     ensures { IfSome result (λ rate. rate ≤ 1000000) }
 {
-    let Some(place) = line.iter().position(|byte| *byte == b'=') else {
+    let Some((name, number)) = split_at_first(line, b'=') else {
         return None;
     };
-    if !same_name(trim(&line[..place]), b"Baudrate") {
+    if !same_name(trim(name), b"Baudrate") {
         return None;
     }
-    match unsigned_number(trim(&line[place + 1..])) {
+    match unsigned_number(trim(number)) {
         Ok(number) if 1 <= number && number <= 1000 => Some(1000 * number as u32),
         _ => None,
     }

@@ -1,203 +1,122 @@
 //! SDO transfers that failed, or are open, and EMCY messages, in JSON. Each function writes tokens.
-//! `Err`: out of memory; some tokens may be there.
 
-ghost use Rattle.std.specs.Prelude.{◌≡◌, ◌++◌, ◌%◌, OnOk, string_bytes};
+ghost use Rattle.std.specs.Prelude.{◌≡◌};
+ghost use Rattle.conode_stats_text.specs.Papers.{IsAppended};
 ghost use Rattle.conode_stats.specs.FailureTokens.{
-  code_digits,
-  code_name,
+  code_members,
   counted_tokens,
   failure_tokens,
   open_tokens_in,
 };
 ghost use Rattle.conode_stats.specs.Parts.{part_tokens};
 
-use crate::parts::{Part, put_parts};
-use co_text::{push_u16, push_u32};
+use crate::document::Document;
+use crate::parts::{Part, Word};
 use conode_explain_transfers::Ended;
-use conode_json::JsonWriter;
 use conode_stats_counts::{Bus, FailureRow, Tally};
 use conode_stats_text::{Kind, is_waiting};
-use std::alloc::{AllocError, Global};
 
 // how often something of a node came, and when
 #[tactic(auto, unfolding(crate::specs::FailureTokens::counted_tokens))]
-fn put_counted(
-    alloc: Global,
-    writer: &mut JsonWriter,
-    row: &FailureRow,
-    code: Part<'_>,
-) -> Result<(), AllocError>
-    ensures { OnOk result
-        (writer.new ≡ writer.old ++ counted_tokens row.now (part_tokens code.entry)) }
+fn put_counted(document: &mut Document, row: &FailureRow, code: Part<'_>)
+    ensures { IsAppended document.old
+        (counted_tokens row.now (part_tokens code.entry)) document.new }
 {
-    put_parts(
-        alloc,
-        writer,
-        &[
-            Part::BeginObject,
-            Part::Number("node", u64::from(row.cause.node)),
-            code,
-            Part::Number("count", row.count),
-            Part::Number("first", row.first),
-            Part::Number("last", row.last),
-            Part::EndObject,
-        ],
-    )
+    document.put(&[
+        Part::BeginObject,
+        Part::Number("node", u64::from(row.cause.node)),
+        code,
+        Part::Number("count", row.count),
+        Part::Number("first", row.first),
+        Part::Number("last", row.last),
+        Part::EndObject,
+    ])
 }
 
-// the name of the member of a code
-fn code_name(kind: Kind) -> &'static str
-    ensures { result.now ≡ code_name kind }
+// the code of an abort, or of an EMCY message
+fn code_part(kind: Kind, code: Option<u32>) -> Part<'static>
+    ensures { part_tokens result ≡ code_members kind code }
 {
-    match kind {
-        Kind::Emergencies => "errorCode",
-        _ => "abortCode",
-    }
-}
-
-// the digits of a code
-fn push_code(text: &mut String, kind: Kind, code: u32) -> Result<(), AllocError>
-    ensures { OnOk result (string_bytes text.new
-        ≡ string_bytes text.old ++ code_digits kind code) }
-{
-    match kind {
-        Kind::Emergencies => push_u16(text, (code % 65536) as u16),
-        _ => push_u32(text, code),
-    }
-}
-
-// SDO transfers that failed, or EMCY messages; `shown` is scratch space
-#[tactic(auto, unfolding(crate::specs::FailureTokens::failure_tokens))]
-fn put_row(
-    alloc: Global,
-    writer: &mut JsonWriter,
-    shown: &mut String,
-    kind: Kind,
-    row: &FailureRow,
-) -> Result<(), AllocError>
-    ensures { OnOk result (writer.new ≡ writer.old ++ failure_tokens kind row.now) }
-{
-    match row.cause.code {
-        None => put_counted(alloc, writer, row, Part::Nothing),
-        Some(code) => {
-            shown.clear();
-            push_code(shown, kind, code)?;
-            put_counted(
-                alloc,
-                writer,
-                row,
-                Part::Text(code_name(kind), shown.as_str()),
-            )
+    match (kind, code) {
+        (_, None) => Part::Nothing,
+        (Kind::Emergencies, Some(code)) => {
+            Part::Word("errorCode", Word::Short((code % 65536) as u16))
         }
+        (_, Some(code)) => Part::Word("abortCode", Word::Long(code)),
     }
+}
+
+// SDO transfers that failed, or EMCY messages
+#[tactic(auto, unfolding(crate::specs::FailureTokens::failure_tokens))]
+fn put_row(document: &mut Document, kind: Kind, row: &FailureRow)
+    ensures { IsAppended document.old (failure_tokens kind row.now) document.new }
+{
+    put_counted(document, row, code_part(kind, row.cause.code));
 }
 
 // those of a node
-fn put_rows_of(
-    alloc: Global,
-    writer: &mut JsonWriter,
-    shown: &mut String,
-    kind: Kind,
-    rows: &[FailureRow],
-    node: u8,
-) -> Result<(), AllocError> {
+fn put_rows_of(document: &mut Document, kind: Kind, rows: &[FailureRow], node: u8) {
     for row in rows {
         if row.cause.node == node {
-            put_row(alloc, writer, shown, kind, row)?;
+            put_row(document, kind, row);
         }
     }
-    Ok(())
 }
 
 // those of a bus, by node
-fn put_rows(
-    alloc: Global,
-    writer: &mut JsonWriter,
-    shown: &mut String,
-    kind: Kind,
-    rows: &[FailureRow],
-) -> Result<(), AllocError> {
+fn put_rows(document: &mut Document, kind: Kind, rows: &[FailureRow]) {
     for node in 1..128u8 {
-        put_rows_of(alloc, writer, shown, kind, rows, node)?;
+        put_rows_of(document, kind, rows, node);
     }
-    Ok(())
 }
 
 /// Writes how many frames of a bus have no row, its SDO transfers that failed, and those that are
-/// open, and its EMCY messages. `shown` is scratch space.
-pub(crate) fn put_failures(
-    alloc: Global,
-    writer: &mut JsonWriter,
-    shown: &mut String,
-    bus: &Bus,
-) -> Result<(), AllocError> {
+/// open, and its EMCY messages.
+pub(crate) fn put_failures(document: &mut Document, bus: &Bus) {
     let (transfers, emergencies) = (bus.transfers(), bus.emergencies());
-    put_parts(
-        alloc,
-        writer,
-        &[
-            Part::Number("framesLeftOut", bus.left_out()),
-            Part::Array("failedTransfers"),
-        ],
-    )?;
-    put_rows(alloc, writer, shown, Kind::Failures, transfers.rows())?;
-    put_parts(
-        alloc,
-        writer,
-        &[
-            Part::EndArray,
-            Part::Number("failedTransfersLeftOut", transfers.left_out()),
-            Part::Array("openTransfers"),
-        ],
-    )?;
-    put_all_open(alloc, writer, bus)?;
-    put_parts(alloc, writer, &[Part::EndArray, Part::Array("emergencies")])?;
-    put_rows(alloc, writer, shown, Kind::Emergencies, emergencies.rows())?;
-    put_parts(
-        alloc,
-        writer,
-        &[
-            Part::EndArray,
-            Part::Number("emergenciesLeftOut", emergencies.left_out()),
-        ],
-    )
+    document.put(&[
+        Part::Number("framesLeftOut", bus.left_out()),
+        Part::Array("failedTransfers"),
+    ]);
+    put_rows(document, Kind::Failures, transfers.rows());
+    document.put(&[
+        Part::EndArray,
+        Part::Number("failedTransfersLeftOut", transfers.left_out()),
+        Part::Array("openTransfers"),
+    ]);
+    put_all_open(document, bus);
+    document.put(&[Part::EndArray, Part::Array("emergencies")]);
+    put_rows(document, Kind::Emergencies, emergencies.rows());
+    document.put(&[
+        Part::EndArray,
+        Part::Number("emergenciesLeftOut", emergencies.left_out()),
+    ])
 }
 
 // a transfer that is open at the end, if it had no frame for more than a second
-#[tactic(auto, unfolding(crate::specs::FailureTokens::open_tokens, crate::specs::FailureTokens::key_members))]
-fn put_open_in(
-    alloc: Global,
-    writer: &mut JsonWriter,
-    node: u8,
-    all: &Tally,
-    transfer: &Option<Ended>,
-) -> Result<(), AllocError>
-    ensures { OnOk result (writer.new
-        ≡ writer.old ++ open_tokens_in node all.now transfer.now) }
+#[tactic(auto, using(conode_stats_text::proofs::Appended::none), unfolding(crate::specs::FailureTokens::open_tokens, crate::specs::FailureTokens::key_members))]
+fn put_open_in(document: &mut Document, node: u8, all: &Tally, transfer: &Option<Ended>)
+    ensures { IsAppended document.old
+        (open_tokens_in node all.now transfer.now) document.new }
 {
     match transfer {
-        Some(transfer) if is_waiting(all, transfer) => put_parts(
-            alloc,
-            writer,
-            &[
-                Part::BeginObject,
-                Part::Number("node", u64::from(node)),
-                Part::Number("index", u64::from(transfer.key.index)),
-                Part::Number("subIndex", u64::from(transfer.key.sub)),
-                Part::Number("since", transfer.newest),
-                Part::EndObject,
-            ],
-        ),
-        _ => Ok(()),
+        Some(transfer) if is_waiting(all, transfer) => document.put(&[
+            Part::BeginObject,
+            Part::Number("node", u64::from(node)),
+            Part::Number("index", u64::from(transfer.key.index)),
+            Part::Number("subIndex", u64::from(transfer.key.sub)),
+            Part::Number("since", transfer.newest),
+            Part::EndObject,
+        ]),
+        _ => {}
     }
 }
 
 // the SDO transfers that are open on a bus
-fn put_all_open(alloc: Global, writer: &mut JsonWriter, bus: &Bus) -> Result<(), AllocError> {
+fn put_all_open(document: &mut Document, bus: &Bus) {
     let all = bus.all();
     for track in bus.transfers().channels() {
         let transfer = track.channel.unfinished(all.last);
-        put_open_in(alloc, writer, track.node, &all, &transfer)?;
+        put_open_in(document, track.node, &all, &transfer);
     }
-    Ok(())
 }

@@ -1,7 +1,7 @@
-//! The nodes of a bus in JSON. Each function writes tokens. `Err`: out of memory; some tokens may
-//! be there.
+//! The nodes of a bus in JSON. Each function writes tokens.
 
-ghost use Rattle.std.specs.Prelude.{◌≡◌, ◌++◌, OnOk};
+ghost use Rattle.std.specs.Prelude.{◌≡◌};
+ghost use Rattle.conode_stats_text.specs.Papers.{IsAppended};
 ghost use Rattle.conode_stats.specs.NodeTokens.{
   gap_in,
   last_in,
@@ -16,13 +16,12 @@ ghost use Rattle.conode_stats.specs.NodeTokens.{
 };
 ghost use Rattle.conode_stats.specs.Parts.{part_tokens};
 
-use crate::parts::{Part, put_parts};
-use conode_json::JsonWriter;
+use crate::document::Document;
+use crate::parts::Part;
 use conode_stats_counts::{Bus, Heartbeats, Node, Shown};
 use conode_stats_text::{
     Pace, SheetFacts, Silence, is_shown, lost_gap, median, sheet_time, silence_of, state_word,
 };
-use std::alloc::{AllocError, Global};
 
 fn restart_in(node: &Node) -> Option<u64>
     ensures { result ≡ restart_in node.now }
@@ -84,57 +83,42 @@ fn late_gap_in(heartbeats: &Heartbeats) -> Option<u64>
 
 // the counts of a node, its state at the end, and its times
 #[tactic(auto, unfolding(crate::specs::NodeTokens::node_front))]
-fn put_front(
-    alloc: Global,
-    writer: &mut JsonWriter,
-    number: u32,
-    node: &Node,
-) -> Result<(), AllocError>
-    ensures { OnOk result (writer.new ≡ writer.old ++ node_front number node.now) }
+fn put_front(document: &mut Document, number: u32, node: &Node)
+    ensures { IsAppended document.old
+        (node_front number node.now) document.new }
 {
     let times = &node.times;
-    put_parts(
-        alloc,
-        writer,
-        &[
-            Part::BeginObject,
-            Part::Number("node", u64::from(number)),
-            Part::Number("bootUps", node.boot_ups),
-            Part::Number("restartsWithoutCommand", node.restarts),
-            Part::NumberIf("lastRestart", restart_in(node)),
-            state_part(node.last),
-            Part::NumberIf("last", last_in(node.last)),
-            Part::Object("times"),
-            Part::Number("bootUp", times.boot_up),
-            Part::Number("preOperational", times.pre_operational),
-            Part::Number("operational", times.operational),
-            Part::Number("stopped", times.stopped),
-            Part::Number("unknown", times.unknown),
-            Part::EndObject,
-        ],
-    )
+    document.put(&[
+        Part::BeginObject,
+        Part::Number("node", u64::from(number)),
+        Part::Number("bootUps", node.boot_ups),
+        Part::Number("restartsWithoutCommand", node.restarts),
+        Part::NumberIf("lastRestart", restart_in(node)),
+        state_part(node.last),
+        Part::NumberIf("last", last_in(node.last)),
+        Part::Object("times"),
+        Part::Number("bootUp", times.boot_up),
+        Part::Number("preOperational", times.pre_operational),
+        Part::Number("operational", times.operational),
+        Part::Number("stopped", times.stopped),
+        Part::Number("unknown", times.unknown),
+        Part::EndObject,
+    ])
 }
 
 // its heartbeats
 #[tactic(auto, unfolding(crate::specs::NodeTokens::wait_members))]
-fn put_waits(
-    alloc: Global,
-    writer: &mut JsonWriter,
-    heartbeats: &Heartbeats,
-) -> Result<(), AllocError>
-    ensures { OnOk result (writer.new ≡ writer.old ++ wait_members heartbeats.now) }
+fn put_waits(document: &mut Document, heartbeats: &Heartbeats)
+    ensures { IsAppended document.old
+        (wait_members heartbeats.now) document.new }
 {
-    put_parts(
-        alloc,
-        writer,
-        &[
-            Part::NumberIf("heartbeatTime", time_in(heartbeats.written)),
-            Part::Number("lateHeartbeats", heartbeats.late),
-            Part::NumberIf("longestLateGap", late_gap_in(heartbeats)),
-            Part::NumberIf("longestGap", gap_in(heartbeats)),
-            Part::NumberIf("medianGap", median(heartbeats.first.as_slice())),
-        ],
-    )
+    document.put(&[
+        Part::NumberIf("heartbeatTime", time_in(heartbeats.written)),
+        Part::Number("lateHeartbeats", heartbeats.late),
+        Part::NumberIf("longestLateGap", late_gap_in(heartbeats)),
+        Part::NumberIf("longestGap", gap_in(heartbeats)),
+        Part::NumberIf("medianGap", median(heartbeats.first.as_slice())),
+    ])
 }
 
 fn since_in(silence: Option<Silence>) -> Option<u64>
@@ -149,50 +133,37 @@ fn since_in(silence: Option<Silence>) -> Option<u64>
 // what looks wrong with them, since when the node is silent, its longest answer, and the end
 #[tactic(auto, unfolding(crate::specs::NodeTokens::node_end))]
 fn put_end(
-    alloc: Global,
-    writer: &mut JsonWriter,
+    document: &mut Document,
     sheet: Option<u16>,
     heartbeats: &Heartbeats,
     silence: Option<Silence>,
     answer: Option<u64>,
-) -> Result<(), AllocError>
-    ensures { OnOk result (writer.new
-        ≡ writer.old ++ node_end sheet heartbeats.now silence answer) }
+)
+    ensures { IsAppended document.old
+        (node_end sheet heartbeats.now silence answer) document.new }
 {
     let lost = lost_gap(Pace::usual(sheet, heartbeats), heartbeats.longest);
-    put_parts(
-        alloc,
-        writer,
-        &[
-            Part::NumberIf("lostGap", lost),
-            Part::NumberIf("silentSince", since_in(silence)),
-            Part::NumberIf("longestAnswer", answer),
-            Part::EndObject,
-        ],
-    )
+    document.put(&[
+        Part::NumberIf("lostGap", lost),
+        Part::NumberIf("silentSince", since_in(silence)),
+        Part::NumberIf("longestAnswer", answer),
+        Part::EndObject,
+    ])
 }
 
-#[tactic(auto, unfolding(crate::specs::NodeTokens::node_tokens))]
-fn put_node_in(
-    alloc: Global,
-    writer: &mut JsonWriter,
-    bus: &Bus,
-    sheet: Option<u16>,
-    number: u8,
-    node: &Node,
-) -> Result<(), AllocError>
-    ensures { OnOk result (writer.new
-        ≡ writer.old ++ tokens_in bus.now sheet number node.now) }
+#[tactic(auto, using(conode_stats_text::proofs::Appended::both, conode_stats_text::proofs::Appended::none), unfolding(crate::specs::NodeTokens::node_tokens))]
+fn put_node_in(document: &mut Document, bus: &Bus, sheet: Option<u16>, number: u8, node: &Node)
+    ensures { IsAppended document.old
+        (tokens_in bus.now sheet number node.now) document.new }
 {
     let silence = silence_of(bus, sheet, number, node);
     if !is_shown(node) && silence.is_none() {
-        return Ok(());
+        return;
     }
-    put_front(alloc, writer, u32::from(number), node)?;
-    put_waits(alloc, writer, &node.heartbeats)?;
+    put_front(document, u32::from(number), node);
+    put_waits(document, &node.heartbeats);
     put_end(
-        alloc,
-        writer,
+        document,
         sheet,
         &node.heartbeats,
         silence,
@@ -201,18 +172,13 @@ fn put_node_in(
 }
 
 /// Writes the nodes of a bus that have a line on the page, or are silent, by node-ID.
-pub(crate) fn put_nodes(
-    alloc: Global,
-    writer: &mut JsonWriter,
-    sheets: &[SheetFacts<'_>],
-    bus: &Bus,
-) -> Result<(), AllocError> {
-    writer.begin_array_of("nodes")?;
+pub(crate) fn put_nodes(document: &mut Document, sheets: &[SheetFacts<'_>], bus: &Bus) {
+    document.put(&[Part::Array("nodes")]);
     for number in 1..128u8 {
         if let Some(node) = bus.nodes().get(usize::from(number)) {
             let sheet = sheet_time(sheets, bus.interface(), number);
-            put_node_in(alloc, writer, bus, sheet, number, node)?;
+            put_node_in(document, bus, sheet, number, node);
         }
     }
-    writer.end_array()
+    document.put(&[Part::EndArray]);
 }

@@ -6,13 +6,12 @@ ghost use Rattle.std.specs.Process.{exit_status};
 use crate::bit_rate::rate_of;
 use crate::recording::{Recording, count};
 use crate::sheet_facts::facts_of;
-use crate::tokens::put_page;
+use crate::tokens::page_json;
 use co_sheet::{FaultKind, SheetFault, read};
 use conode_convert::{SheetText, SheetWord, bad_sheet, bad_sheet_word, sheet_words, texts_of};
 use conode_io::{CmdFault, cannot_read, flushed, hand_over, stopped};
-use conode_json::JsonWriter;
 use conode_logs::Form;
-use conode_stats_text::{Page, SheetFacts, set_page};
+use conode_stats_text::{Page, SheetFacts, page_text};
 use std::alloc::{AllocError, Global};
 use std::fs;
 use std::io::{Input, Read, Write};
@@ -45,39 +44,12 @@ struct Settings<'a> {
     log: Form,
 }
 
-// writes the page as a text
-fn write_text<O: Write>(alloc: Global, page: &Page<'_>, out: &mut O) -> Result<(), CmdFault>
-    requires { IfSome page.now.bit_rate (λ rate. rate ≤ 1000000) }
-{
-    let mut text = String::new(alloc);
-    match set_page(alloc, &mut text, page) {
-        Ok(()) => hand_over(text.as_bytes(), out),
-        Err(_) => Err(CmdFault::Memory),
-    }
-}
-
-// the page as JSON
-fn page_json(alloc: Global, page: &Page<'_>) -> Result<Vec<u8>, AllocError> {
-    let mut writer = JsonWriter::new(alloc);
-    put_page(alloc, &mut writer, page)?;
-    writer.into_text()
-}
-
-// writes the page as JSON
-fn write_json<O: Write>(alloc: Global, page: &Page<'_>, out: &mut O) -> Result<(), CmdFault> {
-    match page_json(alloc, page) {
-        Ok(text) => hand_over(text.as_slice(), out),
-        Err(_) => Err(CmdFault::Memory),
-    }
-}
-
-// writes the page
-fn write_page<O: Write>(
+// the page, as a text or as JSON
+fn page_of(
     alloc: Global,
     recording: &Recording,
     settings: &Settings<'_>,
-    out: &mut O,
-) -> Result<(), CmdFault>
+) -> Result<Vec<u8>, AllocError>
     requires { IfSome settings.now.bit_rate (λ rate. rate ≤ 1000000) }
 {
     let page = Page {
@@ -87,9 +59,19 @@ fn write_page<O: Write>(
         bit_rate: settings.bit_rate,
     };
     if settings.json {
-        write_json(alloc, &page, out)
-    } else {
-        write_text(alloc, &page, out)
+        return page_json(alloc, &page);
+    }
+    match page_text(alloc, &page) {
+        Ok(text) => Ok(text.into_bytes()),
+        Err(fault) => Err(fault),
+    }
+}
+
+// writes the page
+fn write_page<O: Write>(page: Result<Vec<u8>, AllocError>, out: &mut O) -> Result<(), CmdFault> {
+    match page {
+        Ok(page) => hand_over(page.as_slice(), out),
+        Err(_) => Err(CmdFault::Memory),
     }
 }
 
@@ -103,8 +85,8 @@ fn stats<R: Read, O: Write, E: Write>(
 ) -> Result<u64, CmdFault>
     requires { IfSome settings.now.bit_rate (λ rate. rate ≤ 1000000) }
 {
-    let recording = count(alloc, input, settings.log, err)?;
-    match write_page(alloc, &recording, settings, out) {
+    let recording = attempt!(count(alloc, input, settings.log, err));
+    match write_page(page_of(alloc, &recording, settings), out) {
         Ok(()) => Ok(recording.bad),
         Err(fault) => Err(fault),
     }
@@ -155,7 +137,7 @@ fn add_facts<'a>(
     facts: &mut Vec<SheetFacts<'a>>,
     of: &SheetText<'a>,
 ) -> Result<(), SheetFault> {
-    let sheet = read(alloc, of.text.as_slice())?;
+    let sheet = attempt!(read(alloc, of.text.as_slice()));
     let own = facts_of(&sheet, of.text.as_slice(), &of.word);
     if facts.push(own).is_err() {
         return Err(SheetFault {
@@ -185,31 +167,6 @@ fn take_all<'a, O: Write, E: Write>(
     Ok(())
 }
 
-// the page with what the texts of sheets have
-fn stats_with<R: Files + AllocGlobal + Input, O: Write, E: Write>(
-    rt: &R,
-    path: &str,
-    texts: &[SheetText<'_>],
-    settings: Settings<'_>,
-    out: &mut O,
-    err: &mut E,
-) -> ExitCode
-    requires { IfSome settings.bit_rate (λ rate. rate ≤ 1000000) }
-    ensures { (exit_status result ≡ 0) ⊎ (exit_status result ≡ 1) }
-{
-    let mut facts = Vec::new(rt.alloc());
-    if let Err(status) = take_all(rt.alloc(), &mut facts, texts, out, err) {
-        return status;
-    }
-    let settings = Settings {
-        bit_rate: settings.bit_rate,
-        sheets: facts.as_slice(),
-        json: settings.json,
-        log: settings.log,
-    };
-    stats_path(rt, path, &settings, out, err)
-}
-
 // the page with the sheets that words name
 fn stats_named<R: Files + AllocGlobal + Input, O: Write, E: Write>(
     rt: &R,
@@ -222,10 +179,21 @@ fn stats_named<R: Files + AllocGlobal + Input, O: Write, E: Write>(
     requires { IfSome settings.bit_rate (λ rate. rate ≤ 1000000) }
     ensures { (exit_status result ≡ 0) ⊎ (exit_status result ≡ 1) }
 {
-    match texts_of(rt, words, out, err) {
-        Ok(texts) => stats_with(rt, path, texts.as_slice(), settings, out, err),
-        Err(status) => status,
+    let texts = match texts_of(rt, words, out, err) {
+        Ok(texts) => texts,
+        Err(status) => return status,
+    };
+    let mut facts = Vec::new(rt.alloc());
+    if let Err(status) = take_all(rt.alloc(), &mut facts, texts.as_slice(), out, err) {
+        return status;
     }
+    let settings = Settings {
+        bit_rate: settings.bit_rate,
+        sheets: facts.as_slice(),
+        json: settings.json,
+        log: settings.log,
+    };
+    stats_path(rt, path, &settings, out, err)
 }
 
 // the page with the sheets that the words of the command line name

@@ -1,3 +1,4 @@
+pub mod Appended
 mod Examples
 mod FailureExamples
 pub mod NodeExamples

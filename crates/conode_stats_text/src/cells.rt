@@ -37,7 +37,7 @@ fn push_blanks(text: &mut String, count: usize) -> Result<(), AllocError>
     ensures { OnOk result (string_bytes text.new ≡ string_bytes text.old ++ replicate count 32) }
 {
     for _blank in 0..count {
-        text.push(' ')?;
+        attempt!(text.push(' '));
     }
     Ok(())
 }
@@ -46,14 +46,14 @@ fn push_right(text: &mut String, width: usize, cell: &str) -> Result<(), AllocEr
     ensures { OnOk result
         (string_bytes text.new ≡ string_bytes text.old ++ right width cell.now) }
 {
-    push_blanks(text, width.saturating_sub(cell.len()))?;
+    attempt!(push_blanks(text, width.saturating_sub(cell.len())));
     text.push_str(cell)
 }
 
 fn push_left(text: &mut String, width: usize, cell: &str) -> Result<(), AllocError>
     ensures { OnOk result (string_bytes text.new ≡ string_bytes text.old ++ left width cell.now) }
 {
-    text.push_str(cell)?;
+    attempt!(text.push_str(cell));
     push_blanks(text, width.saturating_sub(cell.len()))
 }
 
@@ -64,10 +64,10 @@ pub(crate) fn push_thousandths(text: &mut String, number: u64) -> Result<(), All
         (string_bytes text.new ≡ string_bytes text.old ++ thousandths number) }
 {
     let places = number % 1000;
-    push_decimal(text, number / 1000)?;
-    text.push('.')?;
-    push_digit(text, (places / 10 / 10 % 10) as u8)?;
-    push_digit(text, (places / 10 % 10) as u8)?;
+    attempt!(push_decimal(text, number / 1000));
+    attempt!(text.push('.'));
+    attempt!(push_digit(text, (places / 10 / 10 % 10) as u8));
+    attempt!(push_digit(text, (places / 10 % 10) as u8));
     push_digit(text, (places % 10) as u8)
 }
 
@@ -76,8 +76,8 @@ pub(crate) fn push_thousandths(text: &mut String, number: u64) -> Result<(), All
 fn push_tenths(text: &mut String, number: u64) -> Result<(), AllocError>
     ensures { OnOk result (string_bytes text.new ≡ string_bytes text.old ++ tenths number) }
 {
-    push_decimal(text, number / 10)?;
-    text.push('.')?;
+    attempt!(push_decimal(text, number / 10));
+    attempt!(text.push('.'));
     push_digit(text, (number % 10 % 10) as u8)
 }
 
@@ -86,8 +86,8 @@ fn push_tenths(text: &mut String, number: u64) -> Result<(), AllocError>
 pub(crate) fn push_seconds(text: &mut String, micros: u64) -> Result<(), AllocError>
     ensures { OnOk result (string_bytes text.new ≡ string_bytes text.old ++ seconds micros) }
 {
-    push_decimal(text, micros / 1_000_000)?;
-    text.push('.')?;
+    attempt!(push_decimal(text, micros / 1_000_000));
+    attempt!(text.push('.'));
     push_micros(text, (micros % 1_000_000) as u32)
 }
 
@@ -118,8 +118,8 @@ pub fn push_id(text: &mut String, id: u32) -> Result<(), AllocError>
     ensures { OnOk result (string_bytes text.new ≡ string_bytes text.old ++ id_text id) }
 {
     if id < 0x800 {
-        push_digit(text, (id / 16 / 16 % 16) as u8)?;
-        push_digit(text, (id / 16 % 16) as u8)?;
+        attempt!(push_digit(text, (id / 16 / 16 % 16) as u8));
+        attempt!(push_digit(text, (id / 16 % 16) as u8));
         push_digit(text, (id % 16) as u8)
     } else {
         push_u32(text, id % 0x8000_0000)
@@ -147,7 +147,7 @@ fn push_cell(text: &mut String, shown: &mut String, cell: &Cell<'_>) -> Result<(
         (string_bytes text.new ≡ string_bytes text.old ++ cell_text cell.now) }
 {
     shown.clear();
-    push_shown(shown, cell)?;
+    attempt!(push_shown(shown, cell));
     match *cell {
         Cell::Gap(_) => text.push_str(shown.as_str()),
         Cell::Column(_) => push_left(text, 15, shown.as_str()),
@@ -168,7 +168,7 @@ pub(crate) fn push_cells(
         (string_bytes text.new ≡ string_bytes text.old ++ flat_map cell_text cells.now) }
 {
     for cell in cells {
-        push_cell(text, shown, cell)?;
+        attempt!(push_cell(text, shown, cell));
     }
     Ok(())
 }

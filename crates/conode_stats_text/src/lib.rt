@@ -1,6 +1,16 @@
 //! The statistics of buses, as a page of text.
 #![tactic(auto)]
 
+// As `?`, without a conversion of the error: a `match` is one step of a proof where `?` is three.
+macro_rules! attempt {
+    ($result:expr) => {
+        match $result {
+            Ok(value) => value,
+            Err(fault) => return Err(fault),
+        }
+    };
+}
+
 mod cells;
 mod excerpt;
 mod figures;
@@ -9,6 +19,7 @@ mod lines;
 mod nodes;
 mod pace;
 mod page;
+mod paper;
 mod pieces;
 mod sheet_facts;
 mod silence;
@@ -19,6 +30,6 @@ pub use figures::gap_of;
 pub use finding::{Kind, is_waiting};
 pub use nodes::{is_shown, state_word};
 pub use pace::{Pace, lost_gap, median};
-pub use page::{Page, set_page, sorted_rows};
+pub use page::{Page, page_text, sorted_rows};
 pub use sheet_facts::{SheetFacts, sheet_rate, sheet_time};
 pub use silence::{Silence, silence_of};

@@ -1,7 +1,7 @@
-//! The lines of the page about buses and identifiers. Each function appends a text. `Err`: out of
-//! memory; a part of the text may be there.
+//! The lines of the page about buses and identifiers. Each function appends a text.
 
-ghost use Rattle.std.specs.Prelude.{◌≡◌, ◌++◌, ◌≤◌, OnOk, string_bytes};
+ghost use Rattle.std.specs.Prelude.{◌≡◌, ◌≤◌};
+ghost use Rattle.conode_stats_text.specs.Papers.{IsAppended};
 ghost use Rattle.conode_stats_text.specs.StatsLines.{
   bus_line,
   busiest_part,
@@ -13,39 +13,29 @@ ghost use Rattle.conode_stats_text.specs.StatsLines.{
   row_line,
 };
 
-use crate::cells::{Cell, push_cells};
+use crate::cells::Cell;
 use crate::figures::{gap_of, mean, ratio, room_in};
-use crate::pieces::{Piece, push_pieces};
+use crate::paper::Paper;
+use crate::pieces::Piece;
 use conode_stats_counts::{Load, Row, Tally};
-use std::alloc::AllocError;
 
-/// Appends the line of an identifier on an interface. `shown` is scratch space.
+/// Appends the line of an identifier on an interface.
 #[tactic(auto, unfolding(crate::specs::StatsLines::row_line))]
-pub(crate) fn push_row(
-    text: &mut String,
-    shown: &mut String,
-    interface: &[u8],
-    row: &Row,
-) -> Result<(), AllocError>
-    ensures { OnOk result (string_bytes text.new
-        ≡ string_bytes text.old ++ row_line interface.now row.now) }
+pub(crate) fn push_row(paper: &mut Paper, interface: &[u8], row: &Row)
+    ensures { IsAppended paper.old (row_line interface.now row.now) paper.new }
 {
     let tally = &row.tally;
-    push_cells(
-        text,
-        shown,
-        &[
-            Cell::Column(interface),
-            Cell::Gap("  "),
-            Cell::Id(8, row.can_id),
-            Cell::Count(13, tally.frames),
-            Cell::Tenths(12, ratio(tally.gaps, 10_000_000, tally.total)),
-            Cell::Millis(15, gap_of(tally, tally.smallest)),
-            Cell::Millis(12, mean(tally)),
-            Cell::Millis(14, gap_of(tally, tally.greatest)),
-            Cell::Gap("\n"),
-        ],
-    )
+    paper.put_cells(&[
+        Cell::Column(interface),
+        Cell::Gap("  "),
+        Cell::Id(8, row.can_id),
+        Cell::Count(13, tally.frames),
+        Cell::Tenths(12, ratio(tally.gaps, 10_000_000, tally.total)),
+        Cell::Millis(15, gap_of(tally, tally.smallest)),
+        Cell::Millis(12, mean(tally)),
+        Cell::Millis(14, gap_of(tally, tally.greatest)),
+        Cell::Gap("\n"),
+    ])
 }
 
 fn load_word(load: &Load) -> &'static str
@@ -59,55 +49,41 @@ fn load_word(load: &Load) -> &'static str
 }
 
 #[tactic(auto, unfolding(crate::specs::StatsLines::load_front))]
-fn push_load_front(text: &mut String, word: &str, room: u64, load: &Load) -> Result<(), AllocError>
-    ensures { OnOk result (string_bytes text.new
-        ≡ string_bytes text.old ++ load_front word.now room load.entry.now) }
+fn push_load_front(paper: &mut Paper, word: &str, room: u64, load: &Load)
+    ensures { IsAppended paper.old (load_front word.now room load.entry.now) paper.new }
 {
-    push_pieces(
-        text,
-        &[
-            Piece::Words(word),
-            Piece::Load(load.bits, room),
-            Piece::Words(" % (worst case "),
-            Piece::Load(load.most, room),
-            Piece::Words(" %), busiest second "),
-        ],
-    )
+    paper.put(&[
+        Piece::Words(word),
+        Piece::Load(load.bits, room),
+        Piece::Words(" % (worst case "),
+        Piece::Load(load.most, room),
+        Piece::Words(" %), busiest second "),
+    ])
 }
 
 #[tactic(auto, unfolding(crate::specs::StatsLines::busiest_part))]
-fn push_busiest(text: &mut String, room: u64, load: &Load) -> Result<(), AllocError>
-    ensures { OnOk result (string_bytes text.new
-        ≡ string_bytes text.old ++ busiest_part room load.entry.now) }
+fn push_busiest(paper: &mut Paper, room: u64, load: &Load)
+    ensures { IsAppended paper.old (busiest_part room load.entry.now) paper.new }
 {
-    push_pieces(
-        text,
-        &[
-            Piece::Number(load.busiest.second),
-            Piece::Words(": "),
-            Piece::Load(load.busiest.bits, room),
-            Piece::Words(" % (worst case "),
-            Piece::Load(load.busiest.most, room),
-            Piece::Words(" %)\n"),
-        ],
-    )
+    paper.put(&[
+        Piece::Number(load.busiest.second),
+        Piece::Words(": "),
+        Piece::Load(load.busiest.bits, room),
+        Piece::Words(" % (worst case "),
+        Piece::Load(load.busiest.most, room),
+        Piece::Words(" %)\n"),
+    ])
 }
 
 /// Appends the load of a bus with this bit rate, in bit/s, at most 1,000,000.
-#[tactic(auto, unfolding(crate::specs::StatsLines::load_line))]
-pub(crate) fn push_load(
-    text: &mut String,
-    bit_rate: u32,
-    all: &Tally,
-    load: &Load,
-) -> Result<(), AllocError>
+#[tactic(auto, using(crate::proofs::Appended::both), unfolding(crate::specs::StatsLines::load_line))]
+pub(crate) fn push_load(paper: &mut Paper, bit_rate: u32, all: &Tally, load: &Load)
     requires { bit_rate ≤ 1000000 }
-    ensures { OnOk result (string_bytes text.new
-        ≡ string_bytes text.old ++ load_line bit_rate all.now load.entry.now) }
+    ensures { IsAppended paper.old (load_line bit_rate all.now load.entry.now) paper.new }
 {
     let room = room_in(bit_rate, all.total);
-    push_load_front(text, load_word(load), room, load)?;
-    push_busiest(text, u64::from(bit_rate), load)
+    push_load_front(paper, load_word(load), room, load);
+    push_busiest(paper, u64::from(bit_rate), load)
 }
 
 fn frames_in(count: u64) -> &'static str
@@ -122,43 +98,35 @@ fn frames_in(count: u64) -> &'static str
 
 /// Appends the line of the frames of a bus.
 #[tactic(auto, unfolding(crate::specs::StatsLines::bus_line))]
-pub(crate) fn push_bus(text: &mut String, interface: &[u8], all: &Tally) -> Result<(), AllocError>
-    ensures { OnOk result
-        (string_bytes text.new ≡ string_bytes text.old ++ bus_line interface.now all.now) }
+pub(crate) fn push_bus(paper: &mut Paper, interface: &[u8], all: &Tally)
+    ensures { IsAppended paper.old (bus_line interface.now all.now) paper.new }
 {
-    push_pieces(
-        text,
-        &[
-            Piece::Words("  "),
-            Piece::Name(interface),
-            Piece::Words(": "),
-            Piece::Number(all.frames),
-            Piece::Words(frames_in(all.frames)),
-            Piece::Seconds(all.total),
-            Piece::Words(" s, the first at "),
-            Piece::Seconds(all.first),
-            Piece::Words("\n"),
-        ],
-    )
+    paper.put(&[
+        Piece::Words("  "),
+        Piece::Name(interface),
+        Piece::Words(": "),
+        Piece::Number(all.frames),
+        Piece::Words(frames_in(all.frames)),
+        Piece::Seconds(all.total),
+        Piece::Words(" s, the first at "),
+        Piece::Seconds(all.first),
+        Piece::Words("\n"),
+    ])
 }
 
 /// Appends how many there are of something, if there are any.
-#[tactic(auto, unfolding(crate::specs::StatsLines::count_line))]
-pub(crate) fn push_count(text: &mut String, what: &str, count: u64) -> Result<(), AllocError>
-    ensures { OnOk result (string_bytes text.new
-        ≡ string_bytes text.old ++ if_any what.now count) }
+#[tactic(auto, using(crate::proofs::Appended::none), unfolding(crate::specs::StatsLines::count_line))]
+pub(crate) fn push_count(paper: &mut Paper, what: &str, count: u64)
+    ensures { IsAppended paper.old (if_any what.now count) paper.new }
 {
     if count == 0 {
-        return Ok(());
+        return;
     }
-    push_pieces(
-        text,
-        &[
-            Piece::Words("  "),
-            Piece::Words(what),
-            Piece::Words(": "),
-            Piece::Number(count),
-            Piece::Words("\n"),
-        ],
-    )
+    paper.put(&[
+        Piece::Words("  "),
+        Piece::Words(what),
+        Piece::Words(": "),
+        Piece::Number(count),
+        Piece::Words("\n"),
+    ])
 }

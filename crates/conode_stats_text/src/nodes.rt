@@ -1,7 +1,7 @@
-//! The lines of the page about nodes. Each function appends a text. `Err`: out of memory; a part of
-//! the text may be there.
+//! The lines of the page about nodes. Each function appends a text.
 
-ghost use Rattle.std.specs.Prelude.{◌≡◌, ◌++◌, ◌/◌, OnOk, string_bytes};
+ghost use Rattle.std.specs.Prelude.{◌≡◌, ◌/◌};
+ghost use Rattle.conode_stats_text.specs.Papers.{IsAppended};
 ghost use Rattle.conode_stats_text.specs.NodeLines.{
   answer_of,
   is_shown,
@@ -11,9 +11,9 @@ ghost use Rattle.conode_stats_text.specs.NodeLines.{
   state_word,
 };
 
-use crate::cells::{Cell, push_cells};
+use crate::cells::Cell;
+use crate::paper::Paper;
 use conode_stats_counts::{NmtState, Node, Shown};
-use std::alloc::AllocError;
 
 /// The words of a state.
 pub fn state_word(state: NmtState) -> &'static str
@@ -57,41 +57,29 @@ pub fn is_shown(node: &Node) -> bool
 }
 
 /// Appends the line of a node on an interface, if it has one. `end` is the stamp of the bus's last
-/// frame, in microseconds; `shown` is scratch space.
-#[tactic(auto, unfolding(crate::specs::NodeLines::node_line))]
-pub(crate) fn push_node_in(
-    text: &mut String,
-    shown: &mut String,
-    interface: &[u8],
-    end: u64,
-    number: u32,
-    node: &Node,
-) -> Result<(), AllocError>
-    ensures { OnOk result (string_bytes text.new
-        ≡ string_bytes text.old ++ node_in interface.now end number node.now) }
+/// frame, in microseconds;
+#[tactic(auto, using(crate::proofs::Appended::none), unfolding(crate::specs::NodeLines::node_line))]
+pub(crate) fn push_node_in(paper: &mut Paper, interface: &[u8], end: u64, number: u32, node: &Node)
+    ensures { IsAppended paper.old (node_in interface.now end number node.now) paper.new }
 {
     if !is_shown(node) {
-        return Ok(());
+        return;
     }
     let times = &node.times;
-    push_cells(
-        text,
-        shown,
-        &[
-            Cell::Column(interface),
-            Cell::Gap("  "),
-            Cell::Count(8, u64::from(number)),
-            Cell::Count(13, node.boot_ups),
-            Cell::Count(12, node.restarts),
-            Cell::Millis(13, millis_of(end, times.boot_up)),
-            Cell::Millis(19, millis_of(end, times.pre_operational)),
-            Cell::Millis(15, millis_of(end, times.operational)),
-            Cell::Millis(13, millis_of(end, times.stopped)),
-            Cell::Millis(13, millis_of(end, times.unknown)),
-            Cell::Millis(19, answer_of(end, node.longest_answer)),
-            Cell::Gap("  "),
-            Cell::Gap(shown_word(node.last)),
-            Cell::Gap("\n"),
-        ],
-    )
+    paper.put_cells(&[
+        Cell::Column(interface),
+        Cell::Gap("  "),
+        Cell::Count(8, u64::from(number)),
+        Cell::Count(13, node.boot_ups),
+        Cell::Count(12, node.restarts),
+        Cell::Millis(13, millis_of(end, times.boot_up)),
+        Cell::Millis(19, millis_of(end, times.pre_operational)),
+        Cell::Millis(15, millis_of(end, times.operational)),
+        Cell::Millis(13, millis_of(end, times.stopped)),
+        Cell::Millis(13, millis_of(end, times.unknown)),
+        Cell::Millis(19, answer_of(end, node.longest_answer)),
+        Cell::Gap("  "),
+        Cell::Gap(shown_word(node.last)),
+        Cell::Gap("\n"),
+    ])
 }

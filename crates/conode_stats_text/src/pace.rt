@@ -37,7 +37,12 @@ const SECOND: u64 = 1_000_000;
 fn is_half(gaps: &[u64], gap: u64) -> bool
     ensures { result ≡ is_half gaps.now gap }
 {
-    let shorter = gaps.iter().filter(|other| **other <= gap).count();
+    let mut shorter: usize = 0;
+    for other in gaps {
+        if *other <= gap {
+            shorter += 1;
+        }
+    }
     gaps.len() <= 2 * shorter
 }
 

@@ -42,9 +42,9 @@ fn push_node(text: &mut String, interface: &[u8], node: u32) -> Result<(), Alloc
     ensures { OnOk result (string_bytes text.new
         ≡ string_bytes text.old ++ node_front interface.now node) }
 {
-    text.push_str("  ")?;
-    push_name(text, interface)?;
-    text.push_str(": node ")?;
+    attempt!(text.push_str("  "));
+    attempt!(push_name(text, interface));
+    attempt!(text.push_str(": node "));
     push_decimal(text, u64::from(node))
 }
 
@@ -72,7 +72,7 @@ pub(crate) fn push_pieces(text: &mut String, pieces: &[Piece<'_>]) -> Result<(),
         (string_bytes text.new ≡ string_bytes text.old ++ flat_map piece_text pieces.now) }
 {
     for piece in pieces {
-        push_piece(text, piece)?;
+        attempt!(push_piece(text, piece));
     }
     Ok(())
 }
