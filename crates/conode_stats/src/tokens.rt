@@ -2,7 +2,12 @@
 
 ghost use Rattle.conode_stats_text.specs.Papers.{IsAppended};
 ghost use Rattle.conode_stats.specs.Parts.{word_text};
-ghost use Rattle.conode_stats.specs.StatsTokens.{load_members, object_of, row_tokens, tally_members};
+ghost use Rattle.conode_stats.specs.StatsTokens.{
+  load_members,
+  object_of,
+  row_tokens,
+  tally_members,
+};
 
 use crate::document::Document;
 use crate::failure_tokens::put_failures;
