@@ -127,3 +127,8 @@ list_begun : mended_by (repair_at (fault 0 MissingSection ∷ fault 2 BadNumber 
     ≡ codes "[OptionalObjects]\n\n[MandatoryObjects]\nSupportedObjects=0\n"
 unfolding repair_at repair_for line_as
 list_begun = refl
+
+-- nor any other list
+no_list : mended_by (repair_at (fault 0 MissingSection ∷ [])) (line 1 (codes "[FileInfo]") ∷ []) ≡ codes "[FileInfo]\n"
+unfolding repair_at repair_for line_as
+no_list = refl

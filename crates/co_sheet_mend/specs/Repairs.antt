@@ -11,7 +11,7 @@ use Rattle.co_value.specs.Types.{code_of}
 use Rattle.co_profile.specs.FixedTypes.{fixed_type_of}
 use Rattle.co_sheet_text.specs.declared.section_kind.SectionKind.{SectionKind}
 use Rattle.co_sheet_text.specs.declared.section_kind.SectionKind.TheVariants.{MandatoryObjects, Object, SubIndex}
-use Rattle.co_sheet_text.specs.Names.{kind_of, same_kind}
+use Rattle.co_sheet_text.specs.Names.{is_list, kind_of, same_kind}
 use Rattle.co_sheet_text.specs.LinesAtFault.{emptied}
 use Rattle.co_sheet_text.specs.LinesRead.{all_digits}
 use Rattle.co_sheet_text.specs.Text.{Line, same_name}
@@ -209,13 +209,19 @@ abbrev pub mandatory_lines : List Line → List ℕ
 mandatory_lines [] = mandatory_sections
 mandatory_lines (line ∷ more) = listed line more ++ mandatory_lines more
 
--- a list of the mandatory objects, where the text has none
-abbrev pub begun_list : Option Repair → List ℕ
-begun_list repair = if is_some repair then codes "[MandatoryObjects]\nSupportedObjects=0\n" else []
+-- a line begins one of the object lists
+abbrev pub begins_list : Line → Bool
+begins_list line = option_map_or (λ name. is_list (kind_of name)) (section_in line) false
+
+-- a list of the mandatory objects, where the text has another list and not this one; one without a
+-- list is no data sheet
+abbrev pub begun_list : Option Repair → List Line → List ℕ
+begun_list repair lines =
+    if is_some repair && list_any begins_list lines then codes "[MandatoryObjects]\nSupportedObjects=0\n" else []
 
 -- lines by these repairs, that of line 0 first: where one of the three is in no list nothing but this
 -- is mended
 abbrev pub mended_by : (ℕ → Option Repair) → List Line → List ℕ
 mended_by repairs lines =
     if is_counted (repairs 0) then mandatory_lines lines
-    else mended_lines repairs false None lines ++ begun_list (repairs 0)
+    else mended_lines repairs false None lines ++ begun_list (repairs 0) lines

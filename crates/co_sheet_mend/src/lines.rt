@@ -1,10 +1,12 @@
 //! Lines and what becomes of them.
 
 ghost use Rattle.std.specs.Prelude.{◌≡◌, ◌++◌, codes, decimal, map, IfOk, OnOk};
+ghost use Rattle.std.specs.List.{list_any};
 ghost use Rattle.std.specs.Option.{option_copied};
 ghost use Rattle.co_sheet_changes.specs.Pieces.{assigned};
 ghost use Rattle.co_sheet_changes.specs.Views.{line_view};
 ghost use Rattle.co_sheet_mend.specs.Repairs.{
+  begins_list,
   begins_mandatory,
   completed,
   counted_text,
@@ -385,4 +387,25 @@ pub(crate) fn push_mandatory_sections(made: &mut Vec<u8>) -> Result<(), AllocErr
 {
     made.extend_from_slice(VALUES)?;
     made.extend_from_slice(IDENTITY)
+}
+
+fn begins_list(line: &Line<'_>) -> bool
+    ensures { result ≡ begins_list (line_view line.now) }
+{
+    match line.section() {
+        Some(name) => SectionKind::of_name(name).is_list(),
+        None => false,
+    }
+}
+
+/// Whether one of these lines begins an object list.
+pub(crate) fn has_list(lines: &[Line<'_>]) -> bool
+    ensures { result ≡ list_any begins_list (map line_view lines.now) }
+{
+    for line in lines {
+        if begins_list(line) {
+            return true;
+        }
+    }
+    false
 }

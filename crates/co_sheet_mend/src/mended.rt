@@ -11,7 +11,7 @@ ghost use Rattle.co_sheet_mend.specs.Repairs.{
 };
 ghost use Rattle.co_sheet_mend.specs.ReadableTexts.{mended, repair_in};
 
-use crate::lines::{key_at, push_ended, push_line, push_listed, push_mandatory_sections};
+use crate::lines::{has_list, key_at, push_ended, push_line, push_listed, push_mandatory_sections};
 use crate::repair::Repair;
 use crate::repairs::Repairs;
 use co_sheet_changes::{Line, lines_in};
@@ -67,12 +67,19 @@ fn push_mandatory_lines(
     push_mandatory_sections(made)
 }
 
-fn push_begun_list(made: &mut Vec<u8>, repair: Option<Repair>) -> Result<(), AllocError>
-    ensures { OnOk result (made.new.items ≡ made.old.items ++ begun_list repair) }
+// appends a list of the mandatory objects, where the text has another list and not this one
+fn push_begun_list(
+    made: &mut Vec<u8>,
+    repair: Option<Repair>,
+    lines: &[Line<'_>],
+) -> Result<(), AllocError>
+    ensures { OnOk result (made.new.items
+        ≡ made.old.items ++ begun_list repair (map line_view lines.now)) }
 {
-    match repair {
-        Some(_) => made.extend_from_slice(b"[MandatoryObjects]\nSupportedObjects=0\n"),
-        None => Ok(()),
+    if repair.is_some() && has_list(lines) {
+        made.extend_from_slice(b"[MandatoryObjects]\nSupportedObjects=0\n")
+    } else {
+        Ok(())
     }
 }
 
@@ -91,7 +98,7 @@ fn push_by(
         return push_mandatory_lines(alloc, made, lines);
     }
     push_lines(alloc, made, repairs, lines)?;
-    push_begun_list(made, of_text)
+    push_begun_list(made, of_text, lines)
 }
 
 fn push_mended(alloc: Global, made: &mut Vec<u8>, text: &[u8]) -> Result<(), AllocError>

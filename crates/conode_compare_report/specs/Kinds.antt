@@ -5,7 +5,7 @@ use Rattle.conode_compare_pdos.specs.declared.deviation.Deviation.TheVariants.{L
 use Rattle.conode_compare_transfers.specs.declared.breach.Breach.{Breach}
 use Rattle.conode_compare_transfers.specs.declared.breach.Breach.TheVariants.{Toggle, Form, Size, Crc}
 use Rattle.conode_compare_values.specs.declared.mismatch.Mismatch.{Mismatch}
-use Rattle.conode_compare_values.specs.declared.mismatch.Mismatch.TheVariants.{ConstText, ReadRefused, Written, AboveLimit, BelowLimit, BeyondRoom, RoomRefused}
+use Rattle.conode_compare_values.specs.declared.mismatch.Mismatch.TheVariants.{ConstText, ReadRefused, Written, AboveLimit, BelowLimit, BeyondRoom}
 use Rattle.conode_compare_rules.specs.declared.finding.Finding.{Finding}
 use Rattle.conode_compare_rules.specs.declared.finding.Finding.TheVariants.{SecondBootUp, NoState, WrongState, EmergencyStopped, Unasked, AnswerStopped, Transfer, Value, Held, Pdo}
 use Rattle.conode_compare_report.specs.declared.kind.Kind.{Kind}
@@ -34,7 +34,6 @@ of_mismatch (Written key) = AccessWrite
 of_mismatch (AboveLimit key) = AccessLimits
 of_mismatch (BelowLimit key) = AccessLimits
 of_mismatch (BeyondRoom key bytes room) = AccessLimits
-of_mismatch (RoomRefused key bytes room) = AccessLimits
 
 -- the kind of a difference
 abbrev pub kind_of : Finding → Kind

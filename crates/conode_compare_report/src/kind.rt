@@ -181,10 +181,9 @@ fn of_mismatch(mismatch: Mismatch) -> Kind
         Mismatch::ValueConst(_, _, _) | Mismatch::ConstText(_) => Kind::ValueConst,
         Mismatch::ReadRefused(_, _) => Kind::AccessRead,
         Mismatch::Written(_) => Kind::AccessWrite,
-        Mismatch::AboveLimit(_)
-        | Mismatch::BelowLimit(_)
-        | Mismatch::BeyondRoom(_, _, _)
-        | Mismatch::RoomRefused(_, _, _) => Kind::AccessLimits,
+        Mismatch::AboveLimit(_) | Mismatch::BelowLimit(_) | Mismatch::BeyondRoom(_, _, _) => {
+            Kind::AccessLimits
+        }
     }
 }
 

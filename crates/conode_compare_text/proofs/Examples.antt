@@ -10,7 +10,7 @@ use Rattle.conode_explain_values.specs.Numbers.{number_text}
 use Rattle.conode_explain_values.specs.Values.{value_text}
 use Rattle.conode_compare_pdos.specs.declared.deviation.Deviation.TheVariants.{Length, NotOperational, WithoutSync, Inhibit, Timer}
 use Rattle.conode_compare_transfers.specs.declared.breach.Breach.TheVariants.{Toggle, Form, AbortKey, Size, Crc}
-use Rattle.conode_compare_values.specs.declared.mismatch.Mismatch.TheVariants.{ValueLength, ValueConst, ConstText, ReadRefused, Written, AboveLimit, BelowLimit, BeyondRoom, RoomRefused}
+use Rattle.conode_compare_values.specs.declared.mismatch.Mismatch.TheVariants.{ValueLength, ValueConst, ConstText, ReadRefused, Written, AboveLimit, BelowLimit, BeyondRoom}
 use Rattle.conode_compare_rules.specs.declared.finding.Finding.TheVariants.{BootMissing, SecondBootUp, HeartbeatLength, NoState, WrongState, HeartbeatLate, EmergencyLength, EmergencyRegister, EmergencyInhibit, NoAnswer, AnswerKey, AnswerForm, AnswerStopped, Transfer, Value, Held, Pdo}
 use Rattle.conode_compare_rules.specs.declared.finding.NmtState.TheVariants.{PreOperational, Operational}
 use Rattle.conode_compare_choices.specs.declared.choice.Choice.TheVariants.{Segments, NoSize, ShortSegment, NoCrc, BlockSize, Switched, Code, Timeout, Heartbeat, Phase, NoEmergency, OtherEmergency}
@@ -117,10 +117,6 @@ below_limit = refl
 beyond_room : finding_text plain (Value (BeyondRoom key 17 16)) ≡ codes "access-limits: 1018:01 was written, with 17 bytes, its room is 16"
 unfolding finding_text mismatch_text keyed_numbers digits_text digits
 beyond_room = refl
-
-room_refused : finding_text plain (Value (RoomRefused key 4 16)) ≡ codes "access-limits: 1018:01 refused as too long, with 4 bytes, its room is 16"
-unfolding finding_text mismatch_text keyed_numbers digits_text digits
-room_refused = refl
 
 value_held : finding_text plain (Held (record { key = key; shown = 0x5; written = 0x12345678 })) ≡ codes "value-held: 1018:01 has 00000005h, written was 12345678h"
 unfolding finding_text keyed_values shown_value hexadecimal eight_digits digits_text

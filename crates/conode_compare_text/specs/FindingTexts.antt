@@ -12,7 +12,7 @@ use Rattle.conode_compare_pdos.specs.declared.deviation.Deviation.TheVariants.{L
 use Rattle.conode_compare_transfers.specs.declared.breach.Breach.{Breach}
 use Rattle.conode_compare_transfers.specs.declared.breach.Breach.TheVariants.{Toggle, Form, AbortKey, Size, Crc}
 use Rattle.conode_compare_values.specs.declared.mismatch.Mismatch.{Mismatch}
-use Rattle.conode_compare_values.specs.declared.mismatch.Mismatch.TheVariants.{ValueLength, ValueConst, ConstText, ReadRefused, Written, AboveLimit, BelowLimit, BeyondRoom, RoomRefused}
+use Rattle.conode_compare_values.specs.declared.mismatch.Mismatch.TheVariants.{ValueLength, ValueConst, ConstText, ReadRefused, Written, AboveLimit, BelowLimit, BeyondRoom}
 use Rattle.conode_compare_rules.specs.declared.finding.Finding.{Finding}
 use Rattle.conode_compare_rules.specs.declared.finding.Finding.TheVariants.{BootMissing, SecondBootUp, HeartbeatLength, NoState, WrongState, HeartbeatLate, EmergencyLength, EmergencyStopped, EmergencyRegister, EmergencyInhibit, NoAnswer, Unasked, AnswerKey, AnswerForm, AnswerStopped, Transfer, Value, Held, Pdo}
 use Rattle.conode_compare_rules.specs.declared.finding.NmtState.{NmtState}
@@ -135,8 +135,6 @@ mismatch_text t (AboveLimit key) = keyed (codes "access-limits: ") key (codes " 
 mismatch_text t (BelowLimit key) = keyed (codes "access-limits: ") key (codes " was written, with a value below its LowLimit")
 mismatch_text t (BeyondRoom key bytes room) =
     keyed_numbers (codes "access-limits: ") key (codes " was written, with ") bytes (codes " bytes, its room is ") room
-mismatch_text t (RoomRefused key bytes room) =
-    keyed_numbers (codes "access-limits: ") key (codes " refused as too long, with ") bytes (codes " bytes, its room is ") room
 
 -- the name of the kind, and what is different, where the values of the entry have this type
 unfoldable pub finding_text : ValueType → Finding → List ℕ

@@ -201,15 +201,6 @@ fn push_mismatch(
             " bytes, its room is ",
             room,
         ),
-        Mismatch::RoomRefused(key, bytes, room) => push_key_numbers(
-            text,
-            "access-limits: ",
-            key,
-            " refused as too long, with ",
-            bytes,
-            " bytes, its room is ",
-            room,
-        ),
     }
 }
 

@@ -17,7 +17,7 @@ use Rattle.conode_explain_transfers.specs.declared.kinds.Protocol.{Protocol}
 use Rattle.conode_explain_transfers.specs.declared.kinds.Protocol.TheVariants.{Expedited, Segmented, Block}
 use Rattle.conode_explain_transfers.specs.declared.kinds.Side.TheVariants.{Client, Server}
 use Rattle.conode_compare_values.specs.declared.mismatch.Mismatch.{Mismatch}
-use Rattle.conode_compare_values.specs.declared.mismatch.Mismatch.TheVariants.{ValueLength, ValueConst, ConstText, ReadRefused, Written, AboveLimit, BelowLimit, BeyondRoom, RoomRefused}
+use Rattle.conode_compare_values.specs.declared.mismatch.Mismatch.TheVariants.{ValueLength, ValueConst, ConstText, ReadRefused, Written, AboveLimit, BelowLimit, BeyondRoom}
 use Rattle.conode_compare_values.specs.declared.rooms.Rooms.{Rooms}
 use Rattle.conode_compare_values.specs.SheetValues.{binds, refused_mismatch, row_mismatch, value_mismatch, written_mismatch}
 
@@ -403,30 +403,8 @@ uploaded : row_mismatch 5 false (given (Some 16) (Some 16)) free_text false (tra
 unfolding row_mismatch value_mismatch
 uploaded = refl
 
--- 06070012h is too long; 06070010h may say something else, and 06070013h does
-abbrev refuse : Row → Protocol → ℕ → ℕ → Ending → Option Mismatch
-refuse entry protocol count room ending = row_mismatch 5 false (given (Some room) None) entry false (transfer entry Download protocol count ending)
-
-abbrev abort : ℕ → Ending
-abort code = Aborted Server (record { 0 = code })
-
-too_long_for_it : refuse free_text Expedited 4 4 (abort 0x06070012) ∷ refuse free_text Expedited 4 3 (abort 0x06070012) ∷ [] ≡ Some (RoomRefused (key 0x2005 0) 4 4) ∷ None ∷ []
+-- what is refused, as too long (06070012h) too, has no difference: a transfer that is aborted doesn't say how many bytes it had
+refused_as_too_long : map (λ protocol. row_mismatch 5 false (given (Some 16) None) free_text false (transfer free_text Download protocol 0 (Aborted Server (record { 0 = 0x06070012 })))) (Expedited ∷ Segmented ∷ Block ∷ [])
+    ≡ None ∷ None ∷ None ∷ []
 unfolding row_mismatch
-too_long_for_it = refl
-
-other_codes : map (λ code. refuse free_text Expedited 4 16 (abort code)) (0x06070010 ∷ 0x06070013 ∷ 0x08000022 ∷ []) ≡ None ∷ None ∷ None ∷ []
-unfolding row_mismatch
-other_codes = refl
-
--- not all bytes may have come; the client aborts; it can't be written
-not_certain : map (λ protocol. refuse free_text protocol 4 16 (abort 0x06070012)) (Segmented ∷ Block ∷ []) ≡ None ∷ None ∷ []
-unfolding row_mismatch
-not_certain = refl
-
-by_client : refuse free_text Expedited 4 16 (Aborted Client (record { 0 = 0x06070012 })) ≡ None
-unfolding row_mismatch
-by_client = refl
-
-refused_otherwise : refuse (record free_text { access = Ro }) Expedited 4 16 (abort 0x06070012) ∷ refuse (row 0x1FFF 0 VisibleString Rw absent) Expedited 4 16 (abort 0x06070012) ∷ [] ≡ None ∷ None ∷ []
-unfolding row_mismatch
-refused_otherwise = refl
+refused_as_too_long = refl

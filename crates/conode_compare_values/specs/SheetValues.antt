@@ -4,7 +4,7 @@ use Rattle.std.specs.Prelude.{ℕ, ◌+◌, ◌-◌, ◌/◌, ◌%◌, ℤ, pos,
 use Rattle.std.specs.List.{list_all}
 use Rattle.std.specs.Option.{option_map_or, option_or}
 use Rattle.co_frame.specs.declared.abort_code.AbortCode.{AbortCode}
-use Rattle.co_frame.specs.AbortCodes.{write_only, object_missing, sub_index_missing, too_long}
+use Rattle.co_frame.specs.AbortCodes.{write_only, object_missing, sub_index_missing}
 use Rattle.co_profile.specs.declared.access.Access.{Access}
 use Rattle.co_profile.specs.declared.access.Access.TheVariants.{Ro, Wo, Constant}
 use Rattle.co_profile.specs.Indices.{device_type}
@@ -27,7 +27,7 @@ use Rattle.conode_explain_transfers.specs.declared.kinds.Protocol.TheVariants.{E
 use Rattle.conode_explain_transfers.specs.declared.kinds.Side.TheVariants.{Server}
 use Rattle.conode_compare_pdos.specs.SheetNumbers.{number_of}
 use Rattle.conode_compare_values.specs.declared.mismatch.Mismatch.{Mismatch}
-use Rattle.conode_compare_values.specs.declared.mismatch.Mismatch.TheVariants.{ValueLength, ValueConst, ConstText, ReadRefused, Written, AboveLimit, BelowLimit, BeyondRoom, RoomRefused}
+use Rattle.conode_compare_values.specs.declared.mismatch.Mismatch.TheVariants.{ValueLength, ValueConst, ConstText, ReadRefused, Written, AboveLimit, BelowLimit, BeyondRoom}
 use Rattle.conode_compare_values.specs.declared.rooms.Rooms.{Rooms}
 
 -- ---- values
@@ -234,16 +234,6 @@ over_room row protocol count room = if nat_lt room (least_bytes protocol count) 
 abbrev pub room_mismatch : Rooms → Row → Protocol → ℕ → Option Mismatch
 room_mismatch rooms row protocol count = option_and_then (over_room row protocol count) (room_of rooms row)
 
--- `access-limits`: bytes that there is room for are too long for the device
-abbrev pub within_room : Row → ℕ → ℕ → Option Mismatch
-within_room row count room = if nat_le count room then Some (RoomRefused row.key count room) else None
-
--- by an abort with this code; of a download in one frame, which has all its bytes
-abbrev pub room_refused : Rooms → Row → Protocol → ℕ → ℕ → Option Mismatch
-room_refused rooms row Expedited count code =
-    if code == too_long then option_and_then (within_room row count) (room_of rooms row) else None
-room_refused rooms row other count code = None
-
 -- ---- the end of a transfer
 
 -- by the width of the entry's type, if it is a number's
@@ -265,8 +255,6 @@ abbrev pub mismatch_by : ℕ → Bool → Rooms → Row → Bool → Ended → D
 mismatch_by node modular rooms row exact ended Upload (Done crc) = value_mismatch node row exact ended
 mismatch_by node modular rooms row exact ended Download (Done crc) = download_mismatch rooms row ended
 mismatch_by node modular rooms row exact ended Upload (Aborted Server code) = refused_mismatch modular row code
-mismatch_by node modular rooms row exact ended Download (Aborted Server code) =
-    room_refused rooms row ended.protocol ended.bytes code.0
 mismatch_by node modular rooms row exact ended direction ending = None
 
 unfoldable pub row_mismatch : ℕ → Bool → Rooms → Row → Bool → Ended → Option Mismatch

@@ -26,7 +26,4 @@ pub enum Mismatch {
     /// `access-limits`: a download of the first number of bytes to this entry is acknowledged, and it
     /// has room for the second.
     BeyondRoom(Key, u64, u64),
-    /// `access-limits`: one of the first number of bytes is refused as too long, and the entry has
-    /// room for the second.
-    RoomRefused(Key, u64, u64),
 }

@@ -9,12 +9,10 @@ ghost use Rattle.conode_compare_values.specs.SheetValues.{
   room_by,
   room_mismatch,
   room_of,
-  room_refused,
 };
 
 use crate::mismatch::Mismatch;
 use crate::values::is_read_only;
-use co_frame::AbortCode;
 use co_sheet::EntryRow;
 use co_sheet_rows::Preset;
 use co_value::DataType;
@@ -110,28 +108,6 @@ impl Rooms {
         match self.room(row) {
             Some(room) if room < least_bytes(ended.protocol, ended.bytes) => {
                 Some(Mismatch::BeyondRoom(row.key, ended.bytes, room))
-            }
-            _ => None,
-        }
-    }
-
-    /// The difference of a download that is refused as too long: there is room for its bytes. Of one
-    /// in segments or blocks not all may have come.
-    pub(crate) fn refused(
-        &self,
-        row: &EntryRow<'_>,
-        ended: &Ended,
-        code: AbortCode,
-    ) -> Option<Mismatch>
-        ensures { result ≡ room_refused self.now (row_view row.now) ended.now.protocol
-            ended.now.bytes code.0 }
-    {
-        if !matches!(ended.protocol, Protocol::Expedited) || code != AbortCode::TOO_LONG {
-            return None;
-        }
-        match self.room(row) {
-            Some(room) if ended.bytes <= room => {
-                Some(Mismatch::RoomRefused(row.key, ended.bytes, room))
             }
             _ => None,
         }

@@ -414,13 +414,6 @@ fn row_mismatch(
                 code,
             },
         ) => refused_mismatch(modular, row, code),
-        (
-            Direction::Download,
-            Ending::Aborted {
-                by: Side::Server,
-                code,
-            },
-        ) => rooms.refused(row, ended, code),
         _ => None,
     }
 }
