@@ -6,4 +6,4 @@ use Rattle.co_sheet_mend.proofs.lines.has_list.Given as goal
 
 -- what the rest has is what all have
 abbrev pub invariant-loop-line : goal.invariant-loop-line
-invariant-loop-line l = list_any begins_list (map line_view (drop l.line-index l.line-items)) ≡ list_any begins_list (map line_view l.line-items)
+invariant-loop-line l = list_any begins_list (map line_view (drop l.line-index l.lines)) ≡ list_any begins_list (map line_view l.lines)
