@@ -1,0 +1,3 @@
+pub mod Appending
+mod FilledLaws
+mod Examples

@@ -1,0 +1,10 @@
+//! Texts for people: words with values in them, and a text that remembers that memory ran out.
+#![tactic(auto)]
+
+mod filled;
+mod text;
+mod value;
+
+pub use filled::{HasText, push_filled};
+pub use text::Text;
+pub use value::Value;
