@@ -13,12 +13,11 @@ use conode_compare_rules::Limits as CompareLimits;
 use conode_compare_values::Rooms;
 use conode_convert::{Form as RecordedForm, convert_file};
 use conode_decode::decode_files;
+use conode_device::{loop_files, replay_files, replay_stored};
 use conode_explain::{ExplainOptions, LineFormat, StampForm, explain_files};
 use conode_explain_filter::FilterWords;
 use conode_io::{CmdFault, stopped};
 use conode_lint::{Checks, Form, LintOptions, lint_files};
-use conode_loop::loop_files;
-use conode_replay::{replay_files, replay_stored};
 use conode_show::{Form as ShownForm, Format as ShownFormat, show_file};
 use conode_stats::{StatsWords, stats_file};
 use conode_words::{

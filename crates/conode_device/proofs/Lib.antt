@@ -1,0 +1,14 @@
+pub mod AllRounds
+pub mod Completed
+pub mod Ends
+pub mod Examples
+pub mod Exchanges
+pub mod Inputs
+pub mod LoopExamples
+pub mod LoopLines
+pub mod LoopStatuses
+pub mod Replaying
+pub mod RoundLemmas
+pub mod Statuses
+pub mod Takes
+pub mod Writings

@@ -1,0 +1,6 @@
+pub mod Counts
+pub mod Lines
+pub mod Printed
+pub mod Runs
+pub mod Standing
+pub mod Words

@@ -1,9 +1,0 @@
-pub mod AllRounds
-pub mod Completed
-pub mod Examples
-pub mod Exchanges
-pub mod Lines
-pub mod RoundLemmas
-pub mod Statuses
-pub mod Takes
-pub mod Writings
