@@ -8,7 +8,9 @@ use Rattle.json.specs.Token.{begin_object, end_object, key, number, string}
 use Rattle.co_text.specs.Printed.{digits_text}
 use Rattle.conode_lint_text.specs.Characters.{characters_of, windows_1252}
 use Rattle.conode_json.specs.Members.{array_begin, flag_member, number_member, object_begin, text_member}
-use Rattle.conode_compare_text.specs.FindingTexts.{finding_text, millis_text, timed_number}
+use Rattle.conode_text.specs.Filled.{filled}
+use Rattle.conode_compare_text.specs.FindingTexts.{finding_text}
+use Rattle.conode_compare_text.specs.Values.{millis_text}
 use Rattle.conode_compare_text.specs.Tallies.{no_frames}
 use Rattle.conode_compare_report.specs.Reports.{nothing_kept}
 use Rattle.conode_compare_report.specs.declared.outcome.Outcome.TheVariants.{NoDifference, Differences, NoFrame, SeveralInterfaces}
@@ -66,5 +68,5 @@ document : json_document about report
     ++ codes "\"coverage\":{\"entries\":[{\"index\":4119,\"subIndex\":0,\"name\":\"<Heartbeat>\",\"read\":false,\"written\":true,\"refused\":false}],"
     ++ codes "\"services\":[{\"name\":\"boot-up\",\"count\":1}],\"states\":{\"initialising\":false,\"preOperational\":true,\"operational\":false,\"stopped\":false},"
     ++ codes "\"tpdoTypes\":[{\"type\":254,\"count\":7}],\"abortCodes\":[{\"code\":\"06020000\",\"count\":2}]}}\n"
-unfolding json_document document_tokens document_begin ended_members findings_member noted_tokens said_tokens context_member context_tokens kinds_member kind_tokens coverage_member entries_member entry_tokens services_member served_tokens states_member types_member type_tokens aborts_member abort_tokens finding_text timed_number millis_text array_begin object_begin text_member number_member flag_member characters_of windows_1252 is_utf8 chars encode digits_text digits print_from escape_byte
+unfolding json_document document_tokens document_begin ended_members findings_member noted_tokens said_tokens context_member context_tokens kinds_member kind_tokens coverage_member entries_member entry_tokens services_member served_tokens states_member types_member type_tokens aborts_member abort_tokens finding_text millis_text array_begin object_begin text_member number_member flag_member characters_of windows_1252 is_utf8 chars encode digits_text digits print_from escape_byte filled
 document = refl

@@ -8,7 +8,9 @@ use Rattle.co_text.specs.Printed.{digits_text}
 use Rattle.conode_lint_text.specs.Characters.{characters_of}
 use Rattle.conode_json.specs.Escapes.{escaped_character}
 use Rattle.conode_json.specs.Filled.{seconds_text}
-use Rattle.conode_compare_text.specs.FindingTexts.{finding_line, finding_text, millis_text, numbered, timed_number}
+use Rattle.conode_text.specs.Filled.{filled}
+use Rattle.conode_compare_text.specs.FindingTexts.{finding_line, finding_text}
+use Rattle.conode_compare_text.specs.Values.{line_front, millis_text}
 use Rattle.conode_compare_text.specs.Tallies.{no_frames}
 use Rattle.conode_compare_report.specs.declared.kind.Kind.TheVariants.{HeartbeatLate}
 use Rattle.conode_compare_report.specs.Reports.{nothing_kept}
@@ -38,7 +40,7 @@ none_kept = refl
 
 -- the recording's name is escaped
 odd_name : line_markup (codes "<b>") late ≡ codes "&lt;b&gt;:3: heartbeat-late: 1020.001 ms since the last one, 1017:00 has 1000 ms\n"
-unfolding line_markup finding_line finding_text timed_number millis_text numbered escaped_character characters_of is_utf8 chars encode digits_text digits
+unfolding line_markup finding_line finding_text millis_text escaped_character characters_of is_utf8 chars encode digits_text digits filled line_front
 odd_name = refl
 
 one_and_two : differences_word 0 ∷ differences_word 1 ∷ differences_word 2 ∷ [] ≡ codes " differences: " ∷ codes " difference: " ∷ codes " differences: " ∷ []
@@ -80,5 +82,5 @@ document : junit_document about report
     ++ codes "<testcase classname=\"conode.compare\" name=\"pdo-sync\"/>\n"
     ++ codes "<testcase classname=\"conode.compare\" name=\"answer-crc\"><skipped message=\"no occasion in this recording\"/></testcase>\n"
     ++ codes "</testsuite>\n</testsuites>\n"
-unfolding junit_document suite_begin passed_markup failed_markup failure_begin lines_markup line_markup outcome_case finding_line finding_text timed_number millis_text numbered seconds_text escaped_character characters_of is_utf8 chars encode digits_text digits
+unfolding junit_document suite_begin passed_markup failed_markup failure_begin lines_markup line_markup outcome_case finding_line finding_text millis_text seconds_text escaped_character characters_of is_utf8 chars encode digits_text digits filled line_front
 document = refl

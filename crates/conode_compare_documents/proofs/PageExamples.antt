@@ -13,7 +13,9 @@ use Rattle.conode_compare_report.specs.declared.lanes.States.{States}
 use Rattle.conode_compare_report.specs.declared.noted.Noted.{Noted}
 use Rattle.conode_compare_report.specs.Contexts.{KeptLine}
 use Rattle.conode_compare_report.specs.Spans.{LanesView}
-use Rattle.conode_compare_text.specs.FindingTexts.{finding_text, millis_text, timed_number}
+use Rattle.conode_text.specs.Filled.{filled}
+use Rattle.conode_compare_text.specs.FindingTexts.{finding_text}
+use Rattle.conode_compare_text.specs.Values.{millis_text}
 use Rattle.conode_explain_values.specs.declared.value_type.ValueType.TheVariants.{Plain}
 use Rattle.conode_lint_text.specs.Characters.{characters_of}
 use Rattle.conode_json.specs.Escapes.{escaped_character}
@@ -62,7 +64,7 @@ abbrev late : Noted
 late = record { line = 7; micros = 4120000; finding = HeartbeatLate 1021000 1000; value_type = Plain Unsigned32; first = 0 }
 
 without_kind : said late ≡ codes "1021.000 ms since the last one, 1017:00 has 1000 ms"
-unfolding finding_text timed_number millis_text digits_text digits
+unfolding finding_text millis_text digits_text digits filled
 without_kind = refl
 
 abbrev line : ℕ → KeptLine

@@ -17,10 +17,12 @@ use Rattle.conode_compare_choices.specs.declared.choice.Choice.TheVariants.{Segm
 use Rattle.conode_compare_choices.specs.declared.length_error.LengthError.TheVariants.{ShortRpdo, LongRpdo, OddSync}
 use Rattle.conode_compare_notes.specs.declared.warning.Warning.TheVariants.{Changed, ChangedBytes, OddCode, OtherError, OtherRevision, OtherText, Restarted, SteppedBack, Stored}
 use Rattle.conode_compare_text.specs.ChoiceTexts.{choice_line, choice_text, choices_summary}
-use Rattle.conode_compare_text.specs.FindingTexts.{coded, eight_digits, finding_line, finding_text, hexadecimal, keyed, keyed_code, keyed_codes, keyed_number, keyed_numbers, keyed_time, keyed_values, millis_text, mismatch_text, named, numbered, numbered_time, numbered_times, pdo_text, shown_value, three_numbers, timed, timed_number, transfer_text, two_codes, two_times}
+use Rattle.conode_text.specs.Filled.{filled}
+use Rattle.conode_compare_text.specs.FindingTexts.{finding_line, finding_text, mismatch_text, pdo_text, transfer_text}
 use Rattle.conode_compare_text.specs.LearnedTexts.{learned_line, other_text, typed_text}
 use Rattle.conode_compare_text.specs.Tallies.{summary, tally_text}
-use Rattle.conode_compare_text.specs.WarningTexts.{pair_of_codes, warning_line, warning_text}
+use Rattle.conode_compare_text.specs.Values.{eight_digits, hexadecimal, line_front, millis_text, shown_value}
+use Rattle.conode_compare_text.specs.WarningTexts.{warning_line, warning_text}
 
 abbrev key : Key
 key = record { index = 0x1018; sub = 1 }
@@ -29,195 +31,195 @@ abbrev plain : ValueType
 plain = Plain Unsigned32
 
 late_line : finding_line (codes "r.log") 120 plain (HeartbeatLate 1020001 1000) ≡ codes "r.log:120: heartbeat-late: 1020.001 ms since the last one, 1017:00 has 1000 ms" ++ 10 ∷ []
-unfolding finding_line finding_text timed_number millis_text numbered digits_text digits
+unfolding finding_line finding_text millis_text digits_text digits filled line_front
 late_line = refl
 
 boot_missing : finding_text plain (BootMissing 10000001) ≡ codes "boot-missing: no boot-up 10000.001 ms after the reset command"
-unfolding finding_text timed millis_text digits_text digits
+unfolding finding_text millis_text digits_text digits filled
 boot_missing = refl
 
 second_boot_up : finding_text plain (SecondBootUp 999) ≡ codes "second-sender: a boot-up 0.999 ms after the last one"
-unfolding finding_text timed millis_text digits_text digits
+unfolding finding_text millis_text digits_text digits filled
 second_boot_up = refl
 
 heartbeat_length : finding_text plain (HeartbeatLength 2) ≡ codes "heartbeat-length: 2 bytes, not 1"
-unfolding finding_text numbered digits
+unfolding finding_text digits filled
 heartbeat_length = refl
 
 no_state : finding_text plain (NoState 0xA) ≡ codes "heartbeat-state: 0Ah is no NMT state"
-unfolding finding_text coded digits_text
+unfolding finding_text digits_text filled
 no_state = refl
 
 wrong_state : finding_text plain (WrongState Operational PreOperational) ≡ codes "heartbeat-state: operational, but by the commands it is pre-operational"
-unfolding finding_text named
+unfolding finding_text filled
 wrong_state = refl
 
 emergency_length : finding_text plain (EmergencyLength 7) ≡ codes "emcy-length: 7 bytes, not 8"
-unfolding finding_text numbered digits
+unfolding finding_text digits filled
 emergency_length = refl
 
 emergency_register : finding_text plain (EmergencyRegister 0x8130 0x10) ≡ codes "emcy-register: code 8130h with error register 10h, whose bit 0 isn't set"
-unfolding finding_text two_codes digits_text
+unfolding finding_text digits_text filled
 emergency_register = refl
 
 emergency_inhibit : finding_text plain (EmergencyInhibit 88999 1000) ≡ codes "emcy-inhibit: 88.999 ms since the last one, 1015:00 has 100.000 ms"
-unfolding finding_text two_times millis_text digits_text digits
+unfolding finding_text millis_text digits_text digits filled
 emergency_inhibit = refl
 
 no_answer : finding_text plain (NoAnswer key 1000001) ≡ codes "no-answer: 1018:01 was requested 1000.001 ms ago"
-unfolding finding_text keyed_time millis_text digits_text digits
+unfolding finding_text millis_text digits_text digits filled
 no_answer = refl
 
 answer_key : finding_text plain (AnswerKey key) ≡ codes "answer-key: 1018:01 was requested, another entry is answered"
-unfolding finding_text keyed digits_text
+unfolding finding_text digits_text filled
 answer_key = refl
 
 answer_form : finding_text plain (AnswerForm key) ≡ codes "answer-form: 1018:01 was requested, which has no such answer"
-unfolding finding_text keyed digits_text
+unfolding finding_text digits_text filled
 answer_form = refl
 
 value_length : finding_text plain (Value (ValueLength key 2 4)) ≡ codes "value-length: 1018:01 has 2 bytes, its type 4"
-unfolding finding_text mismatch_text keyed_numbers digits_text digits
+unfolding finding_text mismatch_text digits_text digits filled
 value_length = refl
 
 value_const : finding_text plain (Value (ValueConst key 0x12345678 0xABC)) ≡ codes "value-const: 1018:01 has 12345678h, the sheet 00000ABCh"
-unfolding finding_text mismatch_text keyed_values shown_value hexadecimal eight_digits digits_text
+unfolding finding_text mismatch_text shown_value hexadecimal eight_digits digits_text filled
 value_const = refl
 
 value_const_text : finding_text plain (Value (ConstText key)) ≡ codes "value-const: 1018:01 has another text than the sheet"
-unfolding finding_text mismatch_text keyed digits_text
+unfolding finding_text mismatch_text digits_text filled
 value_const_text = refl
 
 -- a REAL32 of an adapted sheet, by its value
 value_const_real : finding_text Real32 (Value (ValueConst key 0x7F800000 0x80000000)) ≡ codes "value-const: 1018:01 has inf, the sheet -0.0"
-unfolding finding_text mismatch_text keyed_values shown_value value_text digits_text
+unfolding finding_text mismatch_text shown_value value_text digits_text filled
 value_const_real = refl
 
 -- another original type, of more than four bytes
 value_const_time : finding_text TimeOfDay (Value (ValueConst key 0xFFFFFFFF 0x100000000)) ≡ codes "value-const: 1018:01 has FFFFFFFFh, the sheet 0000000100000000h"
-unfolding finding_text mismatch_text keyed_values shown_value hexadecimal eight_digits digits_text
+unfolding finding_text mismatch_text shown_value hexadecimal eight_digits digits_text filled
 value_const_time = refl
 
 refused : finding_text plain (Value (ReadRefused key (record { 0 = 0x06020000 }))) ≡ codes "access-read: 1018:01 refused with 06020000, the sheet has it as readable"
-unfolding finding_text mismatch_text keyed_code digits_text
+unfolding finding_text mismatch_text digits_text filled
 refused = refl
 
 written : finding_text plain (Value (Written key)) ≡ codes "access-write: 1018:01 was written, the sheet has it as read only"
-unfolding finding_text mismatch_text keyed digits_text
+unfolding finding_text mismatch_text digits_text filled
 written = refl
 
 above_limit : finding_text plain (Value (AboveLimit key)) ≡ codes "access-limits: 1018:01 was written, with a value above its HighLimit"
-unfolding finding_text mismatch_text keyed digits_text
+unfolding finding_text mismatch_text digits_text filled
 above_limit = refl
 
 below_limit : finding_text plain (Value (BelowLimit key)) ≡ codes "access-limits: 1018:01 was written, with a value below its LowLimit"
-unfolding finding_text mismatch_text keyed digits_text
+unfolding finding_text mismatch_text digits_text filled
 below_limit = refl
 
 beyond_room : finding_text plain (Value (BeyondRoom key 17 16)) ≡ codes "access-limits: 1018:01 was written, with 17 bytes, its room is 16"
-unfolding finding_text mismatch_text keyed_numbers digits_text digits
+unfolding finding_text mismatch_text digits_text digits filled
 beyond_room = refl
 
 value_held : finding_text plain (Held (record { key = key; shown = 0x5; written = 0x12345678 })) ≡ codes "value-held: 1018:01 has 00000005h, written was 12345678h"
-unfolding finding_text keyed_values shown_value hexadecimal eight_digits digits_text
+unfolding finding_text shown_value hexadecimal eight_digits digits_text filled
 value_held = refl
 
 sums : summary 5 (record { prescribed = 118; different = 2; unjudged = 14 })
     ≡ codes "node 5: 118 frames as prescribed, 2 with a difference, 14 unjudged" ++ 10 ∷ []
-unfolding summary tally_text numbered digits
+unfolding summary tally_text digits filled
 sums = refl
 
 -- ---- TPDOs
 
 pdo_length : finding_text plain (Pdo 1 (Length 3 4)) ≡ codes "pdo-length: TPDO1 has 3 bytes, its mapping 4"
-unfolding finding_text pdo_text three_numbers digits
+unfolding finding_text pdo_text digits filled
 pdo_length = refl
 
 pdo_state : finding_text plain (Pdo 2 NotOperational) ≡ codes "pdo-state: TPDO2 while the device isn't operational"
-unfolding finding_text pdo_text numbered digits
+unfolding finding_text pdo_text digits filled
 pdo_state = refl
 
 pdo_sync : finding_text plain (Pdo 3 WithoutSync) ≡ codes "pdo-sync: TPDO3, and since its last one no SYNC came"
-unfolding finding_text pdo_text numbered digits
+unfolding finding_text pdo_text digits filled
 pdo_sync = refl
 
 pdo_inhibit : finding_text plain (Pdo 4 (Inhibit 88999 1000)) ≡ codes "pdo-inhibit: TPDO4 88.999 ms since the last one, its inhibit time is 100.000 ms"
-unfolding finding_text pdo_text numbered_times millis_text digits_text digits
+unfolding finding_text pdo_text millis_text digits_text digits filled
 pdo_inhibit = refl
 
 pdo_late : finding_text plain (Pdo 1 (Timer 1020001 1000)) ≡ codes "pdo-late: TPDO1 1020.001 ms since the last one, its event timer has 1000 ms"
-unfolding finding_text pdo_text numbered_time millis_text digits_text digits
+unfolding finding_text pdo_text millis_text digits_text digits filled
 pdo_late = refl
 
 -- ---- transfers
 
 answer_stopped : finding_text plain (AnswerStopped key) ≡ codes "answer-state: 1018:01 is answered while stopped"
-unfolding finding_text keyed digits_text
+unfolding finding_text digits_text filled
 answer_stopped = refl
 
 toggle : finding_text plain (Transfer (Toggle key)) ≡ codes "answer-toggle: 1018:01 is transferred, a segment has the wrong toggle bit"
-unfolding finding_text transfer_text keyed digits_text
+unfolding finding_text transfer_text digits_text filled
 toggle = refl
 
 form : finding_text plain (Transfer (Form key)) ≡ codes "answer-form: 1018:01 is transferred, which has no such answer here"
-unfolding finding_text transfer_text keyed digits_text
+unfolding finding_text transfer_text digits_text filled
 form = refl
 
 abort_key : finding_text plain (Transfer (AbortKey key)) ≡ codes "abort-key: 1018:01 is transferred, the abort is of another entry"
-unfolding finding_text transfer_text keyed digits_text
+unfolding finding_text transfer_text digits_text filled
 abort_key = refl
 
 size : finding_text plain (Transfer (Size key 10 9)) ≡ codes "answer-size: 1018:01 has 9 bytes, its response to initiate has 10"
-unfolding finding_text transfer_text keyed_numbers digits_text digits
+unfolding finding_text transfer_text digits_text digits filled
 size = refl
 
 crc : finding_text plain (Transfer (Crc key 0x1234 0xABC)) ≡ codes "answer-crc: 1018:01 has the CRC 00001234h, that of its bytes is 00000ABCh"
-unfolding finding_text transfer_text keyed_codes hexadecimal eight_digits digits_text
+unfolding finding_text transfer_text hexadecimal eight_digits digits_text filled
 crc = refl
 
 -- ---- choices
 
 choice_segments : choice_text (Segments key 2) ≡ codes "choice-segments: 1018:01 has 2 bytes, and is uploaded in segments"
-unfolding choice_text keyed_number digits_text digits
+unfolding choice_text digits_text digits filled
 choice_segments = refl
 
 choice_size : choice_text (NoSize key) ≡ codes "choice-size: 1018:01 is uploaded without its size"
-unfolding choice_text keyed digits_text
+unfolding choice_text digits_text filled
 choice_size = refl
 
 choice_short : choice_text (ShortSegment key 3) ≡ codes "choice-short-segment: 1018:01 is uploaded, a segment before the last has 3 bytes"
-unfolding choice_text keyed_number digits_text digits
+unfolding choice_text digits_text digits filled
 choice_short = refl
 
 choice_crc : choice_text (NoCrc key) ≡ codes "choice-crc: 1018:01 is transferred in blocks without a CRC"
-unfolding choice_text keyed digits_text
+unfolding choice_text digits_text filled
 choice_crc = refl
 
 choice_block : choice_text (BlockSize key 21) ≡ codes "choice-block-size: 1018:01 is downloaded, sub-blocks of 21 segments are asked for"
-unfolding choice_text keyed_number digits_text digits
+unfolding choice_text digits_text digits filled
 choice_block = refl
 
 choice_switch : choice_text (Switched key) ≡ codes "choice-switch: 1018:01 is asked for in blocks, and uploaded by another protocol"
-unfolding choice_text keyed digits_text
+unfolding choice_text digits_text filled
 choice_switch = refl
 
 choice_code : choice_text (Code key 0x06010000 0x06010002) ≡ codes "choice-code: 1018:01 is refused with 06010000h, and not with 06010002h"
-unfolding choice_text keyed_codes hexadecimal eight_digits digits_text
+unfolding choice_text hexadecimal eight_digits digits_text filled
 choice_code = refl
 
 choice_heartbeat : choice_text (Heartbeat 300001 1000) ≡ codes "choice-heartbeat: 300.001 ms since the last one, 1017:00 has 1000 ms"
-unfolding choice_text timed_number millis_text digits_text digits
+unfolding choice_text millis_text digits_text digits filled
 choice_heartbeat = refl
 
 choice_phase : choice_text (Phase 1 2 4) ≡ codes "choice-phase: TPDO 1 is sent at SYNC 2 since the start, its type is 4"
-unfolding choice_text three_numbers digits_text digits
+unfolding choice_text digits_text digits filled
 choice_phase = refl
 
 no_emcy : map (λ error. choice_text (NoEmergency error 1020001)) (ShortRpdo ∷ LongRpdo ∷ OddSync ∷ []) ≡
     codes "choice-emcy: an RPDO is too short, and EMCY 8210h didn't come for 1020.001 ms"
     ∷ codes "choice-emcy: an RPDO is too long, and EMCY 8220h didn't come for 1020.001 ms"
     ∷ codes "choice-emcy: a SYNC has another length, and EMCY 8240h didn't come for 1020.001 ms" ∷ []
-unfolding choice_text timed millis_text digits_text digits
+unfolding choice_text millis_text digits_text digits filled
 no_emcy = refl
 
 other_emcy : map (λ error. choice_text (OtherEmergency error)) (ShortRpdo ∷ LongRpdo ∷ OddSync ∷ []) ≡
@@ -228,54 +230,54 @@ unfolding choice_text
 other_emcy = refl
 
 choice_timeout : choice_text (Timeout key) ≡ codes "choice-timeout: the transfer of 1018:01 is aborted since it timed out"
-unfolding choice_text keyed digits_text
+unfolding choice_text digits_text filled
 choice_timeout = refl
 
 choice_at_line : choice_line (codes "r.log") 12 (NoCrc key) ≡ codes "r.log:12: choice-crc: 1018:01 is transferred in blocks without a CRC" ++ 10 ∷ []
-unfolding choice_line choice_text keyed numbered digits_text digits
+unfolding choice_line choice_text digits_text digits filled line_front
 choice_at_line = refl
 
 sums_choices : choices_summary 5 (record { prescribed = 118; different = 2; unjudged = 14 }) 3
     ≡ codes "node 5: 118 frames as prescribed, 2 with a difference, 14 unjudged, 3 choices" ++ 10 ∷ []
-unfolding choices_summary tally_text numbered digits
+unfolding choices_summary tally_text digits filled
 sums_choices = refl
 
 -- ---- warnings
 
 restarted : warning_line (codes "r.log") 12 plain Restarted ≡ codes "r.log:12: warning: restarted: a boot-up, and no reset was commanded" ++ 10 ∷ []
-unfolding warning_line warning_text numbered digits
+unfolding warning_line warning_text digits filled line_front
 restarted = refl
 
 stored : warning_text plain (Stored key 0x1F4 0x3E8) ≡ codes "warning: stored: 1018:01 has 000001F4h after the boot-up, the sheet 000003E8h"
-unfolding warning_text keyed_values shown_value hexadecimal eight_digits digits_text
+unfolding warning_text shown_value hexadecimal eight_digits digits_text filled
 stored = refl
 
 stepped_back : warning_text plain (SteppedBack 3000001) ≡ codes "warning: stepped-back: the stamp is 3000.001 ms before the last one"
-unfolding warning_text timed millis_text digits_text digits
+unfolding warning_text millis_text digits_text digits filled
 stepped_back = refl
 
 changed : warning_text plain (Changed (record { key = key; shown = 0x5; written = 0x12345678 })) ≡ codes "warning: changed-after-write: 1018:01 has 00000005h, written was 12345678h"
-unfolding warning_text keyed_values shown_value hexadecimal eight_digits digits_text
+unfolding warning_text shown_value hexadecimal eight_digits digits_text filled
 changed = refl
 
 other_revision : warning_text plain (OtherRevision key 0x10003 0x10002) ≡ codes "warning: other-version: 1018:01 has 00010003h, the sheet 00010002h"
-unfolding warning_text keyed_values shown_value hexadecimal eight_digits digits_text
+unfolding warning_text shown_value hexadecimal eight_digits digits_text filled
 other_revision = refl
 
 changed_bytes : warning_text plain (ChangedBytes key) ≡ codes "warning: changed-after-write: 1018:01 has other bytes than were written"
-unfolding warning_text keyed digits_text
+unfolding warning_text digits_text filled
 changed_bytes = refl
 
 another_text : warning_text plain (OtherText key) ≡ codes "warning: other-version: 1018:01 has another text than the sheet"
-unfolding warning_text keyed digits_text
+unfolding warning_text digits_text filled
 another_text = refl
 
 odd_code : warning_text plain (OddCode 0xA123 1) ≡ codes "warning: emcy-code: code A123h with error register 01h, of a class that CiA 301 doesn't have"
-unfolding warning_text two_codes digits_text
+unfolding warning_text digits_text filled
 odd_code = refl
 
 other_error : warning_text plain (OtherError 0x8210 0x8130) ≡ codes "warning: emcy-history: 1003:01 has code 8210h, the last EMCY 8130h"
-unfolding warning_text pair_of_codes digits_text
+unfolding warning_text digits_text filled
 other_error = refl
 
 -- ---- learned values

@@ -1,18 +1,20 @@
 -- The line of a choice, and the last line with their number.
-use Rattle.std.specs.Prelude.{ℕ, List, [], ◌∷◌, ◌++◌, codes}
+use Rattle.std.specs.Prelude.{ℕ, List, [], ◌∷◌, ◌++◌, codes, decimal}
+use Rattle.co_value.specs.KeyTexts.{key_text}
+use Rattle.conode_text.specs.Filled.{filled}
 use Rattle.conode_compare_choices.specs.declared.choice.Choice.{Choice}
 use Rattle.conode_compare_choices.specs.declared.choice.Choice.TheVariants.{Segments, NoSize, ShortSegment, NoCrc, BlockSize, Switched, Code, Timeout, Heartbeat, Phase, NoEmergency, OtherEmergency}
 use Rattle.conode_compare_choices.specs.declared.length_error.LengthError.{LengthError}
 use Rattle.conode_compare_choices.specs.declared.length_error.LengthError.TheVariants.{ShortRpdo, LongRpdo, OddSync}
 use Rattle.conode_compare_text.specs.declared.tally.Tally.{Tally}
-use Rattle.conode_compare_text.specs.FindingTexts.{keyed, keyed_codes, keyed_number, numbered, three_numbers, timed, timed_number}
+use Rattle.conode_compare_text.specs.Values.{hexadecimal, line_text, millis_text}
 use Rattle.conode_compare_text.specs.Tallies.{tally_text}
 
 -- what came, and that its EMCY didn't
 abbrev pub missing_words : LengthError → List ℕ
-missing_words ShortRpdo = codes "choice-emcy: an RPDO is too short, and EMCY 8210h didn't come for "
-missing_words LongRpdo = codes "choice-emcy: an RPDO is too long, and EMCY 8220h didn't come for "
-missing_words OddSync = codes "choice-emcy: a SYNC has another length, and EMCY 8240h didn't come for "
+missing_words ShortRpdo = codes "choice-emcy: an RPDO is too short, and EMCY 8210h didn't come for %"
+missing_words LongRpdo = codes "choice-emcy: an RPDO is too long, and EMCY 8220h didn't come for %"
+missing_words OddSync = codes "choice-emcy: a SYNC has another length, and EMCY 8240h didn't come for %"
 
 abbrev pub other_words : LengthError → List ℕ
 other_words ShortRpdo = codes "choice-emcy: an RPDO is too short, and EMCY 8200h came, not 8210h"
@@ -22,28 +24,41 @@ other_words OddSync = codes "choice-emcy: a SYNC has another length, and EMCY 82
 -- the name of the kind, and what was chosen
 unfoldable pub choice_text : Choice → List ℕ
 choice_text (Segments key bytes) =
-    keyed_number (codes "choice-segments: ") key (codes " has ") bytes (codes " bytes, and is uploaded in segments")
-choice_text (NoSize key) = keyed (codes "choice-size: ") key (codes " is uploaded without its size")
+    filled (codes "choice-segments: % has % bytes, and is uploaded in segments")
+    (key_text key ∷ decimal bytes ∷ [])
+choice_text (NoSize key) =
+    filled (codes "choice-size: % is uploaded without its size") (key_text key ∷ [])
 choice_text (ShortSegment key bytes) =
-    keyed_number (codes "choice-short-segment: ") key (codes " is uploaded, a segment before the last has ") bytes (codes " bytes")
-choice_text (NoCrc key) = keyed (codes "choice-crc: ") key (codes " is transferred in blocks without a CRC")
+    filled (codes "choice-short-segment: % is uploaded, a segment before the last has % bytes")
+    (key_text key ∷ decimal bytes ∷ [])
+choice_text (NoCrc key) =
+    filled (codes "choice-crc: % is transferred in blocks without a CRC") (key_text key ∷ [])
 choice_text (BlockSize key segments) =
-    keyed_number (codes "choice-block-size: ") key (codes " is downloaded, sub-blocks of ") segments (codes " segments are asked for")
-choice_text (Switched key) = keyed (codes "choice-switch: ") key (codes " is asked for in blocks, and uploaded by another protocol")
+    filled (codes "choice-block-size: % is downloaded, sub-blocks of % segments are asked for")
+    (key_text key ∷ decimal segments ∷ [])
+choice_text (Switched key) =
+    filled (codes "choice-switch: % is asked for in blocks, and uploaded by another protocol")
+    (key_text key ∷ [])
 choice_text (Code key came fitting) =
-    keyed_codes (codes "choice-code: ") key (codes " is refused with ") came (codes ", and not with ") fitting
-choice_text (Timeout key) = keyed (codes "choice-timeout: the transfer of ") key (codes " is aborted since it timed out")
+    filled (codes "choice-code: % is refused with %, and not with %")
+    (key_text key ∷ hexadecimal came ∷ hexadecimal fitting ∷ [])
+choice_text (Timeout key) =
+    filled (codes "choice-timeout: the transfer of % is aborted since it timed out")
+    (key_text key ∷ [])
 choice_text (Heartbeat passed period) =
-    timed_number (codes "choice-heartbeat: ") passed (codes " since the last one, 1017:00 has ") period (codes " ms")
+    filled (codes "choice-heartbeat: % since the last one, 1017:00 has % ms")
+    (millis_text passed ∷ decimal period ∷ [])
 choice_text (Phase number syncs kind) =
-    three_numbers (codes "choice-phase: TPDO ") number (codes " is sent at SYNC ") syncs (codes " since the start, its type is ") kind
-choice_text (NoEmergency error passed) = timed (missing_words error) passed []
+    filled (codes "choice-phase: TPDO % is sent at SYNC % since the start, its type is %")
+    (decimal number ∷ decimal syncs ∷ decimal kind ∷ [])
+choice_text (NoEmergency error passed) = filled (missing_words error) (millis_text passed ∷ [])
 choice_text (OtherEmergency error) = other_words error
 
 -- `recording.log:123: choice-size: ..`
 unfoldable pub choice_line : List ℕ → ℕ → Choice → List ℕ
-choice_line recording line choice = recording ++ numbered (codes ":") line (codes ": ") ++ choice_text choice ++ 10 ∷ []
+choice_line recording line choice = line_text recording line (choice_text choice)
 
 -- the last line
 unfoldable pub choices_summary : ℕ → Tally → ℕ → List ℕ
-choices_summary node tally choices = tally_text node tally ++ numbered (codes ", ") choices (codes " choices") ++ 10 ∷ []
+choices_summary node tally choices =
+    tally_text node tally ++ filled (codes ", % choices\n") (decimal choices ∷ [])

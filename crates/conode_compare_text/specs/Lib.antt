@@ -2,4 +2,5 @@ pub mod ChoiceTexts
 pub mod FindingTexts
 pub mod LearnedTexts
 pub mod Tallies
+pub mod Values
 pub mod WarningTexts

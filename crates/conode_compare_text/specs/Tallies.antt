@@ -1,9 +1,9 @@
 -- How many frames of the device have which verdict.
-use Rattle.std.specs.Prelude.{ℕ, ◌+◌, ◌-◌, ◌^◌, min, List, [], ◌∷◌, ◌++◌, codes, Option, Some, None}
+use Rattle.std.specs.Prelude.{ℕ, ◌+◌, ◌-◌, ◌^◌, min, List, [], ◌∷◌, ◌++◌, codes, decimal, Option, Some, None}
+use Rattle.conode_text.specs.Filled.{filled}
 use Rattle.conode_compare_rules.specs.declared.verdict.Verdict.{Verdict}
 use Rattle.conode_compare_rules.specs.declared.verdict.Verdict.TheVariants.{Prescribed, Different, Unjudged}
 use Rattle.conode_compare_text.specs.declared.tally.Tally.{Tally}
-use Rattle.conode_compare_text.specs.FindingTexts.{numbered}
 
 abbrev pub no_frames : Tally
 no_frames = record { prescribed = 0; different = 0; unjudged = 0 }
@@ -25,8 +25,8 @@ tally_with tally (Some verdict) = with_verdict tally verdict
 -- how many there are, in words
 unfoldable pub tally_text : ℕ → Tally → List ℕ
 tally_text node tally =
-    numbered (codes "node ") node (codes ": ") ++ numbered [] tally.prescribed (codes " frames as prescribed, ")
-    ++ numbered [] tally.different (codes " with a difference, ") ++ numbered [] tally.unjudged (codes " unjudged")
+    filled (codes "node %: % frames as prescribed, % with a difference, % unjudged")
+    (decimal node ∷ decimal tally.prescribed ∷ decimal tally.different ∷ decimal tally.unjudged ∷ [])
 
 -- the line that ends a comparison
 unfoldable pub summary : ℕ → Tally → List ℕ

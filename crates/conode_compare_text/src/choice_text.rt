@@ -9,12 +9,10 @@ ghost use Rattle.conode_compare_text.specs.ChoiceTexts.{
   other_words,
 };
 
-use crate::parts::{
-    push_key, push_key_codes, push_key_number, push_number, push_numbers, push_time,
-    push_time_number, push_words,
-};
 use crate::tally::{Tally, push_tally};
+use crate::value::{Value, set_front};
 use conode_compare_choices::{Choice, LengthError};
+use conode_text::push_filled;
 use std::alloc::AllocError;
 
 // what came, and that its EMCY didn't
@@ -23,13 +21,13 @@ fn missing_words(error: LengthError) -> &'static str
 {
     match error {
         LengthError::ShortRpdo => {
-            "choice-emcy: an RPDO is too short, and EMCY 8210h didn't come for "
+            "choice-emcy: an RPDO is too short, and EMCY 8210h didn't come for %"
         }
         LengthError::LongRpdo => {
-            "choice-emcy: an RPDO is too long, and EMCY 8220h didn't come for "
+            "choice-emcy: an RPDO is too long, and EMCY 8220h didn't come for %"
         }
         LengthError::OddSync => {
-            "choice-emcy: a SYNC has another length, and EMCY 8240h didn't come for "
+            "choice-emcy: a SYNC has another length, and EMCY 8240h didn't come for %"
         }
     }
 }
@@ -55,79 +53,70 @@ fn push_choice(text: &mut String, choice: Choice) -> Result<(), AllocError>
     ensures { OnOk result (string_bytes text.new ≡ string_bytes text.old ++ choice_text choice) }
 {
     match choice {
-        Choice::Segments(key, bytes) => push_key_number(
+        Choice::Segments(key, bytes) => push_filled(
             text,
-            "choice-segments: ",
-            key,
-            " has ",
-            bytes,
-            " bytes, and is uploaded in segments",
+            "choice-segments: % has % bytes, and is uploaded in segments",
+            &[Value::Key(key), Value::Number(bytes)],
         ),
-        Choice::NoSize(key) => {
-            push_key(text, "choice-size: ", key, " is uploaded without its size")
-        }
-        Choice::ShortSegment(key, bytes) => push_key_number(
+        Choice::NoSize(key) => push_filled(
             text,
-            "choice-short-segment: ",
-            key,
-            " is uploaded, a segment before the last has ",
-            u64::from(bytes),
-            " bytes",
+            "choice-size: % is uploaded without its size",
+            &[Value::Key(key)],
         ),
-        Choice::NoCrc(key) => push_key(
+        Choice::ShortSegment(key, bytes) => push_filled(
             text,
-            "choice-crc: ",
-            key,
-            " is transferred in blocks without a CRC",
+            "choice-short-segment: % is uploaded, a segment before the last has % bytes",
+            &[Value::Key(key), Value::Number(u64::from(bytes))],
         ),
-        Choice::BlockSize(key, segments) => push_key_number(
+        Choice::NoCrc(key) => push_filled(
             text,
-            "choice-block-size: ",
-            key,
-            " is downloaded, sub-blocks of ",
-            u64::from(segments),
-            " segments are asked for",
+            "choice-crc: % is transferred in blocks without a CRC",
+            &[Value::Key(key)],
         ),
-        Choice::Switched(key) => push_key(
+        Choice::BlockSize(key, segments) => push_filled(
             text,
-            "choice-switch: ",
-            key,
-            " is asked for in blocks, and uploaded by another protocol",
+            "choice-block-size: % is downloaded, sub-blocks of % segments are asked for",
+            &[Value::Key(key), Value::Number(u64::from(segments))],
         ),
-        Choice::Code(key, came, fitting) => push_key_codes(
+        Choice::Switched(key) => push_filled(
             text,
-            "choice-code: ",
-            key,
-            " is refused with ",
-            u64::from(came),
-            ", and not with ",
-            u64::from(fitting),
+            "choice-switch: % is asked for in blocks, and uploaded by another protocol",
+            &[Value::Key(key)],
         ),
-        Choice::Timeout(key) => push_key(
+        Choice::Code(key, came, fitting) => push_filled(
             text,
-            "choice-timeout: the transfer of ",
-            key,
-            " is aborted since it timed out",
+            "choice-code: % is refused with %, and not with %",
+            &[
+                Value::Key(key),
+                Value::Hexadecimal(u64::from(came)),
+                Value::Hexadecimal(u64::from(fitting)),
+            ],
         ),
-        Choice::Heartbeat(passed, period) => push_time_number(
+        Choice::Timeout(key) => push_filled(
             text,
-            "choice-heartbeat: ",
-            passed,
-            " since the last one, 1017:00 has ",
-            u64::from(period),
-            " ms",
+            "choice-timeout: the transfer of % is aborted since it timed out",
+            &[Value::Key(key)],
         ),
-        Choice::Phase(number, syncs, kind) => push_numbers(
+        Choice::Heartbeat(passed, period) => push_filled(
             text,
-            "choice-phase: TPDO ",
-            u64::from(number),
-            " is sent at SYNC ",
-            u64::from(syncs),
-            " since the start, its type is ",
-            u64::from(kind),
+            "choice-heartbeat: % since the last one, 1017:00 has % ms",
+            &[Value::Millis(passed), Value::Number(u64::from(period))],
         ),
-        Choice::NoEmergency(error, passed) => push_time(text, missing_words(error), passed, ""),
-        Choice::OtherEmergency(error) => push_words(text, other_words(error)),
+        Choice::Phase(number, syncs, kind) => push_filled(
+            text,
+            "choice-phase: TPDO % is sent at SYNC % since the start, its type is %",
+            &[
+                Value::Number(u64::from(number)),
+                Value::Number(u64::from(syncs)),
+                Value::Number(u64::from(kind)),
+            ],
+        ),
+        Choice::NoEmergency(error, passed) => push_filled(
+            text,
+            missing_words(error),
+            &[Value::Millis(passed)],
+        ),
+        Choice::OtherEmergency(error) => text.push_str(other_words(error)),
     }
 }
 
@@ -142,9 +131,7 @@ pub fn set_choice_line(
 ) -> Result<(), AllocError>
     ensures { OnOk result (string_bytes text.new ≡ choice_line recording.now line choice) }
 {
-    text.clear();
-    push_words(text, recording)?;
-    push_number(text, ":", line, ": ")?;
+    set_front(text, recording, line)?;
     push_choice(text, choice)?;
     text.push('\n')
 }
@@ -162,6 +149,5 @@ pub fn set_choices_summary(
 {
     text.clear();
     push_tally(text, node, tally)?;
-    push_number(text, ", ", choices, " choices")?;
-    text.push('\n')
+    push_filled(text, ", % choices\n", &[Value::Number(choices)])
 }

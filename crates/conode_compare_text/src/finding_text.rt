@@ -10,16 +10,13 @@ ghost use Rattle.conode_compare_text.specs.FindingTexts.{
   transfer_text,
 };
 
-use crate::parts::{
-    push_coded, push_codes, push_key, push_key_code, push_key_codes, push_key_numbers,
-    push_key_time, push_key_values, push_named, push_number, push_number_time, push_number_times,
-    push_numbers, push_time, push_time_number, push_times, push_words,
-};
+use crate::value::{Value, set_front};
 use conode_compare_pdos::Deviation;
 use conode_compare_rules::{Finding, NmtState};
 use conode_compare_transfers::Breach;
 use conode_compare_values::Mismatch;
 use conode_explain_values::ValueType;
+use conode_text::push_filled;
 use std::alloc::AllocError;
 
 fn state_name(state: NmtState) -> &'static str
@@ -37,49 +34,45 @@ fn state_name(state: NmtState) -> &'static str
 // what is different of a TPDO
 #[tactic(auto, unfolding(crate::specs::FindingTexts::pdo_text))]
 fn push_pdo(text: &mut String, number: u8, deviation: Deviation) -> Result<(), AllocError>
-    ensures { OnOk result (string_bytes text.new
-        ≡ string_bytes text.old ++ pdo_text number deviation) }
+    ensures { OnOk result (string_bytes text.new ≡ string_bytes text.old ++ pdo_text number deviation) }
 {
     match deviation {
-        Deviation::Length(length, mapped) => push_numbers(
+        Deviation::Length(length, mapped) => push_filled(
             text,
-            "pdo-length: TPDO",
-            u64::from(number),
-            " has ",
-            u64::from(length),
-            " bytes, its mapping ",
-            u64::from(mapped),
+            "pdo-length: TPDO% has % bytes, its mapping %",
+            &[
+                Value::Number(u64::from(number)),
+                Value::Number(u64::from(length)),
+                Value::Number(u64::from(mapped)),
+            ],
         ),
-        Deviation::NotOperational => push_number(
+        Deviation::NotOperational => push_filled(
             text,
-            "pdo-state: TPDO",
-            u64::from(number),
-            " while the device isn't operational",
+            "pdo-state: TPDO% while the device isn't operational",
+            &[Value::Number(u64::from(number))],
         ),
-        Deviation::WithoutSync => push_number(
+        Deviation::WithoutSync => push_filled(
             text,
-            "pdo-sync: TPDO",
-            u64::from(number),
-            ", and since its last one no SYNC came",
+            "pdo-sync: TPDO%, and since its last one no SYNC came",
+            &[Value::Number(u64::from(number))],
         ),
-        Deviation::Inhibit(passed, inhibit) => push_number_times(
+        Deviation::Inhibit(passed, inhibit) => push_filled(
             text,
-            "pdo-inhibit: TPDO",
-            u64::from(number),
-            " ",
-            passed,
-            " since the last one, its inhibit time is ",
-            u64::from(inhibit) * 100,
+            "pdo-inhibit: TPDO% % since the last one, its inhibit time is %",
+            &[
+                Value::Number(u64::from(number)),
+                Value::Millis(passed),
+                Value::Millis(u64::from(inhibit) * 100),
+            ],
         ),
-        Deviation::Timer(passed, timer) => push_number_time(
+        Deviation::Timer(passed, timer) => push_filled(
             text,
-            "pdo-late: TPDO",
-            u64::from(number),
-            " ",
-            passed,
-            " since the last one, its event timer has ",
-            u64::from(timer),
-            " ms",
+            "pdo-late: TPDO% % since the last one, its event timer has % ms",
+            &[
+                Value::Number(u64::from(number)),
+                Value::Millis(passed),
+                Value::Number(u64::from(timer)),
+            ],
         ),
     }
 }
@@ -87,45 +80,41 @@ fn push_pdo(text: &mut String, number: u8, deviation: Deviation) -> Result<(), A
 // what is different in an open transfer
 #[tactic(auto, unfolding(crate::specs::FindingTexts::transfer_text))]
 fn push_transfer(text: &mut String, breach: Breach) -> Result<(), AllocError>
-    ensures { OnOk result (string_bytes text.new
-        ≡ string_bytes text.old ++ transfer_text breach) }
+    ensures { OnOk result (string_bytes text.new ≡ string_bytes text.old ++ transfer_text breach) }
 {
     match breach {
-        Breach::Toggle(key) => push_key(
+        Breach::Toggle(key) => push_filled(
             text,
-            "answer-toggle: ",
-            key,
-            " is transferred, a segment has the wrong toggle bit",
+            "answer-toggle: % is transferred, a segment has the wrong toggle bit",
+            &[Value::Key(key)],
         ),
-        Breach::Form(key) => push_key(
+        Breach::Form(key) => push_filled(
             text,
-            "answer-form: ",
-            key,
-            " is transferred, which has no such answer here",
+            "answer-form: % is transferred, which has no such answer here",
+            &[Value::Key(key)],
         ),
-        Breach::AbortKey(key) => push_key(
+        Breach::AbortKey(key) => push_filled(
             text,
-            "abort-key: ",
-            key,
-            " is transferred, the abort is of another entry",
+            "abort-key: % is transferred, the abort is of another entry",
+            &[Value::Key(key)],
         ),
-        Breach::Size(key, indicated, bytes) => push_key_numbers(
+        Breach::Size(key, indicated, bytes) => push_filled(
             text,
-            "answer-size: ",
-            key,
-            " has ",
-            bytes,
-            " bytes, its response to initiate has ",
-            u64::from(indicated),
+            "answer-size: % has % bytes, its response to initiate has %",
+            &[
+                Value::Key(key),
+                Value::Number(bytes),
+                Value::Number(u64::from(indicated)),
+            ],
         ),
-        Breach::Crc(key, came, computed) => push_key_codes(
+        Breach::Crc(key, came, computed) => push_filled(
             text,
-            "answer-crc: ",
-            key,
-            " has the CRC ",
-            u64::from(came),
-            ", that of its bytes is ",
-            u64::from(computed),
+            "answer-crc: % has the CRC %, that of its bytes is %",
+            &[
+                Value::Key(key),
+                Value::Hexadecimal(u64::from(came)),
+                Value::Hexadecimal(u64::from(computed)),
+            ],
         ),
     }
 }
@@ -137,69 +126,56 @@ fn push_mismatch(
     value_type: ValueType,
     mismatch: Mismatch,
 ) -> Result<(), AllocError>
-    ensures { OnOk result (string_bytes text.new
-        ≡ string_bytes text.old ++ mismatch_text value_type mismatch) }
+    ensures { OnOk result (string_bytes text.new ≡ string_bytes text.old ++ mismatch_text value_type mismatch) }
 {
     match mismatch {
-        Mismatch::ValueLength(key, length, width) => push_key_numbers(
+        Mismatch::ValueLength(key, length, width) => push_filled(
             text,
-            "value-length: ",
-            key,
-            " has ",
-            length,
-            " bytes, its type ",
-            u64::from(width),
+            "value-length: % has % bytes, its type %",
+            &[
+                Value::Key(key),
+                Value::Number(length),
+                Value::Number(u64::from(width)),
+            ],
         ),
-        Mismatch::ValueConst(key, shown, held) => push_key_values(
+        Mismatch::ValueConst(key, shown, held) => push_filled(
             text,
-            "value-const: ",
-            key,
-            " has ",
-            value_type,
-            shown,
-            ", the sheet ",
-            held,
+            "value-const: % has %, the sheet %",
+            &[
+                Value::Key(key),
+                Value::Shown(value_type, shown),
+                Value::Shown(value_type, held),
+            ],
         ),
-        Mismatch::ConstText(key) => push_key(
+        Mismatch::ConstText(key) => push_filled(
             text,
-            "value-const: ",
-            key,
-            " has another text than the sheet",
+            "value-const: % has another text than the sheet",
+            &[Value::Key(key)],
         ),
-        Mismatch::ReadRefused(key, code) => push_key_code(
+        Mismatch::ReadRefused(key, code) => push_filled(
             text,
-            "access-read: ",
-            key,
-            " refused with ",
-            code.0,
-            ", the sheet has it as readable",
+            "access-read: % refused with %, the sheet has it as readable",
+            &[Value::Key(key), Value::Long(code.0)],
         ),
-        Mismatch::Written(key) => push_key(
+        Mismatch::Written(key) => push_filled(
             text,
-            "access-write: ",
-            key,
-            " was written, the sheet has it as read only",
+            "access-write: % was written, the sheet has it as read only",
+            &[Value::Key(key)],
         ),
-        Mismatch::AboveLimit(key) => push_key(
+        Mismatch::AboveLimit(key) => push_filled(
             text,
-            "access-limits: ",
-            key,
-            " was written, with a value above its HighLimit",
+            "access-limits: % was written, with a value above its HighLimit",
+            &[Value::Key(key)],
         ),
-        Mismatch::BelowLimit(key) => push_key(
+        Mismatch::BelowLimit(key) => push_filled(
             text,
-            "access-limits: ",
-            key,
-            " was written, with a value below its LowLimit",
+            "access-limits: % was written, with a value below its LowLimit",
+            &[Value::Key(key)],
         ),
-        Mismatch::BeyondRoom(key, bytes, room) => push_key_numbers(
+        Mismatch::BeyondRoom(key, bytes, room) => push_filled(
             text,
-            "access-limits: ",
-            key,
-            " was written, with ",
-            bytes,
-            " bytes, its room is ",
-            room,
+            "access-limits: % was written, with % bytes, its room is %",
+            &[Value::Key(key), Value::Number(bytes), Value::Number(room)],
         ),
     }
 }
@@ -217,94 +193,89 @@ pub fn push_finding(
         ≡ string_bytes text.old ++ finding_text value_type finding) }
 {
     match finding {
-        Finding::BootMissing(passed) => push_time(
+        Finding::BootMissing(passed) => push_filled(
             text,
-            "boot-missing: no boot-up ",
-            passed,
-            " after the reset command",
+            "boot-missing: no boot-up % after the reset command",
+            &[Value::Millis(passed)],
         ),
-        Finding::SecondBootUp(passed) => push_time(
+        Finding::SecondBootUp(passed) => push_filled(
             text,
-            "second-sender: a boot-up ",
-            passed,
-            " after the last one",
+            "second-sender: a boot-up % after the last one",
+            &[Value::Millis(passed)],
         ),
-        Finding::HeartbeatLength(length) => push_number(
+        Finding::HeartbeatLength(length) => push_filled(
             text,
-            "heartbeat-length: ",
-            u64::from(length),
-            " bytes, not 1",
+            "heartbeat-length: % bytes, not 1",
+            &[Value::Number(u64::from(length))],
         ),
-        Finding::NoState(byte) => push_coded(text, "heartbeat-state: ", byte, "h is no NMT state"),
-        Finding::WrongState(shown, held) => push_named(
+        Finding::NoState(byte) => push_filled(
             text,
-            "heartbeat-state: ",
-            state_name(shown),
-            ", but by the commands it is ",
-            state_name(held),
+            "heartbeat-state: %h is no NMT state",
+            &[Value::Byte(byte)],
         ),
-        Finding::HeartbeatLate(passed, period) => push_time_number(
+        Finding::WrongState(shown, held) => push_filled(
             text,
-            "heartbeat-late: ",
-            passed,
-            " since the last one, 1017:00 has ",
-            u64::from(period),
-            " ms",
+            "heartbeat-state: %, but by the commands it is %",
+            &[
+                Value::Words(state_name(shown)),
+                Value::Words(state_name(held)),
+            ],
         ),
-        Finding::EmergencyLength(length) => {
-            push_number(text, "emcy-length: ", u64::from(length), " bytes, not 8")
-        }
-        Finding::EmergencyStopped => push_words(text, "emcy-state: an EMCY while stopped"),
-        Finding::EmergencyRegister(code, register) => push_codes(
+        Finding::HeartbeatLate(passed, period) => push_filled(
             text,
-            "emcy-register: code ",
-            code,
-            "h with error register ",
-            register,
-            "h, whose bit 0 isn't set",
+            "heartbeat-late: % since the last one, 1017:00 has % ms",
+            &[Value::Millis(passed), Value::Number(u64::from(period))],
         ),
-        Finding::EmergencyInhibit(passed, inhibit) => push_times(
+        Finding::EmergencyLength(length) => push_filled(
             text,
-            "emcy-inhibit: ",
-            passed,
-            " since the last one, 1015:00 has ",
-            u64::from(inhibit) * 100,
+            "emcy-length: % bytes, not 8",
+            &[Value::Number(u64::from(length))],
         ),
-        Finding::NoAnswer(key, passed) => push_key_time(
+        Finding::EmergencyStopped => text.push_str("emcy-state: an EMCY while stopped"),
+        Finding::EmergencyRegister(code, register) => push_filled(
             text,
-            "no-answer: ",
-            key,
-            " was requested ",
-            passed,
-            " ago",
+            "emcy-register: code %h with error register %h, whose bit 0 isn't set",
+            &[Value::Short(code), Value::Byte(register)],
         ),
-        Finding::Unasked => push_words(text, "second-sender: an answer without a request"),
-        Finding::AnswerKey(key) => push_key(
+        Finding::EmergencyInhibit(passed, inhibit) => push_filled(
             text,
-            "answer-key: ",
-            key,
-            " was requested, another entry is answered",
+            "emcy-inhibit: % since the last one, 1015:00 has %",
+            &[
+                Value::Millis(passed),
+                Value::Millis(u64::from(inhibit) * 100),
+            ],
         ),
-        Finding::AnswerForm(key) => push_key(
+        Finding::NoAnswer(key, passed) => push_filled(
             text,
-            "answer-form: ",
-            key,
-            " was requested, which has no such answer",
+            "no-answer: % was requested % ago",
+            &[Value::Key(key), Value::Millis(passed)],
         ),
-        Finding::AnswerStopped(key) => {
-            push_key(text, "answer-state: ", key, " is answered while stopped")
-        }
+        Finding::Unasked => text.push_str("second-sender: an answer without a request"),
+        Finding::AnswerKey(key) => push_filled(
+            text,
+            "answer-key: % was requested, another entry is answered",
+            &[Value::Key(key)],
+        ),
+        Finding::AnswerForm(key) => push_filled(
+            text,
+            "answer-form: % was requested, which has no such answer",
+            &[Value::Key(key)],
+        ),
+        Finding::AnswerStopped(key) => push_filled(
+            text,
+            "answer-state: % is answered while stopped",
+            &[Value::Key(key)],
+        ),
         Finding::Transfer(breach) => push_transfer(text, breach),
         Finding::Value(mismatch) => push_mismatch(text, value_type, mismatch),
-        Finding::Held(mismatch) => push_key_values(
+        Finding::Held(mismatch) => push_filled(
             text,
-            "value-held: ",
-            mismatch.key,
-            " has ",
-            value_type,
-            mismatch.shown,
-            ", written was ",
-            mismatch.written,
+            "value-held: % has %, written was %",
+            &[
+                Value::Key(mismatch.key),
+                Value::Shown(value_type, mismatch.shown),
+                Value::Shown(value_type, mismatch.written),
+            ],
         ),
         Finding::Pdo(number, deviation) => push_pdo(text, number, deviation),
     }
@@ -326,9 +297,7 @@ pub fn set_finding_line(
     ensures { OnOk result
         (string_bytes text.new ≡ finding_line recording.now line value_type finding) }
 {
-    text.clear();
-    push_words(text, recording)?;
-    push_number(text, ":", line, ": ")?;
+    set_front(text, recording, line)?;
     push_finding(text, value_type, finding)?;
     text.push('\n')
 }

@@ -9,7 +9,6 @@ ghost use Rattle.conode_compare_text.specs.LearnedTexts.{
   typed_text,
 };
 
-use crate::parts::push_words;
 use co_value::{Key, bytes_of_u32};
 use conode_explain_values::{ValueType, push_named_key, push_value};
 use std::alloc::AllocError;
@@ -42,7 +41,7 @@ fn push_other(
     ensures { OnOk result (string_bytes text.new
         ≡ string_bytes text.old ++ other_text value_type width sheet) }
 {
-    push_words(text, ", the sheet has ")?;
+    text.push_str(", the sheet has ")?;
     push_number(text, value_type, width, sheet)
 }
 
@@ -83,9 +82,9 @@ pub fn set_learned_line(
         ≡ learned_line (option_copied name.entry) key value_type width number sheet) }
 {
     text.clear();
-    push_words(text, "learned: ")?;
+    text.push_str("learned: ")?;
     push_named_key(text, name, key)?;
-    push_words(text, " = ")?;
+    text.push_str(" = ")?;
     push_number(text, value_type, width, number)?;
     push_sheet(text, value_type, width, number, sheet)?;
     text.push('\n')

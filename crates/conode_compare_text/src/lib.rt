@@ -4,8 +4,8 @@
 mod choice_text;
 mod finding_text;
 mod learned_text;
-mod parts;
 mod tally;
+mod value;
 mod warning_text;
 
 pub use choice_text::{set_choice_line, set_choices_summary};

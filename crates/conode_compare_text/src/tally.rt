@@ -9,8 +9,9 @@ ghost use Rattle.conode_compare_text.specs.Tallies.{
   with_verdict,
 };
 
-use crate::parts::push_number;
+use crate::value::Value;
 use conode_compare_rules::Verdict;
+use conode_text::push_filled;
 use std::alloc::AllocError;
 
 /// How many frames of the device have which verdict, up to 2^64 - 1.
@@ -63,10 +64,16 @@ pub(crate) fn push_tally(text: &mut String, node: u8, tally: Tally) -> Result<()
     ensures { OnOk result
         (string_bytes text.new ≡ string_bytes text.old ++ tally_text node tally) }
 {
-    push_number(text, "node ", u64::from(node), ": ")?;
-    push_number(text, "", tally.prescribed, " frames as prescribed, ")?;
-    push_number(text, "", tally.different, " with a difference, ")?;
-    push_number(text, "", tally.unjudged, " unjudged")
+    push_filled(
+        text,
+        "node %: % frames as prescribed, % with a difference, % unjudged",
+        &[
+            Value::Number(u64::from(node)),
+            Value::Number(tally.prescribed),
+            Value::Number(tally.different),
+            Value::Number(tally.unjudged),
+        ],
+    )
 }
 
 /// Sets a text to the line that ends a comparison, with its line feed. On an `Err` memory ran out,

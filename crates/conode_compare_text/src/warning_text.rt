@@ -1,33 +1,13 @@
 //! The line of a warning.
 
 ghost use Rattle.std.specs.Prelude.{◌≡◌, ◌++◌, OnOk, string_bytes};
-ghost use Rattle.conode_compare_text.specs.WarningTexts.{pair_of_codes, warning_line, warning_text};
+ghost use Rattle.conode_compare_text.specs.WarningTexts.{warning_line, warning_text};
 
-use crate::parts::{push_codes, push_key, push_key_values, push_number, push_time, push_words};
-use co_text::push_u16;
+use crate::value::{Value, set_front};
 use conode_compare_notes::Warning;
 use conode_explain_values::ValueType;
+use conode_text::push_filled;
 use std::alloc::AllocError;
-
-// two error codes between words
-#[tactic(auto, unfolding(crate::specs::WarningTexts::pair_of_codes))]
-fn push_pair(
-    text: &mut String,
-    front: &str,
-    code: u16,
-    middle: &str,
-    other: u16,
-    end: &str,
-) -> Result<(), AllocError>
-    ensures { OnOk result (string_bytes text.new
-        ≡ string_bytes text.old ++ pair_of_codes front.now code middle.now other end.now) }
-{
-    push_words(text, front)?;
-    push_u16(text, code)?;
-    push_words(text, middle)?;
-    push_u16(text, other)?;
-    push_words(text, end)
-}
 
 // the name of the kind, and what was seen
 #[tactic(auto, unfolding(crate::specs::WarningTexts::warning_text))]
@@ -36,77 +16,63 @@ fn push_warning(
     value_type: ValueType,
     warning: Warning,
 ) -> Result<(), AllocError>
-    ensures { OnOk result (string_bytes text.new
-        ≡ string_bytes text.old ++ warning_text value_type warning) }
+    ensures { OnOk result (string_bytes text.new ≡ string_bytes text.old ++ warning_text value_type warning) }
 {
     match warning {
-        Warning::Restarted => push_words(
-            text,
+        Warning::Restarted => text.push_str(
             "warning: restarted: a boot-up, and no reset was commanded",
         ),
-        Warning::Stored(key, shown, sheet) => push_key_values(
+        Warning::Stored(key, shown, sheet) => push_filled(
             text,
-            "warning: stored: ",
-            key,
-            " has ",
-            value_type,
-            shown,
-            " after the boot-up, the sheet ",
-            sheet,
+            "warning: stored: % has % after the boot-up, the sheet %",
+            &[
+                Value::Key(key),
+                Value::Shown(value_type, shown),
+                Value::Shown(value_type, sheet),
+            ],
         ),
-        Warning::Changed(mismatch) => push_key_values(
+        Warning::Changed(mismatch) => push_filled(
             text,
-            "warning: changed-after-write: ",
-            mismatch.key,
-            " has ",
-            value_type,
-            mismatch.shown,
-            ", written was ",
-            mismatch.written,
+            "warning: changed-after-write: % has %, written was %",
+            &[
+                Value::Key(mismatch.key),
+                Value::Shown(value_type, mismatch.shown),
+                Value::Shown(value_type, mismatch.written),
+            ],
         ),
-        Warning::ChangedBytes(key) => push_key(
+        Warning::ChangedBytes(key) => push_filled(
             text,
-            "warning: changed-after-write: ",
-            key,
-            " has other bytes than were written",
+            "warning: changed-after-write: % has other bytes than were written",
+            &[Value::Key(key)],
         ),
-        Warning::SteppedBack(micros) => push_time(
+        Warning::SteppedBack(micros) => push_filled(
             text,
-            "warning: stepped-back: the stamp is ",
-            micros,
-            " before the last one",
+            "warning: stepped-back: the stamp is % before the last one",
+            &[Value::Millis(micros)],
         ),
-        Warning::OtherRevision(key, shown, sheet) => push_key_values(
+        Warning::OtherRevision(key, shown, sheet) => push_filled(
             text,
-            "warning: other-version: ",
-            key,
-            " has ",
-            value_type,
-            shown,
-            ", the sheet ",
-            sheet,
+            "warning: other-version: % has %, the sheet %",
+            &[
+                Value::Key(key),
+                Value::Shown(value_type, shown),
+                Value::Shown(value_type, sheet),
+            ],
         ),
-        Warning::OtherText(key) => push_key(
+        Warning::OtherText(key) => push_filled(
             text,
-            "warning: other-version: ",
-            key,
-            " has another text than the sheet",
+            "warning: other-version: % has another text than the sheet",
+            &[Value::Key(key)],
         ),
-        Warning::OddCode(code, register) => push_codes(
+        Warning::OddCode(code, register) => push_filled(
             text,
-            "warning: emcy-code: code ",
-            code,
-            "h with error register ",
-            register,
-            "h, of a class that CiA 301 doesn't have",
+            "warning: emcy-code: code %h with error register %h, of a class that CiA 301 doesn't have",
+            &[Value::Short(code), Value::Byte(register)],
         ),
-        Warning::OtherError(shown, signalled) => push_pair(
+        Warning::OtherError(shown, signalled) => push_filled(
             text,
-            "warning: emcy-history: 1003:01 has code ",
-            shown,
-            "h, the last EMCY ",
-            signalled,
-            "h",
+            "warning: emcy-history: 1003:01 has code %h, the last EMCY %h",
+            &[Value::Short(shown), Value::Short(signalled)],
         ),
     }
 }
@@ -125,9 +91,7 @@ pub fn set_warning_line(
     ensures { OnOk result
         (string_bytes text.new ≡ warning_line recording.now line value_type warning) }
 {
-    text.clear();
-    push_words(text, recording)?;
-    push_number(text, ":", line, ": ")?;
+    set_front(text, recording, line)?;
     push_warning(text, value_type, warning)?;
     text.push('\n')
 }

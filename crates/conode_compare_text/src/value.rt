@@ -1,0 +1,140 @@
+//! Values in lines, and the front of a line.
+
+ghost use Rattle.std.specs.Prelude.{◌≡◌, ◌++◌, OnOk, string_bytes};
+ghost use Rattle.co_text.specs.Printed.{digits_text};
+ghost use Rattle.conode_compare_text.specs.Values.{
+  eight_digits,
+  hexadecimal,
+  high_digits,
+  line_front,
+  millis_text,
+  printed,
+  shown_value,
+};
+
+use co_text::{push_byte, push_decimal, push_digit, push_u16, push_u32};
+use co_value::{Key, bytes_of_u32};
+use conode_explain_values::{ValueType, push_value};
+use conode_text::{HasText, push_filled};
+use std::alloc::AllocError;
+
+/// A value in a line.
+#[derive(Clone, Copy)]
+pub(crate) enum Value<'a> {
+    /// Words, as they are.
+    Words(&'a str),
+    /// A number in decimal digits.
+    Number(u64),
+    /// Microseconds, in ms with three digits after the point.
+    Millis(u64),
+    /// A number in two hexadecimal digits.
+    Byte(u8),
+    /// A number in four hexadecimal digits.
+    Short(u16),
+    /// A number in eight hexadecimal digits.
+    Long(u32),
+    /// A number in eight hexadecimal digits, or in sixteen, and `h`.
+    Hexadecimal(u64),
+    /// The key of an entry.
+    Key(Key),
+    /// A value of up to eight bytes of an entry with values of this type.
+    Shown(ValueType, u64),
+}
+
+#[tactic(auto, unfolding(co_text::specs::Printed::digits_text))]
+fn push_three_digits(text: &mut String, number: u64) -> Result<(), AllocError>
+    ensures { OnOk result
+        (string_bytes text.new ≡ string_bytes text.old ++ digits_text 10 3 number) }
+{
+    push_digit(text, (number / 10 / 10 % 10) as u8)?;
+    push_digit(text, (number / 10 % 10) as u8)?;
+    push_digit(text, (number % 10) as u8)
+}
+
+// microseconds, in ms with three digits after the point
+#[tactic(auto, unfolding(crate::specs::Values::millis_text))]
+fn push_millis(text: &mut String, micros: u64) -> Result<(), AllocError>
+    ensures { OnOk result (string_bytes text.new ≡ string_bytes text.old ++ millis_text micros) }
+{
+    push_decimal(text, micros / 1000)?;
+    text.push('.')?;
+    push_three_digits(text, micros % 1000)?;
+    text.push_str(" ms")
+}
+
+// the low 32 bits of a number in eight hexadecimal digits
+#[tactic(auto, unfolding(crate::specs::Values::eight_digits))]
+fn push_eight_digits(text: &mut String, number: u64) -> Result<(), AllocError>
+    ensures { OnOk result (string_bytes text.new ≡ string_bytes text.old ++ eight_digits number) }
+{
+    push_u16(text, (number / 0x1_0000 % 0x1_0000) as u16)?;
+    push_u16(text, (number % 0x1_0000) as u16)
+}
+
+// the digits of the bits above these, where one is set
+fn push_high_digits(text: &mut String, number: u64) -> Result<(), AllocError>
+    ensures { OnOk result (string_bytes text.new ≡ string_bytes text.old ++ high_digits number) }
+{
+    if number < 0x1_0000_0000 {
+        Ok(())
+    } else {
+        push_eight_digits(text, number / 0x1_0000_0000)
+    }
+}
+
+// a number in eight hexadecimal digits, or in sixteen
+#[tactic(auto, unfolding(crate::specs::Values::hexadecimal))]
+fn push_hexadecimal(text: &mut String, number: u64) -> Result<(), AllocError>
+    ensures { OnOk result (string_bytes text.new ≡ string_bytes text.old ++ hexadecimal number) }
+{
+    push_high_digits(text, number)?;
+    push_eight_digits(text, number)?;
+    text.push('h')
+}
+
+// a value of up to eight bytes
+#[tactic(auto, unfolding(crate::specs::Values::shown_value))]
+fn push_shown(text: &mut String, value_type: ValueType, number: u64) -> Result<(), AllocError>
+    ensures { OnOk result (string_bytes text.new
+        ≡ string_bytes text.old ++ shown_value value_type number) }
+{
+    match value_type {
+        ValueType::Real32 => {
+            let bytes = bytes_of_u32((number % 0x1_0000_0000) as u32);
+            push_value(text, value_type, 32, &bytes)
+        }
+        _ => push_hexadecimal(text, number),
+    }
+}
+
+impl HasText for Value<'_> {
+    ghost text_of = { printed };
+
+    fn push(&self, text: &mut String) -> Result<(), AllocError> {
+        match *self {
+            Value::Words(words) => text.push_str(words),
+            Value::Number(number) => push_decimal(text, number),
+            Value::Millis(micros) => push_millis(text, micros),
+            Value::Byte(byte) => push_byte(text, byte),
+            Value::Short(number) => push_u16(text, number),
+            Value::Long(number) => push_u32(text, number),
+            Value::Hexadecimal(number) => push_hexadecimal(text, number),
+            Value::Key(key) => text.push_str(key.text().as_str()),
+            Value::Shown(value_type, number) => push_shown(text, value_type, number),
+        }
+    }
+}
+
+/// Sets a text to the front of a line: the name of the recording, and the number of its line. On an
+/// `Err` memory ran out, and a part of it may be there.
+#[tactic(auto, unfolding(crate::specs::Values::line_front))]
+pub(crate) fn set_front(text: &mut String, recording: &str, line: u64) -> Result<(), AllocError>
+    ensures { OnOk result (string_bytes text.new ≡ line_front recording.now line) }
+{
+    text.clear();
+    push_filled(
+        text,
+        "%:%: ",
+        &[Value::Words(recording), Value::Number(line)],
+    )
+}
