@@ -11,6 +11,7 @@ is_place byte = byte == 37
 -- up to their first place words are as they are, and there comes the first text
 at_place : (front back : List ℕ) (texts : List (List ℕ)) → ((i : ℕ) → i < length front → get_or front i 0 ≢ 37)
     → filled (front ++ (37 ∷ back)) texts ≡ front ++ (first_text texts ++ filled back (drop 1 texts))
+unfolding filled
 at_place [] back texts h = refl
 at_place (byte ∷ front) back texts h = by (byte == 37) refl (at_place front back texts (λ i lt. h (suc i) (omega arith)))
   where
@@ -21,6 +22,7 @@ at_place (byte ∷ front) back texts h = by (byte == 37) refl (at_place front ba
 
 -- without a place they are as they are
 no_place : (words : List ℕ) (texts : List (List ℕ)) → position_or_len is_place words ≡ length words → filled words texts ≡ words
+unfolding filled
 no_place [] texts h = refl
 no_place (byte ∷ rest) texts h = by (byte == 37) refl (no_place rest texts)
   where
