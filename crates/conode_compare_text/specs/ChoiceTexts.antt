@@ -1,11 +1,11 @@
 -- The line of a choice, and the last line with their number.
 use Rattle.std.specs.Prelude.{ℕ, List, [], ◌∷◌, ◌++◌, codes}
 use Rattle.conode_compare_choices.specs.declared.choice.Choice.{Choice}
-use Rattle.conode_compare_choices.specs.declared.choice.Choice.TheVariants.{Segments, NoSize, ShortSegment, NoCrc, BlockSize, Switched, Code, Timeout, Heartbeat, Phase, NoEmergency, OtherEmergency}
+use Rattle.conode_compare_choices.specs.declared.choice.Choice.TheVariants.{Segments, NoSize, ShortSegment, NoCrc, BlockSize, Switched, Code, Timeout, NoTimeout, Heartbeat, Phase, NoEmergency, OtherEmergency}
 use Rattle.conode_compare_choices.specs.declared.length_error.LengthError.{LengthError}
 use Rattle.conode_compare_choices.specs.declared.length_error.LengthError.TheVariants.{ShortRpdo, LongRpdo, OddSync}
 use Rattle.conode_compare_text.specs.declared.tally.Tally.{Tally}
-use Rattle.conode_compare_text.specs.FindingTexts.{keyed, keyed_codes, keyed_number, numbered, three_numbers, timed, timed_number}
+use Rattle.conode_compare_text.specs.FindingTexts.{keyed, keyed_codes, keyed_number, keyed_time_number, numbered, three_numbers, timed, timed_number}
 use Rattle.conode_compare_text.specs.Tallies.{tally_text}
 
 -- what came, and that its EMCY didn't
@@ -33,6 +33,9 @@ choice_text (Switched key) = keyed (codes "choice-switch: ") key (codes " is ask
 choice_text (Code key came fitting) =
     keyed_codes (codes "choice-code: ") key (codes " is refused with ") came (codes ", and not with ") fitting
 choice_text (Timeout key) = keyed (codes "choice-timeout: the transfer of ") key (codes " is aborted since it timed out")
+choice_text (NoTimeout key waited time) =
+    keyed_time_number (codes "choice-timeout: the transfer of ") key (codes " goes on ") waited
+    (codes " after the client's frame before, the timeout is ") time (codes " ms")
 choice_text (Heartbeat passed period) =
     timed_number (codes "choice-heartbeat: ") passed (codes " since the last one, 1017:00 has ") period (codes " ms")
 choice_text (Phase number syncs kind) =

@@ -1,5 +1,5 @@
 -- The line of a difference.
-use Rattle.std.specs.Prelude.{ℕ, ◌*◌, ◌/◌, ◌%◌, nat_lt, if◌then◌else◌, List, [], ◌∷◌, ◌++◌, codes, decimal}
+use Rattle.std.specs.Prelude.{ℕ, ◌*◌, ◌/◌, ◌%◌, ◌==◌, nat_lt, if◌then◌else◌, List, [], ◌∷◌, ◌++◌, codes, decimal}
 use Rattle.co_text.specs.Printed.{digits_text}
 use Rattle.co_value.specs.declared.key.Key.{Key}
 use Rattle.co_value.specs.KeyTexts.{key_text}
@@ -10,7 +10,7 @@ use Rattle.conode_explain_values.specs.Values.{value_text}
 use Rattle.conode_compare_pdos.specs.declared.deviation.Deviation.{Deviation}
 use Rattle.conode_compare_pdos.specs.declared.deviation.Deviation.TheVariants.{Length, NotOperational, WithoutSync, Inhibit, Timer}
 use Rattle.conode_compare_transfers.specs.declared.breach.Breach.{Breach}
-use Rattle.conode_compare_transfers.specs.declared.breach.Breach.TheVariants.{Toggle, Form, AbortKey, Size, Crc}
+use Rattle.conode_compare_transfers.specs.declared.breach.Breach.TheVariants.{Toggle, Form, AbortKey, Size, Crc, Early}
 use Rattle.conode_compare_values.specs.declared.mismatch.Mismatch.{Mismatch}
 use Rattle.conode_compare_values.specs.declared.mismatch.Mismatch.TheVariants.{ValueLength, ValueConst, ConstText, ReadRefused, Written, AboveLimit, BelowLimit, BeyondRoom}
 use Rattle.conode_compare_rules.specs.declared.finding.Finding.{Finding}
@@ -69,6 +69,9 @@ two_codes front code middle byte end = front ++ digits_text 16 4 code ++ middle 
 unfoldable pub keyed_time : List ℕ → Key → List ℕ → ℕ → List ℕ → List ℕ
 keyed_time front key middle micros end = front ++ key_text key ++ middle ++ millis_text micros ++ end
 
+unfoldable pub keyed_time_number : List ℕ → Key → List ℕ → ℕ → List ℕ → ℕ → List ℕ → List ℕ
+keyed_time_number front key middle micros last number end = keyed_time front key middle micros last ++ numbered [] number end
+
 unfoldable pub keyed_number : List ℕ → Key → List ℕ → ℕ → List ℕ → List ℕ
 keyed_number front key middle number end = front ++ key_text key ++ middle ++ decimal number ++ end
 
@@ -112,6 +115,14 @@ pdo_text number (Inhibit passed inhibit) =
 pdo_text number (Timer passed timer) =
     numbered_time (codes "pdo-late: TPDO") number (codes " ") passed (codes " since the last one, its event timer has ") timer (codes " ms")
 
+-- of a transfer that was aborted so long after the client's last frame; with a timeout of 0 ms there is
+-- none
+abbrev pub early_text : Key → ℕ → ℕ → List ℕ
+early_text key waited time =
+    if time == 0 then keyed (codes "abort-early: ") key (codes " was aborted as timed out, and the device has no timeout")
+    else keyed_time_number (codes "abort-early: ") key (codes " was aborted as timed out ") waited
+    (codes " after the client's last frame, the timeout is ") time (codes " ms")
+
 -- in an open transfer
 unfoldable pub transfer_text : Breach → List ℕ
 transfer_text (Toggle key) = keyed (codes "answer-toggle: ") key (codes " is transferred, a segment has the wrong toggle bit")
@@ -121,6 +132,7 @@ transfer_text (Size key indicated bytes) =
     keyed_numbers (codes "answer-size: ") key (codes " has ") bytes (codes " bytes, its response to initiate has ") indicated
 transfer_text (Crc key came computed) =
     keyed_codes (codes "answer-crc: ") key (codes " has the CRC ") came (codes ", that of its bytes is ") computed
+transfer_text (Early key waited time) = early_text key waited time
 
 -- at the end of a transfer, where the values of the entry have this type
 unfoldable pub mismatch_text : ValueType → Mismatch → List ℕ

@@ -10,8 +10,8 @@ ghost use Rattle.conode_compare_text.specs.ChoiceTexts.{
 };
 
 use crate::parts::{
-    push_key, push_key_codes, push_key_number, push_number, push_numbers, push_time,
-    push_time_number, push_words,
+    push_key, push_key_codes, push_key_number, push_key_time_number, push_number, push_numbers,
+    push_time, push_time_number, push_words,
 };
 use crate::tally::{Tally, push_tally};
 use conode_compare_choices::{Choice, LengthError};
@@ -108,6 +108,16 @@ fn push_choice(text: &mut String, choice: Choice) -> Result<(), AllocError>
             "choice-timeout: the transfer of ",
             key,
             " is aborted since it timed out",
+        ),
+        Choice::NoTimeout(key, waited, time) => push_key_time_number(
+            text,
+            "choice-timeout: the transfer of ",
+            key,
+            " goes on ",
+            waited,
+            " after the client's frame before, the timeout is ",
+            u64::from(time),
+            " ms",
         ),
         Choice::Heartbeat(passed, period) => push_time_number(
             text,

@@ -2,6 +2,7 @@
 
 ghost use Rattle.std.specs.Prelude.{◌≡◌, ◌++◌, OnOk, string_bytes};
 ghost use Rattle.conode_compare_text.specs.FindingTexts.{
+  early_text,
   finding_line,
   finding_text,
   mismatch_text,
@@ -12,9 +13,11 @@ ghost use Rattle.conode_compare_text.specs.FindingTexts.{
 
 use crate::parts::{
     push_coded, push_codes, push_key, push_key_code, push_key_codes, push_key_numbers,
-    push_key_time, push_key_values, push_named, push_number, push_number_time, push_number_times,
-    push_numbers, push_time, push_time_number, push_times, push_words,
+    push_key_time, push_key_time_number, push_key_values, push_named, push_number,
+    push_number_time, push_number_times, push_numbers, push_time, push_time_number, push_times,
+    push_words,
 };
+use co_value::Key;
 use conode_compare_pdos::Deviation;
 use conode_compare_rules::{Finding, NmtState};
 use conode_compare_transfers::Breach;
@@ -84,6 +87,32 @@ fn push_pdo(text: &mut String, number: u8, deviation: Deviation) -> Result<(), A
     }
 }
 
+// of a transfer that was aborted so many microseconds after the client's last frame; `time`: the
+// timeout in ms, 0 for none
+fn push_early(text: &mut String, key: Key, waited: u64, time: u16) -> Result<(), AllocError>
+    ensures { OnOk result (string_bytes text.new
+        ≡ string_bytes text.old ++ early_text key waited time) }
+{
+    if time == 0 {
+        return push_key(
+            text,
+            "abort-early: ",
+            key,
+            " was aborted as timed out, and the device has no timeout",
+        );
+    }
+    push_key_time_number(
+        text,
+        "abort-early: ",
+        key,
+        " was aborted as timed out ",
+        waited,
+        " after the client's last frame, the timeout is ",
+        u64::from(time),
+        " ms",
+    )
+}
+
 // what is different in an open transfer
 #[tactic(auto, unfolding(crate::specs::FindingTexts::transfer_text))]
 fn push_transfer(text: &mut String, breach: Breach) -> Result<(), AllocError>
@@ -127,6 +156,7 @@ fn push_transfer(text: &mut String, breach: Breach) -> Result<(), AllocError>
             ", that of its bytes is ",
             u64::from(computed),
         ),
+        Breach::Early(key, waited, time) => push_early(text, key, waited, time),
     }
 }
 

@@ -14,6 +14,7 @@ ghost use Rattle.conode_compare_text.specs.FindingTexts.{
   keyed_number,
   keyed_numbers,
   keyed_time,
+  keyed_time_number,
   keyed_values,
   millis_text,
   named,
@@ -249,6 +250,25 @@ pub(crate) fn push_key_time(
     push_words(text, middle)?;
     push_millis(text, micros)?;
     push_words(text, end)
+}
+
+/// A key, a time in microseconds and a number between words.
+#[tactic(auto, unfolding(crate::specs::FindingTexts::keyed_time_number))]
+pub(crate) fn push_key_time_number(
+    text: &mut String,
+    front: &str,
+    key: Key,
+    middle: &str,
+    micros: u64,
+    last: &str,
+    number: u64,
+    end: &str,
+) -> Result<(), AllocError>
+    ensures { OnOk result (string_bytes text.new ≡ string_bytes text.old
+        ++ keyed_time_number front.now key middle.now micros last.now number end.now) }
+{
+    push_key_time(text, front, key, middle, micros, last)?;
+    push_number(text, "", number, end)
 }
 
 /// A key and a number between words.
