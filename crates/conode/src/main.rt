@@ -279,6 +279,7 @@ fn carry_out_task<O: Write, E: Write>(
                 drift: timing.drift,
                 answer: timing.answer,
                 boot: timing.boot,
+                time: timing.time,
             };
             let rooms = Rooms {
                 strings: rooms.strings,

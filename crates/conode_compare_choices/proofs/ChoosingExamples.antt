@@ -87,7 +87,7 @@ facts = record { before = entries; booted = entries; pdos = pdos; starts_itself 
 abbrev subject : Subject
 subject = record {
   node = 5;
-  limits = record { tolerance = 10; drift = 1; answer = 1000; boot = 10000 };
+  limits = record { tolerance = 10; drift = 1; answer = 1000; boot = 10000; time = None };
   facts = facts;
   held = record { entries = record { items = [] } };
   rooms = record { strings = None; domains = None };

@@ -19,14 +19,17 @@ use Rattle.conode_explain_transfers.specs.declared.kinds.Side.TheVariants.{Clien
 use Rattle.conode_explain_transfers.specs.declared.kinds.What.{What}
 use Rattle.conode_explain_transfers.specs.declared.kinds.What.TheVariants.{Part, Stray, Unexpected}
 use Rattle.conode_compare_transfers.specs.declared.dialogue.Exchange.{Exchange}
+use Rattle.conode_compare_transfers.specs.Timeouts.{resumed_after, served_key}
 use Rattle.conode_compare_rules.specs.declared.kind.FrameKind.{FrameKind}
 use Rattle.conode_compare_rules.specs.declared.finding.Remark.TheVariants.{EarlyHeartbeat, Restarted as RestartedRemark}
 use Rattle.conode_compare_rules.specs.declared.kind.FrameKind.TheVariants.{Command, Control, Sdo, Other}
+use Rattle.conode_compare_rules.specs.declared.limits.Limits.{Limits}
 use Rattle.conode_compare_choices.specs.declared.choice.Choice.{Choice}
-use Rattle.conode_compare_choices.specs.declared.choice.Choice.TheVariants.{Segments, NoSize, ShortSegment, NoCrc, BlockSize, Switched, Code, Timeout, Heartbeat}
+use Rattle.conode_compare_choices.specs.declared.choice.Choice.TheVariants.{Segments, NoSize, ShortSegment, NoCrc, BlockSize, Switched, Code, Timeout, NoTimeout, Heartbeat}
 use Rattle.conode_compare_choices.specs.Choices.{choice_at}
 use Rattle.conode_compare_choices.specs.RefusalCodes.{code_choice, sheet_code}
 use Rattle.conode_compare_choices.specs.Requests.{nothing_requested, request_code}
+use Rattle.conode_compare_choices.specs.Timeouts.{resumed_with, timeout_choice}
 
 abbrev key : Key
 key = record { index = 0x2000; sub = 1 }
@@ -52,6 +55,7 @@ exchange certain what of ended = Some (record {
   owed = true;
   certain = certain;
   breach = None;
+  awaited = None;
 })
 
 -- an answer with this first byte, of 2000:01, and these bytes from byte 4 on
@@ -175,6 +179,7 @@ switched switches first ended = choice_at [] nothing_requested (answer first [])
   owed = true;
   certain = true;
   breach = None;
+  awaited = None;
 })) None
 
 switched_to_one_frame : switched true 0x43 (transfer Upload Expedited (Done false) 4 []) ≡ Some (Switched key)
@@ -316,3 +321,41 @@ of_read_only = refl
 of_another_entry : code_choice sheet nothing_requested None (record { id = 0x585; bytes = 0x80 ∷ 1 ∷ 0x20 ∷ 0 ∷ [] }) (refused_of 0x2000 0 Download Expedited (5 ∷ [])) 0x06010000 ≡ None
 unfolding code_choice sheet_code
 of_another_entry = refl
+
+-- ---- a transfer that goes on after the timeout
+
+abbrev timing : Option ℕ → Limits
+timing time = record { tolerance = 10; drift = 1; answer = 1000; boot = 10000; time = time }
+
+abbrev goes_on_after : Option ℕ → Option ℕ → Option Exchange → Option Choice
+goes_on_after time waited e = timeout_choice (timing time) waited (answer 0 (0 ∷ [])) e
+
+-- 1000 ms, with 10 ms and 1 %
+after_the_timeout : map (λ waited. goes_on_after (Some 1000) (Some waited) (exchange true Part (Some key) None)) (1020000 ∷ 1020001 ∷ [])
+    ≡ None ∷ Some (NoTimeout key 1020001 1000) ∷ []
+unfolding timeout_choice served_key
+after_the_timeout = refl
+
+-- it isn't known when the device times out; it never does; nothing was awaited; an earlier request may
+-- be answered
+no_timeout : goes_on_after None (Some 5000000) (exchange true Part (Some key) None) ∷ goes_on_after (Some 0) (Some 5000000) (exchange true Part (Some key) None)
+    ∷ goes_on_after (Some 1000) None (exchange true Part (Some key) None) ∷ goes_on_after (Some 1000) (Some 5000000) (exchange false Part (Some key) None) ∷ []
+    ≡ None ∷ None ∷ None ∷ None ∷ []
+unfolding timeout_choice served_key
+no_timeout = refl
+
+-- the end of the transfer, an abort, and a frame of no transfer
+after_timeout_by : map (goes_on_after (Some 1000) (Some 5000000)) (exchange true Part None (transfer Upload Segmented (Done false) 9 []) ∷ exchange true Part None (transfer Upload Segmented (Aborted Server (record { 0 = 0x05040000 })) 9 []) ∷ exchange true Unexpected (Some key) None ∷ [])
+    ≡ Some (NoTimeout key 5000000 1000) ∷ None ∷ None ∷ []
+unfolding timeout_choice served_key
+after_timeout_by = refl
+
+not_by_the_client : timeout_choice (timing (Some 1000)) (Some 5000000) (Sdo Client (record { id = 0x605; bytes = [] })) (exchange true Part (Some key) None) ≡ None
+unfolding timeout_choice served_key
+not_by_the_client = refl
+
+-- the client's frame, a heartbeat, and the device's answer
+resumed_by : resumed_with (Some 3) (Sdo Client (record { id = 0x605; bytes = [] })) (exchange true Part (Some key) None) ∷ resumed_with (Some 3) (Control 5) None ∷ resumed_with (Some 3) (answer 0 []) (exchange true Part (Some key) None) ∷ []
+    ≡ Some 3 ∷ Some 3 ∷ None ∷ []
+unfolding resumed_after
+resumed_by = refl

@@ -19,9 +19,10 @@ use Rattle.conode_compare_choices.specs.Choices.{choice_at}
 use Rattle.conode_compare_choices.specs.LengthErrors.{error_choice, errors_with, no_errors}
 use Rattle.conode_compare_choices.specs.Phases.{no_phases, phase_choice, phases_with}
 use Rattle.conode_compare_choices.specs.Requests.{nothing_requested, request_of}
+use Rattle.conode_compare_choices.specs.Timeouts.{resumed_with, timeout_choice}
 
 abbrev pub nothing_chosen : Choosing
-nothing_chosen = record { request = nothing_requested; phases = no_phases; errors = no_errors }
+nothing_chosen = record { request = nothing_requested; phases = no_phases; errors = no_errors; resumed = None }
 
 -- the newest initiate request
 abbrev pub request_after : FrameContent → What → Request → Request
@@ -46,6 +47,7 @@ taken subject rows choosing kind progress = record {
   request = request_with choosing.request kind progress.exchange;
   phases = phases_with subject rows choosing.phases kind progress;
   errors = errors_with subject rows choosing.errors kind progress;
+  resumed = resumed_with choosing.resumed kind progress.exchange;
 }
 
 abbrev pub choosing_with : Subject → List Row → Choosing → FrameKind → Progress → Choosing
@@ -54,8 +56,9 @@ choosing_with subject rows choosing kind progress = taken subject rows (choosing
 -- what the device chose with a frame: one of its choices
 unfoldable pub choice_in : Subject → List Row → Choosing → FrameKind → Progress → Option Choice
 choice_in subject rows choosing kind progress =
-    option_or (option_or (choice_at rows choosing.request kind progress.exchange progress.remark) (phase_choice choosing.phases kind progress))
-    (error_choice subject choosing.errors kind progress)
+    option_or (timeout_choice subject.limits choosing.resumed kind progress.exchange)
+    (option_or (option_or (choice_at rows choosing.request kind progress.exchange progress.remark) (phase_choice choosing.phases kind progress))
+    (error_choice subject choosing.errors kind progress))
 
 abbrev pub chosen_at : Subject → List Row → Choosing → FrameKind → Progress → Option Choice
 chosen_at subject rows choosing kind progress = choice_in subject rows (choosing_before choosing progress) kind progress

@@ -4,3 +4,4 @@ pub mod LengthErrors
 pub mod Phases
 pub mod RefusalCodes
 pub mod Requests
+pub mod Timeouts

@@ -24,6 +24,9 @@ pub enum Choice {
     Code(Key, u32, u32),
     /// `choice-timeout`: the device aborts a transfer since it timed out.
     Timeout(Key),
+    /// `choice-timeout`: the device goes on with a transfer so many microseconds after the client's
+    /// frame before, though it times out after so many ms.
+    NoTimeout(Key, u64, u16),
     /// `choice-heartbeat`: a heartbeat comes so many microseconds after the last one, and 1017:00
     /// has so many ms.
     Heartbeat(u64, u16),

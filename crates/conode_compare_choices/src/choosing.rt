@@ -19,6 +19,7 @@ use crate::choices::choice_at;
 use crate::length_errors::LengthErrors;
 use crate::phases::Phases;
 use crate::request::Request;
+use crate::timeouts::{resumed_with, timeout_choice};
 use co_sheet::EntryRow;
 use conode_compare_rules::{FrameKind, Progress, Subject};
 use conode_compare_transfers::Exchange;
@@ -33,6 +34,9 @@ pub struct Choosing {
     pub phases: Phases,
     /// For which frames an EMCY is awaited.
     pub errors: LengthErrors,
+    /// How many microseconds the device had awaited the client's newest frame in the open transfer,
+    /// where it hasn't answered that.
+    pub resumed: Option<u64>,
 }
 
 // the newest initiate request after a frame
@@ -57,6 +61,7 @@ impl Choosing {
             request: Request::nothing(),
             phases: Phases::unknown(),
             errors: LengthErrors::unknown(),
+            resumed: None,
         }
     }
 
@@ -82,7 +87,7 @@ impl Choosing {
         ensures { result
             ≡ choice_in subject.now (map row_view rows.now) self.now kind.now progress.now }
     {
-        choice_at(
+        let other = choice_at(
             rows,
             &self.request,
             kind,
@@ -90,7 +95,8 @@ impl Choosing {
             progress.remark,
         )
         .or(self.phases.choice(kind, progress))
-        .or(self.errors.choice(subject, kind, progress))
+        .or(self.errors.choice(subject, kind, progress));
+        timeout_choice(&subject.limits, self.resumed, kind, &progress.exchange).or(other)
     }
 
     // what is known after a frame
@@ -109,6 +115,7 @@ impl Choosing {
         self.request = request_with(self.request, kind, &progress.exchange);
         self.phases.take(subject, rows, kind, progress);
         self.errors.take(subject, rows, kind, progress);
+        self.resumed = resumed_with(self.resumed, kind, &progress.exchange);
     }
 
     /// Takes a frame by what it is to the device, and what the recording shows with it. Returns

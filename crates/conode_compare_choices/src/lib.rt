@@ -9,6 +9,7 @@ mod length_error;
 mod length_errors;
 mod phases;
 mod request;
+mod timeouts;
 
 pub use choice::Choice;
 pub use choosing::Choosing;

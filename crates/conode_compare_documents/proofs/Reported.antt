@@ -36,7 +36,7 @@ about = record {
   recording = codes "a.log";
   interface = None;
   node = 5;
-  limits = record { tolerance = 10; drift = 1; answer = 1000; boot = 10000 };
+  limits = record { tolerance = 10; drift = 1; answer = 1000; boot = 10000; time = None };
   rows = heartbeat_row ∷ [];
   vendor_name = Some (codes "A\"B");
   product_name = None;

@@ -23,7 +23,7 @@ use Rattle.conode_explain_transfers.specs.Followed.{Followed, Following, followe
 use Rattle.conode_explain_laws.proofs.Readings.{same as same_reading}
 use Rattle.conode_explain_laws.proofs.UploadViews.{hears, hears_answers}
 use Rattle.conode_explain_laws.proofs.Views.{View}
-use Rattle.conode_compare_transfers.specs.declared.breach.Breach.TheVariants.{AbortKey, Form}
+use Rattle.conode_compare_transfers.specs.declared.breach.Breach.TheVariants.{AbortKey, Early, Form}
 use Rattle.conode_compare_transfers.specs.declared.dialogue.Dialogue.{Dialogue}
 use Rattle.conode_compare_transfers.specs.declared.newest.Newest.{Newest}
 use Rattle.conode_compare_transfers.specs.declared.newest.Newest.TheVariants.{Acknowledge, AllAcknowledged, Data, LastData, LaterAcknowledge, LaterData, Request}
@@ -49,6 +49,7 @@ use Rattle.conode_compare_laws.proofs.Runs.{AllRun}
 -- ---- what is found of a transfer
 
 no_data : (finding : Finding) → is_breach finding ≡ false → of_data (Some finding) ≡ []
+no_data (Transfer (Early key waited time)) off = refl
 no_data (Transfer breach) off = absurd (cc)
 no_data _ off = refl
 

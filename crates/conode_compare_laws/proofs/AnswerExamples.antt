@@ -36,7 +36,7 @@ sheet = record { period = Some 0; emergencies = true; inhibit = Some 0; inhibit_
 abbrev subject : Subject
 subject = record {
   node = 5;
-  limits = record { tolerance = 10; drift = 1; answer = 1000; boot = 10000 };
+  limits = record { tolerance = 10; drift = 1; answer = 1000; boot = 10000; time = None };
   facts = record { before = sheet; booted = sheet; pdos = unknown_pdos; starts_itself = false; modular = false; stores = false };
   held = record { entries = record { items = [] } };
   rooms = record { strings = None; domains = None };

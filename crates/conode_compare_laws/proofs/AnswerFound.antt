@@ -26,7 +26,7 @@ use Rattle.conode_compare_rules.specs.declared.limits.Limits.{Limits}
 use Rattle.conode_compare_rules.specs.declared.limits.Subject.{Subject}
 use Rattle.conode_compare_rules.specs.declared.nmt.Commanded.{Commanded}
 use Rattle.conode_compare_rules.specs.declared.nmt.Nmt.{Nmt}
-use Rattle.conode_compare_rules.specs.Answers.{answer_finding, answers_in, breach_finding, ended_finding, finding_of, held_finding, is_abort, is_exact, known_answer, late_after, late_answer, overdue_answer, refuses_other, shows_stopped, silence_finding, silence_of, stopped_finding, stopped_with, value_finding, what_finding}
+use Rattle.conode_compare_rules.specs.Answers.{answer_finding, answers_in, breach_finding, ended_finding, finding_of, held_finding, is_abort, is_exact, known_answer, late_after, late_answer, overdue_answer, refuses_other, shows_stopped, silence_finding, silence_of, stopped_finding, stopped_with, transfer_breach, value_finding, what_finding}
 use Rattle.conode_compare_rules.specs.EmergencyRules.{is_stopped}
 use Rattle.conode_compare_rules.specs.States.{is_settled}
 use Rattle.conode_compare_laws.specs.AnswerFindings.{of_answers}
@@ -105,7 +105,7 @@ unasked_answer subject rows micros x frame none h = by x.certain
     by : (certain : Bool) → of_answers (if certain then option_or (overdue_answer subject.limits x micros) (known_answer subject rows x frame) else None) ≡ []
     by true =
         only_or (overdue_answer subject.limits x micros) (known_answer subject rows x frame) (unasked_late subject.limits x micros none)
-        (only_or (what_finding subject rows x frame) (breach_finding x.breach) (none_of_what subject rows x frame none h) (no_breach x.breach))
+        (only_or (what_finding subject rows x frame) (breach_finding (transfer_breach subject.limits x)) (none_of_what subject rows x frame none h) (no_breach (transfer_breach subject.limits x)))
     by false = refl
 
 unasked_stopped : (limits : Limits) (started : ℕ) (nmt : Nmt) (x : Exchange) → x.asked ≡ None → of_answers (stopped_finding limits started nmt x) ≡ []
@@ -162,7 +162,7 @@ asked_answer subject rows micros x frame a is e part = by x.certain
     by : (certain : Bool) → of_answers (if certain then option_or (overdue_answer subject.limits x micros) (known_answer subject rows x frame) else None) ≡ []
     by true =
         only_or (overdue_answer subject.limits x micros) (known_answer subject rows x frame) (asked_late subject.limits x a micros is e)
-        (only_or (what_finding subject rows x frame) (breach_finding x.breach) (asked_what subject rows x frame part) (no_breach x.breach))
+        (only_or (what_finding subject rows x frame) (breach_finding (transfer_breach subject.limits x)) (asked_what subject rows x frame part) (no_breach (transfer_breach subject.limits x)))
     by false = refl
 
 pub answered : (subject : Subject) (rows : List Row) (written : Written) (started micros : ℕ) (nmt : Nmt) (x : Exchange) (frame : FrameContent) (a : Asked) → x.asked ≡ Some a → a.micros ≡ micros

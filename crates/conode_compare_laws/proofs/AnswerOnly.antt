@@ -1,9 +1,10 @@
 -- Of the findings at a frame of the channel those within its transfer: at an answer, and at a request, which may confirm a block upload.
 use Rattle.std.proofs.Common.{◌≡◌, ℕ, ◌-◌, Bool, true, false, List, [], Option, Some, None, refl}
-use Rattle.std.specs.Prelude.{◌&&◌, if◌then◌else◌, option_map}
+use Rattle.std.specs.Prelude.{◌&&◌, if◌then◌else◌, option_map, option_and_then}
 use Rattle.std.specs.Option.{option_or}
 use Rattle.co_frame.specs.FrameContent.{FrameContent}
 use Rattle.co_sheet.specs.Content.{Row}
+use Rattle.co_value.specs.declared.key.Key.{Key}
 use Rattle.conode_explain_transfers.specs.declared.ended.Ended.{Ended}
 use Rattle.conode_explain_transfers.specs.declared.kinds.Side.TheVariants.{Client, Server}
 use Rattle.conode_explain_transfers.specs.declared.kinds.What.{What}
@@ -13,9 +14,12 @@ use Rattle.conode_compare_held.specs.declared.written.Written.{Written}
 use Rattle.conode_compare_held.specs.HeldNumbers.{held_mismatch}
 use Rattle.conode_compare_values.specs.declared.mismatch.Mismatch.{Mismatch}
 use Rattle.conode_compare_values.specs.SheetValues.{mismatch_at}
+use Rattle.conode_compare_transfers.specs.declared.breach.Breach.{Breach}
+use Rattle.conode_compare_transfers.specs.declared.breach.Breach.TheVariants.{Early}
 use Rattle.conode_compare_transfers.specs.declared.dialogue.Asked.{Asked}
 use Rattle.conode_compare_transfers.specs.declared.dialogue.Exchange.{Exchange}
 use Rattle.conode_compare_transfers.specs.Dialogues.{exchange_in, is_timed}
+use Rattle.conode_compare_transfers.specs.Timeouts.{early_abort, early_breach, early_end, is_early, times_out}
 use Rattle.conode_compare_transfers.specs.Times.{is_past}
 use Rattle.conode_compare_rules.specs.declared.finding.Finding.{Finding}
 use Rattle.conode_compare_rules.specs.declared.finding.Finding.TheVariants.{AnswerStopped, Held, NoAnswer, Transfer, Unasked}
@@ -24,14 +28,15 @@ use Rattle.conode_compare_rules.specs.declared.limits.Limits.{Limits}
 use Rattle.conode_compare_rules.specs.declared.limits.Subject.{Subject}
 use Rattle.conode_compare_rules.specs.declared.nmt.Nmt.{Nmt}
 use Rattle.conode_compare_rules.specs.declared.progress.Progress.{Progress}
-use Rattle.conode_compare_rules.specs.Answers.{answer_finding, breach_finding, confirmed_finding, ended_finding, finding_of, held_finding, is_abort, is_exact, known_answer, late_answer, overdue_answer, refuses_other, stopped_finding, stopped_with, value_finding, what_finding}
+use Rattle.conode_compare_rules.specs.Answers.{answer_finding, breach_finding, confirmed_finding, ended_finding, finding_of, held_finding, is_abort, is_exact, known_answer, late_answer, overdue_answer, refuses_other, stopped_finding, stopped_with, transfer_breach, value_finding, what_finding}
 use Rattle.conode_compare_rules.specs.EmergencyRules.{is_stopped}
 use Rattle.conode_compare_rules.specs.Progresses.{answer_findings, answer_noted, confirmed_findings, exchange_at, findings_in, late_noted, request_findings}
 use Rattle.conode_compare_rules.specs.States.{is_settled}
 use Rattle.conode_compare_rules.specs.Verdicts.{found}
 
--- a difference within a transfer
+-- a difference within a transfer, but that the device times out early
 abbrev pub is_breach : Finding → Bool
+is_breach (Transfer (Early key waited time)) = false
 is_breach (Transfer breach) = true
 is_breach _ = false
 
@@ -95,6 +100,35 @@ module _ (only : Option Finding → List Finding) (nothing : only None ≡ []) (
   unfolding what_finding
   what_none subject rows x frame = what_by subject rows x frame x.heard.what
 
+  early_if : (b : Bool) (key : Key) (waited time : ℕ) → only (breach_finding (if b then Some (Early key waited time) else None)) ≡ []
+  early_if true key waited time = others _ refl
+  early_if false key waited time = nothing
+
+  early_by : (tolerance drift : ℕ) (key : Key) (waited : ℕ) (time : Option ℕ) → only (breach_finding (option_and_then (early_breach tolerance drift key waited) time)) ≡ []
+  early_by tolerance drift key waited None = nothing
+  early_by tolerance drift key waited (Some time) = early_if (is_early tolerance drift time waited) key waited time
+
+  early_when : (tolerance drift : ℕ) (key : Key) (time awaited : Option ℕ) → only (breach_finding (option_and_then (λ waited. option_and_then (early_breach tolerance drift key waited) time) awaited)) ≡ []
+  early_when tolerance drift key time None = nothing
+  early_when tolerance drift key time (Some waited) = early_by tolerance drift key waited time
+
+  early_of : (tolerance drift : ℕ) (time awaited : Option ℕ) (ended : Option Ended) → only (breach_finding (option_and_then (early_end tolerance drift time awaited) ended)) ≡ []
+  early_of tolerance drift time awaited None = nothing
+  early_of tolerance drift time awaited (Some e) = by (times_out e.ending)
+    where
+      by : (b : Bool) → only (breach_finding (if b then option_and_then (λ waited. option_and_then (early_breach tolerance drift e.key waited) time) awaited else None)) ≡ []
+      by true = early_when tolerance drift e.key time awaited
+      by false = nothing
+
+  breach_or : (b e : Option Breach) → only (breach_finding b) ≡ [] → only (breach_finding e) ≡ [] → only (breach_finding (option_or b e)) ≡ []
+  breach_or None e p q = q
+  breach_or (Some b) e p q = p
+
+  within_none : (limits : Limits) (x : Exchange) → only (breach_finding x.breach) ≡ [] → only (breach_finding (transfer_breach limits x)) ≡ []
+  within_none limits x h =
+      breach_or x.breach (early_abort limits.tolerance limits.drift limits.time x) h
+      (early_of limits.tolerance limits.drift limits.time x.awaited x.heard.ended)
+
   answer_none : (subject : Subject) (rows : List Row) (micros : ℕ) (x : Exchange) (frame : FrameContent) → (x.certain ≡ true → only (breach_finding x.breach) ≡ []) → only (answer_finding subject rows micros x frame) ≡ []
   unfolding answer_finding
   answer_none subject rows micros x frame h = by x.certain h
@@ -104,7 +138,8 @@ module _ (only : Option Finding → List Finding) (nothing : only None ≡ []) (
       by false h = nothing
       by true h =
           only_or (overdue_answer subject.limits x micros) (known_answer subject rows x frame) (overdue_none subject.limits x micros)
-          (only_or (what_finding subject rows x frame) (breach_finding x.breach) (what_none subject rows x frame) (h refl))
+          (only_or (what_finding subject rows x frame) (breach_finding (transfer_breach subject.limits x)) (what_none subject rows x frame)
+          (within_none subject.limits x (h refl)))
 
   -- an answer
   pub server_found : (subject : Subject) (rows : List Row) (p : Progress) (micros : ℕ) (frame : FrameContent)

@@ -67,7 +67,7 @@ use Rattle.conode_explain_laws.proofs.Exchanges.{same_toggle}
 use Rattle.conode_explain_laws.proofs.Readings.{Abort, Reading, Response, follows_by, reading_of, response_reading}
 use Rattle.conode_explain_laws.proofs.Views.{abort_is, is_abort_reading, is_begin, server_no_begin}
 use Rattle.conode_compare_transfers.specs.declared.breach.Breach.{Breach}
-use Rattle.conode_compare_transfers.specs.declared.breach.Breach.TheVariants.{AbortKey, Form, Size}
+use Rattle.conode_compare_transfers.specs.declared.breach.Breach.TheVariants.{AbortKey, Early, Form, Size}
 use Rattle.conode_compare_transfers.specs.declared.dialogue.Dialogue.{Dialogue}
 use Rattle.conode_compare_transfers.specs.declared.newest.Newest.{Newest}
 use Rattle.conode_compare_transfers.specs.declared.newest.Newest.TheVariants.{Acknowledge, AllAcknowledged, Data, LastData, LaterAcknowledge, LaterData, Request}
@@ -107,6 +107,7 @@ use Rattle.conode_compare_laws.proofs.AnswerTurns.{in_blocks}
 -- ---- what is found
 
 no_toggle : (finding : Finding) → is_breach finding ≡ false → of_toggles (Some finding) ≡ []
+no_toggle (Within (Early key waited time)) off = refl
 no_toggle (Within breach) off = absurd (cc)
 no_toggle _ off = refl
 

@@ -31,6 +31,7 @@ use Rattle.conode_explain_laws.proofs.Readings.{Request, Nothing, follows_by, re
 use Rattle.conode_explain_laws.proofs.Views.{server_no_begin}
 use Rattle.conode_compare_transfers.specs.declared.dialogue.Dialogue.{Dialogue}
 use Rattle.conode_compare_transfers.specs.declared.newest.Newest.{Newest}
+use Rattle.conode_compare_transfers.specs.declared.breach.Breach.TheVariants.{Early}
 use Rattle.conode_compare_transfers.specs.Breaches.{breach_at, breach_by, ending_breach}
 use Rattle.conode_compare_transfers.specs.Dialogues.{dialogue_heard, exchange_in, leaves_request_open, may_be_segment}
 use Rattle.conode_compare_rules.specs.declared.finding.Finding.{Finding}
@@ -57,6 +58,7 @@ use Rattle.conode_compare_laws.proofs.Runs.{AllRun, joined}
 -- ---- what isn't of these kinds
 
 no_other : (finding : Finding) → is_breach finding ≡ false → of_transfers (Some finding) ≡ []
+no_other (Within (Early key waited time)) off = refl
 no_other (Within breach) off = absurd (cc)
 no_other _ off = refl
 

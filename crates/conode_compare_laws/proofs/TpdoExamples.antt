@@ -38,7 +38,7 @@ sheet = record { period = Some 0; emergencies = true; inhibit = Some 0; inhibit_
 abbrev with_pdos : Pdos → Subject
 with_pdos pdos = record {
   node = 5;
-  limits = record { tolerance = 10; drift = 1; answer = 1000; boot = 10000 };
+  limits = record { tolerance = 10; drift = 1; answer = 1000; boot = 10000; time = None };
   facts = record { before = sheet; booted = sheet; pdos = pdos; starts_itself = false; modular = false; stores = false };
   held = record { entries = record { items = [] } };
   rooms = record { strings = None; domains = None };

@@ -66,6 +66,7 @@ exchange certain what of ended = Some (record {
   owed = true;
   certain = certain;
   breach = None;
+  awaited = None;
 })
 
 -- ---- what is learned
@@ -175,7 +176,7 @@ settings = refl
 abbrev subject : Subject
 subject = record {
   node = 5;
-  limits = record { tolerance = 10; drift = 1; answer = 1000; boot = 10000 };
+  limits = record { tolerance = 10; drift = 1; answer = 1000; boot = 10000; time = None };
   facts = record (facts_of [] 5 false) { stores = true };
   held = record { entries = record { items = record { key = entry_key 1 0; width = 2; mappable = false } ∷ [] } };
   rooms = record { strings = None; domains = None };

@@ -3,13 +3,13 @@ use Rattle.std.specs.Prelude.{ℕ, List, codes}
 use Rattle.conode_compare_pdos.specs.declared.deviation.Deviation.{Deviation}
 use Rattle.conode_compare_pdos.specs.declared.deviation.Deviation.TheVariants.{Length, NotOperational, WithoutSync, Inhibit, Timer}
 use Rattle.conode_compare_transfers.specs.declared.breach.Breach.{Breach}
-use Rattle.conode_compare_transfers.specs.declared.breach.Breach.TheVariants.{Toggle, Form, Size, Crc}
+use Rattle.conode_compare_transfers.specs.declared.breach.Breach.TheVariants.{Toggle, Form, Size, Crc, Early}
 use Rattle.conode_compare_values.specs.declared.mismatch.Mismatch.{Mismatch}
 use Rattle.conode_compare_values.specs.declared.mismatch.Mismatch.TheVariants.{ConstText, ReadRefused, Written, AboveLimit, BelowLimit, BeyondRoom}
 use Rattle.conode_compare_rules.specs.declared.finding.Finding.{Finding}
 use Rattle.conode_compare_rules.specs.declared.finding.Finding.TheVariants.{SecondBootUp, NoState, WrongState, EmergencyStopped, Unasked, AnswerStopped, Transfer, Value, Held, Pdo}
 use Rattle.conode_compare_report.specs.declared.kind.Kind.{Kind}
-use Rattle.conode_compare_report.specs.declared.kind.Kind.TheVariants.{HeartbeatLate, HeartbeatState, HeartbeatLength, PdoLength, PdoState, PdoSync, PdoInhibit, PdoLate, BootMissing, SecondSender, EmergencyLength, EmergencyState, EmergencyRegister, EmergencyInhibit, NoAnswer, AnswerKey, AnswerForm, AnswerToggle, AnswerSize, AnswerCrc, AnswerState, AbortKey, ValueLength, ValueConst, ValueHeld, AccessRead, AccessWrite, AccessLimits}
+use Rattle.conode_compare_report.specs.declared.kind.Kind.TheVariants.{HeartbeatLate, HeartbeatState, HeartbeatLength, PdoLength, PdoState, PdoSync, PdoInhibit, PdoLate, BootMissing, SecondSender, EmergencyLength, EmergencyState, EmergencyRegister, EmergencyInhibit, NoAnswer, AnswerKey, AnswerForm, AnswerToggle, AnswerSize, AnswerCrc, AnswerState, AbortKey, AbortEarly, ValueLength, ValueConst, ValueHeld, AccessRead, AccessWrite, AccessLimits}
 
 abbrev pub of_deviation : Deviation → Kind
 of_deviation (Length length mapped) = PdoLength
@@ -24,6 +24,7 @@ of_breach (Form key) = AnswerForm
 of_breach (Breach.AbortKey key) = AbortKey
 of_breach (Size key indicated bytes) = AnswerSize
 of_breach (Crc key came computed) = AnswerCrc
+of_breach (Early key waited time) = AbortEarly
 
 abbrev pub of_mismatch : Mismatch → Kind
 of_mismatch (Mismatch.ValueLength key length width) = ValueLength
@@ -80,6 +81,7 @@ kind_name AnswerSize = codes "answer-size"
 kind_name AnswerCrc = codes "answer-crc"
 kind_name AnswerState = codes "answer-state"
 kind_name AbortKey = codes "abort-key"
+kind_name AbortEarly = codes "abort-early"
 kind_name ValueLength = codes "value-length"
 kind_name ValueConst = codes "value-const"
 kind_name ValueHeld = codes "value-held"
@@ -111,6 +113,7 @@ kind_rule AnswerSize = codes "an upload has as many bytes as it indicates (CiA 3
 kind_rule AnswerCrc = codes "a block upload ends with the CRC of its bytes (CiA 301, 7.2.4.3.16)"
 kind_rule AnswerState = codes "no SDO is served in the NMT state stopped (CiA 301, 7.3.2.2)"
 kind_rule AbortKey = codes "an abort has the multiplexer of its transfer (CiA 301, 7.2.4.3.17)"
+kind_rule AbortEarly = codes "no transfer is aborted as timed out before its timeout (CiA 301, 7.2.4.3.17)"
 kind_rule ValueLength = codes "a number has as many bytes as its data type (CiA 301, 7.4.7.1)"
 kind_rule ValueConst = codes "a constant entry has the value of the data sheet (CiA 301, 7.4)"
 kind_rule ValueHeld = codes "an entry that is named as held keeps what is written to it"
@@ -142,9 +145,10 @@ kind_number AnswerSize = 18
 kind_number AnswerCrc = 19
 kind_number AnswerState = 20
 kind_number AbortKey = 21
-kind_number ValueLength = 22
-kind_number ValueConst = 23
-kind_number ValueHeld = 24
-kind_number AccessRead = 25
-kind_number AccessWrite = 26
-kind_number AccessLimits = 27
+kind_number AbortEarly = 22
+kind_number ValueLength = 23
+kind_number ValueConst = 24
+kind_number ValueHeld = 25
+kind_number AccessRead = 26
+kind_number AccessWrite = 27
+kind_number AccessLimits = 28

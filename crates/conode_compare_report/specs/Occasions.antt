@@ -29,7 +29,7 @@ use Rattle.conode_compare_report.specs.declared.before.Role.{Role}
 use Rattle.conode_compare_report.specs.declared.before.Role.TheVariants.{Tpdo}
 use Rattle.conode_compare_report.specs.declared.kind.Counted.{Counted}
 use Rattle.conode_compare_report.specs.declared.kind.Kind.{Kind}
-use Rattle.conode_compare_report.specs.declared.kind.Kind.TheVariants.{HeartbeatLate, HeartbeatState, HeartbeatLength, PdoLength, PdoState, PdoSync, PdoInhibit, PdoLate, BootMissing, SecondSender, EmergencyLength, EmergencyState, EmergencyRegister, EmergencyInhibit, NoAnswer, AnswerKey, AnswerForm, AnswerToggle, AnswerSize, AnswerCrc, AnswerState, AbortKey, ValueLength, ValueConst, ValueHeld, AccessRead, AccessWrite, AccessLimits}
+use Rattle.conode_compare_report.specs.declared.kind.Kind.TheVariants.{HeartbeatLate, HeartbeatState, HeartbeatLength, PdoLength, PdoState, PdoSync, PdoInhibit, PdoLate, BootMissing, SecondSender, EmergencyLength, EmergencyState, EmergencyRegister, EmergencyInhibit, NoAnswer, AnswerKey, AnswerForm, AnswerToggle, AnswerSize, AnswerCrc, AnswerState, AbortKey, AbortEarly, ValueLength, ValueConst, ValueHeld, AccessRead, AccessWrite, AccessLimits}
 use Rattle.conode_compare_report.specs.Counts.{changed_at, one_more}
 use Rattle.conode_compare_report.specs.Kinds.{kind_number}
 
@@ -45,7 +45,7 @@ no_counts =
     ∷ none_of PdoSync ∷ none_of PdoInhibit ∷ none_of PdoLate ∷ none_of BootMissing ∷ none_of SecondSender
     ∷ none_of EmergencyLength ∷ none_of EmergencyState ∷ none_of EmergencyRegister ∷ none_of EmergencyInhibit
     ∷ none_of NoAnswer ∷ none_of AnswerKey ∷ none_of AnswerForm ∷ none_of AnswerToggle ∷ none_of AnswerSize
-    ∷ none_of AnswerCrc ∷ none_of AnswerState ∷ none_of AbortKey ∷ none_of ValueLength ∷ none_of ValueConst
+    ∷ none_of AnswerCrc ∷ none_of AnswerState ∷ none_of AbortKey ∷ none_of AbortEarly ∷ none_of ValueLength ∷ none_of ValueConst
     ∷ none_of ValueHeld ∷ none_of AccessRead ∷ none_of AccessWrite ∷ none_of AccessLimits ∷ []
 
 -- a frame could have shown a difference, and shows none

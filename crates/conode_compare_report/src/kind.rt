@@ -34,6 +34,7 @@ pub enum Kind {
     AnswerCrc,
     AnswerState,
     AbortKey,
+    AbortEarly,
     ValueLength,
     ValueConst,
     ValueHeld,
@@ -43,7 +44,7 @@ pub enum Kind {
 }
 
 /// Each kind once, in this order.
-pub(crate) const KINDS: [Kind; 28] = [
+pub(crate) const KINDS: [Kind; 29] = [
     Kind::HeartbeatLate,
     Kind::HeartbeatState,
     Kind::HeartbeatLength,
@@ -66,6 +67,7 @@ pub(crate) const KINDS: [Kind; 28] = [
     Kind::AnswerCrc,
     Kind::AnswerState,
     Kind::AbortKey,
+    Kind::AbortEarly,
     Kind::ValueLength,
     Kind::ValueConst,
     Kind::ValueHeld,
@@ -75,7 +77,7 @@ pub(crate) const KINDS: [Kind; 28] = [
 ];
 
 /// Their names, in this order.
-static NAMES: [&str; 28] = [
+static NAMES: [&str; 29] = [
     "heartbeat-late",
     "heartbeat-state",
     "heartbeat-length",
@@ -98,6 +100,7 @@ static NAMES: [&str; 28] = [
     "answer-crc",
     "answer-state",
     "abort-key",
+    "abort-early",
     "value-length",
     "value-const",
     "value-held",
@@ -107,7 +110,7 @@ static NAMES: [&str; 28] = [
 ];
 
 /// What CiA 301 prescribes of each, in this order.
-static RULES: [&str; 28] = [
+static RULES: [&str; 29] = [
     "a heartbeat comes within the producer heartbeat time, 1017:00 (CiA 301, 7.2.8.3.2)",
     "a heartbeat has the NMT state that the commands gave (CiA 301, 7.3.2.2)",
     "a frame of error control has one byte (CiA 301, 7.2.8.3.2)",
@@ -130,6 +133,7 @@ static RULES: [&str; 28] = [
     "a block upload ends with the CRC of its bytes (CiA 301, 7.2.4.3.16)",
     "no SDO is served in the NMT state stopped (CiA 301, 7.3.2.2)",
     "an abort has the multiplexer of its transfer (CiA 301, 7.2.4.3.17)",
+    "no transfer is aborted as timed out before its timeout (CiA 301, 7.2.4.3.17)",
     "a number has as many bytes as its data type (CiA 301, 7.4.7.1)",
     "a constant entry has the value of the data sheet (CiA 301, 7.4)",
     "an entry that is named as held keeps what is written to it",
@@ -170,6 +174,7 @@ fn of_breach(breach: Breach) -> Kind
         Breach::AbortKey(_) => Kind::AbortKey,
         Breach::Size(_, _, _) => Kind::AnswerSize,
         Breach::Crc(_, _, _) => Kind::AnswerCrc,
+        Breach::Early(_, _, _) => Kind::AbortEarly,
     }
 }
 

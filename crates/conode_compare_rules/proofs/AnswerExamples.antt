@@ -6,12 +6,13 @@ use Rattle.co_frame.specs.declared.nmt.NmtService.TheVariants.{Stop}
 use Rattle.co_profile.specs.declared.access.Access.TheVariants.{Rw, Constant}
 use Rattle.co_sheet.specs.Limits.{absent, number}
 use Rattle.co_value.specs.declared.data_type.DataType.TheVariants.{Unsigned32, VisibleString}
-use Rattle.conode_explain_transfers.specs.declared.ended.Ending.TheVariants.{Done}
+use Rattle.conode_explain_transfers.specs.declared.ended.Ending.TheVariants.{Aborted, Done}
 use Rattle.conode_explain_transfers.specs.declared.kinds.Direction.TheVariants.{Download, Upload}
 use Rattle.conode_explain_transfers.specs.declared.kinds.Protocol.{Protocol}
 use Rattle.conode_explain_transfers.specs.declared.kinds.Protocol.TheVariants.{Expedited, Segmented, Block}
+use Rattle.conode_explain_transfers.specs.declared.kinds.Side.TheVariants.{Server}
 use Rattle.conode_explain_transfers.specs.declared.kinds.What.TheVariants.{Part}
-use Rattle.conode_compare_transfers.specs.declared.breach.Breach.TheVariants.{Toggle}
+use Rattle.conode_compare_transfers.specs.declared.breach.Breach.TheVariants.{Early, Toggle}
 use Rattle.conode_compare_transfers.specs.declared.dialogue.Exchange.{Exchange}
 use Rattle.conode_compare_values.specs.declared.mismatch.Mismatch.TheVariants.{BeyondRoom, ValueConst, ValueLength}
 use Rattle.conode_compare_values.specs.SheetValues.{mismatch_at, row_mismatch, value_mismatch}
@@ -21,7 +22,7 @@ use Rattle.conode_compare_rules.specs.declared.finding.Finding.TheVariants.{Answ
 use Rattle.conode_compare_rules.specs.declared.finding.NmtState.TheVariants.{Operational, Stopped}
 use Rattle.conode_compare_rules.specs.declared.limits.Subject.{Subject}
 use Rattle.conode_compare_rules.specs.declared.nmt.Nmt.{Nmt}
-use Rattle.conode_compare_rules.specs.Answers.{confirmed_finding, ended_finding, held_finding, is_exact, stopped_finding}
+use Rattle.conode_compare_rules.specs.Answers.{answer_finding, confirmed_finding, ended_finding, held_finding, is_exact, stopped_finding, what_finding}
 use Rattle.conode_compare_rules.specs.EntriesInForce.{facts_of}
 use Rattle.conode_compare_rules.specs.States.{is_settled}
 use Rattle.conode_compare_rules.proofs.Examples.{limits, key, row}
@@ -44,6 +45,7 @@ answered_in certain = record {
   owed = true;
   certain = certain;
   breach = Some (Toggle (key 0x1000 0));
+  awaited = None;
 }
 
 answered_stopped : stopped_finding limits 0 (stopped_at 100000) (answered_in true) ≡ Some (AnswerStopped (key 0x1000 0))
@@ -102,6 +104,7 @@ uploaded_in_blocks count bytes = record {
   owed = false;
   certain = true;
   breach = None;
+  awaited = None;
 }
 
 abbrev confirmed_value : ℕ → List ℕ → Option Finding
@@ -151,3 +154,43 @@ written_in_segments count = ended_finding device (row 0x2005 0 VisibleString Rw 
 beyond_the_room : written_in_segments 16 ∷ written_in_segments 17 ∷ [] ≡ None ∷ Some (Value (BeyondRoom (key 0x2005 0) 17 16)) ∷ []
 unfolding row_mismatch mismatch_at facts_of
 beyond_the_room = refl
+
+-- ---- a server that times out
+
+-- it aborts a transfer of 2000:01 as timed out, 979,999 µs after the client's last frame
+abbrev gives_up : Bool → Exchange
+gives_up certain = record {
+  heard = record {
+    what = Part;
+    of = None;
+    ended = Some (record {
+      key = key 0x2000 1;
+      direction = Upload;
+      protocol = Segmented;
+      bytes = 7;
+      first = record { items = [] };
+      frames = 5;
+      begun = 1;
+      newest = 2;
+      end = 3;
+      ending = Aborted Server (record { 0 = 0x05040000 });
+    });
+  };
+  asked = None;
+  owed = false;
+  certain = certain;
+  breach = None;
+  awaited = Some 979999;
+}
+
+abbrev abort_frame : FrameContent
+abort_frame = record { id = 0x585; bytes = 0x80 ∷ 0 ∷ 0x20 ∷ 1 ∷ 0 ∷ 0 ∷ 4 ∷ 5 ∷ [] }
+
+-- after 1000 ms, or that isn't known
+abbrev given_up : Option ℕ → Bool → Option Finding
+given_up time certain = answer_finding (record device { limits = record limits { time = time } }) [] 3 (gives_up certain) abort_frame
+
+given_up_early : given_up (Some 1000) true ∷ given_up None true ∷ given_up (Some 1000) false ∷ []
+    ≡ Some (Transfer (Early (key 0x2000 1) 979999 1000)) ∷ None ∷ None ∷ []
+unfolding answer_finding what_finding mismatch_at row_mismatch facts_of
+given_up_early = refl

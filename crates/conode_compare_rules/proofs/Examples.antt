@@ -39,7 +39,7 @@ use Rattle.conode_compare_rules.specs.States.{either_state, after_boot_up, after
 
 -- 10 ms, 1 %, 1 s and 10 s
 abbrev pub limits : Limits
-limits = record { tolerance = 10; drift = 1; answer = 1000; boot = 10000 }
+limits = record { tolerance = 10; drift = 1; answer = 1000; boot = 10000; time = None }
 
 -- ---- heartbeats
 

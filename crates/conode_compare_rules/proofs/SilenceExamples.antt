@@ -11,7 +11,7 @@ use Rattle.conode_compare_rules.specs.Answers.{shows_stopped, silence_finding}
 use Rattle.conode_compare_rules.specs.States.{is_settled}
 
 abbrev limits : Limits
-limits = record { tolerance = 10; drift = 1; answer = 1000; boot = 10000 }
+limits = record { tolerance = 10; drift = 1; answer = 1000; boot = 10000; time = None }
 
 abbrev operational : Nmt
 operational = record { state = Operational; commanded = None; reset = None; several = false; booted = None }

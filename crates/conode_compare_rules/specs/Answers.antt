@@ -28,6 +28,7 @@ use Rattle.conode_compare_rules.specs.declared.nmt.Nmt.{Nmt}
 use Rattle.conode_compare_transfers.specs.Dialogues.{is_certain, is_timed}
 use Rattle.conode_compare_rules.specs.EmergencyRules.{is_stopped}
 use Rattle.conode_compare_rules.specs.States.{is_settled}
+use Rattle.conode_compare_transfers.specs.Timeouts.{early_abort}
 use Rattle.conode_compare_transfers.specs.Times.{is_past}
 
 -- abort SDO transfer, cs = 4
@@ -96,8 +97,13 @@ overdue_answer limits exchange micros = if exchange.owed then late_answer limits
 abbrev pub breach_finding : Option Breach → Option Finding
 breach_finding breach = option_map (λ b. Transfer b) breach
 
+-- that, or that the server times out too early
+abbrev pub transfer_breach : Limits → Exchange → Option Breach
+transfer_breach limits exchange = option_or exchange.breach (early_abort limits.tolerance limits.drift limits.time exchange)
+
 abbrev pub known_answer : Subject → List Row → Exchange → FrameContent → Option Finding
-known_answer subject rows exchange frame = option_or (what_finding subject rows exchange frame) (breach_finding exchange.breach)
+known_answer subject rows exchange frame =
+    option_or (what_finding subject rows exchange frame) (breach_finding (transfer_breach subject.limits exchange))
 
 -- the difference of an answer, where no earlier request can be answered
 unfoldable pub answer_finding : Subject → List Row → ℕ → Exchange → FrameContent → Option Finding

@@ -28,7 +28,7 @@ use co_frame::Frame;
 use co_sheet::EntryRow;
 use conode_compare_held::Written;
 use conode_compare_transfers::{
-    Asked, Breach, Dialogue, Exchange, byte_at, is_past, is_timed, key_in,
+    Asked, Breach, Dialogue, Exchange, byte_at, early_abort, is_past, is_timed, key_in,
 };
 use conode_compare_values::mismatch_at;
 use conode_explain_transfers::{Ended, Protocol, What};
@@ -143,7 +143,9 @@ fn known_answer(
     requires { AllPairs (λ e f. is_key_before e.key f.key ≡ true) rows.now }
     ensures { result ≡ known_answer subject.now (map row_view rows.now) exchange.now frame.now }
 {
-    what_finding(subject, rows, exchange, frame).or(breach_finding(exchange.breach))
+    let limits = &subject.limits;
+    let early = early_abort(limits.tolerance, limits.drift, limits.time, exchange);
+    what_finding(subject, rows, exchange, frame).or(breach_finding(exchange.breach.or(early)))
 }
 
 /// `answer-state`: the answer to a request that came while the device was stopped, once the

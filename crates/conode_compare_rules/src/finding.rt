@@ -55,8 +55,8 @@ pub enum Finding {
     /// `answer-state`: a request for this entry, which came while the device was stopped, is
     /// answered.
     AnswerStopped(Key),
-    /// `answer-toggle`, `answer-form`, `answer-size`, `answer-crc`, `abort-key`: a difference in an
-    /// open transfer.
+    /// `answer-toggle`, `answer-form`, `answer-size`, `answer-crc`, `abort-key`, `abort-early`: a
+    /// difference in an open transfer.
     Transfer(Breach),
     /// `value-length`, `value-const`, `access-read`, `access-write`, `access-limits`: a transfer
     /// ended otherwise than the data sheet has its entry.

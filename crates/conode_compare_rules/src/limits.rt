@@ -18,6 +18,9 @@ pub struct Limits {
     pub answer: u32,
     /// How long the device may take from a reset command to its boot-up, in ms.
     pub boot: u32,
+    /// For how long its SDO server awaits a client's next frame, in ms, where that is known; 0: it
+    /// never times out.
+    pub time: Option<u16>,
 }
 
 /// The device that is compared.

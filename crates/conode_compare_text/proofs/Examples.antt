@@ -9,11 +9,11 @@ use Rattle.conode_explain_values.specs.declared.value_type.ValueType.TheVariants
 use Rattle.conode_explain_values.specs.Numbers.{number_text}
 use Rattle.conode_explain_values.specs.Values.{value_text}
 use Rattle.conode_compare_pdos.specs.declared.deviation.Deviation.TheVariants.{Length, NotOperational, WithoutSync, Inhibit, Timer}
-use Rattle.conode_compare_transfers.specs.declared.breach.Breach.TheVariants.{Toggle, Form, AbortKey, Size, Crc}
+use Rattle.conode_compare_transfers.specs.declared.breach.Breach.TheVariants.{Toggle, Form, AbortKey, Size, Crc, Early}
 use Rattle.conode_compare_values.specs.declared.mismatch.Mismatch.TheVariants.{ValueLength, ValueConst, ConstText, ReadRefused, Written, AboveLimit, BelowLimit, BeyondRoom}
 use Rattle.conode_compare_rules.specs.declared.finding.Finding.TheVariants.{BootMissing, SecondBootUp, HeartbeatLength, NoState, WrongState, HeartbeatLate, EmergencyLength, EmergencyRegister, EmergencyInhibit, NoAnswer, AnswerKey, AnswerForm, AnswerStopped, Transfer, Value, Held, Pdo}
 use Rattle.conode_compare_rules.specs.declared.finding.NmtState.TheVariants.{PreOperational, Operational}
-use Rattle.conode_compare_choices.specs.declared.choice.Choice.TheVariants.{Segments, NoSize, ShortSegment, NoCrc, BlockSize, Switched, Code, Timeout, Heartbeat, Phase, NoEmergency, OtherEmergency}
+use Rattle.conode_compare_choices.specs.declared.choice.Choice.TheVariants.{Segments, NoSize, ShortSegment, NoCrc, BlockSize, Switched, Code, Timeout, NoTimeout, Heartbeat, Phase, NoEmergency, OtherEmergency}
 use Rattle.conode_compare_choices.specs.declared.length_error.LengthError.TheVariants.{ShortRpdo, LongRpdo, OddSync}
 use Rattle.conode_compare_notes.specs.declared.warning.Warning.TheVariants.{Changed, ChangedBytes, OddCode, OtherError, OtherRevision, OtherText, Restarted, SteppedBack, Stored}
 use Rattle.conode_compare_text.specs.ChoiceTexts.{choice_line, choice_text, choices_summary}
@@ -169,6 +169,14 @@ abort_key : finding_text plain (Transfer (AbortKey key)) ≡ codes "abort-key: 1
 unfolding finding_text transfer_text digits_text filled
 abort_key = refl
 
+abort_early : finding_text plain (Transfer (Early key 120001 1000)) ≡ codes "abort-early: 1018:01 was aborted as timed out 120.001 ms after the client's last frame, the timeout is 1000 ms"
+unfolding finding_text transfer_text millis_text digits_text digits filled
+abort_early = refl
+
+abort_without_timeout : finding_text plain (Transfer (Early key 120001 0)) ≡ codes "abort-early: 1018:01 was aborted as timed out, and the device has no timeout"
+unfolding finding_text transfer_text digits_text filled
+abort_without_timeout = refl
+
 size : finding_text plain (Transfer (Size key 10 9)) ≡ codes "answer-size: 1018:01 has 9 bytes, its response to initiate has 10"
 unfolding finding_text transfer_text digits_text digits filled
 size = refl
@@ -232,6 +240,10 @@ other_emcy = refl
 choice_timeout : choice_text (Timeout key) ≡ codes "choice-timeout: the transfer of 1018:01 is aborted since it timed out"
 unfolding choice_text digits_text filled
 choice_timeout = refl
+
+choice_no_timeout : choice_text (NoTimeout key 1500000 1000) ≡ codes "choice-timeout: the transfer of 1018:01 goes on 1500.000 ms after the client's frame before, the timeout is 1000 ms"
+unfolding choice_text millis_text digits_text digits filled
+choice_no_timeout = refl
 
 choice_at_line : choice_line (codes "r.log") 12 (NoCrc key) ≡ codes "r.log:12: choice-crc: 1018:01 is transferred in blocks without a CRC" ++ 10 ∷ []
 unfolding choice_line choice_text digits_text digits filled line_front

@@ -3,7 +3,7 @@ use Rattle.std.specs.Prelude.{ℕ, List, [], ◌∷◌, ◌++◌, codes, decimal
 use Rattle.co_value.specs.KeyTexts.{key_text}
 use Rattle.conode_text.specs.Filled.{filled}
 use Rattle.conode_compare_choices.specs.declared.choice.Choice.{Choice}
-use Rattle.conode_compare_choices.specs.declared.choice.Choice.TheVariants.{Segments, NoSize, ShortSegment, NoCrc, BlockSize, Switched, Code, Timeout, Heartbeat, Phase, NoEmergency, OtherEmergency}
+use Rattle.conode_compare_choices.specs.declared.choice.Choice.TheVariants.{Segments, NoSize, ShortSegment, NoCrc, BlockSize, Switched, Code, Timeout, NoTimeout, Heartbeat, Phase, NoEmergency, OtherEmergency}
 use Rattle.conode_compare_choices.specs.declared.length_error.LengthError.{LengthError}
 use Rattle.conode_compare_choices.specs.declared.length_error.LengthError.TheVariants.{ShortRpdo, LongRpdo, OddSync}
 use Rattle.conode_compare_text.specs.declared.tally.Tally.{Tally}
@@ -45,6 +45,9 @@ choice_text (Code key came fitting) =
 choice_text (Timeout key) =
     filled (codes "choice-timeout: the transfer of % is aborted since it timed out")
     (key_text key ∷ [])
+choice_text (NoTimeout key waited time) =
+    filled (codes "choice-timeout: the transfer of % goes on % after the client's frame before, the timeout is % ms")
+    (key_text key ∷ millis_text waited ∷ decimal time ∷ [])
 choice_text (Heartbeat passed period) =
     filled (codes "choice-heartbeat: % since the last one, 1017:00 has % ms")
     (millis_text passed ∷ decimal period ∷ [])

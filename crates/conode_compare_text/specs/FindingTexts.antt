@@ -1,12 +1,13 @@
 -- The line of a difference.
-use Rattle.std.specs.Prelude.{ℕ, ◌*◌, List, [], ◌∷◌, codes, decimal}
+use Rattle.std.specs.Prelude.{ℕ, ◌*◌, ◌==◌, if◌then◌else◌, List, [], ◌∷◌, codes, decimal}
 use Rattle.co_text.specs.Printed.{digits_text}
+use Rattle.co_value.specs.declared.key.Key.{Key}
 use Rattle.co_value.specs.KeyTexts.{key_text}
 use Rattle.conode_explain_values.specs.declared.value_type.ValueType.{ValueType}
 use Rattle.conode_compare_pdos.specs.declared.deviation.Deviation.{Deviation}
 use Rattle.conode_compare_pdos.specs.declared.deviation.Deviation.TheVariants.{Length, NotOperational, WithoutSync, Inhibit, Timer}
 use Rattle.conode_compare_transfers.specs.declared.breach.Breach.{Breach}
-use Rattle.conode_compare_transfers.specs.declared.breach.Breach.TheVariants.{Toggle, Form, AbortKey, Size, Crc}
+use Rattle.conode_compare_transfers.specs.declared.breach.Breach.TheVariants.{Toggle, Form, AbortKey, Size, Crc, Early}
 use Rattle.conode_compare_values.specs.declared.mismatch.Mismatch.{Mismatch}
 use Rattle.conode_compare_values.specs.declared.mismatch.Mismatch.TheVariants.{ValueLength, ValueConst, ConstText, ReadRefused, Written, AboveLimit, BelowLimit, BeyondRoom}
 use Rattle.conode_compare_rules.specs.declared.finding.Finding.{Finding}
@@ -39,6 +40,17 @@ pdo_text number (Timer passed timer) =
     filled (codes "pdo-late: TPDO% % since the last one, its event timer has % ms")
     (decimal number ∷ millis_text passed ∷ decimal timer ∷ [])
 
+-- of a transfer that was aborted so long after the client's last frame; with a timeout of 0 ms there is
+-- none
+abbrev pub early_text : Key → ℕ → ℕ → List ℕ
+early_text key waited time =
+    if time == 0 then
+    filled (codes "abort-early: % was aborted as timed out, and the device has no timeout")
+    (key_text key ∷ [])
+    else
+    filled (codes "abort-early: % was aborted as timed out % after the client's last frame, the timeout is % ms")
+    (key_text key ∷ millis_text waited ∷ decimal time ∷ [])
+
 -- in an open transfer
 unfoldable pub transfer_text : Breach → List ℕ
 transfer_text (Toggle key) =
@@ -55,6 +67,7 @@ transfer_text (Size key indicated bytes) =
 transfer_text (Crc key came computed) =
     filled (codes "answer-crc: % has the CRC %, that of its bytes is %")
     (key_text key ∷ hexadecimal came ∷ hexadecimal computed ∷ [])
+transfer_text (Early key waited time) = early_text key waited time
 
 -- at the end of a transfer, where the values of the entry have this type
 unfoldable pub mismatch_text : ValueType → Mismatch → List ℕ

@@ -97,6 +97,15 @@ fn push_choice(text: &mut String, choice: Choice) -> Result<(), AllocError>
             "choice-timeout: the transfer of % is aborted since it timed out",
             &[Value::Key(key)],
         ),
+        Choice::NoTimeout(key, waited, time) => push_filled(
+            text,
+            "choice-timeout: the transfer of % goes on % after the client's frame before, the timeout is % ms",
+            &[
+                Value::Key(key),
+                Value::Millis(waited),
+                Value::Number(u64::from(time)),
+            ],
+        ),
         Choice::Heartbeat(passed, period) => push_filled(
             text,
             "choice-heartbeat: % since the last one, 1017:00 has % ms",

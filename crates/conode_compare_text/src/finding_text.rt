@@ -2,6 +2,7 @@
 
 ghost use Rattle.std.specs.Prelude.{◌≡◌, ◌++◌, OnOk, string_bytes};
 ghost use Rattle.conode_compare_text.specs.FindingTexts.{
+  early_text,
   finding_line,
   finding_text,
   mismatch_text,
@@ -11,6 +12,7 @@ ghost use Rattle.conode_compare_text.specs.FindingTexts.{
 };
 
 use crate::value::{Value, set_front};
+use co_value::Key;
 use conode_compare_pdos::Deviation;
 use conode_compare_rules::{Finding, NmtState};
 use conode_compare_transfers::Breach;
@@ -77,6 +79,30 @@ fn push_pdo(text: &mut String, number: u8, deviation: Deviation) -> Result<(), A
     }
 }
 
+// of a transfer that was aborted so many microseconds after the client's last frame; `time`: the
+// timeout in ms, 0 for none
+fn push_early(text: &mut String, key: Key, waited: u64, time: u16) -> Result<(), AllocError>
+    ensures { OnOk result (string_bytes text.new
+        ≡ string_bytes text.old ++ early_text key waited time) }
+{
+    if time == 0 {
+        return push_filled(
+            text,
+            "abort-early: % was aborted as timed out, and the device has no timeout",
+            &[Value::Key(key)],
+        );
+    }
+    push_filled(
+        text,
+        "abort-early: % was aborted as timed out % after the client's last frame, the timeout is % ms",
+        &[
+            Value::Key(key),
+            Value::Millis(waited),
+            Value::Number(u64::from(time)),
+        ],
+    )
+}
+
 // what is different in an open transfer
 #[tactic(auto, unfolding(crate::specs::FindingTexts::transfer_text))]
 fn push_transfer(text: &mut String, breach: Breach) -> Result<(), AllocError>
@@ -116,6 +142,7 @@ fn push_transfer(text: &mut String, breach: Breach) -> Result<(), AllocError>
                 Value::Hexadecimal(u64::from(computed)),
             ],
         ),
+        Breach::Early(key, waited, time) => push_early(text, key, waited, time),
     }
 }
 

@@ -35,7 +35,7 @@ abbrev pub nothing_left : Left
 nothing_left = record { count = 0; newest = 0 }
 
 abbrev pub nothing_asked : Dialogue
-nothing_asked = record { channel = nothing_heard; asked = None; doubted = None; slow = nothing_left; sub_block = false; newest = None }
+nothing_asked = record { channel = nothing_heard; asked = None; doubted = None; slow = nothing_left; sub_block = false; newest = None; requested = 0 }
 
 -- ---- initiate requests
 
@@ -252,6 +252,18 @@ abbrev pub is_in_turn : ℕ → ℕ → Dialogue → Side → What → FrameCont
 is_in_turn answer started dialogue side what frame =
     is_part side what && option_map_or (λ a. answers_in_turn answer started dialogue.doubted frame a) dialogue.asked false
 
+-- ---- how long the client is awaited
+
+-- the stamp of the client's newest frame
+abbrev pub requested_after : Side → ℕ → ℕ → ℕ
+requested_after Client micros requested = micros
+requested_after Server micros requested = requested
+
+-- How long before a frame the device has awaited the client's next one, where it has answered all: its
+-- time for that begins with the client's frame at the earliest, with its own answer at the latest.
+abbrev pub awaited_for : Option Newest → ℕ → ℕ → Option ℕ
+awaited_for newest requested micros = if owes_nothing newest then Some (micros - requested) else None
+
 -- ---- a frame
 
 -- what a frame is, by an end
@@ -263,6 +275,7 @@ exchange_in answer started dialogue micros side frame = record {
   certain = is_certain answer started dialogue.slow dialogue.doubted micros
       && not (is_late_answer side (followed dialogue.channel micros side frame.bytes).says frame);
   breach = breach_at dialogue.newest side (followed dialogue.channel micros side frame.bytes).says frame;
+  awaited = awaited_for dialogue.newest dialogue.requested micros;
 }
 
 abbrev pub doubted_after : Bool → Side → Heard → FrameContent → Option ℕ → ℕ → Option ℕ
@@ -288,6 +301,7 @@ dialogue_heard answer started dialogue micros side frame =
       slow = slow;
       sub_block = sub_block_after side (leaves_block other f.says.ended) f.says.what (byte_at frame 0) dialogue.sub_block;
       newest = newest_heard (is_certain answer started slow doubted micros) side f.says.what frame dialogue.newest;
+      requested = requested_after side micros dialogue.requested;
     }
 
 -- the request wasn't answered in time
@@ -304,4 +318,5 @@ interrupted dialogue micros = record {
   slow = left_after (leaves_slow false dialogue.newest (closed dialogue.channel.transfer micros Interrupted)) micros dialogue.slow;
   sub_block = dialogue.sub_block || leaves_block false (closed dialogue.channel.transfer micros Interrupted);
   newest = None;
+  requested = dialogue.requested;
 }

@@ -31,6 +31,9 @@ pub enum Breach {
     Size(Key, u32, u64),
     /// `answer-crc`: a block upload has this CRC, and its bytes have that one.
     Crc(Key, u16, u16),
+    /// `abort-early`: a transfer is aborted as timed out, so many microseconds after the client's last
+    /// frame, and the server times out after so many ms; with 0 never.
+    Early(Key, u64, u16),
 }
 
 /// A byte of a frame, 0 where it has none there.

@@ -6,6 +6,7 @@ ghost use Rattle.conode_compare_transfers.specs.Dialogues.{
   answers_in_turn,
   asked_after,
   asks_to_write,
+  awaited_for,
   leaves_request_open,
   dialogue_heard,
   doubted_after,
@@ -35,6 +36,7 @@ ghost use Rattle.conode_compare_transfers.specs.Dialogues.{
   continues,
   exchange_in,
   has_key,
+  requested_after,
   sub_block_after,
   word_written,
 };
@@ -79,6 +81,8 @@ pub struct Dialogue {
     /// Whose frame the newest one of the open transfer is, where each of its frames came in its
     /// turn.
     pub newest: Option<Newest>,
+    /// The stamp of the client's newest frame.
+    pub requested: u64,
 }
 
 /// What a frame of the channel is in it.
@@ -95,6 +99,9 @@ pub struct Exchange {
     pub certain: bool,
     /// The difference in the open transfer.
     pub breach: Option<Breach>,
+    /// How many microseconds the device has awaited the client's next frame, since the last one:
+    /// where it has answered that, and each frame of the open transfer came in its turn.
+    pub awaited: Option<u64>,
 }
 
 /// Whether an answer has its time: storing, restoring, and what a program is loaded by (1F00h to
@@ -146,6 +153,27 @@ fn owes_nothing(newest: Option<Newest>) -> bool
         newest,
         Some(Newest::Answer | Newest::Data | Newest::LastData(_) | Newest::LaterData)
     )
+}
+
+// how long before a frame the device has awaited the client's next one, where it has answered all
+fn awaited_for(newest: Option<Newest>, requested: u64, micros: u64) -> Option<u64>
+    ensures { result ≡ awaited_for newest requested micros }
+{
+    if owes_nothing(newest) {
+        Some(micros.saturating_sub(requested))
+    } else {
+        None
+    }
+}
+
+// the stamp of the client's newest frame after a frame by an end
+fn requested_after(side: Side, micros: u64, requested: u64) -> u64
+    ensures { result ≡ requested_after side micros requested }
+{
+    match side {
+        Side::Client => micros,
+        Side::Server => requested,
+    }
 }
 
 // whether a transfer of an entry that may take long was left before its answer
@@ -432,6 +460,7 @@ impl Dialogue {
             slow: Left::new(),
             sub_block: false,
             newest: None,
+            requested: 0,
         }
     }
 
@@ -486,6 +515,7 @@ impl Dialogue {
         let owed = self.owes(answer, started);
         let known = self.is_certain(answer, started, micros);
         let asked = self.asked;
+        let awaited = awaited_for(self.newest, self.requested, micros);
         let heard = self.channel.take(micros, side, frame);
         let breach = breach_at(self.newest, side, &heard, frame);
         let late = is_late_answer(side, &heard, frame);
@@ -499,12 +529,14 @@ impl Dialogue {
         self.sub_block = sub_block_after(side, left, heard.what, byte_at(frame, 0), self.sub_block);
         let judged = self.is_certain(answer, started, micros);
         self.newest = newest_heard(judged, side, heard.what, frame, self.newest);
+        self.requested = requested_after(side, micros, self.requested);
         Exchange {
             heard,
             asked,
             owed,
             certain: known && !late,
             breach,
+            awaited,
         }
     }
 

@@ -195,6 +195,7 @@ timing_fields rows t e =
       drift = chosen (number_of_bits 8) (first_of (codes "drift") rows) drift e1;
       answer = chosen (number_of_bits 32) (first_of (codes "answer") rows) answer e2;
       boot = chosen (number_of_bits 32) (first_of (codes "boot") rows) boot e3;
+      time = refl;
     })))))
 
 rooms_fields : (rows : List Row) → GivesRooms rows (asked_rooms rows)
@@ -399,7 +400,7 @@ timing_is rows t h =
     let drift = choice_is (number_of_bits 8) (first_of (codes "drift") rows) t.drift h.drift in
     let answer = choice_is (number_of_bits 32) (first_of (codes "answer") rows) t.answer h.answer in
     let boot = choice_is (number_of_bits 32) (first_of (codes "boot") rows) t.boot h.boot in
-    rw (tolerance, drift, answer, boot) refl
+    rw (tolerance, drift, answer, boot, ← h.time) refl
 
 rooms_is : (rows : List Row) (r : RoomWords) → GivesRooms rows r → asked_rooms rows ≡ r
 unfolding asked_rooms

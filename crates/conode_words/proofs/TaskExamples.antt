@@ -314,12 +314,12 @@ compare_with_a_sheet : asked_after compare_command (codes "compare") (codes "s" 
       learned = false;
       form = log_form.Auto;
       report_as = report_form.Text;
-      timing = record { tolerance = 10; drift = 1; answer = 1000; boot = 10000 };
+      timing = record { tolerance = 10; drift = 1; answer = 1000; boot = 10000; time = None };
     }))
 unfolding words_on_literals
 compare_with_a_sheet = refl
 
-compare_with_options : asked_after compare_command (codes "compare") (codes "s" ∷ codes "--node=5" ∷ codes "t" ∷ codes "--interface" ∷ codes "can0" ∷ codes "--log=trc" ∷ codes "--format=html" ∷ codes "--held=2001:00,2010:00" ∷ codes "--strings" ∷ codes "65535" ∷ codes "--domains=0" ∷ codes "--choices" ∷ codes "--learned" ∷ codes "--tolerance" ∷ codes "0" ∷ codes "--drift=100" ∷ codes "--answer=4294967295" ∷ codes "--boot=1" ∷ [])
+compare_with_options : asked_after compare_command (codes "compare") (codes "s" ∷ codes "--node=5" ∷ codes "t" ∷ codes "--interface" ∷ codes "can0" ∷ codes "--log=trc" ∷ codes "--format=html" ∷ codes "--held=2001:00,2010:00" ∷ codes "--strings" ∷ codes "65535" ∷ codes "--domains=0" ∷ codes "--choices" ∷ codes "--learned" ∷ codes "--tolerance" ∷ codes "0" ∷ codes "--drift=100" ∷ codes "--answer=4294967295" ∷ codes "--boot=1" ∷ codes "--time=65535" ∷ [])
     ≡ Some (compare (record {
       sheet = codes "s";
       trace = codes "t";
@@ -331,7 +331,7 @@ compare_with_options : asked_after compare_command (codes "compare") (codes "s" 
       learned = true;
       form = log_form.Trc;
       report_as = report_form.Html;
-      timing = record { tolerance = 0; drift = 100; answer = 4294967295; boot = 1 };
+      timing = record { tolerance = 0; drift = 100; answer = 4294967295; boot = 1; time = Some 65535 };
     }))
 unfolding words_on_literals
 compare_with_options = refl
@@ -340,8 +340,8 @@ compare_with_too_much_drift : fault_of compare_command (codes "compare" ∷ code
 unfolding words_on_literals
 compare_with_too_much_drift = refl
 
-compare_with_too_much_room : map (λ word. fault_of compare_command (codes "compare" ∷ codes "s" ∷ codes "t" ∷ word ∷ [])) (codes "--strings=65536" ∷ codes "--domains=65536" ∷ [])
-    ≡ (kind.ValueValidation ∷ []) ∷ (kind.ValueValidation ∷ []) ∷ []
+compare_with_too_much_room : map (λ word. fault_of compare_command (codes "compare" ∷ codes "s" ∷ codes "t" ∷ word ∷ [])) (codes "--strings=65536" ∷ codes "--domains=65536" ∷ codes "--time=65536" ∷ [])
+    ≡ (kind.ValueValidation ∷ []) ∷ (kind.ValueValidation ∷ []) ∷ (kind.ValueValidation ∷ []) ∷ []
 unfolding words_on_literals
 compare_with_too_much_room = refl
 

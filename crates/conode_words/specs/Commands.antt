@@ -156,13 +156,13 @@ stats_command =
 abbrev pub most_ms : ℕ
 most_ms = 4294967295
 
--- a command with how far times may be off, in ms and percent, and how long an answer and a boot-up
--- may take, in ms
+-- a command with how far times may be off, in ms and percent, how long an answer and a boot-up may
+-- take, in ms, and the SDO timeout, in ms, without a default
 abbrev pub with_timing : App → App
 with_timing app =
-    with_rule (with_rule (with_rule (with_rule app (numbered (codes "tolerance") 0 most_ms (codes "10" ∷ [])))
+    with_rule (with_rule (with_rule (with_rule (with_rule app (numbered (codes "tolerance") 0 most_ms (codes "10" ∷ [])))
     (numbered (codes "drift") 0 100 (codes "1" ∷ []))) (numbered (codes "answer") 0 most_ms (codes "1000" ∷ [])))
-    (numbered (codes "boot") 0 most_ms (codes "10000" ∷ []))
+    (numbered (codes "boot") 0 most_ms (codes "10000" ∷ []))) (numbered (codes "time") 0 65535 [])
 
 -- a command with `--strings N` and `--domains N`, without a default
 abbrev pub with_known_rooms : App → App
@@ -171,7 +171,7 @@ with_known_rooms app =
 
 -- `compare SHEET TRACE [--node N] [--interface NAME] [--held KEYS] [--strings N] [--domains N]
 -- [--choices] [--learned] [--log FORM] [--format FORMAT] [--tolerance MS] [--drift PERCENT] [--answer MS]
--- [--boot MS]`
+-- [--boot MS] [--time N]`
 unfoldable pub compare_command : App
 compare_command =
     with_timing (with_rule (with_rule (with_rule (with_rule (with_known_rooms (with_rule (with_rule (with_rule (with_rule (with_rule (new_app (codes "compare"))

@@ -44,12 +44,13 @@ pub record GivesDevice (rows : List Row) (d : DeviceWords) : Type 0 where
   pub dictionary : GivesDictionary rows d.dictionary
   pub time : IsNumber (codes "time") rows d.time
 
--- `--tolerance`, `--drift`, `--answer` and `--boot`
+-- `--tolerance`, `--drift`, `--answer` and `--boot`; and `--time`, if it is used
 pub record GivesTiming (rows : List Row) (t : TimingWords) : Type 0 where
   pub tolerance : IsNumberOf 32 (codes "tolerance") rows t.tolerance
   pub drift : IsNumberOf 8 (codes "drift") rows t.drift
   pub answer : IsNumberOf 32 (codes "answer") rows t.answer
   pub boot : IsNumberOf 32 (codes "boot") rows t.boot
+  pub time : t.time ≡ number_for 16 (codes "time") rows
 
 -- `--strings` and `--domains`, if they are used
 pub record GivesRooms (rows : List Row) (r : RoomWords) : Type 0 where

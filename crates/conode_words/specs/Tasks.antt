@@ -358,7 +358,7 @@ asked_stats rows = asked_stats_of (words_for (codes "sheet") rows) rows
 unfoldable pub asked_timing : List Row → Option TimingWords
 asked_timing rows =
     option_and_then (λ tolerance. option_and_then (λ drift. option_and_then (λ answer. option_map (λ boot.
-    record { tolerance = tolerance; drift = drift; answer = answer; boot = boot })
+    record { tolerance = tolerance; drift = drift; answer = answer; boot = boot; time = number_for 16 (codes "time") rows })
     (number_for 32 (codes "boot") rows)) (number_for 32 (codes "answer") rows)) (number_for 8 (codes "drift") rows))
     (number_for 32 (codes "tolerance") rows)
 

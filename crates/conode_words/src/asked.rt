@@ -288,6 +288,7 @@ fn timing_words(found: &ArgMatches<'_>) -> Option<TimingWords>
         drift,
         answer,
         boot,
+        time: number_u16(found, "time"),
     })
 }
 

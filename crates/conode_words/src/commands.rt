@@ -270,7 +270,7 @@ const STATS: [Word; 5] = [
     RECORDING_FORM,
 ];
 
-const COMPARE: [Word; 15] = [
+const COMPARE: [Word; 16] = [
     DEVICE_SHEET,
     RECORDING,
     Word(
@@ -318,6 +318,11 @@ const COMPARE: [Word; 15] = [
     ),
     Word("answer", NumberedOr(MOST_MS, "1000"), "ms until an answer"),
     Word("boot", NumberedOr(MOST_MS, "10000"), "ms until a boot-up"),
+    Word(
+        "time",
+        Numbered(0, MOST_ROOM),
+        "Its SDO timeout in ms, 0 for none, if known",
+    ),
 ];
 
 const COMMANDS: [Subcommand; 11] = [

@@ -313,9 +313,9 @@ device configuration file (DCF). `-` as TRACE is standard input. Times may
 deviate by --tolerance plus --drift; --answer and --boot limit the wait for an
 answer or a boot-up. An entry that --held names, an integer as 2001:00, has to
 show the number that was written to it last. With --strings and --domains no
-string or domain from 2000h on may take more bytes. --choices lists what the
-device chose where CiA 301 leaves a choice, --learned at the end the numbers
-that SDO transfers showed.
+string or domain from 2000h on may take more bytes. With --time no transfer may
+be aborted as timed out before. --choices lists what the device chose where CiA
+301 leaves a choice, --learned at the end the numbers that SDO transfers showed.
 
   conode compare sensor.eds drive.log --node 5
   conode compare sensor.eds drive.log --node 5 --held 2001:00,2010:00

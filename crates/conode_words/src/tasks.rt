@@ -81,6 +81,8 @@ pub struct TimingWords {
     pub answer: u32,
     /// How long a boot-up may take, in ms.
     pub boot: u32,
+    /// The timeout of its SDO server, in ms; 0: it has none; `None`: it isn't known.
+    pub time: Option<u16>,
 }
 
 /// The room of a recorded device's strings and domains, in bytes; `None`: it isn't known.
