@@ -66,7 +66,7 @@ fn push_choice(text: &mut String, choice: Choice) -> Result<(), AllocError>
         Choice::ShortSegment(key, bytes) => push_filled(
             text,
             "choice-short-segment: % is uploaded, a segment before the last has % bytes",
-            &[Value::Key(key), Value::Number(u64::from(bytes))],
+            &[Value::Key(key), Value::Number(bytes as u64)],
         ),
         Choice::NoCrc(key) => push_filled(
             text,
@@ -76,7 +76,7 @@ fn push_choice(text: &mut String, choice: Choice) -> Result<(), AllocError>
         Choice::BlockSize(key, segments) => push_filled(
             text,
             "choice-block-size: % is downloaded, sub-blocks of % segments are asked for",
-            &[Value::Key(key), Value::Number(u64::from(segments))],
+            &[Value::Key(key), Value::Number(segments as u64)],
         ),
         Choice::Switched(key) => push_filled(
             text,
@@ -88,8 +88,8 @@ fn push_choice(text: &mut String, choice: Choice) -> Result<(), AllocError>
             "choice-code: % is refused with %, and not with %",
             &[
                 Value::Key(key),
-                Value::Hexadecimal(u64::from(came)),
-                Value::Hexadecimal(u64::from(fitting)),
+                Value::Hexadecimal(came as u64),
+                Value::Hexadecimal(fitting as u64),
             ],
         ),
         Choice::Timeout(key) => push_filled(
@@ -103,21 +103,21 @@ fn push_choice(text: &mut String, choice: Choice) -> Result<(), AllocError>
             &[
                 Value::Key(key),
                 Value::Millis(waited),
-                Value::Number(u64::from(time)),
+                Value::Number(time as u64),
             ],
         ),
         Choice::Heartbeat(passed, period) => push_filled(
             text,
             "choice-heartbeat: % since the last one, 1017:00 has % ms",
-            &[Value::Millis(passed), Value::Number(u64::from(period))],
+            &[Value::Millis(passed), Value::Number(period as u64)],
         ),
         Choice::Phase(number, syncs, kind) => push_filled(
             text,
             "choice-phase: TPDO % is sent at SYNC % since the start, its type is %",
             &[
-                Value::Number(u64::from(number)),
-                Value::Number(u64::from(syncs)),
-                Value::Number(u64::from(kind)),
+                Value::Number(number as u64),
+                Value::Number(syncs as u64),
+                Value::Number(kind as u64),
             ],
         ),
         Choice::NoEmergency(error, passed) => push_filled(

@@ -43,37 +43,37 @@ fn push_pdo(text: &mut String, number: u8, deviation: Deviation) -> Result<(), A
             text,
             "pdo-length: TPDO% has % bytes, its mapping %",
             &[
-                Value::Number(u64::from(number)),
-                Value::Number(u64::from(length)),
-                Value::Number(u64::from(mapped)),
+                Value::Number(number as u64),
+                Value::Number(length as u64),
+                Value::Number(mapped as u64),
             ],
         ),
         Deviation::NotOperational => push_filled(
             text,
             "pdo-state: TPDO% while the device isn't operational",
-            &[Value::Number(u64::from(number))],
+            &[Value::Number(number as u64)],
         ),
         Deviation::WithoutSync => push_filled(
             text,
             "pdo-sync: TPDO%, and since its last one no SYNC came",
-            &[Value::Number(u64::from(number))],
+            &[Value::Number(number as u64)],
         ),
         Deviation::Inhibit(passed, inhibit) => push_filled(
             text,
             "pdo-inhibit: TPDO% % since the last one, its inhibit time is %",
             &[
-                Value::Number(u64::from(number)),
+                Value::Number(number as u64),
                 Value::Millis(passed),
-                Value::Millis(u64::from(inhibit) * 100),
+                Value::Millis(inhibit as u64 * 100),
             ],
         ),
         Deviation::Timer(passed, timer) => push_filled(
             text,
             "pdo-late: TPDO% % since the last one, its event timer has % ms",
             &[
-                Value::Number(u64::from(number)),
+                Value::Number(number as u64),
                 Value::Millis(passed),
-                Value::Number(u64::from(timer)),
+                Value::Number(timer as u64),
             ],
         ),
     }
@@ -98,7 +98,7 @@ fn push_early(text: &mut String, key: Key, waited: u64, time: u16) -> Result<(),
         &[
             Value::Key(key),
             Value::Millis(waited),
-            Value::Number(u64::from(time)),
+            Value::Number(time as u64),
         ],
     )
 }
@@ -130,7 +130,7 @@ fn push_transfer(text: &mut String, breach: Breach) -> Result<(), AllocError>
             &[
                 Value::Key(key),
                 Value::Number(bytes),
-                Value::Number(u64::from(indicated)),
+                Value::Number(indicated as u64),
             ],
         ),
         Breach::Crc(key, came, computed) => push_filled(
@@ -138,8 +138,8 @@ fn push_transfer(text: &mut String, breach: Breach) -> Result<(), AllocError>
             "answer-crc: % has the CRC %, that of its bytes is %",
             &[
                 Value::Key(key),
-                Value::Hexadecimal(u64::from(came)),
-                Value::Hexadecimal(u64::from(computed)),
+                Value::Hexadecimal(came as u64),
+                Value::Hexadecimal(computed as u64),
             ],
         ),
         Breach::Early(key, waited, time) => push_early(text, key, waited, time),
@@ -162,7 +162,7 @@ fn push_mismatch(
             &[
                 Value::Key(key),
                 Value::Number(length),
-                Value::Number(u64::from(width)),
+                Value::Number(width as u64),
             ],
         ),
         Mismatch::ValueConst(key, shown, held) => push_filled(
@@ -233,7 +233,7 @@ pub fn push_finding(
         Finding::HeartbeatLength(length) => push_filled(
             text,
             "heartbeat-length: % bytes, not 1",
-            &[Value::Number(u64::from(length))],
+            &[Value::Number(length as u64)],
         ),
         Finding::NoState(byte) => push_filled(
             text,
@@ -251,12 +251,12 @@ pub fn push_finding(
         Finding::HeartbeatLate(passed, period) => push_filled(
             text,
             "heartbeat-late: % since the last one, 1017:00 has % ms",
-            &[Value::Millis(passed), Value::Number(u64::from(period))],
+            &[Value::Millis(passed), Value::Number(period as u64)],
         ),
         Finding::EmergencyLength(length) => push_filled(
             text,
             "emcy-length: % bytes, not 8",
-            &[Value::Number(u64::from(length))],
+            &[Value::Number(length as u64)],
         ),
         Finding::EmergencyStopped => text.push_str("emcy-state: an EMCY while stopped"),
         Finding::EmergencyRegister(code, register) => push_filled(
@@ -267,10 +267,7 @@ pub fn push_finding(
         Finding::EmergencyInhibit(passed, inhibit) => push_filled(
             text,
             "emcy-inhibit: % since the last one, 1015:00 has %",
-            &[
-                Value::Millis(passed),
-                Value::Millis(u64::from(inhibit) * 100),
-            ],
+            &[Value::Millis(passed), Value::Millis(inhibit as u64 * 100)],
         ),
         Finding::NoAnswer(key, passed) => push_filled(
             text,

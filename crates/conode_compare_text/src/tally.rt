@@ -68,7 +68,7 @@ pub(crate) fn push_tally(text: &mut String, node: u8, tally: Tally) -> Result<()
         text,
         "node %: % frames as prescribed, % with a difference, % unjudged",
         &[
-            Value::Number(u64::from(node)),
+            Value::Number(node as u64),
             Value::Number(tally.prescribed),
             Value::Number(tally.different),
             Value::Number(tally.unjudged),
