@@ -1,6 +1,6 @@
 //! What the words after the name of a command ask for.
 
-ghost use Rattle.std.specs.Prelude.{◌≡◌, IfOk, map, option_map};
+ghost use Rattle.std.specs.Prelude.{◌≡◌, IfOk, option_map};
 ghost use Rattle.clap.specs.Words.{found_of, rows_of};
 ghost use Rattle.conode_words.specs.Tasks.{
   asked_adapt,
@@ -12,18 +12,15 @@ ghost use Rattle.conode_words.specs.Tasks.{
   asked_device,
   asked_dictionary,
   asked_explain,
-  asked_explain_of,
   asked_in,
   asked_lines,
   asked_lint,
-  asked_lint_of,
   asked_loop,
   asked_other,
   asked_replay,
   asked_rooms,
   asked_show,
   asked_stats,
-  asked_stats_of,
   asked_timing,
   lines_by,
 };
@@ -73,40 +70,34 @@ fn asked_check<'a>(found: &ArgMatches<'a>) -> Option<Task<'a>>
     Some(Task::Check { sheet, dictionary })
 }
 
-// what the words after `lint` ask for, with its sheets and what it allows
-#[tactic(auto, unfolding(crate::specs::Tasks::asked_lint_of))]
-fn lint_of<'a>(
-    found: &ArgMatches<'a>,
-    sheets: Vec<&'a str>,
-    allowed: Vec<&'a str>,
-) -> Option<Task<'a>>
-    ensures { option_map asked_by result
-        ≡ asked_lint_of (map (λ word. word.now) sheets.entry.items)
-        (map (λ word. word.now) allowed.entry.items) (rows_of (found_of found.now)) }
+// what the words after `lint` ask for; lists are made last, so that no way out before drops them
+#[tactic(auto, unfolding(crate::specs::Tasks::asked_lint, crate::specs::Tasks::asked_lint_of))]
+fn asked_lint<'a>(alloc: Global, found: &ArgMatches<'a>) -> Result<Option<Task<'a>>, AllocError>
+    ensures { IfOk result (λ task.
+        option_map asked_by task ≡ asked_lint (rows_of (found_of found.now))) }
 {
-    let dictionary = dictionary_words(found)?;
-    let format = format_for(found)?;
-    let colours = colours_for(found)?;
-    Some(Task::Lint(LintWords {
+    let Some(dictionary) = dictionary_words(found) else {
+        return Ok(None);
+    };
+    let Some(format) = format_for(found) else {
+        return Ok(None);
+    };
+    let Some(colours) = colours_for(found) else {
+        return Ok(None);
+    };
+    let strict = is_used(found, "strict");
+    let all = is_used(found, "all");
+    let sheets = words_for(alloc, found, "SHEET")?;
+    let allowed = words_for(alloc, found, "allow")?;
+    Ok(Some(Task::Lint(LintWords {
         sheets,
         allowed,
         dictionary,
         format,
         colours,
-        strict: is_used(found, "strict"),
-        all: is_used(found, "all"),
-    }))
-}
-
-// what the words after `lint` ask for
-#[tactic(auto, unfolding(crate::specs::Tasks::asked_lint))]
-fn asked_lint<'a>(alloc: Global, found: &ArgMatches<'a>) -> Result<Option<Task<'a>>, AllocError>
-    ensures { IfOk result (λ task.
-        option_map asked_by task ≡ asked_lint (rows_of (found_of found.now))) }
-{
-    let sheets = words_for(alloc, found, "SHEET")?;
-    let allowed = words_for(alloc, found, "allow")?;
-    Ok(lint_of(found, sheets, allowed))
+        strict,
+        all,
+    })))
 }
 
 // what the words after `decode` ask for
@@ -142,11 +133,21 @@ fn asked_replay<'a>(found: &ArgMatches<'a>) -> Option<Task<'a>>
 fn asked_loop<'a>(found: &ArgMatches<'a>) -> Option<Task<'a>>
     ensures { option_map asked_by result ≡ asked_loop (rows_of (found_of found.now)) }
 {
-    let sheet = word_for(found, "SHEET")?;
-    let key = word_for(found, "KEY")?;
-    let bytes = word_for(found, "HEX")?;
-    let mode = mode_for(found)?;
-    let device = device_words(found)?;
+    let Some(sheet) = word_for(found, "SHEET") else {
+        return None;
+    };
+    let Some(key) = word_for(found, "KEY") else {
+        return None;
+    };
+    let Some(bytes) = word_for(found, "HEX") else {
+        return None;
+    };
+    let Some(mode) = mode_for(found) else {
+        return None;
+    };
+    let Some(device) = device_words(found) else {
+        return None;
+    };
     Some(Task::LoopBack {
         sheet,
         key,
@@ -198,19 +199,29 @@ fn only_words<'a>(found: &ArgMatches<'a>) -> OnlyWords<'a>
     }
 }
 
-// what the words after `explain` ask for, with its sheets
-#[tactic(auto, unfolding(crate::specs::Tasks::asked_explain_of))]
-fn explain_of<'a>(found: &ArgMatches<'a>, sheets: Vec<&'a str>) -> Option<Task<'a>>
-    ensures { option_map asked_by result
-        ≡ asked_explain_of (map (λ word. word.now) sheets.entry.items)
-        (rows_of (found_of found.now)) }
+// what the words after `explain` ask for; the list is made last, as in `lint`
+#[tactic(auto, unfolding(crate::specs::Tasks::asked_explain, crate::specs::Tasks::asked_explain_of))]
+fn asked_explain<'a>(alloc: Global, found: &ArgMatches<'a>) -> Result<Option<Task<'a>>, AllocError>
+    ensures { IfOk result (λ task.
+        option_map asked_by task ≡ asked_explain (rows_of (found_of found.now))) }
 {
-    let trace = word_for(found, "TRACE")?;
-    let stamps = stamps_for(found)?;
-    let colours = colours_for(found)?;
-    let lines_as = lines_as_for(found)?;
-    let form = log_form_for(found)?;
-    Some(Task::Explain {
+    let Some(trace) = word_for(found, "TRACE") else {
+        return Ok(None);
+    };
+    let Some(stamps) = stamps_for(found) else {
+        return Ok(None);
+    };
+    let Some(colours) = colours_for(found) else {
+        return Ok(None);
+    };
+    let Some(lines_as) = lines_as_for(found) else {
+        return Ok(None);
+    };
+    let Some(form) = log_form_for(found) else {
+        return Ok(None);
+    };
+    let sheets = words_for(alloc, found, "sheet")?;
+    Ok(Some(Task::Explain {
         trace,
         sheets,
         stamps,
@@ -222,17 +233,7 @@ fn explain_of<'a>(found: &ArgMatches<'a>, sheets: Vec<&'a str>) -> Option<Task<'
         form,
         only: only_words(found),
         signals: word_for(found, "signal"),
-    })
-}
-
-// what the words after `explain` ask for
-#[tactic(auto, unfolding(crate::specs::Tasks::asked_explain))]
-fn asked_explain<'a>(alloc: Global, found: &ArgMatches<'a>) -> Result<Option<Task<'a>>, AllocError>
-    ensures { IfOk result (λ task.
-        option_map asked_by task ≡ asked_explain (rows_of (found_of found.now))) }
-{
-    let sheets = words_for(alloc, found, "sheet")?;
-    Ok(explain_of(found, sheets))
+    }))
 }
 
 // what the words after `convert` ask for
@@ -245,33 +246,30 @@ fn asked_convert<'a>(found: &ArgMatches<'a>) -> Option<Task<'a>>
     Some(Task::Convert { log, form })
 }
 
-// what the words after `stats` ask for, with its sheets
-#[tactic(auto, unfolding(crate::specs::Tasks::asked_stats_of))]
-fn stats_of<'a>(found: &ArgMatches<'a>, sheets: Vec<&'a str>) -> Option<Task<'a>>
-    ensures { option_map asked_by result
-        ≡ asked_stats_of (map (λ word. word.now) sheets.entry.items)
-        (rows_of (found_of found.now)) }
-{
-    let trace = word_for(found, "TRACE")?;
-    let lines_as = lines_as_for(found)?;
-    let form = log_form_for(found)?;
-    Some(Task::Stats {
-        trace,
-        sheets,
-        bit_rate: word_for(found, "bitrate"),
-        lines_as,
-        form,
-    })
-}
-
-// what the words after `stats` ask for
-#[tactic(auto, unfolding(crate::specs::Tasks::asked_stats))]
+// what the words after `stats` ask for; the list is made last, as in `lint`
+#[tactic(auto, unfolding(crate::specs::Tasks::asked_stats, crate::specs::Tasks::asked_stats_of))]
 fn asked_stats<'a>(alloc: Global, found: &ArgMatches<'a>) -> Result<Option<Task<'a>>, AllocError>
     ensures { IfOk result (λ task.
         option_map asked_by task ≡ asked_stats (rows_of (found_of found.now))) }
 {
+    let Some(trace) = word_for(found, "TRACE") else {
+        return Ok(None);
+    };
+    let Some(lines_as) = lines_as_for(found) else {
+        return Ok(None);
+    };
+    let Some(form) = log_form_for(found) else {
+        return Ok(None);
+    };
+    let bit_rate = word_for(found, "bitrate");
     let sheets = words_for(alloc, found, "sheet")?;
-    Ok(stats_of(found, sheets))
+    Ok(Some(Task::Stats {
+        trace,
+        sheets,
+        bit_rate,
+        lines_as,
+        form,
+    }))
 }
 
 // how far times may be off, by the words
@@ -308,11 +306,21 @@ fn room_words(found: &ArgMatches<'_>) -> RoomWords
 fn asked_compare<'a>(found: &ArgMatches<'a>) -> Option<Task<'a>>
     ensures { option_map asked_by result ≡ asked_compare (rows_of (found_of found.now)) }
 {
-    let sheet = word_for(found, "SHEET")?;
-    let trace = word_for(found, "TRACE")?;
-    let form = log_form_for(found)?;
-    let report_as = report_as_for(found)?;
-    let timing = timing_words(found)?;
+    let Some(sheet) = word_for(found, "SHEET") else {
+        return None;
+    };
+    let Some(trace) = word_for(found, "TRACE") else {
+        return None;
+    };
+    let Some(form) = log_form_for(found) else {
+        return None;
+    };
+    let Some(report_as) = report_as_for(found) else {
+        return None;
+    };
+    let Some(timing) = timing_words(found) else {
+        return None;
+    };
     Some(Task::Compare {
         sheet,
         trace,

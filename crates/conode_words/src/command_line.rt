@@ -2,7 +2,7 @@
 
 ghost use Rattle.std.specs.Prelude.{◌≡◌, map, IfOk, IfSome, IsSomeAnd, option_map, is_some};
 ghost use Rattle.clap.specs.Words.{FailsBy, found_of, rows_of, subcommand_of, subcommand_rows_of};
-ghost use Rattle.conode_words.specs.Commands.{conode_command};
+ghost use Rattle.conode_words.specs.Commands.{IsCommand, conode_command};
 ghost use Rattle.conode_words.specs.Fields.{AsksFor};
 ghost use Rattle.conode_words.specs.Tasks.{
   asked_by,
@@ -139,6 +139,23 @@ fn task_of<'a>(
     Ok(asked_of(alloc, matches)?)
 }
 
+// what the words ask for, by the program's command
+fn task_by<'a>(
+    alloc: Global,
+    command: &mut Command<'a>,
+    words: &'a [&'a str],
+) -> Result<Option<Task<'a>>, Error>
+    requires { IsCommand command.old conode_command }
+    ensures ok { IfOk result (λ task. option_map asked_by task
+        ≡ asked_of (subcommand_of conode_command (map (λ word. word.now) words.entry.now))) }
+    ensures fault { FailsBy (task_fault (map (λ word. word.now) words.entry.now)) result }
+{
+    match command.try_get_matches_from_mut(words) {
+        Ok(matches) => task_of(alloc, command, &matches),
+        Err(error) => Err(error),
+    }
+}
+
 /// What the words ask for; the first of them is the program's name. `None` without a subcommand.
 /// The error has the text for the user, which is about a wrong word or the help that was asked for,
 /// and the exit status.
@@ -152,8 +169,5 @@ pub fn task<'a>(alloc: Global, words: &'a [&'a str]) -> Result<Option<Task<'a>>,
     ensures fault { FailsBy (task_fault (map (λ word. word.now) words.entry.now)) result }
 {
     let mut command = conode_command(alloc)?;
-    match command.try_get_matches_from_mut(words) {
-        Ok(matches) => task_of(alloc, &mut command, &matches),
-        Err(error) => Err(error),
-    }
+    task_by(alloc, &mut command, words)
 }
