@@ -12,10 +12,10 @@ use conode_json::JsonWriter;
 use conode_record::{Content, Identifier};
 use std::alloc::{AllocError, Global};
 
-/// The interface, where the line names it.
+/// The interface, where the line names it; `text` is scratch space.
 pub(crate) fn put_interface(
-    alloc: Global,
     writer: &mut JsonWriter,
+    text: &mut String,
     shows: bool,
     name: &[u8],
 ) -> Result<(), AllocError>
@@ -25,23 +25,23 @@ pub(crate) fn put_interface(
     if !shows {
         return Ok(());
     }
-    let mut text = String::new(alloc);
-    push_name(&mut text, name)?;
+    text.clear();
+    attempt!(push_name(text, name));
     writer.put_text("interface", text.as_str())
 }
 
-/// The identifier.
+/// The identifier; `text` is scratch space.
 pub(crate) fn put_id(
-    alloc: Global,
     writer: &mut JsonWriter,
+    text: &mut String,
     id: Identifier,
 ) -> Result<(), AllocError>
     requires { IsIdentifier id }
     ensures { OnOk result (writer.new ≡ writer.old ++ part_tokens (identifier id)) }
 {
-    let mut text = String::new(alloc);
-    push_id(&mut text, id)?;
-    writer.put_text("id", text.as_str())?;
+    text.clear();
+    attempt!(push_id(text, id));
+    attempt!(writer.put_text("id", text.as_str()));
     match id {
         Identifier::Base(_) | Identifier::Extended(_) => Ok(()),
         Identifier::Error(_) => writer.put_flag("error", true),
@@ -52,22 +52,24 @@ pub(crate) fn put_id(
 fn put_data(
     alloc: Global,
     writer: &mut JsonWriter,
+    digits: &mut String,
     count: usize,
     bytes: &[u8],
 ) -> Result<(), AllocError>
     ensures { OnOk result (writer.new ≡ writer.old ++ data_members count bytes.now) }
 {
-    let mut digits = String::new(alloc);
-    push_bytes(&mut digits, bytes)?;
-    writer.put_number(alloc, "length", count as i128)?;
-    writer.put_numbers("data", bytes)?;
+    digits.clear();
+    attempt!(push_bytes(digits, bytes));
+    attempt!(writer.put_number(alloc, "length", count as i128));
+    attempt!(writer.put_numbers("data", bytes));
     writer.put_text("raw", digits.as_str())
 }
 
-/// The length and the data of a frame.
+/// The length and the data of a frame; `digits` is scratch space.
 pub(crate) fn put_content(
     alloc: Global,
     writer: &mut JsonWriter,
+    digits: &mut String,
     has: &Content<'_>,
 ) -> Result<(), AllocError>
     ensures { OnOk result (writer.new ≡ writer.old ++ part_tokens (content has.now)) }
@@ -75,18 +77,18 @@ pub(crate) fn put_content(
     match has {
         Content::Data(bytes) => {
             let bytes = bytes.to_list();
-            writer.put_text("frame", "data")?;
-            put_data(alloc, writer, bytes.len(), bytes.as_slice())
+            attempt!(writer.put_text("frame", "data"));
+            put_data(alloc, writer, digits, bytes.len(), bytes.as_slice())
         }
         Content::Remote(count) => {
-            writer.put_text("frame", "remote")?;
-            put_data(alloc, writer, usize::from(*count), &[])
+            attempt!(writer.put_text("frame", "remote"));
+            put_data(alloc, writer, digits, usize::from(*count), &[])
         }
         Content::Fd(flags, data) => {
-            writer.put_text("frame", "fd")?;
-            writer.put_number(alloc, "flags", i128::from(*flags))?;
+            attempt!(writer.put_text("frame", "fd"));
+            attempt!(writer.put_number(alloc, "flags", i128::from(*flags)));
             let bytes = data.bytes();
-            put_data(alloc, writer, bytes.len(), bytes.as_slice())
+            put_data(alloc, writer, digits, bytes.len(), bytes.as_slice())
         }
     }
 }

@@ -41,6 +41,7 @@ fn between(from: u64, to: u64) -> i128
 fn put_stamp(
     alloc: Global,
     writer: &mut JsonWriter,
+    text: &mut String,
     form: StampForm,
     times: Times,
 ) -> Result<(), AllocError>
@@ -51,8 +52,8 @@ fn put_stamp(
         StampForm::Absolute => writer.put_number(alloc, "stamp", i128::from(times.now)),
         StampForm::Delta => writer.put_number(alloc, "stamp", between(times.before, times.now)),
         StampForm::Date => {
-            let mut text = String::new(alloc);
-            push_moment(&mut text, times.now)?;
+            text.clear();
+            attempt!(push_moment(text, times.now));
             writer.put_text("stamp", text.as_str())
         }
     }
@@ -89,7 +90,7 @@ fn put_kind(
 ) -> Result<(), AllocError>
     ensures { OnOk result (writer.new ≡ writer.old ++ kind_members kind node) }
 {
-    writer.put_text("kind", kind_name(kind))?;
+    attempt!(writer.put_text("kind", kind_name(kind)));
     match node {
         Some(node) => writer.put_number(alloc, "node", i128::from(node)),
         None => Ok(()),
@@ -101,6 +102,7 @@ fn put_kind(
 fn put_front(
     alloc: Global,
     writer: &mut JsonWriter,
+    text: &mut String,
     form: StampForm,
     times: Times,
     shows: bool,
@@ -110,17 +112,19 @@ fn put_front(
     ensures { OnOk result
         (writer.new ≡ writer.old ++ front_tokens form times shows frame.now) }
 {
-    put_stamp(alloc, writer, form, times)?;
-    put_gap(alloc, writer, times)?;
-    put_interface(alloc, writer, shows, frame.interface.bytes())?;
-    put_id(alloc, writer, frame.id)?;
-    put_content(alloc, writer, &frame.content)
+    attempt!(put_stamp(alloc, writer, text, form, times));
+    attempt!(put_gap(alloc, writer, times));
+    let name = frame.interface.bytes();
+    attempt!(put_interface(writer, text, shows, name));
+    attempt!(put_id(writer, text, frame.id));
+    put_content(alloc, writer, text, &frame.content)
 }
 
 // the tokens of a frame's line in the order in which they are written
 fn put_line(
     alloc: Global,
     writer: &mut JsonWriter,
+    text: &mut String,
     form: StampForm,
     seen: &Seen,
     frame: &Record<'_>,
@@ -138,11 +142,11 @@ fn put_line(
 {
     let times = seen.times(frame.micros);
     let shows = seen.shows_interface(frame.interface.bytes());
-    writer.begin_object()?;
-    put_front(alloc, writer, form, times, shows, frame)?;
-    put_said(alloc, writer, words)?;
-    put_notes(writer, times)?;
-    put_kind(alloc, writer, kind, node)?;
+    attempt!(writer.begin_object());
+    attempt!(put_front(alloc, writer, text, form, times, shows, frame));
+    attempt!(put_said(alloc, writer, words));
+    attempt!(put_notes(writer, times));
+    attempt!(put_kind(alloc, writer, kind, node));
     writer.end_object()
 }
 
@@ -165,8 +169,19 @@ pub fn json_line(
     ensures { IfOk result (λ line. line.items
         ≡ json_line kind node (line_parts form seen.now frame.now words.now)) }
 {
+    let mut text = String::new(alloc);
     let mut writer = JsonWriter::new(alloc);
-    put_line(alloc, &mut writer, form, seen, frame, words, kind, node)?;
+    put_line(
+        alloc,
+        &mut writer,
+        &mut text,
+        form,
+        seen,
+        frame,
+        words,
+        kind,
+        node,
+    )?;
     writer.into_text()
 }
 
@@ -174,6 +189,7 @@ pub fn json_line(
 fn put_own_line(
     alloc: Global,
     writer: &mut JsonWriter,
+    text: &mut String,
     form: StampForm,
     times: Times,
     shows: bool,
@@ -187,11 +203,11 @@ fn put_own_line(
         ++ flat_map part_tokens (interface_parts shows name.now) ++ part_tokens (said words.now)
         ++ kind_members kind node ++ end_object ∷ []) }
 {
-    writer.begin_object()?;
-    put_stamp(alloc, writer, form, times)?;
-    put_interface(alloc, writer, shows, name)?;
-    put_said(alloc, writer, words)?;
-    put_kind(alloc, writer, kind, node)?;
+    attempt!(writer.begin_object());
+    attempt!(put_stamp(alloc, writer, text, form, times));
+    attempt!(put_interface(writer, text, shows, name));
+    attempt!(put_said(alloc, writer, words));
+    attempt!(put_kind(alloc, writer, kind, node));
     writer.end_object()
 }
 
@@ -211,10 +227,12 @@ pub fn own_json_line(
     ensures { IfOk result (λ line. line.items
         ≡ json_line kind node (own_parts form times shows name.now words.now)) }
 {
+    let mut text = String::new(alloc);
     let mut writer = JsonWriter::new(alloc);
     put_own_line(
         alloc,
         &mut writer,
+        &mut text,
         form,
         times,
         shows,

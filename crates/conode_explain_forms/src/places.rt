@@ -68,15 +68,22 @@ fn identifier_in(word: u64) -> Option<u16>
 fn identifier_at(bus: Bus<'_, '_, '_, '_, '_>, node: u8, index: u16, sub: u8) -> Option<u16>
     ensures { result ≡ identifier_at (bus_view bus.entry) node index sub }
 {
-    identifier_in(channel_word(bus, node, Key { index, sub })?)
+    match channel_word(bus, node, Key { index, sub }) {
+        Some(word) => identifier_in(word),
+        None => None,
+    }
 }
 
 #[tactic(auto, unfolding(crate::specs::Places::ids_at))]
 fn ids_at(bus: Bus<'_, '_, '_, '_, '_>, node: u8, index: u16) -> Option<ChannelIds>
     ensures { result ≡ ids_at (bus_view bus.entry) node index }
 {
-    let request = identifier_at(bus, node, index, 1)?;
-    let answer = identifier_at(bus, node, index, 2)?;
+    let Some(request) = identifier_at(bus, node, index, 1) else {
+        return None;
+    };
+    let Some(answer) = identifier_at(bus, node, index, 2) else {
+        return None;
+    };
     Some(ChannelIds { request, answer })
 }
 
@@ -110,9 +117,15 @@ fn side_of(ids: ChannelIds, id: u16) -> Option<Side>
 fn place_at(bus: Bus<'_, '_, '_, '_, '_>, node: u8, index: u16, id: u16) -> Option<Place>
     ensures { result ≡ place_at (bus_view bus.entry) node index id }
 {
-    let ids = ids_at(bus, node, index)?;
-    let side = side_of(ids, id)?;
-    let node = server_at(bus, node, index)?;
+    let Some(ids) = ids_at(bus, node, index) else {
+        return None;
+    };
+    let Some(side) = side_of(ids, id) else {
+        return None;
+    };
+    let Some(node) = server_at(bus, node, index) else {
+        return None;
+    };
     Some(Place { node, ids, side })
 }
 
@@ -124,7 +137,9 @@ fn channel_of(only: Option<u8>, row: &EntryRow<'_>) -> Option<SheetChannel>
     if !((sub == 1 || sub == 2) && is_parameter(index)) {
         return None;
     }
-    let cob_id = cob_id_of(row.default)?;
+    let Some(cob_id) = cob_id_of(row.default) else {
+        return None;
+    };
     Some(SheetChannel {
         only,
         index,
@@ -162,9 +177,22 @@ fn add_channels(
     }
 }
 
+#[tactic(auto, unfolding(crate::specs::Places::channels_of))]
+fn add_all_channels(
+    channels: &mut Vec<SheetChannel>,
+    sheets: &[KnownSheet<'_, '_>],
+) -> Result<(), AllocError>
+    ensures { OnOk result (channels.new.items
+        ≡ channels.old.items ++ channels_of (map known_view sheets.now)) }
+{
+    for sheet in sheets {
+        attempt!(add_channels(channels, sheet));
+    }
+    Ok(())
+}
+
 /// The COB-IDs of SDO channels, other than the default ones, that data sheets have. On an `Err`
 /// memory ran out.
-#[tactic(auto, unfolding(crate::specs::Places::channels_of))]
 pub fn channels_of(
     alloc: Global,
     sheets: &[KnownSheet<'_, '_>],
@@ -172,9 +200,7 @@ pub fn channels_of(
     ensures { IfOk result (λ made. made.items ≡ channels_of (map known_view sheets.now)) }
 {
     let mut channels = Vec::new(alloc);
-    for sheet in sheets {
-        add_channels(&mut channels, sheet)?;
-    }
+    attempt!(add_all_channels(&mut channels, sheets));
     Ok(channels)
 }
 
@@ -182,7 +208,9 @@ pub fn channels_of(
 fn place_by_sheet(bus: Bus<'_, '_, '_, '_, '_>, id: u16, channel: &SheetChannel) -> Option<Place>
     ensures { result ≡ place_by_sheet (bus_view bus.entry) id channel.now }
 {
-    let node = channel.cob_id.node_with(channel.only, id)?;
+    let Some(node) = channel.cob_id.node_with(channel.only, id) else {
+        return None;
+    };
     place_at(bus, node, channel.index, id)
 }
 

@@ -3,7 +3,6 @@
 ghost use Rattle.std.specs.Prelude.{
   ◌≡◌,
   ◌∷◌,
-  ◌++◌,
   [],
   ◌<◌,
   length,
@@ -18,7 +17,7 @@ ghost use Rattle.conode_explain_forms.specs.Words.{IsFault, signal_word, signals
 
 use co_text::{decimal_in, split_at_first};
 use co_value::Key;
-use std::alloc::{AllocError, Global};
+use std::alloc::Global;
 
 /// An entry of a node, whose values are written.
 #[derive(Clone, Copy)]
@@ -38,17 +37,6 @@ pub enum SignalFault<'a> {
     Memory,
 }
 
-impl<'a> From<AllocError> for SignalFault<'a> {
-    ghost use Rattle.std.specs.Prelude.{◌≡◌};
-    ghost use Rattle.conode_explain_forms.specs.declared.signal.SignalFault.TheVariants.{Memory};
-
-    ghost from_gives = { λ _ fault. fault ≡ Memory };
-
-    fn from(_: AllocError) -> SignalFault<'a> {
-        SignalFault::Memory
-    }
-}
-
 // the first word, and the text after its comma; `None` where it is one word
 fn first_word(text: &str) -> Option<(&str, &str)>
     ensures one { IfNone result (words_in text.now ≡ text.now ∷ []) }
@@ -56,13 +44,6 @@ fn first_word(text: &str) -> Option<(&str, &str)>
     ensures shorter { IfSome result (λ cut. length cut.1.now < length text.now) }
 {
     text.split_once(',')
-}
-
-fn push(signals: &mut Vec<Signal>, signal: Signal) -> Result<(), AllocError>
-    ensures { OnOk result (signals.new.items ≡ signals.old.items ++ signal ∷ []) }
-{
-    signals.push(signal)?;
-    Ok(())
 }
 
 impl Signal {
@@ -86,27 +67,41 @@ impl Signal {
         })
     }
 
-    /// The signals that words name, with a comma between two: each a node-ID from 1 to 127, a
-    /// colon, an index in four hexadecimal digits, a colon, and a sub-index in two, as `5:2001:01`.
-    /// `Word`: the first word that names none. `Memory`: memory ran out.
+    // Adds the signals that words name, where there are none yet.
     #[tactic(auto, using(crate::proofs::Readings::goes_on, crate::proofs::Readings::fails_at, crate::proofs::Readings::ends, crate::proofs::Readings::fails_last, crate::proofs::Readings::onto_none))]
-    pub fn read_all(alloc: Global, text: &str) -> Result<Vec<Signal>, SignalFault<'_>>
-        ensures ok { IfOk result (λ found. signals_in text.now ≡ Ok found.items) }
+    fn add_all<'a>(signals: &mut Vec<Signal>, text: &'a str) -> Result<(), SignalFault<'a>>
+        requires { signals.old.items ≡ [] }
+        ensures ok { OnOk result (signals_in text.now ≡ Ok signals.new.items) }
         ensures err { IfErr result (IsFault text.now) }
     {
-        let mut signals = Vec::new(alloc);
         let mut rest = text;
         while let Some((word, more)) = first_word(rest) {
             let Some(signal) = Signal::read(word.as_bytes()) else {
                 return Err(SignalFault::Word(word));
             };
-            push(&mut signals, signal)?;
-            rest = more;
+            match signals.push(signal) {
+                Ok(()) => rest = more,
+                Err(_) => return Err(SignalFault::Memory),
+            }
         }
         let Some(signal) = Signal::read(rest.as_bytes()) else {
             return Err(SignalFault::Word(rest));
         };
-        push(&mut signals, signal)?;
+        match signals.push(signal) {
+            Ok(()) => Ok(()),
+            Err(_) => Err(SignalFault::Memory),
+        }
+    }
+
+    /// The signals that words name, with a comma between two: each a node-ID from 1 to 127, a
+    /// colon, an index in four hexadecimal digits, a colon, and a sub-index in two, as `5:2001:01`.
+    /// `Word`: the first word that names none. `Memory`: memory ran out.
+    pub fn read_all(alloc: Global, text: &str) -> Result<Vec<Signal>, SignalFault<'_>>
+        ensures ok { IfOk result (λ found. signals_in text.now ≡ Ok found.items) }
+        ensures err { IfErr result (IsFault text.now) }
+    {
+        let mut signals = Vec::new(alloc);
+        attempt!(Signal::add_all(&mut signals, text));
         Ok(signals)
     }
 }

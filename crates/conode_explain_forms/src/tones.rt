@@ -176,10 +176,10 @@ fn push_coloured(made: &mut Vec<u8>, numbers: &str, line: &[u8]) -> Result<(), A
     ensures { OnOk result (made.new.items ≡ made.old.items ++ in_colour numbers.now line.now) }
 {
     let (text, _) = line.split_at(line.len().saturating_sub(1));
-    made.extend_from_slice(b"\x1b[")?;
-    made.extend_from_slice(numbers.as_bytes())?;
-    made.extend_from_slice(b"m")?;
-    made.extend_from_slice(text)?;
+    attempt!(made.extend_from_slice(b"\x1b["));
+    attempt!(made.extend_from_slice(numbers.as_bytes()));
+    attempt!(made.extend_from_slice(b"m"));
+    attempt!(made.extend_from_slice(text));
     made.extend_from_slice(b"\x1b[0m\n")
 }
 
@@ -198,7 +198,8 @@ pub fn put_tone(
         return Ok(());
     }
     let mut made = Vec::new(alloc);
-    push_coloured(&mut made, numbers_of(tone), line.as_slice())?;
+    let numbers = numbers_of(tone);
+    attempt!(push_coloured(&mut made, numbers, line.as_slice()));
     *line = made;
     Ok(())
 }

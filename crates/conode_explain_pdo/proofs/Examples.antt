@@ -20,7 +20,8 @@ use Rattle.conode_explain_pdo.specs.EntryBits.{entry_bits, place_from, shown_bit
 use Rattle.conode_explain_services.specs.Codes.{code_words, known_class, single_words}
 use Rattle.conode_explain_services.specs.Drives.{command_words, controlword_words, drive_words, meaning_at, mode_words, state_words, statusword_words, word_text}
 use Rattle.conode_explain_pdo.specs.KnownEntries.{is_node_drive, known_text}
-use Rattle.conode_explain_pdo.specs.Mappings.{addressing_word, bits_at, bytes_words, data_text, mapped_text, more_parts, more_text, multiplexed_data, multiplexed_text, part_bytes, part_text, parts_text, short_text}
+use Rattle.conode_text.specs.Filled.{filled}
+use Rattle.conode_explain_pdo.specs.Mappings.{addressing_word, bits_at, data_text, mapped_text, more_parts, more_text, multiplexed_data, multiplexed_text, part_bytes, part_text, parts_text, short_text}
 use Rattle.conode_explain_pdo.specs.CobIds.{has_identifier, is_of, may_be_pdo, node_with}
 use Rattle.conode_explain_entries.specs.declared.entries.ShownPdo.{ShownPdo}
 use Rattle.conode_explain_entries.specs.declared.state.Value.{Value}
@@ -86,48 +87,48 @@ abbrev data_of : List ℕ → List ℕ → List ℕ
 data_of words bytes = mapped_text names 5 words bytes
 
 two_values : data_of (0x20010110 ∷ 0x20010210 ∷ []) (0xE8 ∷ 0x03 ∷ 0x10 ∷ 0x27 ∷ []) ≡ codes "T 2001:01 = 1000; H 2001:02 = 10000"
-unfolding mapped_text parts_text more_parts part_text part_bytes short_text more_text bytes_words entry_of known_text meaning_at entry_text value_text number_text digits digits_text is_utf8 chars encode
+unfolding mapped_text parts_text more_parts part_text part_bytes short_text more_text filled entry_of known_text meaning_at entry_text value_text number_text digits digits_text is_utf8 chars encode
 two_values = refl
 
 -- of a sheet that was adapted: a letter of a UNICODE_STRING
 original : mapped_text (record (names_with (row 0x2003 0 OctetString absent (codes "U") ∷ [])) { originals = λ line. if line == 1 then Some (codes "0x000B") else None }) 5
     (0x20030010 ∷ []) (0x41 ∷ 0x00 ∷ []) ≡ codes "U 2003:00 = \"A\""
-unfolding mapped_text parts_text more_parts part_text part_bytes short_text more_text bytes_words entry_of known_text meaning_at entry_text value_text characters_text digits digits_text is_utf8 chars encode
+unfolding mapped_text parts_text more_parts part_text part_bytes short_text more_text filled entry_of known_text meaning_at entry_text value_text characters_text digits digits_text is_utf8 chars encode
 original = refl
 
 -- a bit, a gap of seven, and a number over the bounds of bytes
 bits_and_gap : data_of (0x20020001 ∷ 0x00050007 ∷ 0x20010108 ∷ []) (0x01 ∷ 0xFF ∷ []) ≡ codes "B 2002:00 = true; -; T 2001:01 = FF (8 of 16 bits)"
-unfolding mapped_text parts_text more_parts part_text part_bytes short_text more_text bytes_words entry_of known_text meaning_at entry_text value_text number_text digits digits_text is_utf8 chars encode
+unfolding mapped_text parts_text more_parts part_text part_bytes short_text more_text filled entry_of known_text meaning_at entry_text value_text number_text digits digits_text is_utf8 chars encode
 bits_and_gap = refl
 
 not_there : data_of (0x23450108 ∷ 0x20020008 ∷ []) (0x01 ∷ 0x00 ∷ []) ≡ codes "2345:01 (not in sheet); B 2002:00 = false"
-unfolding mapped_text parts_text more_parts part_text part_bytes short_text more_text bytes_words entry_of known_text meaning_at entry_text value_text number_text digits digits_text is_utf8 chars encode
+unfolding mapped_text parts_text more_parts part_text part_bytes short_text more_text filled entry_of known_text meaning_at entry_text value_text number_text digits digits_text is_utf8 chars encode
 not_there = refl
 
 -- the first index that is no gap, and a gap with a sub-index
 no_gaps : data_of (0x00200008 ∷ 0x00050108 ∷ []) (0x01 ∷ 0x00 ∷ []) ≡ codes "0020:00 (not in sheet); 0005:01 (not in sheet)"
-unfolding mapped_text parts_text more_parts part_text part_bytes short_text more_text bytes_words entry_of known_text meaning_at entry_text value_text number_text digits digits_text is_utf8 chars encode
+unfolding mapped_text parts_text more_parts part_text part_bytes short_text more_text filled entry_of known_text meaning_at entry_text value_text number_text digits digits_text is_utf8 chars encode
 no_gaps = refl
 
 too_short : data_of (0x20010110 ∷ 0x20010220 ∷ []) (1 ∷ 2 ∷ 3 ∷ 4 ∷ []) ≡ codes "4 bytes, mapping has 6"
-unfolding mapped_text parts_text more_parts part_text part_bytes short_text more_text bytes_words entry_of known_text meaning_at entry_text value_text number_text digits digits_text is_utf8 chars encode
+unfolding mapped_text parts_text more_parts part_text part_bytes short_text more_text filled entry_of known_text meaning_at entry_text value_text number_text digits digits_text is_utf8 chars encode
 too_short = refl
 
 one_byte : data_of (0x20010110 ∷ []) (1 ∷ []) ≡ codes "1 byte, mapping has 2"
-unfolding mapped_text parts_text more_parts part_text part_bytes short_text more_text bytes_words entry_of known_text meaning_at entry_text value_text number_text digits digits_text is_utf8 chars encode
+unfolding mapped_text parts_text more_parts part_text part_bytes short_text more_text filled entry_of known_text meaning_at entry_text value_text number_text digits digits_text is_utf8 chars encode
 one_byte = refl
 
 -- nine bits need two bytes
 nine_bits : data_of (0x20020009 ∷ []) (1 ∷ []) ≡ codes "1 byte, mapping has 2"
-unfolding mapped_text parts_text more_parts part_text part_bytes short_text more_text bytes_words entry_of known_text meaning_at entry_text value_text number_text digits digits_text is_utf8 chars encode
+unfolding mapped_text parts_text more_parts part_text part_bytes short_text more_text filled entry_of known_text meaning_at entry_text value_text number_text digits digits_text is_utf8 chars encode
 nine_bits = refl
 
 more_bytes : data_of (0x20020008 ∷ []) (1 ∷ 2 ∷ 3 ∷ []) ≡ codes "B 2002:00 = true; +2 bytes"
-unfolding mapped_text parts_text more_parts part_text part_bytes short_text more_text bytes_words entry_of known_text meaning_at entry_text value_text number_text digits digits_text is_utf8 chars encode
+unfolding mapped_text parts_text more_parts part_text part_bytes short_text more_text filled entry_of known_text meaning_at entry_text value_text number_text digits digits_text is_utf8 chars encode
 more_bytes = refl
 
 one_more : data_of (0x20020008 ∷ []) (1 ∷ 2 ∷ []) ≡ codes "B 2002:00 = true; +1 byte"
-unfolding mapped_text parts_text more_parts part_text part_bytes short_text more_text bytes_words entry_of known_text meaning_at entry_text value_text number_text digits digits_text is_utf8 chars encode
+unfolding mapped_text parts_text more_parts part_text part_bytes short_text more_text filled entry_of known_text meaning_at entry_text value_text number_text digits digits_text is_utf8 chars encode
 one_more = refl
 
 -- ---- the entries of a drive
@@ -140,22 +141,22 @@ drive device_type words bytes =
     )) 5 words bytes
 
 in_words : drive 0x00020192 (0x60410010 ∷ 0x60610008 ∷ []) (0x37 ∷ 0x04 ∷ 0x08 ∷ []) ≡ codes "S 6041:00 = 1079 (operation enabled, target reached); M 6061:00 = 8 (cyclic synchronous position)"
-unfolding mapped_text parts_text more_parts part_text part_bytes short_text more_text bytes_words entry_of known_text is_node_drive drive_words meaning_at word_text statusword_words state_words mode_words entry_text value_text number_text digits digits_text is_utf8 chars encode
+unfolding mapped_text parts_text more_parts part_text part_bytes short_text more_text filled entry_of known_text is_node_drive drive_words meaning_at word_text statusword_words state_words mode_words entry_text value_text number_text digits digits_text is_utf8 chars encode
 in_words = refl
 
 -- of another device profile
 other_device : drive 0x00020191 (0x60410010 ∷ []) (0x37 ∷ 0x04 ∷ []) ≡ codes "S 6041:00 = 1079"
-unfolding mapped_text parts_text more_parts part_text part_bytes short_text more_text bytes_words entry_of known_text meaning_at is_node_drive entry_text value_text number_text digits digits_text is_utf8 chars encode
+unfolding mapped_text parts_text more_parts part_text part_bytes short_text more_text filled entry_of known_text meaning_at is_node_drive entry_text value_text number_text digits digits_text is_utf8 chars encode
 other_device = refl
 
 -- a part of the value, though it has as many bytes
 part_of_it : drive 0x00020192 (0x6041000C ∷ []) (0x37 ∷ 0x04 ∷ []) ≡ codes "S 6041:00 = 3704 (12 of 16 bits)"
-unfolding mapped_text parts_text more_parts part_text part_bytes short_text more_text bytes_words entry_of known_text meaning_at is_node_drive entry_text value_text number_text digits digits_text is_utf8 chars encode
+unfolding mapped_text parts_text more_parts part_text part_bytes short_text more_text filled entry_of known_text meaning_at is_node_drive entry_text value_text number_text digits digits_text is_utf8 chars encode
 part_of_it = refl
 
 -- without a device type
 no_type : mapped_text (names_with (row 0x6041 0 Unsigned16 absent (codes "S") ∷ [])) 5 (0x60410010 ∷ []) (0x37 ∷ 0x04 ∷ []) ≡ codes "S 6041:00 = 1079"
-unfolding mapped_text parts_text more_parts part_text part_bytes short_text more_text bytes_words entry_of known_text meaning_at is_node_drive entry_text value_text number_text digits digits_text is_utf8 chars encode
+unfolding mapped_text parts_text more_parts part_text part_bytes short_text more_text filled entry_of known_text meaning_at is_node_drive entry_text value_text number_text digits digits_text is_utf8 chars encode
 no_type = refl
 
 -- ---- counts
@@ -168,7 +169,7 @@ unfolding data_text
 nothing_mapped = refl
 
 one_mapped : counted 1 (1 ∷ []) ≡ codes ": B 2002:00 = true"
-unfolding data_text mapped_text parts_text more_parts part_text part_bytes short_text more_text bytes_words entry_of known_text meaning_at entry_text value_text number_text digits digits_text is_utf8 chars encode
+unfolding data_text mapped_text parts_text more_parts part_text part_bytes short_text more_text filled entry_of known_text meaning_at entry_text value_text number_text digits digits_text is_utf8 chars encode
 one_mapped = refl
 
 above_64 : counted 65 (1 ∷ []) ≡ []
@@ -180,15 +181,15 @@ unfolding data_text
 below_multiplexed = refl
 
 destination : counted 0xFE (0x85 ∷ 0x01 ∷ 0x20 ∷ 0x02 ∷ 0xE8 ∷ 0x03 ∷ 0 ∷ 0 ∷ []) ≡ codes ": destination node 5 2001:02 E8030000"
-unfolding data_text multiplexed_data multiplexed_text addressing_word digits digits_text
+unfolding data_text multiplexed_data multiplexed_text filled addressing_word digits digits_text
 destination = refl
 
 source : counted 0xFF (0x7F ∷ 0x01 ∷ 0x20 ∷ 0x02 ∷ 0xE8 ∷ 0x03 ∷ 0 ∷ 0 ∷ []) ≡ codes ": source node 127 2001:02 E8030000"
-unfolding data_text multiplexed_data multiplexed_text addressing_word digits digits_text
+unfolding data_text multiplexed_data multiplexed_text filled addressing_word digits digits_text
 source = refl
 
 short_multiplexed : counted 0xFF (0x85 ∷ 0x01 ∷ []) ≡ codes ": 2 bytes, mapping has 8"
-unfolding data_text multiplexed_data short_text bytes_words digits
+unfolding data_text multiplexed_data short_text filled digits
 short_multiplexed = refl
 
 -- ---- whose an identifier is
@@ -282,11 +283,11 @@ said id = said_with (names_with rows_of_pdos) [] id (1 ∷ [])
 
 -- the PDO that the node sends, and after it the one that it receives
 two_pdos : said 0x185 ≡ codes "TPDO1 node 5: B 2002:00 = true | RPDO1 node 5"
-unfolding claims_with sheets_claims sheet_claim shown_claim names_for pdos_text more_pdos pdo_text pdo_front data_in_force shown_text raw_text mapping_in_force words_in_force node_with is_of sheet_pdos pdos_in pdo_of mapping_at words_at number_at data_text mapped_text parts_text more_parts part_text part_bytes short_text more_text bytes_words entry_of known_text meaning_at entry_text value_text number_text digits digits_text is_utf8 chars encode
+unfolding claims_with sheets_claims sheet_claim shown_claim names_for pdos_text more_pdos pdo_text pdo_front data_in_force shown_text raw_text mapping_in_force words_in_force node_with is_of sheet_pdos pdos_in pdo_of mapping_at words_at number_at data_text mapped_text parts_text more_parts part_text part_bytes short_text more_text filled entry_of known_text meaning_at entry_text value_text number_text digits digits_text is_utf8 chars encode
 two_pdos = refl
 
 one_pdo : said 0x186 ≡ codes "TPDO1 node 6: B 2002:00 = true"
-unfolding claims_with sheets_claims sheet_claim shown_claim names_for pdos_text more_pdos pdo_text pdo_front data_in_force shown_text raw_text mapping_in_force words_in_force node_with is_of sheet_pdos pdos_in pdo_of mapping_at words_at number_at data_text mapped_text parts_text more_parts part_text part_bytes short_text more_text bytes_words entry_of known_text meaning_at entry_text value_text number_text digits digits_text is_utf8 chars encode
+unfolding claims_with sheets_claims sheet_claim shown_claim names_for pdos_text more_pdos pdo_text pdo_front data_in_force shown_text raw_text mapping_in_force words_in_force node_with is_of sheet_pdos pdos_in pdo_of mapping_at words_at number_at data_text mapped_text parts_text more_parts part_text part_bytes short_text more_text filled entry_of known_text meaning_at entry_text value_text number_text digits digits_text is_utf8 chars encode
 one_pdo = refl
 
 no_pdo : said 0x205 ≡ []
@@ -364,77 +365,77 @@ abbrev as_it_was : List Value → List ℕ
 as_it_was mapping = after_these (shown 0x1800 Assumed mapping false ∷ [])
 
 at_first : after_these [] ≡ codes "TPDO1 node 5: B 2002:00 = true; +1 byte"
-unfolding claims_with sheets_claims sheet_claim shown_claim names_for pdos_text more_pdos pdo_text pdo_front data_in_force shown_text raw_text mapping_in_force words_in_force node_with is_of sheet_pdos pdos_in pdo_of mapping_at words_at number_at data_text mapped_text parts_text more_parts part_text part_bytes short_text more_text bytes_words entry_of known_text meaning_at entry_text value_text number_text digits digits_text is_utf8 chars encode
+unfolding claims_with sheets_claims sheet_claim shown_claim names_for pdos_text more_pdos pdo_text pdo_front data_in_force shown_text raw_text mapping_in_force words_in_force node_with is_of sheet_pdos pdos_in pdo_of mapping_at words_at number_at data_text mapped_text parts_text more_parts part_text part_bytes short_text more_text filled entry_of known_text meaning_at entry_text value_text number_text digits digits_text is_utf8 chars encode
 at_first = refl
 
 cob_id_alone : enabled (Assumed ∷ Assumed ∷ []) false ≡ codes "TPDO1 node 5: B 2002:00 = true; +1 byte"
-unfolding claims_with sheets_claims sheet_claim shown_claim names_for pdos_text more_pdos pdo_text pdo_front data_in_force shown_text raw_text mapping_in_force words_in_force node_with is_of sheet_pdos pdos_in pdo_of mapping_at words_at number_at data_text mapped_text parts_text more_parts part_text part_bytes short_text more_text bytes_words entry_of known_text meaning_at entry_text value_text number_text digits digits_text is_utf8 chars encode
+unfolding claims_with sheets_claims sheet_claim shown_claim names_for pdos_text more_pdos pdo_text pdo_front data_in_force shown_text raw_text mapping_in_force words_in_force node_with is_of sheet_pdos pdos_in pdo_of mapping_at words_at number_at data_text mapped_text parts_text more_parts part_text part_bytes short_text more_text filled entry_of known_text meaning_at entry_text value_text number_text digits digits_text is_utf8 chars encode
 cob_id_alone = refl
 
 no_count : enabled (Seen 0 ∷ Assumed ∷ []) true ≡ codes "TPDO1 node 5: 0103 (mapping is being changed)"
-unfolding claims_with sheets_claims sheet_claim shown_claim names_for pdos_text more_pdos pdo_text pdo_front data_in_force shown_text raw_text node_with is_of sheet_pdos pdos_in pdo_of mapping_at words_at number_at digits digits_text
+unfolding claims_with sheets_claims sheet_claim shown_claim names_for pdos_text more_pdos pdo_text pdo_front data_in_force shown_text raw_text filled node_with is_of sheet_pdos pdos_in pdo_of mapping_at words_at number_at digits digits_text
 no_count = refl
 
 no_count_and_word : enabled (Seen 0 ∷ Seen 0x20010110 ∷ []) true
     ≡ codes "TPDO1 node 5: 0103 (mapping is being changed)"
-unfolding claims_with sheets_claims sheet_claim shown_claim names_for pdos_text more_pdos pdo_text pdo_front data_in_force shown_text raw_text node_with is_of sheet_pdos pdos_in pdo_of mapping_at words_at number_at digits digits_text
+unfolding claims_with sheets_claims sheet_claim shown_claim names_for pdos_text more_pdos pdo_text pdo_front data_in_force shown_text raw_text filled node_with is_of sheet_pdos pdos_in pdo_of mapping_at words_at number_at digits digits_text
 no_count_and_word = refl
 
 mapped_anew : enabled (Seen 1 ∷ Seen 0x20010110 ∷ Assumed ∷ []) false
     ≡ codes "TPDO1 node 5 (mapping seen): T 2001:01 = 769"
-unfolding claims_with sheets_claims sheet_claim shown_claim names_for pdos_text more_pdos pdo_text pdo_front data_in_force shown_text raw_text mapping_in_force words_in_force node_with is_of sheet_pdos pdos_in pdo_of mapping_at words_at number_at data_text mapped_text parts_text more_parts part_text part_bytes short_text more_text bytes_words entry_of known_text meaning_at entry_text value_text number_text digits digits_text is_utf8 chars encode
+unfolding claims_with sheets_claims sheet_claim shown_claim names_for pdos_text more_pdos pdo_text pdo_front data_in_force shown_text raw_text mapping_in_force words_in_force node_with is_of sheet_pdos pdos_in pdo_of mapping_at words_at number_at data_text mapped_text parts_text more_parts part_text part_bytes short_text more_text filled entry_of known_text meaning_at entry_text value_text number_text digits digits_text is_utf8 chars encode
 mapped_anew = refl
 
 -- a word above the count doesn't matter
 above_count : as_it_was (Seen 1 ∷ Seen 0x20010110 ∷ Unknown ∷ [])
     ≡ codes "TPDO1 node 5 (mapping seen): T 2001:01 = 769"
-unfolding claims_with sheets_claims sheet_claim shown_claim names_for pdos_text more_pdos pdo_text pdo_front data_in_force shown_text raw_text mapping_in_force words_in_force node_with is_of sheet_pdos pdos_in pdo_of mapping_at words_at number_at data_text mapped_text parts_text more_parts part_text part_bytes short_text more_text bytes_words entry_of known_text meaning_at entry_text value_text number_text digits digits_text is_utf8 chars encode
+unfolding claims_with sheets_claims sheet_claim shown_claim names_for pdos_text more_pdos pdo_text pdo_front data_in_force shown_text raw_text mapping_in_force words_in_force node_with is_of sheet_pdos pdos_in pdo_of mapping_at words_at number_at data_text mapped_text parts_text more_parts part_text part_bytes short_text more_text filled entry_of known_text meaning_at entry_text value_text number_text digits digits_text is_utf8 chars encode
 above_count = refl
 
 saved_mapping : as_it_was (Saved 1 ∷ Saved 0x20010110 ∷ [])
     ≡ codes "TPDO1 node 5 (mapping saved): T 2001:01 = 769"
-unfolding claims_with sheets_claims sheet_claim shown_claim names_for pdos_text more_pdos pdo_text pdo_front data_in_force shown_text raw_text mapping_in_force words_in_force node_with is_of sheet_pdos pdos_in pdo_of mapping_at words_at number_at data_text mapped_text parts_text more_parts part_text part_bytes short_text more_text bytes_words entry_of known_text meaning_at entry_text value_text number_text digits digits_text is_utf8 chars encode
+unfolding claims_with sheets_claims sheet_claim shown_claim names_for pdos_text more_pdos pdo_text pdo_front data_in_force shown_text raw_text mapping_in_force words_in_force node_with is_of sheet_pdos pdos_in pdo_of mapping_at words_at number_at data_text mapped_text parts_text more_parts part_text part_bytes short_text more_text filled entry_of known_text meaning_at entry_text value_text number_text digits digits_text is_utf8 chars encode
 saved_mapping = refl
 
 -- the count alone was shown: the word is the sheet's
 count_shown : as_it_was (Seen 1 ∷ Assumed ∷ [])
     ≡ codes "TPDO1 node 5 (mapping partly seen): B 2002:00 = true; +1 byte"
-unfolding claims_with sheets_claims sheet_claim shown_claim names_for pdos_text more_pdos pdo_text pdo_front data_in_force shown_text raw_text mapping_in_force words_in_force node_with is_of sheet_pdos pdos_in pdo_of mapping_at words_at number_at data_text mapped_text parts_text more_parts part_text part_bytes short_text more_text bytes_words entry_of known_text meaning_at entry_text value_text number_text digits digits_text is_utf8 chars encode
+unfolding claims_with sheets_claims sheet_claim shown_claim names_for pdos_text more_pdos pdo_text pdo_front data_in_force shown_text raw_text mapping_in_force words_in_force node_with is_of sheet_pdos pdos_in pdo_of mapping_at words_at number_at data_text mapped_text parts_text more_parts part_text part_bytes short_text more_text filled entry_of known_text meaning_at entry_text value_text number_text digits digits_text is_utf8 chars encode
 count_shown = refl
 
 -- of the second word neither the sheet nor the recording has anything
 word_unknown : as_it_was (Seen 2 ∷ Assumed ∷ Assumed ∷ []) ≡ codes "TPDO1 node 5: 0103 (mapping is unknown)"
-unfolding claims_with sheets_claims sheet_claim shown_claim names_for pdos_text more_pdos pdo_text pdo_front data_in_force shown_text raw_text mapping_in_force words_in_force node_with is_of sheet_pdos pdos_in pdo_of mapping_at words_at number_at digits digits_text
+unfolding claims_with sheets_claims sheet_claim shown_claim names_for pdos_text more_pdos pdo_text pdo_front data_in_force shown_text raw_text filled mapping_in_force words_in_force node_with is_of sheet_pdos pdos_in pdo_of mapping_at words_at number_at digits digits_text
 word_unknown = refl
 
 word_missing : as_it_was (Assumed ∷ Unknown ∷ []) ≡ codes "TPDO1 node 5: 0103 (mapping is unknown)"
-unfolding claims_with sheets_claims sheet_claim shown_claim names_for pdos_text more_pdos pdo_text pdo_front data_in_force shown_text raw_text mapping_in_force words_in_force node_with is_of sheet_pdos pdos_in pdo_of mapping_at words_at number_at digits digits_text
+unfolding claims_with sheets_claims sheet_claim shown_claim names_for pdos_text more_pdos pdo_text pdo_front data_in_force shown_text raw_text filled mapping_in_force words_in_force node_with is_of sheet_pdos pdos_in pdo_of mapping_at words_at number_at digits digits_text
 word_missing = refl
 
 -- a sheet that isn't there, or is for another node: what the recording shows is all that is known
 no_sheet : said_with (record { sheet = None; only = None; originals = λ line. None })
     (shown 0x1801 (Seen 0x285) (Seen 1 ∷ Seen 0x20010110 ∷ []) false ∷ []) 0x285 (0xE8 ∷ 0x03 ∷ [])
     ≡ codes "TPDO2 node 5 (mapping seen): 2001:01 (not in sheet)"
-unfolding claims_with sheets_claims sheet_claim shown_claim names_for pdos_text more_pdos pdo_text pdo_front data_in_force shown_text raw_text mapping_in_force words_in_force sheet_pdos data_text mapped_text parts_text more_parts part_text part_bytes short_text more_text bytes_words entry_of known_text meaning_at entry_text value_text number_text digits digits_text is_utf8 chars encode
+unfolding claims_with sheets_claims sheet_claim shown_claim names_for pdos_text more_pdos pdo_text pdo_front data_in_force shown_text raw_text mapping_in_force words_in_force sheet_pdos data_text mapped_text parts_text more_parts part_text part_bytes short_text more_text filled entry_of known_text meaning_at entry_text value_text number_text digits digits_text is_utf8 chars encode
 no_sheet = refl
 
 no_data : said_with (record { sheet = None; only = None; originals = λ line. None }) (shown 0x1401 (Seen 0x305) [] false ∷ []) 0x305 []
     ≡ codes "RPDO2 node 5: (mapping is unknown)"
-unfolding claims_with sheets_claims sheet_claim shown_claim names_for pdos_text more_pdos pdo_text pdo_front data_in_force shown_text raw_text mapping_in_force words_in_force sheet_pdos digits
+unfolding claims_with sheets_claims sheet_claim shown_claim names_for pdos_text more_pdos pdo_text pdo_front data_in_force shown_text raw_text filled mapping_in_force words_in_force sheet_pdos digits
 no_data = refl
 
 -- the PDO that a node sends, before those that receive it
 sent_first : said_with (record { sheet = None; only = None; originals = λ line. None })
     (shown 0x1401 (Seen 0x285) [] false ∷ shown 0x1801 (Seen 0x285) [] false ∷ []) 0x285 (1 ∷ [])
     ≡ codes "TPDO2 node 5: 01 (mapping is unknown) | RPDO2 node 5: 01 (mapping is unknown)"
-unfolding claims_with sheets_claims sheet_claim shown_claim names_for pdos_text more_pdos pdo_text pdo_front data_in_force shown_text raw_text mapping_in_force words_in_force sheet_pdos digits digits_text
+unfolding claims_with sheets_claims sheet_claim shown_claim names_for pdos_text more_pdos pdo_text pdo_front data_in_force shown_text raw_text filled mapping_in_force words_in_force sheet_pdos digits digits_text
 sent_first = refl
 
 -- FEh and FFh map no words
 multiplexed : said_with (record { sheet = None; only = None; originals = λ line. None })
     (shown 0x1800 (Seen 0x185) (Seen 0xFF ∷ Assumed ∷ []) false ∷ []) 0x185 (0x85 ∷ 0x01 ∷ [])
     ≡ codes "TPDO1 node 5 (mapping seen): 2 bytes, mapping has 8"
-unfolding claims_with sheets_claims sheet_claim shown_claim names_for pdos_text more_pdos pdo_text pdo_front data_in_force shown_text raw_text mapping_in_force words_in_force sheet_pdos data_text multiplexed_data short_text bytes_words digits
+unfolding claims_with sheets_claims sheet_claim shown_claim names_for pdos_text more_pdos pdo_text pdo_front data_in_force shown_text raw_text mapping_in_force words_in_force sheet_pdos data_text multiplexed_data short_text filled digits
 multiplexed = refl
 
 -- ---- several sheets
@@ -448,7 +449,7 @@ unfolding claims_with sheets_claims sheet_claim shown_claim pdos_text node_with 
 own_sheet = refl
 
 other_node : said_by (sheet_of (no_rows_for 5) ∷ sheet_of (names_with rows_of_tpdo) ∷ []) [] 0x186 (1 ∷ []) ≡ codes "TPDO1 node 6: B 2002:00 = true"
-unfolding claims_with sheets_claims sheet_claim shown_claim names_for pdos_text more_pdos pdo_text pdo_front data_in_force shown_text raw_text mapping_in_force words_in_force node_with is_of sheet_pdos pdos_in pdo_of mapping_at words_at number_at data_text mapped_text parts_text more_parts part_text part_bytes short_text more_text bytes_words entry_of known_text meaning_at entry_text value_text number_text digits digits_text is_utf8 chars encode
+unfolding claims_with sheets_claims sheet_claim shown_claim names_for pdos_text more_pdos pdo_text pdo_front data_in_force shown_text raw_text mapping_in_force words_in_force node_with is_of sheet_pdos pdos_in pdo_of mapping_at words_at number_at data_text mapped_text parts_text more_parts part_text part_bytes short_text more_text filled entry_of known_text meaning_at entry_text value_text number_text digits digits_text is_utf8 chars encode
 other_node = refl
 
 -- the PDO that one node sends, and then the node that receives it, each by its own sheet
@@ -457,7 +458,7 @@ rows_of_rpdo = row 0x1400 1 Unsigned32 (number (pos 0x185)) [] ∷ row 0x1600 0 
 
 consumer : said_by (sheet_of (record (names_with rows_of_rpdo) { only = Some 6 }) ∷ sheet_of (record (names_with rows_of_tpdo) { only = Some 5 }) ∷ []) []
     0x185 (1 ∷ []) ≡ codes "TPDO1 node 5: B 2002:00 = true | RPDO1 node 6"
-unfolding claims_with sheets_claims sheet_claim shown_claim names_for pdos_text more_pdos pdo_text pdo_front data_in_force shown_text raw_text mapping_in_force words_in_force node_with is_of sheet_pdos pdos_in pdo_of mapping_at words_at number_at data_text mapped_text parts_text more_parts part_text part_bytes short_text more_text bytes_words entry_of known_text meaning_at entry_text value_text number_text digits digits_text is_utf8 chars encode
+unfolding claims_with sheets_claims sheet_claim shown_claim names_for pdos_text more_pdos pdo_text pdo_front data_in_force shown_text raw_text mapping_in_force words_in_force node_with is_of sheet_pdos pdos_in pdo_of mapping_at words_at number_at data_text mapped_text parts_text more_parts part_text part_bytes short_text more_text filled entry_of known_text meaning_at entry_text value_text number_text digits digits_text is_utf8 chars encode
 consumer = refl
 
 -- a sheet for another interface

@@ -8,6 +8,7 @@ use Rattle.conode_explain_entries.specs.declared.state.PdoState.{PdoState}
 use Rattle.conode_explain_entries.specs.declared.state.Value.{Value}
 use Rattle.conode_explain_entries.specs.declared.state.Value.TheVariants.{Assumed, Seen, Saved, Unknown}
 use Rattle.conode_explain_entries.specs.Tables.{state_in}
+use Rattle.conode_text.specs.Filled.{filled}
 use Rattle.conode_explain_pdo.specs.declared.sheet.SheetPdo.{SheetPdo}
 use Rattle.conode_explain_pdo.specs.Buses.{Bus, names_at}
 use Rattle.conode_explain_pdo.specs.Content.{Mapping}
@@ -111,7 +112,7 @@ digits_of [] = []
 digits_of (byte ∷ bytes) = codes " " ++ flat_map byte_text (byte ∷ bytes)
 
 unfoldable pub raw_text : List ℕ → List ℕ → List ℕ
-raw_text bytes why = codes ":" ++ digits_of bytes ++ codes " (" ++ why ++ codes ")"
+raw_text bytes why = codes ":" ++ digits_of bytes ++ filled (codes " (%)") (why ∷ [])
 
 -- by the mapping in force
 abbrev pub known_text : Names → ℕ → List ℕ → List Value → Mapping → List ℕ

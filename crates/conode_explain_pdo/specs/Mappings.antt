@@ -8,6 +8,7 @@ use Rattle.co_value.specs.KeyTexts.{key_text}
 use Rattle.co_value.specs.Numbers.{low_bytes, unsigned_of}
 use Rattle.co_sheet.specs.Content.{Row}
 use Rattle.co_sheet_changes.specs.Names.{Names, entry_of}
+use Rattle.conode_text.specs.Filled.{filled}
 use Rattle.conode_explain_pdo.specs.Content.{Mapping}
 use Rattle.conode_explain_pdo.specs.KnownEntries.{known_text}
 
@@ -51,7 +52,7 @@ unfoldable pub part_text : Names → ℕ → List ℕ → ℕ → ℕ → List �
 part_text names node bytes offset word =
     if is_gap (word_key word) then codes "-"
     else option_map_or (value_part names node (word_key word) bytes offset (word_bits word))
-    (entry_of names node (word_key word)) (key_text (word_key word) ++ codes " (not in sheet)")
+    (entry_of names node (word_key word)) (filled (codes "% (not in sheet)") (key_text (word_key word) ∷ []))
 
 -- the parts one after another from an offset on, each after a semicolon
 unfoldable pub more_parts : Names → ℕ → List ℕ → ℕ → List ℕ → List ℕ
@@ -67,16 +68,18 @@ parts_text names node bytes (word ∷ words) =
 
 -- ---- all data
 
-unfoldable pub bytes_words : ℕ → List ℕ
-bytes_words count = decimal count ++ (if count == 1 then codes " byte" else codes " bytes")
+-- the word after a number of bytes
+abbrev pub unit_of : ℕ → List ℕ
+unit_of count = if count == 1 then codes " byte" else codes " bytes"
 
 -- data that are shorter than what is mapped have no values
 unfoldable pub short_text : ℕ → ℕ → List ℕ
-short_text count mapped = bytes_words count ++ codes ", mapping has " ++ decimal mapped
+short_text count mapped = filled (codes "%%, mapping has %") (decimal count ∷ unit_of count ∷ decimal mapped ∷ [])
 
 -- bytes after what is mapped
 unfoldable pub more_text : ℕ → ℕ → List ℕ
-more_text count mapped = if nat_lt mapped count then codes "; +" ++ bytes_words (count - mapped) else []
+more_text count mapped =
+    if nat_lt mapped count then filled (codes "; +%%") (decimal (count - mapped) ∷ unit_of (count - mapped) ∷ []) else []
 
 unfoldable pub mapped_text : Names → ℕ → List ℕ → List ℕ → List ℕ
 mapped_text names node words bytes =
@@ -93,8 +96,9 @@ addressing_word byte = if nat_lt byte 128 then codes "source" else codes "destin
 
 unfoldable pub multiplexed_text : List ℕ → List ℕ
 multiplexed_text bytes =
-    addressing_word (slice_index bytes 0) ++ codes " node " ++ decimal (slice_index bytes 0 % 128) ++ codes " "
-    ++ key_text (multiplexed_key bytes) ++ codes " " ++ flat_map byte_text (drop 4 bytes)
+    filled (codes "% node % % ")
+    (addressing_word (slice_index bytes 0) ∷ decimal (slice_index bytes 0 % 128) ∷ key_text (multiplexed_key bytes) ∷ [])
+    ++ flat_map byte_text (drop 4 bytes)
 
 -- the data of one
 unfoldable pub multiplexed_data : List ℕ → List ℕ

@@ -17,8 +17,12 @@ use conode_explain_entries::Value;
 fn sheet_number(names: Names<'_, '_>, node: u8, key: Key) -> Option<u64>
     ensures { result ≡ sheet_number (names_view names.entry) node key }
 {
-    let row = names.entry(node, key)?;
-    let cob_id = cob_id_of(row.default)?;
+    let Some(row) = names.entry(node, key) else {
+        return None;
+    };
+    let Some(cob_id) = cob_id_of(row.default) else {
+        return None;
+    };
     Some(cob_id.word_for(u64::from(node)))
 }
 

@@ -92,7 +92,10 @@ fn sheet_claim(
     if !range.contains(pdo.index) {
         return None;
     }
-    claim_of(bus, earlier, pdo.index, pdo.cob_id.node_with(only, id)?)
+    let Some(node) = pdo.cob_id.node_with(only, id) else {
+        return None;
+    };
+    claim_of(bus, earlier, pdo.index, node)
 }
 
 // adds the PDOs of a kind, of a sheet, that have an identifier
@@ -146,7 +149,8 @@ fn add_sheets(
 {
     let sheets = bus.sheets;
     for place in 0..sheets.len() {
-        add_sheet(claims, bus, &sheets[..place], &sheets[place], range, id)?;
+        let (earlier, sheet) = (&sheets[..place], &sheets[place]);
+        attempt!(add_sheet(claims, bus, earlier, sheet, range, id));
     }
     Ok(())
 }
@@ -214,7 +218,7 @@ fn add_kind(
     ensures { OnOk result (claims.new.items
         ≡ claims.old.items ++ kind_claims (bus_view bus.entry) range id) }
 {
-    add_sheets(claims, bus, range, id)?;
+    attempt!(add_sheets(claims, bus, range, id));
     add_shown(claims, bus, range, id)
 }
 
@@ -276,7 +280,7 @@ fn add_both(
     if !may_be_claimed(bus, id) {
         return Ok(());
     }
-    add_kind(claims, bus, IndexRange::TPDO_COMMUNICATION, id)?;
+    attempt!(add_kind(claims, bus, IndexRange::TPDO_COMMUNICATION, id));
     add_kind(claims, bus, IndexRange::RPDO_COMMUNICATION, id)
 }
 

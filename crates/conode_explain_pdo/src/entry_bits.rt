@@ -80,7 +80,9 @@ fn bits_by(words: &[u32], key: Key, bytes: &[u8]) -> Option<EntryBits>
     if bytes.len() < (total_bits(words) + 7) / 8 {
         return None;
     }
-    let place = place_of(words, key)?;
+    let Some(place) = place_of(words, key) else {
+        return None;
+    };
     Some(bits_of(bytes, place))
 }
 
@@ -110,7 +112,9 @@ fn shown_bits(
     if state.is_being_changed {
         return None;
     }
-    let mapping = mapping_in_force(state.now.mapping.as_slice(), sheet)?;
+    let Some(mapping) = mapping_in_force(state.now.mapping.as_slice(), sheet) else {
+        return None;
+    };
     entry_bits(&mapping, key, bytes)
 }
 
@@ -125,9 +129,12 @@ impl Bus<'_, '_, '_, '_, '_> {
         ensures count { IfSome result (λ found. HasBits found.bits found.bytes.items) }
     {
         let sheet = sheet_mapping(self, claim.node, claim.index);
-        match self.state(claim.node, claim.index) {
-            Some(state) => shown_bits(sheet, state, key, bytes),
-            None => entry_bits(sheet?, key, bytes),
+        if let Some(state) = self.state(claim.node, claim.index) {
+            return shown_bits(sheet, state, key, bytes);
+        }
+        match sheet {
+            Some(mapping) => entry_bits(mapping, key, bytes),
+            None => None,
         }
     }
 }

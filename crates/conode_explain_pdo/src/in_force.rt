@@ -40,6 +40,7 @@ use arrayvec::ArrayVec;
 use co_sheet_changes::Names;
 use co_text::push_bytes;
 use conode_explain_entries::{PdoState, Value};
+use conode_text::{Value as Filling, push_filled};
 use std::alloc::AllocError;
 
 fn number_by(sheet: Option<u32>, value: Value) -> Option<u32>
@@ -159,8 +160,10 @@ pub(crate) fn value_at(values: &[Value], place: usize) -> Value
 fn count_in_force(values: &[Value], sheet: Option<&Mapping>) -> Option<u8>
     ensures { result ≡ count_in_force values.now (option_copied sheet.entry) }
 {
-    let count = number_by(sheet_count(sheet), value_at(values, 0))?;
-    Some((count % 256) as u8)
+    match number_by(sheet_count(sheet), value_at(values, 0)) {
+        Some(count) => Some((count % 256) as u8),
+        None => None,
+    }
 }
 
 fn word_in_force(values: &[Value], sheet: Option<&Mapping>, place: u8) -> Option<u32>
@@ -199,16 +202,20 @@ pub(crate) fn word_count(count: u8) -> u8
 fn mapping_with(values: &[Value], sheet: Option<&Mapping>, count: u8) -> Option<Mapping>
     ensures { result ≡ mapping_with values.now (option_copied sheet.entry) count }
 {
-    let words = words_in_force(values, sheet, word_count(count))?;
-    Some(Mapping { count, words })
+    match words_in_force(values, sheet, word_count(count)) {
+        Some(words) => Some(Mapping { count, words }),
+        None => None,
+    }
 }
 
 #[tactic(auto, unfolding(crate::specs::InForce::mapping_in_force))]
 pub(crate) fn mapping_in_force(values: &[Value], sheet: Option<&Mapping>) -> Option<Mapping>
     ensures { result ≡ mapping_in_force values.now (option_copied sheet.entry) }
 {
-    let count = count_in_force(values, sheet)?;
-    mapping_with(values, sheet, count)
+    match count_in_force(values, sheet) {
+        Some(count) => mapping_with(values, sheet, count),
+        None => None,
+    }
 }
 
 fn all_assumed(values: &[Value]) -> bool
@@ -261,7 +268,7 @@ fn push_digits(text: &mut String, bytes: &[u8]) -> Result<(), AllocError>
     match bytes {
         [] => Ok(()),
         _ => {
-            text.push_str(" ")?;
+            attempt!(text.push_str(" "));
             push_bytes(text, bytes)
         }
     }
@@ -271,11 +278,9 @@ fn push_digits(text: &mut String, bytes: &[u8]) -> Result<(), AllocError>
 fn push_raw(text: &mut String, bytes: &[u8], why: &str) -> Result<(), AllocError>
     ensures { OnOk result (string_bytes text.new ≡ string_bytes text.old ++ raw_text bytes.now why.now) }
 {
-    text.push_str(":")?;
-    push_digits(text, bytes)?;
-    text.push_str(" (")?;
-    text.push_str(why)?;
-    text.push_str(")")
+    attempt!(text.push_str(":"));
+    attempt!(push_digits(text, bytes));
+    push_filled(text, " (%)", &[Filling::Words(why)])
 }
 
 // by the sheet's mapping: the recording shows nothing of it
@@ -309,7 +314,7 @@ fn push_known(
         ++ known_text (names_view names.entry) node bytes.now values.now mapping.now) }
 {
     let count = usize::from(word_count(mapping.count));
-    text.push_str(origin_words(first_values(values, count + 1)))?;
+    attempt!(text.push_str(origin_words(first_values(values, count + 1))));
     push_data(text, names, node, mapping, bytes)
 }
 

@@ -56,7 +56,7 @@ pub fn push_known(
         ++ known_text (names_view names.entry) node key (row_view row.now) bits bytes.now) }
 {
     let value_type = type_in(names, row);
-    push_entry(text, shown_name(row), key, value_type, bits, bytes)?;
+    attempt!(push_entry(text, shown_name(row), key, value_type, bits, bytes));
     if shows_meaning(names, node, key, bits) {
         return push_drive(text, key, bytes);
     }

@@ -1,6 +1,16 @@
 //! What the data of PDOs say, by their mappings in force.
 #![tactic(auto)]
 
+// As `?`, without a conversion of the error: a `match` is one step of a proof where `?` is three.
+macro_rules! attempt {
+    ($result:expr) => {
+        match $result {
+            Ok(value) => value,
+            Err(fault) => return Err(fault),
+        }
+    };
+}
+
 mod bus;
 mod channel_words;
 mod claim;

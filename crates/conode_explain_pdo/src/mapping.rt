@@ -3,12 +3,10 @@
 
 ghost use Rattle.std.specs.Prelude.{◌≡◌, ◌+◌, ◌*◌, ◌/◌, ◌%◌, ◌^◌, ◌++◌, ◌≤◌, [], OnOk, length, string_bytes, take};
 ghost use Rattle.co_value.specs.Numbers.{low_bytes, unsigned_of};
-ghost use Rattle.co_sheet.specs.SheetViews.{row_view};
 ghost use Rattle.co_sheet_changes.specs.Names.{names_view};
 ghost use Rattle.conode_explain_values.specs.Values.{HasBits};
 ghost use Rattle.conode_explain_pdo.specs.Mappings.{
   addressing_word,
-  bytes_words,
   data_text,
   is_gap,
   mapped_text,
@@ -22,17 +20,17 @@ ghost use Rattle.conode_explain_pdo.specs.Mappings.{
   parts_text,
   short_text,
   total_bits,
-  value_part,
+  unit_of,
   word_bits,
   word_key,
 };
 
 use crate::known_entry::push_known;
 use arrayvec::ArrayVec;
-use co_sheet::EntryRow;
 use co_sheet_changes::Names;
-use co_text::{push_bytes, push_decimal};
+use co_text::push_bytes;
 use co_value::{Key, read_u16, unsigned_of};
+use conode_text::{Value, push_filled};
 use std::alloc::AllocError;
 use std::marker::Model;
 
@@ -123,26 +121,6 @@ pub(crate) fn part_bytes(bytes: &[u8], offset: usize, bits: usize) -> ArrayVec<u
     low_bytes(bits_from(unsigned_of(bytes), offset, bits), (bits + 7) / 8)
 }
 
-fn push_value_part(
-    text: &mut String,
-    names: Names<'_, '_>,
-    node: u8,
-    row: &EntryRow<'_>,
-    key: Key,
-    bytes: &[u8],
-    offset: usize,
-    bits: usize,
-) -> Result<(), AllocError>
-    requires few { length bytes.now ≤ 8 }
-    requires within { offset + bits ≤ 64 }
-    ensures { OnOk result (string_bytes text.new
-        ≡ string_bytes text.old
-        ++ value_part (names_view names.entry) node key bytes.now offset bits (row_view row.now)) }
-{
-    let part = part_bytes(bytes, offset, bits);
-    push_known(text, names, node, key, row, bits, part.as_slice())
-}
-
 // what a word says of the data from an offset on
 #[tactic(auto, unfolding(crate::specs::Mappings::part_text))]
 fn push_part(
@@ -163,11 +141,12 @@ fn push_part(
         return text.push_str("-");
     }
     match names.entry(node, key) {
-        Some(row) => push_value_part(text, names, node, row, key, bytes, offset, word_bits(word)),
-        None => {
-            text.push_str(key.text().as_str())?;
-            text.push_str(" (not in sheet)")
+        Some(row) => {
+            let bits = word_bits(word);
+            let part = part_bytes(bytes, offset, bits);
+            push_known(text, names, node, key, row, bits, part.as_slice())
         }
+        None => push_filled(text, "% (not in sheet)", &[Value::Key(key)]),
     }
 }
 
@@ -188,8 +167,8 @@ fn push_more_parts(
 {
     let mut offset = start;
     for word in words {
-        text.push_str("; ")?;
-        push_part(text, names, node, bytes, offset, *word)?;
+        attempt!(text.push_str("; "));
+        attempt!(push_part(text, names, node, bytes, offset, *word));
         offset += word_bits(*word);
     }
     Ok(())
@@ -212,23 +191,16 @@ fn push_parts(
     match words {
         [] => Ok(()),
         [word, more @ ..] => {
-            push_part(text, names, node, bytes, 0, *word)?;
+            attempt!(push_part(text, names, node, bytes, 0, *word));
             push_more_parts(text, names, node, bytes, word_bits(*word), more)
         }
     }
 }
 
-#[tactic(auto, unfolding(crate::specs::Mappings::bytes_words))]
-fn push_bytes_words(text: &mut String, count: usize) -> Result<(), AllocError>
-    ensures { OnOk result
-        (string_bytes text.new ≡ string_bytes text.old ++ bytes_words count) }
+fn unit_of(count: usize) -> &'static str
+    ensures { result.now ≡ unit_of count }
 {
-    push_decimal(text, count as u64)?;
-    if count == 1 {
-        text.push_str(" byte")
-    } else {
-        text.push_str(" bytes")
-    }
+    if count == 1 { " byte" } else { " bytes" }
 }
 
 #[tactic(auto, unfolding(crate::specs::Mappings::short_text))]
@@ -236,9 +208,15 @@ fn push_short(text: &mut String, count: usize, mapped: usize) -> Result<(), Allo
     ensures { OnOk result
         (string_bytes text.new ≡ string_bytes text.old ++ short_text count mapped) }
 {
-    push_bytes_words(text, count)?;
-    text.push_str(", mapping has ")?;
-    push_decimal(text, mapped as u64)
+    push_filled(
+        text,
+        "%%, mapping has %",
+        &[
+            Value::Number(count as u64),
+            Value::Words(unit_of(count)),
+            Value::Number(mapped as u64),
+        ],
+    )
 }
 
 #[tactic(auto, unfolding(crate::specs::Mappings::more_text))]
@@ -246,11 +224,15 @@ fn push_more(text: &mut String, count: usize, mapped: usize) -> Result<(), Alloc
     ensures { OnOk result
         (string_bytes text.new ≡ string_bytes text.old ++ more_text count mapped) }
 {
-    if mapped < count {
-        text.push_str("; +")?;
-        return push_bytes_words(text, count - mapped);
+    if count <= mapped {
+        return Ok(());
     }
-    Ok(())
+    let more = count - mapped;
+    push_filled(
+        text,
+        "; +%%",
+        &[Value::Number(more as u64), Value::Words(unit_of(more))],
+    )
 }
 
 #[tactic(auto, unfolding(crate::specs::Mappings::mapped_text))]
@@ -270,7 +252,7 @@ fn push_mapped(
     if bytes.len() < mapped {
         return push_short(text, bytes.len(), mapped);
     }
-    push_parts(text, names, node, bytes, words)?;
+    attempt!(push_parts(text, names, node, bytes, words));
     push_more(text, bytes.len(), mapped)
 }
 
@@ -285,15 +267,10 @@ fn multiplexed_key(bytes: &[u8]) -> Key
 }
 
 #[tactic(auto, unfolding(crate::specs::Mappings::addressing_word))]
-fn push_addressing(text: &mut String, byte: u8) -> Result<(), AllocError>
-    ensures { OnOk result
-        (string_bytes text.new ≡ string_bytes text.old ++ addressing_word byte) }
+fn addressing_word(byte: u8) -> &'static str
+    ensures { result.now ≡ addressing_word byte }
 {
-    if byte < 128 {
-        text.push_str("source")
-    } else {
-        text.push_str("destination")
-    }
+    if byte < 128 { "source" } else { "destination" }
 }
 
 #[tactic(auto, unfolding(crate::specs::Mappings::multiplexed_text))]
@@ -302,12 +279,15 @@ fn push_multiplexed(text: &mut String, bytes: &[u8]) -> Result<(), AllocError>
     ensures { OnOk result
         (string_bytes text.new ≡ string_bytes text.old ++ multiplexed_text bytes.now) }
 {
-    push_addressing(text, bytes[0])?;
-    text.push_str(" node ")?;
-    push_decimal(text, u64::from(bytes[0] % 128))?;
-    text.push_str(" ")?;
-    text.push_str(multiplexed_key(bytes).text().as_str())?;
-    text.push_str(" ")?;
+    attempt!(push_filled(
+        text,
+        "% node % % ",
+        &[
+            Value::Words(addressing_word(bytes[0])),
+            Value::Number(u64::from(bytes[0] % 128)),
+            Value::Key(multiplexed_key(bytes)),
+        ],
+    ));
     push_bytes(text, &bytes[4..])
 }
 
@@ -345,7 +325,7 @@ pub fn push_data(
     if count == 0 || (count > 64 && count < 0xFE) {
         return Ok(());
     }
-    text.push_str(": ")?;
+    attempt!(text.push_str(": "));
     if count > 64 {
         return push_multiplexed_data(text, bytes);
     }

@@ -1,6 +1,6 @@
 //! What data say as PDOs.
 
-ghost use Rattle.std.specs.Prelude.{◌≡◌, ◌≤◌, ◌++◌, OnOk, length, string_bytes};
+ghost use Rattle.std.specs.Prelude.{◌≡◌, ◌≤◌, ◌++◌, OnOk, decimal, length, string_bytes};
 ghost use Rattle.conode_explain_pdo.specs.Buses.{bus_view};
 ghost use Rattle.conode_explain_pdo.specs.Pdos.{more_pdos, pdo_front, pdo_text, pdos_text};
 
@@ -10,20 +10,27 @@ use crate::in_force::push_data_in_force;
 use co_text::push_decimal;
 use std::alloc::AllocError;
 
+fn push_numbered(text: &mut String, words: &str, number: u64) -> Result<(), AllocError>
+    ensures { OnOk result
+        (string_bytes text.new ≡ string_bytes text.old ++ words.now ++ decimal number) }
+{
+    attempt!(text.push_str(words));
+    push_decimal(text, number)
+}
+
 #[tactic(auto, unfolding(crate::specs::Pdos::pdo_front))]
 fn push_front(text: &mut String, index: u16, node: u8) -> Result<(), AllocError>
     ensures { OnOk result
         (string_bytes text.new ≡ string_bytes text.old ++ pdo_front index node) }
 {
     if index < 0x1800 {
-        text.push_str("RPDO")?;
-        push_decimal(text, u64::from(index.saturating_sub(0x13FF)))?;
+        let number = u64::from(index.saturating_sub(0x13FF));
+        attempt!(push_numbered(text, "RPDO", number));
     } else {
-        text.push_str("TPDO")?;
-        push_decimal(text, u64::from(index.saturating_sub(0x17FF)))?;
+        let number = u64::from(index.saturating_sub(0x17FF));
+        attempt!(push_numbered(text, "TPDO", number));
     }
-    text.push_str(" node ")?;
-    push_decimal(text, u64::from(node))
+    push_numbered(text, " node ", u64::from(node))
 }
 
 #[tactic(auto, unfolding(crate::specs::Pdos::pdo_text))]
@@ -37,7 +44,7 @@ fn push_pdo(
     ensures { OnOk result (string_bytes text.new
         ≡ string_bytes text.old ++ pdo_text (bus_view bus.entry) bytes.now claim) }
 {
-    push_front(text, claim.index, claim.node)?;
+    attempt!(push_front(text, claim.index, claim.node));
     push_data_in_force(text, bus, claim.node, claim.index, bytes)
 }
 
@@ -53,8 +60,8 @@ fn push_more(
         ≡ string_bytes text.old ++ more_pdos (bus_view bus.entry) bytes.now claims.now) }
 {
     for claim in claims {
-        text.push_str(" | ")?;
-        push_pdo(text, bus, bytes, *claim)?;
+        attempt!(text.push_str(" | "));
+        attempt!(push_pdo(text, bus, bytes, *claim));
     }
     Ok(())
 }
@@ -77,7 +84,7 @@ pub fn push_pdos(
     match claims {
         [] => Ok(()),
         [claim, more @ ..] => {
-            push_pdo(text, bus, bytes, *claim)?;
+            attempt!(push_pdo(text, bus, bytes, *claim));
             push_more(text, bus, bytes, more)
         }
     }

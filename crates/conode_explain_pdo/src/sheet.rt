@@ -101,7 +101,9 @@ fn pdo_of(rows: &[EntryRow<'_>], range: IndexRange, row: &EntryRow<'_>) -> Optio
     if !is_cob_id(range, row.key) {
         return None;
     }
-    let cob_id = cob_id_of(row.default)?;
+    let Some(cob_id) = cob_id_of(row.default) else {
+        return None;
+    };
     Some(SheetPdo {
         index: row.key.index,
         cob_id,
@@ -128,15 +130,14 @@ fn add_pdos(
     Ok(())
 }
 
+// adds the PDOs of a sheet's rows
 #[tactic(auto, unfolding(crate::specs::Sheets::pdos_in))]
-fn pdos_in(alloc: Global, rows: &[EntryRow<'_>]) -> Result<Vec<SheetPdo>, AllocError>
+fn add_both_kinds(pdos: &mut Vec<SheetPdo>, rows: &[EntryRow<'_>]) -> Result<(), AllocError>
     requires { AllPairs (λ e f. is_key_before e.key f.key ≡ true) rows.now }
-    ensures { IfOk result (λ pdos. pdos.items ≡ pdos_in (map row_view rows.now)) }
+    ensures { OnOk result (pdos.new.items ≡ pdos.old.items ++ pdos_in (map row_view rows.now)) }
 {
-    let mut pdos = Vec::new(alloc);
-    add_pdos(&mut pdos, rows, IndexRange::TPDO_COMMUNICATION)?;
-    add_pdos(&mut pdos, rows, IndexRange::RPDO_COMMUNICATION)?;
-    Ok(pdos)
+    attempt!(add_pdos(pdos, rows, IndexRange::TPDO_COMMUNICATION));
+    add_pdos(pdos, rows, IndexRange::RPDO_COMMUNICATION)
 }
 
 /// The PDOs of the data sheet of these names, by the values that its entries begin with: those that
@@ -146,8 +147,9 @@ fn pdos_in(alloc: Global, rows: &[EntryRow<'_>]) -> Result<Vec<SheetPdo>, AllocE
 pub fn sheet_pdos(alloc: Global, names: Names<'_, '_>) -> Result<Vec<SheetPdo>, AllocError>
     ensures { IfOk result (λ pdos. pdos.items ≡ sheet_pdos (names_view names.entry)) }
 {
-    match names.sheet {
-        Some(sheet) => pdos_in(alloc, sheet.entries()),
-        None => Ok(Vec::new(alloc)),
+    let mut pdos = Vec::new(alloc);
+    if let Some(sheet) = names.sheet {
+        attempt!(add_both_kinds(&mut pdos, sheet.entries()));
     }
+    Ok(pdos)
 }

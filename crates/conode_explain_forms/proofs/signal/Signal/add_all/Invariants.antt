@@ -3,7 +3,7 @@ use denote.Text.{Utf8}
 use denote.Shadow.{shadow}
 use Rattle.conode_explain_forms.specs.Words.{signals_of, words_in}
 use Rattle.conode_explain_forms.proofs.Readings.{onto}
-use Rattle.conode_explain_forms.proofs.signal.Signal.read_all.Given as goal
+use Rattle.conode_explain_forms.proofs.signal.Signal.add_all.Given as goal
 
 -- what the words so far name, and then those of the rest
 abbrev pub invariant-loop-word : goal.invariant-loop-word
