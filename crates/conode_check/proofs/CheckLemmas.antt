@@ -1,19 +1,41 @@
 -- What is written of a text that was read as a sheet.
-use Rattle.std.proofs.Common.{◌≡◌, ◌∙◌, ℕ, List, [], ◌∷◌, Option, Result, Ok, Err, inl, inr, refl, sym, ap, subst}
+use Rattle.std.proofs.Common.{◌≡◌, ◌∙◌, ℕ, List, [], ◌∷◌, ◌++◌, map, Option, Some, None, Result, Ok, Err, inl, inr, refl, sym, ap, subst, append_assoc}
 use Rattle.std.specs.Prelude.{◌⊎◌, ◌≢◌, Bool, take, is_none, IfErr, OnOk}
 use Rattle.std.specs.List.{flat_map}
+use Rattle.std.specs.Option.{option_map_or}
 use Rattle.std.specs.Io.KnownBytes.{Appends, Keeps}
 use Rattle.std.proofs.KnownBytes.{Appends-kept}
+use Rattle.std.proofs.lemmas.Grind.{flat_map-append}
+use Rattle.std.proofs.lemmas.List.Folds.{flat_map-map}
 use Rattle.conode_io.specs.declared.fault.CmdFault.{CmdFault}
 use Rattle.conode_io.specs.declared.fault.CmdFault.TheVariants.{Memory, Write}
 use Rattle.conode_io.specs.declared.ending.Ending.{Ending}
 use Rattle.conode_io.specs.declared.ending.Ending.TheVariants.{Said, Unsaid}
 use Rattle.conode_io.specs.Written.{WritesFront, WritesFrontOrLines, WritesLines, WritesSome}
-use Rattle.conode_io.proofs.WriteLemmas.{line_alone, lines_after}
+use Rattle.conode_io.proofs.WriteLemmas.{line_alone, lines_after, no_lines}
 use Rattle.conode_check.specs.CheckEndings.{IsCheckEnding, SomeThenMemory, memory_line}
 use Rattle.co_sheet.specs.Content.{IsSheet, SheetContent}
+use Rattle.co_sheet.specs.Accepted.{first_fault}
+use Rattle.co_sheet_rows.specs.declared.fault.SheetFault.{SheetFault}
+use Rattle.co_sheet_rows.specs.declared.note.Note.{Note}
+use Rattle.co_dict_build.specs.declared.build_fault.BuildFault.{BuildFault}
 use Rattle.co_dict_build.specs.Capacities.{Limits}
-use Rattle.conode_check.specs.SheetTexts.{checked_fault, checked_lines, is_good, own_node, sheet_lines}
+use Rattle.conode_check.specs.SheetTexts.{build_lines, checked_fault, checked_lines, fault_line, is_good, joined, node_lines, note_line, own_node, sheet_lines, summary_line, text_sheet}
+
+-- the lines of a sheet, part by part
+pub sheet_joined : (sheet : SheetContent) (own : Option ℕ) (fault : Option BuildFault) (notes : List Note) (old a b c d : List ℕ) → a ≡ old ++ summary_line sheet → notes ≡ sheet.notes
+    → b ≡ a ++ flat_map note_line notes → c ≡ b ++ joined (node_lines own) → d ≡ c ++ joined (build_lines fault) → d ≡ old ++ joined (sheet_lines sheet own fault)
+sheet_joined sheet own fault notes old a b c d e1 e2 e3 e4 e5 =
+    rw (e5, e4, e3, e2, e1) (simp (flat_map-append, flat_map-map, append_assoc) refl)
+
+none_of : (held : Option (List ℕ)) (sheet : SheetContent) (given : Option ℕ) (limits : Limits) (fault : Option SheetFault)
+    → WritesSome held held (option_map_or (λ f. fault_line f ∷ []) fault (sheet_lines sheet (own_node given sheet) (checked_fault given limits sheet)))
+none_of held sheet given limits (Some fault) = no_lines held (fault_line fault) []
+none_of held sheet given limits None = no_lines held (summary_line sheet) (map note_line sheet.notes ++ (node_lines (own_node given sheet) ++ build_lines (checked_fault given limits sheet)))
+
+-- before anything is written, some of the lines of a text are: none
+pub none_written : (held : Option (List ℕ)) (text : List ℕ) (node : Option ℕ) (limits : Limits) → WritesSome held held (checked_lines text node limits)
+none_written held text node limits = none_of held (text_sheet text) node limits (first_fault text)
 
 -- what is written of a sheet that a text was read as is what is written of the text
 pub accepted_text : (text : List ℕ) (sheet : SheetContent) (node : Option ℕ) (limits : Limits) → IsSheet text sheet

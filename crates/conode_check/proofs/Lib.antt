@@ -1,2 +1,2 @@
 pub mod CheckLemmas
-pub mod WriteSets
+mod Examples

@@ -17,7 +17,9 @@ use Rattle.std.specs.Prelude.{
   codes,
   decimal,
 }
+use Rattle.std.specs.List.{flat_map}
 use Rattle.std.specs.Option.{option_map_or, option_or}
+use Rattle.conode_text.specs.Filled.{filled}
 use Rattle.co_sheet_rows.specs.declared.fault.SheetFault.{SheetFault}
 use Rattle.co_sheet_rows.specs.declared.note.Note.{Note}
 use Rattle.co_sheet.specs.Accepted.{first_fault, sections_in}
@@ -40,8 +42,8 @@ note_line note = note_text note ++ 10 ∷ []
 -- the first line of a sheet that is accepted: how many objects, entries and notes it has
 unfoldable pub summary_line : SheetContent → List ℕ
 summary_line sheet =
-    codes "ok: " ++ decimal (length sheet.objects) ++ codes " objects, " ++ decimal (length sheet.rows)
-    ++ codes " entries, " ++ decimal (length sheet.notes) ++ codes " notes" ++ 10 ∷ []
+    filled (codes "ok: % objects, % entries, % notes\n")
+    (decimal (length sheet.objects) ∷ decimal (length sheet.rows) ∷ decimal (length sheet.notes) ∷ [])
 
 -- the line of a sheet that makes no dictionary
 unfoldable pub build_fault_line : BuildFault → List ℕ
@@ -49,7 +51,7 @@ build_fault_line fault = build_fault_text fault ++ 10 ∷ []
 
 -- the line of the node-ID that a sheet itself has
 unfoldable pub node_line : ℕ → List ℕ
-node_line id = codes "node " ++ decimal id ++ 10 ∷ []
+node_line id = filled (codes "node %\n") (decimal id ∷ [])
 
 -- why a sheet makes no dictionary for a node-ID and limits; without a node-ID none is made
 abbrev pub sheet_build_fault : Option ℕ → Limits → SheetContent → Option BuildFault
@@ -87,6 +89,10 @@ checked_lines text node limits =
     option_map_or (λ fault. fault_line fault ∷ [])
     (first_fault text)
     (sheet_lines (text_sheet text) (own_node node (text_sheet text)) (checked_fault node limits (text_sheet text)))
+
+-- lines, one after another
+abbrev pub joined : List (List ℕ) → List ℕ
+joined lines = flat_map (λ line. line) lines
 
 -- a text has no fault as a sheet, and no build fault for the given node-ID, or else its own
 abbrev pub is_good : List ℕ → Option ℕ → Limits → Bool
