@@ -2,14 +2,14 @@
 
 ghost use Rattle.std.specs.Prelude.{◌≡◌, ◌++◌, flat_map, option_to_list, OnOk};
 ghost use Rattle.co_sheet_text.specs.Views.{section_view};
-ghost use Rattle.co_sheet_warnings.specs.Warnings.{places_in};
+ghost use Rattle.co_sheet_warnings.specs.Warnings.{places_in, warnings_at};
 
 use crate::cob_ids::{fixed_cob_id, node_id_place};
 use crate::communication::{heartbeat_twice, inhibit_time, own_heartbeat};
 use crate::places::add_one;
 use crate::read_text::ReadText;
 use crate::sub_indices::{missing_name, sub_index_0, sub_number, unlisted};
-use crate::warning::WarningKind;
+use crate::warning::{Warning, WarningKind};
 use co_sheet_text::TextSection;
 use std::alloc::AllocError;
 
@@ -32,17 +32,17 @@ fn place_in(text: &ReadText, kind: WarningKind, section: &TextSection) -> Option
     }
 }
 
-/// Adds the lines of all sections where a kind applies.
+/// Adds the warnings of a kind in all sections.
 pub(crate) fn add_places_in(
-    places: &mut Vec<usize>,
+    warnings: &mut Vec<Warning>,
     text: &ReadText,
     kind: WarningKind,
 ) -> Result<(), AllocError>
-    ensures { OnOk result (places.new.items
-        ≡ places.old.items ++ flat_map (places_in text.now kind) text.now.sections) }
+    ensures { OnOk result (warnings.new.items ≡ warnings.old.items
+        ++ warnings_at kind (flat_map (places_in text.now kind) text.now.sections)) }
 {
     for section in text.sections() {
-        add_one(places, place_in(text, kind, section))?;
+        add_one(warnings, kind, place_in(text, kind, section))?;
     }
     Ok(())
 }
