@@ -74,6 +74,16 @@ fn begun_name(text: &[u8]) -> Option<&[u8]>
     }
 }
 
+// what the keys are about after a line
+fn topic_after(topic: Topic, text: &[u8]) -> Topic
+    ensures { result ≡ topic_after topic (form_of text.now) }
+{
+    match begun_name(text) {
+        Some(name) => topic_of(name),
+        None => topic,
+    }
+}
+
 // the key that a line gives, of a text without blanks at its ends
 fn key_on<'a>(topic: Topic, line: usize, text: &'a [u8]) -> Option<WrittenKey<'a>>
     ensures { option_to_list (option_map key_view result) ≡ key_on topic line (form_of text.now) }
@@ -110,12 +120,6 @@ fn text_read(line: &[u8]) -> &[u8]
     trim(line)
 }
 
-fn is_telling(key: &WrittenKey) -> bool
-    ensures { result ≡ is_telling (key_view key.now) }
-{
-    matches!(key.topic, Topic::FileInfo | Topic::DeviceInfo) || !is_known(key)
-}
-
 // adds the key that a line gives, where a warning can be about it
 fn add_telling<'a>(
     keys: &mut Vec<WrittenKey<'a>>,
@@ -127,38 +131,13 @@ fn add_telling<'a>(
         ≡ map key_view keys.old.items ++ filter is_telling (key_on topic line (form_of text.now))) }
 {
     match key_on(topic, line, text) {
-        Some(key) if is_telling(&key) => {
-            keys.push(key)?;
-            Ok(())
-        }
+        Some(key) if matches!(key.topic, Topic::FileInfo | Topic::DeviceInfo) || !is_known(&key) =>
+            {
+                keys.push(key)?;
+                Ok(())
+            }
         _ => Ok(()),
     }
-}
-
-// what the keys are about after a line
-fn topic_after(topic: Topic, text: &[u8]) -> Topic
-    ensures { result ≡ topic_after topic (form_of text.now) }
-{
-    match begun_name(text) {
-        Some(name) => topic_of(name),
-        None => topic,
-    }
-}
-
-// adds the keys of lines that a warning can be about
-fn add_keys<'a>(keys: &mut Vec<WrittenKey<'a>>, lines: &[&'a [u8]]) -> Result<(), AllocError>
-    ensures { OnOk result (map key_view keys.new.items ≡ map key_view keys.old.items
-        ++ telling_keys (numbered 1 (map (λ line. line.now) lines.now))) }
-{
-    let mut topic = Topic::Other;
-    let mut number = 1;
-    for line in lines {
-        let text = text_read(line);
-        add_telling(keys, topic, number, text)?;
-        topic = topic_after(topic, text);
-        number += 1;
-    }
-    Ok(())
 }
 
 /// The keys of lines that a warning can be about: those of FileInfo and DeviceInfo, and those that
@@ -171,6 +150,13 @@ pub(crate) fn keys_in<'a>(
         (λ keys. map key_view keys.items ≡ telling_keys (numbered 1 (map (λ line. line.now) lines.now))) }
 {
     let mut keys = Vec::new(alloc);
-    add_keys(&mut keys, lines)?;
+    let mut topic = Topic::Other;
+    let mut number = 1;
+    for line in lines {
+        let text = text_read(line);
+        add_telling(&mut keys, topic, number, text)?;
+        topic = topic_after(topic, text);
+        number += 1;
+    }
     Ok(keys)
 }

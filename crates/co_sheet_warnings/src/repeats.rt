@@ -14,12 +14,9 @@ ghost use Rattle.std.specs.Prelude.{
 };
 ghost use Rattle.std.specs.List.{list_any};
 ghost use Rattle.co_sheet_text.specs.Views.{section_view};
-ghost use Rattle.co_sheet.specs.Views.{default_view};
 ghost use Rattle.co_sheet_warnings.specs.Repeats.{
-  cob_id_for,
   enabled_number,
   has_cob_id,
-  if_enabled,
   identifier_in,
   enabled_cob_id,
   repeats,
@@ -61,12 +58,7 @@ fn has_cob_id(kind: SectionKind) -> bool
 /// This bit of a COB-ID word disables it.
 const DISABLED: u64 = 1 << 31;
 
-fn if_enabled(word: u64) -> Option<u64>
-    ensures { result ≡ if_enabled word }
-{
-    if word < DISABLED { Some(word) } else { None }
-}
-
+// a number that is a COB-ID and isn't disabled
 fn enabled_number(number: i128) -> Option<u64>
     ensures { result ≡ enabled_number number }
 {
@@ -77,27 +69,14 @@ fn enabled_number(number: i128) -> Option<u64>
     }
 }
 
-// the COB-ID that a value is for a node; `None` where it is disabled
-fn cob_id_for(node: u8, value: Preset) -> Option<u64>
-    ensures { result ≡ cob_id_for node (default_view value.entry) }
-{
-    match value {
-        Preset::Number(number) => enabled_number(number),
-        Preset::NodeId(addend) => match addend.checked_add(u64::from(node)) {
-            Some(word) => if_enabled(word),
-            None => None,
-        },
-        _ => None,
-    }
-}
-
 // the COB-ID of a text for a node; `None` where it is disabled
 fn enabled_cob_id(node: u8, value: &[u8]) -> Option<u64>
     ensures { result ≡ enabled_cob_id node value.now }
 {
     match numeric_default(DataType::Unsigned32, value) {
-        Ok(preset) => cob_id_for(node, preset),
-        Err(_) => None,
+        Ok(Preset::Number(number)) => enabled_number(number),
+        Ok(Preset::NodeId(addend)) => enabled_number(i128::from(addend) + i128::from(node)),
+        _ => None,
     }
 }
 

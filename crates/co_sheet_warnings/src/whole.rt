@@ -9,7 +9,7 @@ ghost use Rattle.co_sheet_warnings.specs.Warnings.{
   warnings_with,
 };
 
-use crate::in_sections::add_places_in;
+use crate::in_sections::place_in;
 use crate::infos::{
     DEVICE_KEYS, FILE_KEYS, date_formats, identity_numbers, missing_keys, pdo_counts,
 };
@@ -72,7 +72,10 @@ fn add_others(
         ≡ warnings.old.items ++ warnings_at kind (other_places text.now kind)) }
 {
     add_one(warnings, kind, place_in_text(text, kind))?;
-    add_places_in(warnings, text, kind)
+    for section in text.sections() {
+        add_one(warnings, kind, place_in(text, kind, section))?;
+    }
+    Ok(())
 }
 
 /// Adds the warnings of a kind.

@@ -132,7 +132,8 @@ again_at before (Some p) = if list_any (same_scoped p.key) before then p.line �
 
 abbrev pub kept_with : List ScopedName → Option (Placed ScopedName) → List ScopedName
 kept_with before None = before
-kept_with before (Some p) = if list_any (same_scoped p.key) before then before else before ++ p.key ∷ []
+kept_with before (Some p) =
+    if list_any (same_scoped p.key) before then before else before ++ p.key ∷ []
 
 abbrev pub repeats_of : Once → List TextSection → List ℕ
 repeats_of (Identifiers node) sections = shared_cob_ids (Some node) sections

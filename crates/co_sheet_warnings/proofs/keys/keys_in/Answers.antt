@@ -1,7 +1,7 @@
 use Rattle.std.proofs.Common.{arith, map}
 use Rattle.co_sheet_warnings.specs.private.Views.{key_view}
 use Rattle.co_sheet_warnings.proofs.KeyLemmas.{keys-end, keys-turn}
-use Rattle.co_sheet_warnings.proofs.keys.add_keys.Goals as goal
+use Rattle.co_sheet_warnings.proofs.keys.keys_in.Goals as goal
 
 pub loop-line-preserved : goal.loop-line-preserved
 loop-line-preserved c = record {

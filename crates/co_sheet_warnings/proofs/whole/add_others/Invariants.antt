@@ -2,7 +2,7 @@ use Rattle.std.proofs.Common.{◌≡◌, ◌++◌, drop, map}
 use Rattle.std.specs.List.{flat_map}
 use Rattle.co_sheet_text.specs.Views.{section_view}
 use Rattle.co_sheet_warnings.specs.Warnings.{places_in, warnings_at}
-use Rattle.co_sheet_warnings.proofs.in_sections.add_places_in.Given as goal
+use Rattle.co_sheet_warnings.proofs.whole.add_others.Given as goal
 
 -- those so far, and after them those of the rest
 abbrev pub invariant-loop-section : goal.invariant-loop-section

@@ -4,12 +4,12 @@ use Rattle.co_sheet_warnings.specs.Keys.{keys_from}
 use Rattle.co_sheet_warnings.specs.KnownKeys.{is_telling, telling_keys}
 use Rattle.co_sheet_warnings.specs.Lines.{numbered}
 use Rattle.co_sheet_warnings.specs.private.Views.{key_view}
-use Rattle.co_sheet_warnings.proofs.keys.add_keys.Given as goal
+use Rattle.co_sheet_warnings.proofs.keys.keys_in.Given as goal
 
 -- those so far, and after them those of the rest
 abbrev pub invariant-loop-line : goal.invariant-loop-line
 invariant-loop-line l = record {
   found : map key_view l.keys.items ++ filter is_telling (keys_from l.topic (numbered l.number (map (λ line. line.now) (drop l.line-index l.lines))))
-      ≡ map key_view l.initial.keys.items ++ telling_keys (numbered 1 (map (λ line. line.now) l.lines));
+      ≡ telling_keys (numbered 1 (map (λ line. line.now) l.lines));
   next : l.number ≡ l.line-index + 1;
 }
