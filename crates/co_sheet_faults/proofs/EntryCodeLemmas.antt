@@ -44,6 +44,14 @@ type-good e h =
 pub added : (now mid old first more all : List SheetFault) → now ≡ mid ++ more → mid ≡ old ++ first → all ≡ first ++ more → now ≡ old ++ all
 added now mid old first more all e h is = e ∙ ap (λ l. l ++ more) h ∙ append_assoc old first more ∙ ap (λ l. old ++ l) (sym is)
 
+-- six steps
+pub six-added : (f0 f1 f2 f3 f4 f5 f6 a b c d e f all : List SheetFault) → f1 ≡ f0 ++ a → f2 ≡ f1 ++ b → f3 ≡ f2 ++ c → f4 ≡ f3 ++ d → f5 ≡ f4 ++ e → f6 ≡ f5 ++ f
+    → all ≡ a ++ (b ++ ((c ++ d) ++ (e ++ f))) → f6 ≡ f0 ++ all
+six-added f0 f1 f2 f3 f4 f5 f6 a b c d e f all h1 h2 h3 h4 h5 h6 is =
+    added f6 f1 f0 a (b ++ ((c ++ d) ++ (e ++ f))) all
+    (added f6 f2 f1 b ((c ++ d) ++ (e ++ f)) (b ++ ((c ++ d) ++ (e ++ f)))
+    (added f6 f4 f2 (c ++ d) (e ++ f) ((c ++ d) ++ (e ++ f)) (added f6 f5 f4 e f (e ++ f) h6 h5 refl) (added f4 f3 f2 c d (c ++ d) h4 h3 refl) refl) h2 refl) h1 is
+
 pub on-ok : {X E : Type 0} (r : Result X E) {P Q : Type 0} → (P → Q) → OnOk r P → OnOk r Q
 on-ok (Ok x) f p = f p
 on-ok (Err e) f p = tt

@@ -17,5 +17,6 @@ mod CollectedLemmas
 mod FaultOrderLemmas
 mod EntryCodeLemmas
 mod ListCodeLemmas
+mod ListingLemmas
 mod TextCodeLemmas
 mod WordLemmas

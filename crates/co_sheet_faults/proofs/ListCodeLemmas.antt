@@ -4,7 +4,7 @@ use Rattle.std.specs.Prelude.{flat_map, filter}
 use Rattle.std.specs.List.{list_any}
 use Rattle.std.specs.Result.{result_ok}
 use Rattle.std.proofs.lemmas.Bool.Decides.{nat_tests}
-use Rattle.std.proofs.lemmas.List.{append_assoc, drop_all}
+use Rattle.std.proofs.lemmas.List.{append-nil, append_assoc, drop_all}
 use Rattle.std.proofs.Math.Seq.{take-suc}
 use Rattle.co_sheet_text.specs.declared.section_kind.SectionKind.TheVariants.{MandatoryObjects}
 use Rattle.co_sheet_text.specs.declared.numeral.NumeralFault.{NumeralFault}
@@ -218,6 +218,10 @@ added-turn view f xs i d before after all inside is invariant =
     (ap (λ l. l ++ rest) is ∙ append_assoc before (f (view (get_or xs i d))) rest
     ∙ sym (ap (λ l. before ++ flat_map f (map view l)) (drop-cons xs i d inside)) ∙ invariant)
 
+pub added-end : {X V Y : Type 0} (view : X → V) (f : V → List Y) (xs : List X) (i : ℕ) (before all : List Y) → length xs ≤ i
+    → before ++ flat_map f (map view (drop i xs)) ≡ all → before ≡ all
+added-end view f xs i before all past invariant = sym (append-nil before) ∙ sym (ap (λ l. before ++ flat_map f (map view l)) (drop_all i xs past)) ∙ invariant
+
 -- the same, where each item gives one
 pub mapped-turn : {X Y : Type 0} (f : X → Y) (xs : List X) (i : ℕ) (d : X) (before after all : List Y) → i < length xs
     → after ≡ before ++ f (get_or xs i d) ∷ [] → before ++ map f (drop i xs) ≡ all → after ++ map f (drop (i + 1) xs) ≡ all
@@ -226,6 +230,10 @@ mapped-turn f xs i d before after all inside is invariant =
     rw (add-one i)
     (ap (λ l. l ++ rest) is ∙ append_assoc before (f (get_or xs i d) ∷ []) rest
     ∙ sym (ap (λ l. before ++ map f l) (drop-cons xs i d inside)) ∙ invariant)
+
+pub mapped-end : {X Y : Type 0} (f : X → Y) (xs : List X) (i : ℕ) (before all : List Y) → length xs ≤ i
+    → before ++ map f (drop i xs) ≡ all → before ≡ all
+mapped-end f xs i before all past invariant = sym (append-nil before) ∙ sym (ap (λ l. before ++ map f l) (drop_all i xs past)) ∙ invariant
 
 or-assoc : (a b c : Bool) → ((a || b) || c) ≡ (a || (b || c))
 or-assoc true b c = refl

@@ -71,9 +71,10 @@ fn add_numbers(faults: &mut Vec<SheetFault>, section: &TextSection) -> Result<()
         ≡ faults.old.items ++ numbers_collected (section_view section.now)) }
 {
     if has_numbers(section.kind) {
-        add_unread_numbers(faults, section.properties)?;
+        add_unread_numbers(faults, section.properties)
+    } else {
+        Ok(())
     }
-    Ok(())
 }
 
 // adds a list that is bad, where its SupportedObjects is a number or absent
@@ -112,7 +113,8 @@ fn add_section(
     }
     let is_bad = read_list(named, section)?;
     add_bad_list(faults, section, is_bad)?;
-    Ok(is_bad || has_unread(section))
+    let is_unread = has_unread(section);
+    Ok(is_unread | is_bad)
 }
 
 /// Adds the faults of the object lists, DummyUsage, DeviceInfo and the device commissioning on
@@ -136,32 +138,36 @@ pub(crate) fn add_sections(
     Ok(is_bad)
 }
 
-// adds the faults of a listing and of its object; returns whether the listing is at fault
+// whether a listing names an index again, or one without a section
+fn is_listing_bad(tables: &Tables, listing: &Listing, is_first: bool) -> bool
+    requires { is_first ≡ not (is_listed_before (listings tables.now) (listing_view listing.now)) }
+    ensures { result ≡ is_listing_at_fault tables.now (listing_view listing.now) }
+{
+    let object = tables.object(listing.index);
+    !is_first | object.is_none()
+}
+
+// adds the faults of a listing and, at the first line that names it, of its object
 fn add_listing(
     faults: &mut Vec<SheetFault>,
     tables: &Tables,
     listing: &Listing,
     is_first: bool,
-) -> Result<bool, AllocError>
+) -> Result<(), AllocError>
     requires { is_first ≡ not (is_listed_before (listings tables.now) (listing_view listing.now)) }
-    ensures found { OnOk result (faults.new.items
+    ensures { OnOk result (faults.new.items
         ≡ faults.old.items ++ listing_collected tables.now (listing_view listing.now)) }
-    ensures bad { IfOk result (λ bad. bad
-        ≡ is_listing_at_fault tables.now (listing_view listing.now)) }
 {
-    let object = tables.object(listing.index);
-    let is_bad = !is_first || object.is_none();
     if listing.index > 0xFFFF {
-        return Ok(is_bad);
+        return Ok(());
     }
-    add_if(faults, !is_first, FaultKind::ListedTwice, listing.line)?;
-    if is_first {
-        match object {
-            Some(object) => add_object(faults, tables, &object)?,
-            None => add_if(faults, true, FaultKind::MissingSection, listing.line)?,
-        }
+    if !is_first {
+        return add_if(faults, true, FaultKind::ListedTwice, listing.line);
     }
-    Ok(is_bad)
+    match tables.object(listing.index) {
+        Some(object) => add_object(faults, tables, &object),
+        None => add_if(faults, true, FaultKind::MissingSection, listing.line),
+    }
 }
 
 // adds the faults of each listing, and of its object at the first; `seen` has the indices so far
@@ -182,7 +188,8 @@ fn add_each_listing(
     let mut is_bad = false;
     for listing in named {
         let is_first = seen.insert(listing.index)?;
-        is_bad |= add_listing(faults, tables, listing, is_first)?;
+        add_listing(faults, tables, listing, is_first)?;
+        is_bad |= is_listing_bad(tables, listing, is_first);
     }
     Ok(is_bad)
 }

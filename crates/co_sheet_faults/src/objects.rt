@@ -122,9 +122,10 @@ fn add_part(
 {
     add_object_type(faults, part.section, true)?;
     if is_entry {
-        add_entry(faults, part)?;
+        add_entry(faults, part)
+    } else {
+        Ok(())
     }
-    Ok(())
 }
 
 fn add_each_part(

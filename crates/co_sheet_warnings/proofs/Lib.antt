@@ -1,8 +1,19 @@
-mod Examples
+pub mod ExampleTexts
+mod WarningExamples
+mod SubIndexExamples
+mod ListExamples
+mod CobIdExamples
+mod CommunicationExamples
+mod KeyExamples
+mod InfoExamples
+mod RepeatExamples
+mod LineExamples
 mod PieceLemmas
 pub mod QuestionLemmas
 mod ByLineLemmas
 pub mod NameLemmas
 pub mod KnownLemmas
-mod KindLemmas
+mod IndexLemmas
+mod KeyLemmas
+mod LineLemmas
 mod WordLemmas

@@ -1,7 +1,8 @@
 -- Names that are kept, and what a contract sees of them.
-use Rattle.std.proofs.Common.{◌≡◌, ℕ, Bool, true, false, cond, ◌&&◌, ◌||◌, List, [], ◌∷◌, ◌++◌, nat_eq, map, not, refl, ap, ◌∙◌}
+use Rattle.std.proofs.Common.{◌≡◌, ℕ, Bool, true, false, cond, ◌&&◌, ◌||◌, List, [], ◌∷◌, ◌++◌, nat_eq, map, not, refl, sym, ap, ◌∙◌, ◌+◌, ◌<◌, suc, length, get_or, drop, drop-cons, add-one, append_assoc}
 use Rattle.std.specs.Prelude.{Option, Some, None, filter_map, option_map}
-use Rattle.std.specs.List.{list_any}
+use Rattle.std.specs.List.{list_any, cons_option}
+use Rattle.std.proofs.lemmas.List.{map-append}
 use Rattle.std.specs.Str.{bytes_eq}
 use Rattle.co_sheet_warnings.specs.declared.repeats.ScopedName.{ScopedName}
 use Rattle.co_sheet_text.specs.Sections.{TextSection}
@@ -9,7 +10,10 @@ use Rattle.co_sheet_warnings.specs.declared.repeats.Once.{Once}
 use Rattle.co_sheet_warnings.specs.declared.repeats.Once.TheVariants.{Identifiers, Names}
 use Rattle.co_sheet_warnings.specs.Repeats.{Placed, identifier_in, identifiers_in, repeats, same_scoped}
 use Rattle.co_sheet_warnings.specs.Repeats.{ScopedName as Scoped}
-use Rattle.co_sheet_warnings.specs.private.Views.{as_name, id_name, placed_in, repeats_of, scoped_view}
+use Rattle.co_sheet_warnings.specs.declared.warning.Warning.{Warning}
+use Rattle.co_sheet_warnings.specs.declared.warning.WarningKind.{WarningKind}
+use Rattle.co_sheet_warnings.specs.Warnings.{warning_at, warnings_at}
+use Rattle.co_sheet_warnings.specs.private.Views.{again_at, as_name, id_name, kept_with, placed_in, repeats_of, scoped_view}
 
 -- a name is among the kept ones
 pub any_name : (name : ScopedName) (names : List ScopedName)
@@ -69,3 +73,31 @@ named ids (s ∷ sections) = by_case (ids s) refl (named ids sections)
 pub repeated_names : (once : Once) (sections : List TextSection) → repeats same_scoped [] (filter_map (placed_in once) sections) ≡ repeats_of once sections
 repeated_names (Identifiers node) sections = ap (λ (l : List (Placed Scoped)). repeats same_scoped [] l) (named (identifier_in node) sections) ∙ same_repeats [] (identifiers_in node sections)
 repeated_names Names sections = refl
+
+-- ---- section by section
+
+-- the lines of what comes again, of one section and of the rest
+repeats-first : (before : List Scoped) (found : Option (Placed Scoped)) (rest : List (Placed Scoped))
+    → repeats same_scoped before (cons_option found rest) ≡ again_at before found ++ repeats same_scoped (kept_with before found) rest
+repeats-first before None rest = refl
+repeats-first before (Some p) rest = by_test (list_any (same_scoped p.key) before)
+  where
+    by_test : (b : Bool) → cond b (p.line ∷ repeats same_scoped before rest) (repeats same_scoped (before ++ p.key ∷ []) rest)
+        ≡ cond b (p.line ∷ []) [] ++ repeats same_scoped (cond b before (before ++ p.key ∷ [])) rest
+    by_test true = refl
+    by_test false = refl
+
+pub repeats-turn : {X : Type 0} (kind : WarningKind) (f : TextSection → Option (Placed Scoped)) (view : X → TextSection) (xs : List X) (i : ℕ) (d : X) (found : Option (Placed Scoped)) (before kept : List Scoped) (old new all : List Warning)
+    → i < length xs → found ≡ f (view (get_or xs i d)) → new ≡ old ++ warnings_at kind (again_at before found) → kept ≡ kept_with before found
+    → old ++ warnings_at kind (repeats same_scoped before (filter_map f (map view (drop i xs)))) ≡ all → new ++ warnings_at kind (repeats same_scoped kept (filter_map f (map view (drop (i + 1) xs)))) ≡ all
+repeats-turn kind f view xs i d found before kept old new all inside is added more invariant =
+    let rest = filter_map f (map view (drop (suc i) xs)) in
+    rw (add-one i)
+    (ap (λ l. l ++ warnings_at kind (repeats same_scoped kept rest)) added
+    ∙ ap (λ (l : List Scoped). (old ++ warnings_at kind (again_at before found)) ++ warnings_at kind (repeats same_scoped l rest)) more
+    ∙ append_assoc old (warnings_at kind (again_at before found)) (warnings_at kind (repeats same_scoped (kept_with before found) rest))
+    ∙ ap (λ l. old ++ l) (sym (map-append (warning_at kind) (again_at before found) (repeats same_scoped (kept_with before found) rest)))
+    ∙ ap (λ l. old ++ warnings_at kind l) (sym (repeats-first before found rest))
+    ∙ ap (λ (o : Option (Placed Scoped)). old ++ warnings_at kind (repeats same_scoped before (cons_option o rest))) is
+    ∙ ap (λ ss. old ++ warnings_at kind (repeats same_scoped before (filter_map f (map view ss)))) (sym (drop-cons xs i d inside))
+    ∙ invariant)

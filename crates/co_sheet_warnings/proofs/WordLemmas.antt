@@ -1,5 +1,5 @@
 -- The tables of words have each kind's words in its row.
-use Rattle.std.proofs.Common.{◌≡◌, ℕ, List, [], get_or, map, refl}
+use Rattle.std.proofs.Common.{◌≡◌, ◌<◌, ℕ, List, [], get_or, map, refl, arith}
 use Rattle.co_sheet_warnings.specs.declared.known_key.KnownKey.{KnownKey}
 use Rattle.co_sheet_warnings.specs.declared.warning.WarningKind.{WarningKind}
 use Rattle.co_sheet_warnings.specs.declared.warning.WarningKind.TheVariants.{SubNumber, SubIndex0, FileInfoKeys, DeviceInfoKeys, PdoCount, WrongList, Unlisted, IdentityNumber, FixedCobId, NodeIdPlace, MisspeltKey, SharedCobId, InhibitTime, OwnHeartbeat, HeartbeatTwice, NoErrorControl, LongLine, Utf8, NotAscii, ListOrder, EqualNames, MissingName, UnknownKey, DateFormat, LineEnds}
@@ -126,3 +126,31 @@ fixed MissingName other = refl
 fixed UnknownKey other = refl
 fixed DateFormat other = refl
 fixed LineEnds other = refl
+
+-- no row past the last
+pub few_rows : (kind : WarningKind) → kind_row kind < 25
+few_rows SubNumber = omega arith
+few_rows SubIndex0 = omega arith
+few_rows FileInfoKeys = omega arith
+few_rows DeviceInfoKeys = omega arith
+few_rows PdoCount = omega arith
+few_rows WrongList = omega arith
+few_rows Unlisted = omega arith
+few_rows IdentityNumber = omega arith
+few_rows FixedCobId = omega arith
+few_rows NodeIdPlace = omega arith
+few_rows (MisspeltKey key) = omega arith
+few_rows SharedCobId = omega arith
+few_rows InhibitTime = omega arith
+few_rows OwnHeartbeat = omega arith
+few_rows HeartbeatTwice = omega arith
+few_rows NoErrorControl = omega arith
+few_rows LongLine = omega arith
+few_rows Utf8 = omega arith
+few_rows NotAscii = omega arith
+few_rows ListOrder = omega arith
+few_rows EqualNames = omega arith
+few_rows MissingName = omega arith
+few_rows UnknownKey = omega arith
+few_rows DateFormat = omega arith
+few_rows LineEnds = omega arith

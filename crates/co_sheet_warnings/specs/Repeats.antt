@@ -23,6 +23,7 @@ use Rattle.std.specs.Prelude.{
   None,
   option_and_then,
   option_map,
+  ℤ,
   pos,
 }
 use Rattle.std.specs.List.{list_any}
@@ -62,9 +63,13 @@ has_cob_id kind = false
 abbrev pub if_enabled : ℕ → Option ℕ
 if_enabled word = if nat_lt word (2 ^ 31) then Some word else None
 
+abbrev pub enabled_number : ℤ → Option ℕ
+enabled_number (pos n) = if_enabled n
+enabled_number other = None
+
 -- the COB-ID that a value is for a node
 abbrev pub cob_id_for : ℕ → Default → Option ℕ
-cob_id_for node (number (pos n)) = if_enabled n
+cob_id_for node (number n) = enabled_number n
 cob_id_for node (node_id n) = if_enabled (n + node)
 cob_id_for node other = None
 

@@ -71,9 +71,12 @@ use Rattle.co_sheet_warnings.specs.Infos.{
 }
 use Rattle.co_sheet_warnings.specs.Repeats.{shared_cob_ids, equal_names}
 
--- a warning of a kind, at a line
+-- a warning of a kind at a line, and warnings of a kind at lines
 abbrev pub warning_at : WarningKind → ℕ → Warning
 warning_at kind line = record { kind = kind; line = line }
+
+abbrev pub warnings_at : WarningKind → List ℕ → List Warning
+warnings_at kind lines = map (warning_at kind) lines
 
 -- the lines of a section where a kind applies, of the kinds that are about a section
 unfoldable pub places_in : ReadText → WarningKind → TextSection → List ℕ
@@ -88,25 +91,32 @@ places_in t HeartbeatTwice s = heartbeat_twice t.sections s s.kind
 places_in t MissingName s = missing_name s
 places_in t kind s = []
 
+-- the line of a text where a kind applies, of the kinds that apply at one line at most
+unfoldable pub place_in_text : ReadText → WarningKind → List ℕ
+place_in_text t FileInfoKeys = missing_keys FileInfo t.keys t.sections file_keys
+place_in_text t DeviceInfoKeys = missing_keys DeviceInfo t.keys t.sections device_keys
+place_in_text t NoErrorControl = no_error_control t.sections
+place_in_text t Utf8 = utf8 t
+place_in_text t NotAscii = not_ascii t
+place_in_text t UnknownKey = unknown_key t.keys
+place_in_text t LineEnds = mixed_line_ends t.text
+place_in_text t kind = []
+
+-- its lines, of a kind that applies at one line at most or in sections
+abbrev pub other_places : ReadText → WarningKind → List ℕ
+other_places t kind = place_in_text t kind ++ flat_map (places_in t kind) t.sections
+
 -- the lines of a text where a kind applies
 unfoldable pub places_of : ReadText → WarningKind → List ℕ
+places_of t PdoCount = pdo_counts t.keys t.sections
+places_of t IdentityNumber = identity_numbers t.keys (sub_indices t.sections 0x1018)
+places_of t DateFormat = date_formats t.keys
 places_of t WrongList = wrong_lists t.sections
 places_of t ListOrder = list_orders t.sections
-places_of t NoErrorControl = no_error_control t.sections
-places_of t FileInfoKeys = missing_keys FileInfo t.keys t.sections file_keys
-places_of t DeviceInfoKeys = missing_keys DeviceInfo t.keys t.sections device_keys
-places_of t PdoCount = pdo_counts t.keys t.sections
-places_of t IdentityNumber =
-    identity_numbers t.keys (sub_indices t.sections 0x1018)
 places_of t SharedCobId = shared_cob_ids t.node t.sections
-places_of t LongLine = long_lines t.lines
-places_of t Utf8 = utf8 t
-places_of t NotAscii = not_ascii t
 places_of t EqualNames = equal_names t.sections
-places_of t UnknownKey = unknown_key t.keys
-places_of t DateFormat = date_formats t.keys
-places_of t LineEnds = mixed_line_ends t.text
-places_of t kind = flat_map (places_in t kind) t.sections
+places_of t LongLine = long_lines t.lines
+places_of t kind = other_places t kind
 
 -- the kinds, in the order in which the sheets of vendors show them: those before misspelt keys,
 -- those after them, and those of taste
@@ -126,7 +136,7 @@ quiet_kinds =
 
 -- the warnings of a kind, of kinds, and of misspelt keys
 abbrev pub warnings_with : ReadText → WarningKind → List Warning
-warnings_with t kind = map (warning_at kind) (places_of t kind)
+warnings_with t kind = warnings_at kind (places_of t kind)
 
 abbrev pub warnings_of_kinds : ReadText → List WarningKind → List Warning
 warnings_of_kinds t kinds = flat_map (warnings_with t) kinds

@@ -1,21 +1,19 @@
 //! The kinds of warnings that are about a section.
 
-ghost use Rattle.std.specs.Prelude.{◌≡◌, ◌++◌, flat_map, option_to_list, OnOk};
+ghost use Rattle.std.specs.Prelude.{◌≡◌, option_to_list};
 ghost use Rattle.co_sheet_text.specs.Views.{section_view};
 ghost use Rattle.co_sheet_warnings.specs.Warnings.{places_in};
 
 use crate::cob_ids::{fixed_cob_id, node_id_place};
 use crate::communication::{heartbeat_twice, inhibit_time, own_heartbeat};
-use crate::places::add_one;
 use crate::read_text::ReadText;
 use crate::sub_indices::{missing_name, sub_index_0, sub_number, unlisted};
 use crate::warning::WarningKind;
 use co_sheet_text::TextSection;
-use std::alloc::AllocError;
 
-// the line of a section where a kind applies
+/// The line of a section where a kind applies.
 #[tactic(auto, unfolding(crate::specs::Warnings::places_in))]
-fn place_in(text: &ReadText, kind: WarningKind, section: &TextSection) -> Option<usize>
+pub(crate) fn place_in(text: &ReadText, kind: WarningKind, section: &TextSection) -> Option<usize>
     ensures { option_to_list result ≡ places_in text.now kind (section_view section.now) }
 {
     match kind {
@@ -30,19 +28,4 @@ fn place_in(text: &ReadText, kind: WarningKind, section: &TextSection) -> Option
         WarningKind::MissingName => missing_name(section),
         _ => None,
     }
-}
-
-/// Adds the lines of all sections where a kind applies.
-pub(crate) fn add_places_in(
-    places: &mut Vec<usize>,
-    text: &ReadText,
-    kind: WarningKind,
-) -> Result<(), AllocError>
-    ensures { OnOk result (places.new.items
-        ≡ places.old.items ++ flat_map (places_in text.now kind) text.now.sections) }
-{
-    for section in text.sections() {
-        add_one(places, place_in(text, kind, section))?;
-    }
-    Ok(())
 }

@@ -9,7 +9,6 @@ ghost use Rattle.co_sheet_warnings.specs.Infos.{
   has_compact_pdos,
   identity_number,
   identity_numbers,
-  is_date,
   is_day_and_year,
   is_info,
   is_number_of,
@@ -239,16 +238,6 @@ fn is_day_and_year(text: &[u8]) -> bool
     }
 }
 
-// `mm-dd-yyyy`
-fn is_date(text: &[u8]) -> bool
-    ensures { result ≡ is_date text.now }
-{
-    match split_at_first(text, b'-') {
-        Some((month, rest)) => is_number_of(2, 1, 12, month) && is_day_and_year(rest),
-        None => false,
-    }
-}
-
 // `hh:mmAM` or `hh:mmPM`
 fn is_time(text: &[u8]) -> bool
     ensures { result ≡ is_time text.now }
@@ -269,11 +258,16 @@ enum Format {
     Time,
 }
 
+// whether a text is a date, or a time
 fn is_written(format: Format, text: &[u8]) -> bool
     ensures { result ≡ is_written format text.now }
 {
     match format {
-        Format::Date => is_date(text),
+        // `mm-dd-yyyy`
+        Format::Date => match split_at_first(text, b'-') {
+            Some((month, rest)) => is_number_of(2, 1, 12, month) && is_day_and_year(rest),
+            None => false,
+        },
         Format::Time => is_time(text),
     }
 }

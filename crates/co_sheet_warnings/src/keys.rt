@@ -1,9 +1,15 @@
 //! The keys of a text as they are written, those too that are passed over where a text is read.
 
-ghost use Rattle.std.specs.Prelude.{◌≡◌, filter, map, option_map, option_to_list, IfOk};
+ghost use Rattle.std.specs.Prelude.{◌≡◌, ◌++◌, filter, map, option_map, option_to_list, IfOk, OnOk};
 ghost use Rattle.co_sheet_text.specs.Text.{trim};
 ghost use Rattle.co_sheet_text.specs.Sections.{form_of};
-ghost use Rattle.co_sheet_warnings.specs.Keys.{begun_name, form_of_bytes, key_on, topic_of};
+ghost use Rattle.co_sheet_warnings.specs.Keys.{
+  begun_name,
+  form_of_bytes,
+  key_on,
+  topic_after,
+  topic_of,
+};
 ghost use Rattle.co_sheet_warnings.specs.KnownKeys.{is_telling, telling_keys};
 ghost use Rattle.co_sheet_warnings.specs.Lines.{numbered};
 ghost use Rattle.co_sheet_warnings.specs.private.Views.{key_view};
@@ -68,6 +74,16 @@ fn begun_name(text: &[u8]) -> Option<&[u8]>
     }
 }
 
+// what the keys are about after a line
+fn topic_after(topic: Topic, text: &[u8]) -> Topic
+    ensures { result ≡ topic_after topic (form_of text.now) }
+{
+    match begun_name(text) {
+        Some(name) => topic_of(name),
+        None => topic,
+    }
+}
+
 // the key that a line gives, of a text without blanks at its ends
 fn key_on<'a>(topic: Topic, line: usize, text: &'a [u8]) -> Option<WrittenKey<'a>>
     ensures { option_to_list (option_map key_view result) ≡ key_on topic line (form_of text.now) }
@@ -104,15 +120,23 @@ fn text_read(line: &[u8]) -> &[u8]
     trim(line)
 }
 
-// the key that a line gives, where a warning can be about it
-fn telling_on<'a>(topic: Topic, line: usize, text: &'a [u8]) -> Option<WrittenKey<'a>>
-    ensures { option_to_list (option_map key_view result)
-        ≡ filter is_telling (key_on topic line (form_of text.now)) }
+// adds the key that a line gives, where a warning can be about it
+fn add_telling<'a>(
+    keys: &mut Vec<WrittenKey<'a>>,
+    topic: Topic,
+    line: usize,
+    text: &'a [u8],
+) -> Result<(), AllocError>
+    ensures { OnOk result (map key_view keys.new.items
+        ≡ map key_view keys.old.items ++ filter is_telling (key_on topic line (form_of text.now))) }
 {
     match key_on(topic, line, text) {
         Some(key) if matches!(key.topic, Topic::FileInfo | Topic::DeviceInfo) || !is_known(&key) =>
-            Some(key),
-        _ => None,
+            {
+                keys.push(key)?;
+                Ok(())
+            }
+        _ => Ok(()),
     }
 }
 
@@ -130,13 +154,8 @@ pub(crate) fn keys_in<'a>(
     let mut number = 1;
     for line in lines {
         let text = text_read(line);
-        if let Some(key) = telling_on(topic, number, text) {
-            keys.push(key)?;
-        }
-        topic = match begun_name(text) {
-            Some(name) => topic_of(name),
-            None => topic,
-        };
+        add_telling(&mut keys, topic, number, text)?;
+        topic = topic_after(topic, text);
         number += 1;
     }
     Ok(keys)

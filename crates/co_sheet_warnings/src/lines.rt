@@ -6,6 +6,7 @@ ghost use Rattle.co_sheet_warnings.specs.Lines.{
   first_other,
   has_other_byte,
   is_other_end,
+  long_line,
   long_lines,
   mixed_line_ends,
   not_ascii,
@@ -13,8 +14,11 @@ ghost use Rattle.co_sheet_warnings.specs.Lines.{
   text_lines,
   utf8,
 };
+ghost use Rattle.co_sheet_warnings.specs.Warnings.{warnings_at};
 
+use crate::places::add_one;
 use crate::read_text::ReadText;
+use crate::warning::{Warning, WarningKind};
 use co_sheet_text::without_mark;
 use co_text::split_line;
 use std::alloc::{AllocError, Global};
@@ -38,16 +42,29 @@ const LONGEST: usize = 255;
 
 const LONGEST_READ: usize = 512;
 
-/// Adds the lines of 256 to 512 bytes; longer ones aren't read.
-pub(crate) fn add_long_lines(places: &mut Vec<usize>, lines: &[&[u8]]) -> Result<(), AllocError>
-    ensures { OnOk result (places.new.items
-        ≡ places.old.items ++ long_lines (numbered 1 (map (λ line. line.now) lines.now))) }
+// the number of a line of 256 to 512 bytes; longer ones aren't read
+fn long_line(number: usize, line: &[u8]) -> Option<usize>
+    ensures { result ≡ long_line (record { number = number; bytes = line.now }) }
+{
+    if LONGEST < line.len() && line.len() <= LONGEST_READ {
+        Some(number)
+    } else {
+        None
+    }
+}
+
+/// Adds warnings at the lines of 256 to 512 bytes.
+pub(crate) fn add_long_lines(
+    warnings: &mut Vec<Warning>,
+    kind: WarningKind,
+    lines: &[&[u8]],
+) -> Result<(), AllocError>
+    ensures { OnOk result (warnings.new.items ≡ warnings.old.items
+        ++ warnings_at kind (long_lines (numbered 1 (map (λ line. line.now) lines.now)))) }
 {
     let mut number = 1;
     for line in lines {
-        if LONGEST < line.len() && line.len() <= LONGEST_READ {
-            places.push(number)?;
-        }
+        add_one(warnings, kind, long_line(number, line))?;
         number += 1;
     }
     Ok(())

@@ -18,9 +18,11 @@ ghost use Rattle.co_sheet_text.specs.Views.{section_view};
 ghost use Rattle.co_sheet.specs.ObjectLists.{is_listed};
 ghost use Rattle.co_sheet.specs.Listings.{listing_view, named_by};
 ghost use Rattle.co_sheet_warnings.specs.Lists.{first_fall, is_right_list, wrong_listing};
+ghost use Rattle.co_sheet_warnings.specs.Warnings.{warnings_at};
 ghost use Rattle.co_sheet_warnings.specs.private.Views.{list_places, names};
 
 use crate::places::add_one;
+use crate::warning::{Warning, WarningKind};
 use co_sheet::{Listing, read_list};
 use co_sheet_text::{SectionKind, TextSection};
 use indexmap::IndexSet;
@@ -62,15 +64,16 @@ fn wrong_listing(list: SectionKind, listing: &Listing) -> Option<usize>
 }
 
 fn add_wrong_listings(
-    places: &mut Vec<usize>,
+    warnings: &mut Vec<Warning>,
+    kind: WarningKind,
     list: SectionKind,
     listings: &[Listing],
 ) -> Result<(), AllocError>
-    ensures { OnOk result (places.new.items ≡ places.old.items
-        ++ filter_map (wrong_listing list) (map listing_view listings.now)) }
+    ensures { OnOk result (warnings.new.items ≡ warnings.old.items
+        ++ warnings_at kind (filter_map (wrong_listing list) (map listing_view listings.now))) }
 {
     for listing in listings {
-        add_one(places, wrong_listing(list, listing))?;
+        add_one(warnings, kind, wrong_listing(list, listing))?;
     }
     Ok(())
 }
@@ -98,36 +101,40 @@ pub(crate) enum ListCheck {
     Order,
 }
 
-// adds the lines of a section that fail a check
+// adds warnings at the lines of a section that fail a check
 fn add_places_of_list(
     alloc: Global,
-    places: &mut Vec<usize>,
+    warnings: &mut Vec<Warning>,
+    kind: WarningKind,
     check: ListCheck,
     section: &TextSection,
 ) -> Result<(), AllocError>
-    ensures { OnOk result
-        (places.new.items ≡ places.old.items ++ list_places check (section_view section.now)) }
+    ensures { OnOk result (warnings.new.items
+        ≡ warnings.old.items ++ warnings_at kind (list_places check (section_view section.now))) }
 {
     let mut listings = Vec::new(alloc);
     add_named(&mut listings, section)?;
     match check {
-        ListCheck::Objects => add_wrong_listings(places, section.kind, listings.as_slice()),
-        ListCheck::Order => add_one(places, first_fall(listings.as_slice())),
+        ListCheck::Objects => {
+            add_wrong_listings(warnings, kind, section.kind, listings.as_slice())
+        }
+        ListCheck::Order => add_one(warnings, kind, first_fall(listings.as_slice())),
     }
 }
 
-/// Adds the lines of all lists that fail a check.
+/// Adds warnings at the lines of all lists that fail a check.
 pub(crate) fn add_places_of_lists(
     alloc: Global,
-    places: &mut Vec<usize>,
+    warnings: &mut Vec<Warning>,
+    kind: WarningKind,
     check: ListCheck,
     sections: &[TextSection],
 ) -> Result<(), AllocError>
-    ensures { OnOk result (places.new.items
-        ≡ places.old.items ++ flat_map (list_places check) (map section_view sections.now)) }
+    ensures { OnOk result (warnings.new.items ≡ warnings.old.items
+        ++ warnings_at kind (flat_map (list_places check) (map section_view sections.now))) }
 {
     for section in sections {
-        add_places_of_list(alloc, places, check, section)?;
+        add_places_of_list(alloc, warnings, kind, check, section)?;
     }
     Ok(())
 }

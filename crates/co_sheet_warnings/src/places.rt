@@ -1,27 +1,37 @@
-//! Adding places to those that are found.
+//! Adding warnings to those that are found.
 
 ghost use Rattle.std.specs.Prelude.{◌≡◌, ◌++◌, ℕ, List, flat_map, option_to_list, OnOk};
+ghost use Rattle.co_sheet_warnings.specs.Warnings.{warnings_at};
 
+use crate::warning::{Warning, WarningKind};
 use std::alloc::AllocError;
 
-/// Adds a place that may be there.
-pub(crate) fn add_one(places: &mut Vec<usize>, found: Option<usize>) -> Result<(), AllocError>
-    ensures { (wanted : List ℕ) → option_to_list found ≡ wanted →
-        OnOk result (places.new.items ≡ places.old.items ++ wanted) }
+/// Adds a warning of a kind at a line, if there is one.
+pub(crate) fn add_one(
+    warnings: &mut Vec<Warning>,
+    kind: WarningKind,
+    found: Option<usize>,
+) -> Result<(), AllocError>
+    ensures { (lines : List ℕ) → option_to_list found ≡ lines →
+        OnOk result (warnings.new.items ≡ warnings.old.items ++ warnings_at kind lines) }
 {
-    if let Some(place) = found {
-        places.push(place)?;
+    if let Some(line) = found {
+        warnings.push(Warning { kind, line })?;
     }
     Ok(())
 }
 
-/// Adds the places that are there.
-pub(crate) fn add_each(places: &mut Vec<usize>, found: &[Option<usize>]) -> Result<(), AllocError>
-    ensures { OnOk result
-        (places.new.items ≡ places.old.items ++ flat_map option_to_list found.now) }
+/// Adds warnings of a kind at the lines that are there.
+pub(crate) fn add_each(
+    warnings: &mut Vec<Warning>,
+    kind: WarningKind,
+    found: &[Option<usize>],
+) -> Result<(), AllocError>
+    ensures { OnOk result (warnings.new.items
+        ≡ warnings.old.items ++ warnings_at kind (flat_map option_to_list found.now)) }
 {
-    for place in found {
-        add_one(places, *place)?;
+    for line in found {
+        add_one(warnings, kind, *line)?;
     }
     Ok(())
 }

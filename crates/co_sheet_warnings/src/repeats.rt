@@ -15,14 +15,18 @@ ghost use Rattle.std.specs.Prelude.{
 ghost use Rattle.std.specs.List.{list_any};
 ghost use Rattle.co_sheet_text.specs.Views.{section_view};
 ghost use Rattle.co_sheet_warnings.specs.Repeats.{
+  enabled_number,
   has_cob_id,
   identifier_in,
   enabled_cob_id,
   repeats,
   same_scoped,
 };
+ghost use Rattle.co_sheet_warnings.specs.Warnings.{warnings_at};
 ghost use Rattle.co_sheet_warnings.specs.private.Views.{
+  again_at,
   as_name,
+  kept_with,
   name_view,
   placed_in,
   repeats_of,
@@ -30,6 +34,7 @@ ghost use Rattle.co_sheet_warnings.specs.private.Views.{
 };
 
 use crate::sub_indices::{is_within, value_in};
+use crate::warning::{Warning, WarningKind};
 use co_sheet::{Preset, numeric_default};
 use co_sheet_text::{SectionKind, TextSection};
 use co_value::DataType;
@@ -53,20 +58,24 @@ fn has_cob_id(kind: SectionKind) -> bool
 /// This bit of a COB-ID word disables it.
 const DISABLED: u64 = 1 << 31;
 
+// a number that is a COB-ID and isn't disabled
+fn enabled_number(number: i128) -> Option<u64>
+    ensures { result ≡ enabled_number number }
+{
+    if 0 <= number && number < i128::from(DISABLED) {
+        Some(number as u64)
+    } else {
+        None
+    }
+}
+
 // the COB-ID of a text for a node; `None` where it is disabled
 fn enabled_cob_id(node: u8, value: &[u8]) -> Option<u64>
     ensures { result ≡ enabled_cob_id node value.now }
 {
     match numeric_default(DataType::Unsigned32, value) {
-        Ok(Preset::Number(number)) if 0 <= number && number < i128::from(DISABLED) => {
-            Some(number as u64)
-        }
-        Ok(Preset::NodeId(addend)) => {
-            match addend.checked_add(u64::from(node)) {
-                Some(word) if word < DISABLED => Some(word),
-                _ => None,
-            }
-        }
+        Ok(Preset::Number(number)) => enabled_number(number),
+        Ok(Preset::NodeId(addend)) => enabled_number(i128::from(addend) + i128::from(node)),
         _ => None,
     }
 }
@@ -163,37 +172,58 @@ fn is_repeated<'a>(
     Ok(!is_new)
 }
 
-// adds the lines of what earlier sections have too; `before` has what they have
-fn add_repeats<'a>(
-    places: &mut Vec<usize>,
+// adds a warning, if a section has what an earlier one has; else what it has is added to `before`
+fn add_repeat<'a>(
+    warnings: &mut Vec<Warning>,
+    kind: WarningKind,
     before: &mut IndexSet<ScopedName<'a>>,
-    once: Once,
-    sections: &[TextSection<'_, 'a>],
+    found: Option<PlacedName<'a>>,
 ) -> Result<(), AllocError>
-    ensures { OnOk result (places.new.items ≡ places.old.items
-        ++ repeats same_scoped (map scoped_view before.old.keys)
-        (filter_map (placed_in once) (map section_view sections.now))) }
+    ensures warnings { OnOk result (warnings.new.items ≡ warnings.old.items ++ warnings_at kind
+        (again_at (map scoped_view before.old.keys) (option_map name_view found.entry))) }
+    ensures before { OnOk result (map scoped_view before.new.keys
+        ≡ kept_with (map scoped_view before.old.keys) (option_map name_view found.entry)) }
 {
-    for section in sections {
-        if let Some(name) = placed_in(once, section) {
-            if is_repeated(before, name.name)? {
-                places.push(name.line)?;
-            }
+    if let Some(place) = found {
+        if is_repeated(before, place.name)? {
+            warnings.push(Warning {
+                kind,
+                line: place.line,
+            })?;
         }
     }
     Ok(())
 }
 
-/// Adds the lines of identifiers or names that an earlier one equals.
+// adds warnings at the lines of what earlier sections have too; `before` has what they have
+fn add_repeats<'a>(
+    warnings: &mut Vec<Warning>,
+    kind: WarningKind,
+    before: &mut IndexSet<ScopedName<'a>>,
+    once: Once,
+    sections: &[TextSection<'_, 'a>],
+) -> Result<(), AllocError>
+    ensures { OnOk result (warnings.new.items ≡ warnings.old.items ++ warnings_at kind
+        (repeats same_scoped (map scoped_view before.old.keys)
+        (filter_map (placed_in once) (map section_view sections.now)))) }
+{
+    for section in sections {
+        add_repeat(warnings, kind, before, placed_in(once, section))?;
+    }
+    Ok(())
+}
+
+/// Adds warnings at the lines of identifiers or names that an earlier one equals.
 pub(crate) fn add_repeats_of(
     alloc: Global,
-    places: &mut Vec<usize>,
+    warnings: &mut Vec<Warning>,
+    kind: WarningKind,
     once: Once,
     sections: &[TextSection],
 ) -> Result<(), AllocError>
-    ensures { OnOk result
-        (places.new.items ≡ places.old.items ++ repeats_of once (map section_view sections.now)) }
+    ensures { OnOk result (warnings.new.items ≡ warnings.old.items
+        ++ warnings_at kind (repeats_of once (map section_view sections.now))) }
 {
     let mut before = IndexSet::new(alloc);
-    add_repeats(places, &mut before, once, sections)
+    add_repeats(warnings, kind, &mut before, once, sections)
 }

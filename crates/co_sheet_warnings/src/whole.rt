@@ -1,11 +1,15 @@
-//! The places of each kind in a text.
+//! The warnings of each kind in a text.
 
-ghost use Rattle.std.specs.Prelude.{◌≡◌, ◌++◌, true, option_to_list, OnOk};
+ghost use Rattle.std.specs.Prelude.{◌≡◌, ◌++◌, option_to_list, OnOk};
 ghost use Rattle.co_sheet_warnings.specs.Lists.{no_error_control};
-ghost use Rattle.co_sheet_warnings.specs.Warnings.{places_of};
-ghost use Rattle.co_sheet_warnings.specs.private.Views.{has_one_place};
+ghost use Rattle.co_sheet_warnings.specs.Warnings.{
+  other_places,
+  place_in_text,
+  warnings_at,
+  warnings_with,
+};
 
-use crate::in_sections::add_places_in;
+use crate::in_sections::place_in;
 use crate::infos::{
     DEVICE_KEYS, FILE_KEYS, date_formats, identity_numbers, missing_keys, pdo_counts,
 };
@@ -16,7 +20,7 @@ use crate::lists::{ListCheck, add_places_of_lists};
 use crate::places::{add_each, add_one};
 use crate::read_text::ReadText;
 use crate::repeats::{Once, add_repeats_of};
-use crate::warning::WarningKind;
+use crate::warning::{Warning, WarningKind};
 use std::alloc::{AllocError, Global};
 
 // no line is to blame for what isn't there
@@ -32,9 +36,9 @@ fn no_error_control(text: &ReadText) -> Option<usize>
 }
 
 // the line of a text where a kind applies that has one at most
-#[tactic(auto, unfolding(crate::specs::Warnings::places_of))]
-fn place_of(text: &ReadText, kind: WarningKind) -> Option<usize>
-    ensures { has_one_place kind ≡ true → option_to_list result ≡ places_of text.now kind }
+#[tactic(auto, unfolding(crate::specs::Warnings::place_in_text))]
+fn place_in_text(text: &ReadText, kind: WarningKind) -> Option<usize>
+    ensures { option_to_list result ≡ place_in_text text.now kind }
 {
     match kind {
         WarningKind::FileInfoKeys => missing_keys(
@@ -58,39 +62,53 @@ fn place_of(text: &ReadText, kind: WarningKind) -> Option<usize>
     }
 }
 
-/// Adds the lines of a text where a kind applies.
-#[tactic(auto, unfolding(crate::specs::Warnings::places_of))]
-pub(crate) fn add_places_of(
-    alloc: Global,
-    places: &mut Vec<usize>,
+// adds the warnings of a kind that applies at one line at most or in sections
+fn add_others(
+    warnings: &mut Vec<Warning>,
     text: &ReadText,
     kind: WarningKind,
 ) -> Result<(), AllocError>
-    ensures { OnOk result (places.new.items ≡ places.old.items ++ places_of text.now kind) }
+    ensures { OnOk result (warnings.new.items
+        ≡ warnings.old.items ++ warnings_at kind (other_places text.now kind)) }
+{
+    add_one(warnings, kind, place_in_text(text, kind))?;
+    for section in text.sections() {
+        add_one(warnings, kind, place_in(text, kind, section))?;
+    }
+    Ok(())
+}
+
+/// Adds the warnings of a kind.
+#[tactic(auto, unfolding(crate::specs::Warnings::places_of))]
+pub(crate) fn add_warnings_with(
+    alloc: Global,
+    warnings: &mut Vec<Warning>,
+    text: &ReadText,
+    kind: WarningKind,
+) -> Result<(), AllocError>
+    ensures { OnOk result (warnings.new.items ≡ warnings.old.items ++ warnings_with text.now kind) }
 {
     let sections = text.sections();
     match kind {
-        WarningKind::FileInfoKeys
-        | WarningKind::DeviceInfoKeys
-        | WarningKind::NoErrorControl
-        | WarningKind::Utf8
-        | WarningKind::NotAscii
-        | WarningKind::UnknownKey
-        | WarningKind::LineEnds => add_one(places, place_of(text, kind)),
-        WarningKind::PdoCount => add_each(places, &pdo_counts(text.keys, sections)),
+        WarningKind::PdoCount => add_each(warnings, kind, &pdo_counts(text.keys, sections)),
         WarningKind::IdentityNumber => add_each(
-            places,
+            warnings,
+            kind,
             &identity_numbers(text.keys, text.parts(0x1018)),
         ),
-        WarningKind::DateFormat => add_each(places, &date_formats(text.keys)),
-        WarningKind::WrongList => add_places_of_lists(alloc, places, ListCheck::Objects, sections),
-        WarningKind::ListOrder => add_places_of_lists(alloc, places, ListCheck::Order, sections),
+        WarningKind::DateFormat => add_each(warnings, kind, &date_formats(text.keys)),
+        WarningKind::WrongList => {
+            add_places_of_lists(alloc, warnings, kind, ListCheck::Objects, sections)
+        }
+        WarningKind::ListOrder => {
+            add_places_of_lists(alloc, warnings, kind, ListCheck::Order, sections)
+        }
         WarningKind::SharedCobId => match text.node {
-            Some(node) => add_repeats_of(alloc, places, Once::Identifiers(node), sections),
+            Some(node) => add_repeats_of(alloc, warnings, kind, Once::Identifiers(node), sections),
             None => Ok(()),
         },
-        WarningKind::EqualNames => add_repeats_of(alloc, places, Once::Names, sections),
-        WarningKind::LongLine => add_long_lines(places, text.lines),
-        _ => add_places_in(places, text, kind),
+        WarningKind::EqualNames => add_repeats_of(alloc, warnings, kind, Once::Names, sections),
+        WarningKind::LongLine => add_long_lines(warnings, kind, text.lines),
+        _ => add_others(warnings, text, kind),
     }
 }

@@ -13,8 +13,7 @@ use crate::warning::WarningKind;
 
 // the row of a kind in the tables of words
 fn row(kind: WarningKind) -> usize
-    ensures row { result ≡ kind_row kind }
-    ensures within { result < 25 }
+    ensures { result ≡ kind_row kind }
 {
     match kind {
         WarningKind::SubNumber => 0,

@@ -1,5 +1,5 @@
 -- What the tables of a text say, without where its bytes lie in memory.
-use Rattle.std.specs.Prelude.{◌≡◌, ◌==◌, ℕ, Bool, true, false, nat_eq, List, [], map, filter_map, codes, Option, Some, option_map}
+use Rattle.std.specs.Prelude.{◌≡◌, ◌==◌, ℕ, Bool, false, nat_eq, if◌then◌else◌, List, [], ◌∷◌, ◌++◌, map, filter_map, codes, Option, Some, None, option_map}
 use Rattle.std.specs.List.{list_any}
 use Rattle.std.specs.Option.{option_map_or}
 use Rattle.std.specs.HashSet.{HashSet, contains}
@@ -49,7 +49,7 @@ use Rattle.co_sheet_warnings.specs.Keys.{WrittenKey}
 use Rattle.co_sheet_warnings.specs.Lines.{first_other, numbered}
 use Rattle.co_sheet_warnings.specs.Lists.{first_fall, wrong_listing}
 use Rattle.co_sheet_warnings.specs.ReadTexts.{ReadText}
-use Rattle.co_sheet_warnings.specs.Repeats.{Placed, ScopedName, equal_names, identifier_in, name_in, shared_cob_ids}
+use Rattle.co_sheet_warnings.specs.Repeats.{Placed, ScopedName, equal_names, identifier_in, name_in, same_scoped, shared_cob_ids}
 use Rattle.co_sheet_warnings.specs.SubIndices.{is_constant_word}
 
 -- the row of a kind in the tables of words
@@ -79,17 +79,6 @@ kind_row MissingName = 21
 kind_row UnknownKey = 22
 kind_row DateFormat = 23
 kind_row LineEnds = 24
-
--- the kinds that apply at one line of a text at most
-abbrev pub has_one_place : WarningKind → Bool
-has_one_place FileInfoKeys = true
-has_one_place DeviceInfoKeys = true
-has_one_place NoErrorControl = true
-has_one_place Utf8 = true
-has_one_place NotAscii = true
-has_one_place UnknownKey = true
-has_one_place LineEnds = true
-has_one_place kind = false
 
 -- the lines of a list's listings that fail a check, and of a section
 abbrev pub failing : ListCheck → SectionKind → List Listing → List ℕ
@@ -135,6 +124,16 @@ as_name p = record { key = id_name p.key; line = p.line }
 abbrev pub placed_in : Once → TextSection → Option (Placed ScopedName)
 placed_in (Identifiers node) s = option_map as_name (identifier_in node s)
 placed_in Names s = name_in s
+
+-- where what a section has is among what earlier ones have, and what they have together
+abbrev pub again_at : List ScopedName → Option (Placed ScopedName) → List ℕ
+again_at before None = []
+again_at before (Some p) = if list_any (same_scoped p.key) before then p.line ∷ [] else []
+
+abbrev pub kept_with : List ScopedName → Option (Placed ScopedName) → List ScopedName
+kept_with before None = before
+kept_with before (Some p) =
+    if list_any (same_scoped p.key) before then before else before ++ p.key ∷ []
 
 abbrev pub repeats_of : Once → List TextSection → List ℕ
 repeats_of (Identifiers node) sections = shared_cob_ids (Some node) sections

@@ -1,4 +1,4 @@
-use Rattle.std.proofs.Common.{◌≡◌, ◌∙◌, ◌++◌, ◌≤◌, List, [], ◌∷◌, ap, subst, sym, length, Contains, arith}
+use Rattle.std.proofs.Common.{◌≡◌, ◌∙◌, ◌++◌, ◌<◌, ◌≤◌, List, [], ◌∷◌, ap, subst, sym, length, Contains, arith}
 use Rattle.std.proofs.lemmas.Result.{on_ok_weaker}
 use Rattle.std.specs.List.Sorted.{IsStrictlySortedBy}
 use Rattle.co_sheet_rows.specs.declared.fault.SheetFault.{SheetFault}
@@ -7,6 +7,7 @@ use Rattle.co_sheet.specs.Faults.{fault_at}
 use Rattle.co_sheet_faults.specs.FaultOrder.{fault_cmp}
 use Rattle.co_sheet_text.specs.Text.{lines_of}
 use Rattle.co_sheet_faults.specs.private.Collected.{text_collected}
+use Rattle.co_sheet_faults.proofs.AllLemmas.{large-alone}
 use Rattle.co_sheet_faults.proofs.TextCodeLemmas.{text-found, found-text}
 use Rattle.co_sheet_faults.proofs.find.add_all.Goals as goal
 
@@ -15,6 +16,21 @@ unfolding IsStrictlySortedBy
 returns-then-text-gt-GREATEST_SIZE-clause-increase c =
     let alone : c.push.new.self.items ≡ fault_at 0 TooLarge ∷ [] = c.in_ok-push.ensures.items ∙ ap (λ (l : List SheetFault). l ++ fault_at 0 TooLarge ∷ []) c.requires in
     subst (IsStrictlySortedBy fault_cmp) (sym alone) (tt, tt)
+
+pub returns-then-text-gt-GREATEST_SIZE-clause-all : goal.returns-then-text-gt-GREATEST_SIZE-clause-all
+returns-then-text-gt-GREATEST_SIZE-clause-all c =
+    let large : 1048576 < length c.args.text.now = omega arith in
+    let alone : c.push.new.self.items ≡ fault_at 0 TooLarge ∷ [] = c.in_ok-push.ensures.items ∙ ap (λ (l : List SheetFault). l ++ fault_at 0 TooLarge ∷ []) c.requires in
+    λ fault h. subst (λ (l : List SheetFault). Contains l fault) (large-alone c.args.text.now large ∙ sym alone) h
+
+pub returns-then-text-gt-GREATEST_SIZE-clause-only : goal.returns-then-text-gt-GREATEST_SIZE-clause-only
+returns-then-text-gt-GREATEST_SIZE-clause-only c =
+    let large : 1048576 < length c.args.text.now = omega arith in
+    let alone : c.push.new.self.items ≡ fault_at 0 TooLarge ∷ [] = c.in_ok-push.ensures.items ∙ ap (λ (l : List SheetFault). l ++ fault_at 0 TooLarge ∷ []) c.requires in
+    λ fault h. subst (λ (l : List SheetFault). Contains l fault) (alone ∙ sym (large-alone c.args.text.now large)) h
+
+pub returns-clause-increase : goal.returns-clause-increase
+returns-clause-increase c = c.put_in_order.ensures.increase
 
 pub returns-clause-all : goal.returns-clause-all
 returns-clause-all c =

@@ -3,7 +3,7 @@ use Rattle.co_sheet_text.specs.Views.{section_view}
 use Rattle.co_sheet.specs.Listings.{named_by}
 use Rattle.co_sheet_faults.specs.private.Collected.{section_collected}
 use Rattle.co_sheet_faults.specs.private.ListParts.{is_list_at_fault}
-use Rattle.co_sheet_faults.proofs.ListCodeLemmas.{added-turn, any-turn}
+use Rattle.co_sheet_faults.proofs.ListCodeLemmas.{added-end, added-turn, any-end, any-turn}
 use Rattle.co_sheet_faults.proofs.lists.add_sections.Goals as goal
 
 pub loop-section-preserved : goal.loop-section-preserved
@@ -15,3 +15,12 @@ loop-section-preserved c =
       named = added-turn section_view named_by sections i _ _ _ _ c.loop-section-test.true c.in_ok-is_bad.ensures.named c.loop-section.invariant.named;
       bad = any-turn section_view is_list_at_fault sections i _ c.loop-section.is_bad _ _ c.loop-section-test.true (ap (λ b. c.loop-section.is_bad || b) c.in_ok-is_bad.ensures.bad) c.loop-section.invariant.bad;
     }
+
+pub returns-clause-found : goal.returns-clause-found
+returns-clause-found c = added-end section_view section_collected c.args.sections.now c.loop-section.section-index _ _ c.loop-section-test.false c.loop-section.invariant.found
+
+pub returns-clause-named : goal.returns-clause-named
+returns-clause-named c = added-end section_view named_by c.args.sections.now c.loop-section.section-index _ _ c.loop-section-test.false c.loop-section.invariant.named
+
+pub returns-clause-bad : goal.returns-clause-bad
+returns-clause-bad c = any-end section_view is_list_at_fault c.args.sections.now c.loop-section.section-index c.loop-section.is_bad _ c.loop-section-test.false c.loop-section.invariant.bad

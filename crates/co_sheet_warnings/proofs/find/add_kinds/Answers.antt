@@ -1,13 +1,14 @@
 use Rattle.std.proofs.Common.{refl}
 use Rattle.co_sheet_warnings.specs.declared.warning.WarningKind.TheVariants.{SubNumber}
 use Rattle.co_sheet_warnings.specs.Warnings.{warnings_with, warnings_of_kinds}
-use Rattle.co_sheet_warnings.proofs.PieceLemmas.{pieces-turn}
+use Rattle.co_sheet_warnings.proofs.PieceLemmas.{pieces-end, pieces-turn}
 use Rattle.co_sheet_warnings.proofs.find.add_kinds.Goals as goal
 
 pub loop-kind-preserved : goal.loop-kind-preserved
 loop-kind-preserved c =
     let text = c.args.text.now in
-    let kinds = c.args.kinds.now in
-    let before = c.loop-kind.warnings.items in
-    pieces-turn (λ ks. warnings_of_kinds text ks) (warnings_with text) (λ x l. refl) kinds c.loop-kind.kind-index SubNumber before c.add_kind.new.warnings.items _ c.loop-kind-test.true
-    c.in_ok-add_kind.ensures c.loop-kind.invariant
+    pieces-turn (λ ks. warnings_of_kinds text ks) (warnings_with text) (λ x l. refl) c.args.kinds.now c.loop-kind.kind-index SubNumber c.loop-kind.warnings.items c.add_warnings_with.new.warnings.items _ c.loop-kind-test.true
+    c.in_ok-add_warnings_with.ensures c.loop-kind.invariant
+
+pub returns : goal.returns
+returns c = pieces-end (warnings_of_kinds c.args.text.now) refl c.args.kinds.now c.loop-kind.kind-index _ _ c.loop-kind-test.false c.loop-kind.invariant

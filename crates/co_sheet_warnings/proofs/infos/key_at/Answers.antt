@@ -3,7 +3,7 @@ use Rattle.co_sheet_warnings.specs.declared.keys.Topic.TheVariants.{FileInfo}
 use Rattle.co_sheet_warnings.specs.declared.keys.WrittenKey.{WrittenKey}
 use Rattle.co_sheet_warnings.specs.Infos.{is_key, key_at}
 use Rattle.co_sheet_warnings.specs.private.Views.{key_view}
-use Rattle.co_sheet_warnings.proofs.PieceLemmas.{search-turn}
+use Rattle.co_sheet_warnings.proofs.PieceLemmas.{search-end, search-turn}
 use Rattle.co_sheet_warnings.proofs.infos.key_at.Goals.{else-is_info-via-then-is_info+else-same_name, else-is_info-via-else-is_info}
 use Rattle.co_sheet_warnings.proofs.infos.key_at.Goals as goal
 
@@ -19,3 +19,6 @@ loop-key-preserved c =
       | else-is_info-via-else-is_info w ↦ rw (w.if-is_info.false) refl
     ]))
     c.loop-key.invariant
+
+pub returns : goal.returns
+returns c = search-end (λ keys. key_at c.args.info (map key_view keys) c.args.known) c.args.keys.now c.loop-key.key-index _ c.loop-key-test.false c.loop-key.invariant

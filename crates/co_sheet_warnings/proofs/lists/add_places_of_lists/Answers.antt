@@ -1,12 +1,17 @@
 use Rattle.std.proofs.Common.{refl, map}
 use Rattle.std.specs.List.{flat_map}
 use Rattle.co_sheet_text.specs.Views.{section_view}
+use Rattle.co_sheet_warnings.specs.Warnings.{warnings_at}
 use Rattle.co_sheet_warnings.specs.private.Views.{list_places}
-use Rattle.co_sheet_warnings.proofs.PieceLemmas.{pieces-turn}
+use Rattle.co_sheet_warnings.proofs.PieceLemmas.{marked-turn, pieces-end}
 use Rattle.co_sheet_warnings.proofs.lists.add_places_of_lists.Goals as goal
 
 pub loop-section-preserved : goal.loop-section-preserved
 loop-section-preserved c =
     let places = list_places c.args.check in
-    pieces-turn (λ sections. flat_map places (map section_view sections)) (λ section. places (section_view section)) (λ x l. refl) c.args.sections.now c.loop-section.section-index _
-    c.loop-section.places.items c.add_places_of_list.new.places.items _ c.loop-section-test.true c.in_ok-add_places_of_list.ensures c.loop-section.invariant
+    marked-turn c.args.kind (λ sections. flat_map places (map section_view sections)) (λ section. places (section_view section)) (λ x l. refl) c.args.sections.now c.loop-section.section-index _
+    c.loop-section.warnings.items c.add_places_of_list.new.warnings.items _ c.loop-section-test.true c.in_ok-add_places_of_list.ensures c.loop-section.invariant
+
+pub returns : goal.returns
+returns c =
+    pieces-end (λ sections. warnings_at c.args.kind (flat_map (list_places c.args.check) (map section_view sections))) refl c.args.sections.now c.loop-section.section-index _ _ c.loop-section-test.false c.loop-section.invariant

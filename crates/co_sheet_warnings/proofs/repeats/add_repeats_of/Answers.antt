@@ -3,6 +3,7 @@ use Rattle.std.proofs.lemmas.Result.{on_ok_weaker}
 use Rattle.std.specs.Prelude.{filter_map}
 use Rattle.co_sheet_text.specs.Views.{section_view}
 use Rattle.co_sheet_warnings.specs.Repeats.{ScopedName, repeats, same_scoped}
+use Rattle.co_sheet_warnings.specs.Warnings.{warnings_at}
 use Rattle.co_sheet_warnings.specs.private.Views.{placed_in, repeats_of, scoped_view}
 use Rattle.co_sheet_warnings.proofs.NameLemmas.{repeated_names}
 use Rattle.co_sheet_warnings.proofs.repeats.add_repeats_of.Goals as goal
@@ -14,4 +15,4 @@ returns c =
     let none : map scoped_view c.new-before.result.keys ≡ [] = ap (map scoped_view) c.new-before.ensures.empty in
     let is : repeats same_scoped (map scoped_view c.new-before.result.keys) (filter_map (placed_in once) sections) ≡ repeats_of once sections =
     ap (λ (names : List ScopedName). repeats same_scoped names (filter_map (placed_in once) sections)) none ∙ repeated_names once sections in
-    on_ok_weaker c.add_repeats.result (λ h. h ∙ ap (λ (l : List ℕ). c.args.places.now.items ++ l) is) c.add_repeats.ensures
+    on_ok_weaker c.add_repeats.result (λ h. h ∙ ap (λ (l : List ℕ). c.args.warnings.now.items ++ warnings_at c.args.kind l) is) c.add_repeats.ensures

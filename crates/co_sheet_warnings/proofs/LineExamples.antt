@@ -1,0 +1,46 @@
+-- Lines that other readers may refuse or garble, on both sides of each edge.
+use Rattle.std.proofs.Common.{◌≡◌, [], ◌∷◌, ◌++◌, refl, codes, map}
+use Rattle.std.specs.Prelude.{replicate}
+use Rattle.std.specs.Str.{chars, is_utf8}
+use Rattle.co_sheet_warnings.specs.declared.warning.WarningKind.TheVariants.{LongLine, Utf8, NotAscii, LineEnds}
+use Rattle.co_sheet_warnings.specs.Lines.{mixed_line_ends}
+use Rattle.co_sheet_warnings.specs.Warnings.{place_in_text, places_in, places_of}
+use Rattle.co_sheet_warnings.proofs.ExampleTexts.{places}
+
+-- ---- LineEnds
+
+line_ends : map mixed_line_ends ((97 ∷ 13 ∷ 10 ∷ 98 ∷ 10 ∷ []) ∷ (10 ∷ 10 ∷ 13 ∷ 10 ∷ 10 ∷ []) ∷ (97 ∷ 13 ∷ 10 ∷ 13 ∷ 10 ∷ 98 ∷ []) ∷ (97 ∷ 13 ∷ 98 ∷ 10 ∷ 10 ∷ []) ∷ (13 ∷ 10 ∷ 13 ∷ 98 ∷ 10 ∷ []) ∷ [])
+    ≡ (2 ∷ []) ∷ (3 ∷ []) ∷ [] ∷ [] ∷ (2 ∷ []) ∷ []
+line_ends = refl
+
+ends_of_text : places LineEnds (codes "a" ∷ (98 ∷ 13 ∷ []) ∷ codes "c" ∷ []) ≡ 2 ∷ []
+unfolding places_of place_in_text places_in
+ends_of_text = refl
+
+-- ---- LongLine, Utf8, NotAscii
+
+long : places LongLine (replicate 255 97 ∷ replicate 256 98 ∷ replicate 512 99 ∷ replicate 513 100 ∷ []) ≡ 2 ∷ 3 ∷ []
+unfolding places_of place_in_text places_in
+long = refl
+
+ascii : places Utf8 (codes "a" ∷ (0x7F ∷ []) ∷ []) ++ places NotAscii (codes "a" ∷ (0x7F ∷ []) ∷ []) ≡ []
+unfolding places_of place_in_text places_in
+ascii = refl
+
+first_other_byte : places NotAscii (codes "a" ∷ (0x7F ∷ 0x80 ∷ []) ∷ (0xFF ∷ []) ∷ []) ≡ 2 ∷ []
+unfolding places_of place_in_text places_in chars is_utf8 lib.Utf8.encode
+first_other_byte = refl
+
+in_utf8 : places Utf8 (codes "a" ∷ (0xC3 ∷ 0xA4 ∷ []) ∷ []) ≡ 2 ∷ []
+unfolding places_of place_in_text places_in chars is_utf8 lib.Utf8.encode
+in_utf8 = refl
+
+-- one of both alone: the text is UTF-8 as a whole or not at all
+one_warning : places NotAscii ((0xC3 ∷ 0xA4 ∷ []) ∷ []) ++ places Utf8 ((0xC3 ∷ 0xA4 ∷ []) ∷ (0xE4 ∷ []) ∷ []) ≡ []
+unfolding places_of place_in_text places_in chars is_utf8 lib.Utf8.encode
+one_warning = refl
+
+-- the mark is part of no line
+marked : places Utf8 ((0xEF ∷ 0xBB ∷ 0xBF ∷ codes "a") ∷ []) ≡ []
+unfolding places_of place_in_text places_in
+marked = refl

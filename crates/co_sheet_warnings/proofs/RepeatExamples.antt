@@ -1,0 +1,46 @@
+-- What comes twice, on both sides of each edge.
+use Rattle.std.proofs.Common.{◌≡◌, ℕ, List, [], ◌∷◌, Some, None, true, false, refl, codes, map}
+use Rattle.std.specs.Prelude.{option_and_then}
+use Rattle.co_sheet_text.specs.declared.section_kind.SectionKind.TheVariants.{MandatoryObjects, Object}
+use Rattle.co_sheet_warnings.specs.declared.warning.WarningKind.TheVariants.{SharedCobId, EqualNames}
+use Rattle.co_sheet_warnings.specs.Repeats.{has_cob_id, enabled_cob_id, identifier_with}
+use Rattle.co_sheet_warnings.specs.Warnings.{place_in_text, places_in, places_of}
+use Rattle.co_sheet_warnings.proofs.ExampleTexts.{places, places_at, sub_index}
+
+-- ---- SharedCobId
+
+cob_id_entries : map has_cob_id (Object 0x1013 ∷ Object 0x1014 ∷ Object 0x1400 ∷ sub_index 0x1014 1 ∷ sub_index 0x13FF 1 ∷ sub_index 0x1400 0 ∷ sub_index 0x1400 1 ∷ sub_index 0x1400 2 ∷ sub_index 0x15FF 1 ∷ sub_index 0x1600 1 ∷ sub_index 0x17FF 1 ∷ sub_index 0x1800 1 ∷ sub_index 0x19FF 1 ∷ sub_index 0x1A00 1 ∷ MandatoryObjects ∷ [])
+    ≡ false ∷ true ∷ false ∷ false ∷ false ∷ false ∷ true ∷ false ∷ true ∷ false ∷ false ∷ true ∷ true ∷ false ∷ false ∷ []
+cob_id_entries = refl
+
+channel_entries : map has_cob_id (sub_index 0x11FF 1 ∷ sub_index 0x1200 0 ∷ sub_index 0x1200 1 ∷ sub_index 0x1200 2 ∷ sub_index 0x1200 3 ∷ sub_index 0x12FF 2 ∷ sub_index 0x1300 1 ∷ [])
+    ≡ false ∷ false ∷ true ∷ true ∷ false ∷ true ∷ false ∷ []
+channel_entries = refl
+
+-- bit 31, and what is left without bit 30
+identifiers : map (λ value. option_and_then identifier_with (enabled_cob_id 5 value)) (codes "0x185" ∷ codes "$NODEID+0x180" ∷ codes "0x40000185" ∷ codes "0x20000185" ∷ codes "0x80000185" ∷ codes "0x7FFFFFFF" ∷ codes "$NODEID+0x7FFFFFFA" ∷ codes "$NODEID+0x7FFFFFFB" ∷ codes "0" ∷ codes "0x40000000" ∷ codes "-1" ∷ codes "x" ∷ [])
+    ≡ Some 0x185 ∷ Some 0x185 ∷ Some 0x185 ∷ Some 0x20000185 ∷ None ∷ Some 0x3FFFFFFF ∷ Some 0x3FFFFFFF ∷ None ∷ None ∷ None ∷ None ∷ None ∷ []
+identifiers = refl
+
+abbrev three_cob_ids : List ℕ → List ℕ → List ℕ → List (List ℕ)
+three_cob_ids first second third =
+    codes "[1800sub1]" ∷ first ∷ codes "[1014]" ∷ second ∷ codes "[1201sub2]" ∷ third ∷ codes "[1801sub2]" ∷ codes "DefaultValue=0x185" ∷ []
+
+all_the_same : places_at 5 SharedCobId (three_cob_ids (codes "DefaultValue=0x185") (codes "DefaultValue=$NODEID+0x180") (codes "ParameterValue=0x185")) ≡ 4 ∷ 6 ∷ []
+unfolding places_of place_in_text places_in
+all_the_same = refl
+
+for_another_node : places_at 6 SharedCobId (three_cob_ids (codes "DefaultValue=0x185") (codes "DefaultValue=$NODEID+0x180") (codes "DefaultValue=0x186")) ≡ 6 ∷ []
+unfolding places_of place_in_text places_in
+for_another_node = refl
+
+for_no_node : places SharedCobId (three_cob_ids (codes "DefaultValue=0x185") (codes "DefaultValue=0x185") (codes "DefaultValue=0x185")) ≡ []
+unfolding places_of place_in_text places_in
+for_no_node = refl
+
+-- ---- EqualNames
+
+-- of objects, and of the sub-indices of each object
+names_again : places EqualNames (codes "[2000]" ∷ codes "ParameterName=a" ∷ codes "[2001]" ∷ codes "ParameterName=a" ∷ codes "[2000sub1]" ∷ codes "ParameterName=a" ∷ codes "[2000sub2]" ∷ codes "ParameterName=a" ∷ codes "[2001sub1]" ∷ codes "ParameterName=a" ∷ codes "[2002]" ∷ codes "ParameterName=A" ∷ codes "[2003]" ∷ codes "ParameterName=a" ∷ codes "[Comments]" ∷ codes "ParameterName=a" ∷ []) ≡ 4 ∷ 8 ∷ 14 ∷ []
+unfolding places_of place_in_text places_in
+names_again = refl

@@ -1,9 +1,0 @@
-use Rattle.std.proofs.Common.{◌≡◌, ◌++◌, drop, map}
-use Rattle.std.specs.List.{flat_map}
-use Rattle.co_sheet_text.specs.Views.{section_view}
-use Rattle.co_sheet_warnings.specs.Warnings.{places_in}
-use Rattle.co_sheet_warnings.proofs.in_sections.add_places_in.Given as goal
-
--- those so far, and after them those of the rest
-abbrev pub invariant-loop-section : goal.invariant-loop-section
-invariant-loop-section l = l.places.items ++ flat_map (places_in l.text l.kind) (map section_view (drop l.section-index l.section-items)) ≡ l.initial.places.items ++ flat_map (places_in l.text l.kind) (map section_view l.section-items)
