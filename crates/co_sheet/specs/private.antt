@@ -4,4 +4,3 @@ pub mod LeastFaults
 pub mod EntryReadings
 pub mod ListReadings
 pub mod ObjectReadings
-pub mod SheetReadings
