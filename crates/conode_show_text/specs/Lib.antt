@@ -10,3 +10,4 @@ pub mod Services
 pub mod Pdos
 pub mod Document
 pub mod Cells
+pub mod Pieces
