@@ -1,6 +1,7 @@
 -- What is said of a frame of a transfer.
-use Rattle.std.specs.Prelude.{ℕ, Bool, true, false, List, [], ◌++◌, codes, decimal, Option, Some, None}
+use Rattle.std.specs.Prelude.{ℕ, List, [], ◌∷◌, ◌++◌, codes, decimal, Option, Some, None}
 use Rattle.co_value.specs.declared.key.Key.{Key}
+use Rattle.conode_text.specs.Filled.{filled}
 use Rattle.conode_explain_transfers.specs.declared.kinds.Side.{Side}
 use Rattle.conode_explain_transfers.specs.declared.kinds.Side.TheVariants.{Client, Server}
 use Rattle.conode_explain_transfers.specs.declared.kinds.What.{What}
@@ -15,22 +16,19 @@ segment_number (OutOfSequence number awaited) = Some number
 segment_number _ = None
 
 abbrev pub service_text : Side → List ℕ
-service_text Client = codes "SDO request node "
-service_text Server = codes "SDO answer node "
-
--- two numbers with words before and between them
-unfoldable pub numbers_text : List ℕ → ℕ → List ℕ → ℕ → List ℕ
-numbers_text front first middle second = front ++ decimal first ++ middle ++ decimal second
+service_text Client = codes "request"
+service_text Server = codes "answer"
 
 abbrev pub segment_text : Side → ℕ → ℕ → List ℕ
-segment_text side node number = numbers_text (service_text side) node (codes " block segment ") number
+segment_text side node number =
+    filled (codes "SDO % node % block segment %") (service_text side ∷ decimal node ∷ decimal number ∷ [])
 
 -- ---- what follows the text of a frame
 
 -- the entry that it is of, where its text has no key
 unfoldable pub of_text : Option Key → List ℕ → List ℕ
 of_text None name = []
-of_text (Some key) name = codes " of " ++ entry_text key name
+of_text (Some key) name = filled (codes " of %") (entry_text key name ∷ [])
 
 -- what is odd about it
 abbrev pub remark_words : What → List ℕ
@@ -41,12 +39,8 @@ remark_words Stray = codes " (no transfer is open)"
 remark_words BegunBefore = codes " (begun before the recording)"
 remark_words _ = []
 
--- a number with words on both sides
-unfoldable pub between : List ℕ → ℕ → List ℕ → List ℕ
-between front number last = front ++ decimal number ++ last
-
 abbrev pub remark_text : What → List ℕ
-remark_text (OutOfSequence number awaited) = between (codes " (") awaited (codes " is awaited)")
+remark_text (OutOfSequence number awaited) = filled (codes " (% is awaited)") (decimal awaited ∷ [])
 remark_text what = remark_words what
 
 unfoldable pub after_text : What → Option Key → List ℕ → List ℕ

@@ -5,20 +5,17 @@ ghost use Rattle.std.specs.Prelude.{◌≡◌, ◌++◌, OnOk, string_bytes};
 ghost use Rattle.conode_explain_transfer_text.specs.Frames.{
   segment_number,
   service_text,
-  numbers_text,
   segment_text,
   of_text,
   remark_words,
-  between,
   remark_text,
   after_text,
 };
 
-use crate::ends::push_entry;
-use crate::numbers::push_words;
-use co_text::push_decimal;
+use crate::part::Part;
 use co_value::Key;
 use conode_explain_transfers::{Side, What};
+use conode_text::{Value, push_filled};
 use std::alloc::AllocError;
 
 /// The number of a segment of a sub-block, the next one or not; `None` for another frame.
@@ -36,27 +33,9 @@ fn service_text(side: Side) -> &'static str
     ensures { result.now ≡ service_text side }
 {
     match side {
-        Side::Client => "SDO request node ",
-        Side::Server => "SDO answer node ",
+        Side::Client => "request",
+        Side::Server => "answer",
     }
-}
-
-// two numbers with words before and between them
-#[tactic(auto, unfolding(crate::specs::Frames::numbers_text))]
-fn push_numbers(
-    text: &mut String,
-    front: &str,
-    first: u8,
-    middle: &str,
-    second: u8,
-) -> Result<(), AllocError>
-    ensures { OnOk result (string_bytes text.new
-        ≡ string_bytes text.old ++ numbers_text front.now first middle.now second) }
-{
-    push_words(text, front)?;
-    push_decimal(text, u64::from(first))?;
-    push_words(text, middle)?;
-    push_decimal(text, u64::from(second))
 }
 
 /// Appends the text of a segment of a sub-block, whose bytes alone don't show what it is: `SDO
@@ -65,18 +44,25 @@ pub fn push_segment(text: &mut String, side: Side, node: u8, number: u8) -> Resu
     ensures { OnOk result (string_bytes text.new
         ≡ string_bytes text.old ++ segment_text side node number) }
 {
-    push_numbers(text, service_text(side), node, " block segment ", number)
+    push_filled(
+        text,
+        "SDO % node % block segment %",
+        &[
+            Value::Words(service_text(side)),
+            Value::Number(u64::from(node)),
+            Value::Number(u64::from(number)),
+        ],
+    )
 }
 
 #[tactic(auto, unfolding(crate::specs::Frames::of_text))]
 fn push_of(text: &mut String, of: Option<Key>, name: &str) -> Result<(), AllocError>
     ensures { OnOk result (string_bytes text.new ≡ string_bytes text.old ++ of_text of name.now) }
 {
-    let Some(key) = of else {
-        return Ok(());
-    };
-    push_words(text, " of ")?;
-    push_entry(text, key, name)
+    match of {
+        Some(key) => push_filled(text, " of %", &[Part::Entry(key, name)]),
+        None => Ok(()),
+    }
 }
 
 fn remark_words(what: What) -> &'static str
@@ -92,25 +78,18 @@ fn remark_words(what: What) -> &'static str
     }
 }
 
-// a number with words on both sides
-#[tactic(auto, unfolding(crate::specs::Frames::between))]
-fn push_between(text: &mut String, front: &str, number: u8, last: &str) -> Result<(), AllocError>
-    ensures { OnOk result (string_bytes text.new
-        ≡ string_bytes text.old ++ between front.now number last.now) }
-{
-    push_words(text, front)?;
-    push_decimal(text, u64::from(number))?;
-    push_words(text, last)
-}
-
 fn push_remark(text: &mut String, what: What) -> Result<(), AllocError>
     ensures { OnOk result (string_bytes text.new ≡ string_bytes text.old ++ remark_text what) }
 {
     match what {
         What::OutOfSequence { number: _, awaited } => {
-            push_between(text, " (", awaited, " is awaited)")
+            push_filled(
+                text,
+                " (% is awaited)",
+                &[Value::Number(u64::from(awaited))],
+            )
         }
-        _ => push_words(text, remark_words(what)),
+        _ => text.push_str(remark_words(what)),
     }
 }
 

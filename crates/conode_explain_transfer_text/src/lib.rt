@@ -5,6 +5,7 @@
 mod ends;
 mod frames;
 mod numbers;
+mod part;
 
 pub use ends::push_end;
 pub use frames::{push_after, push_segment, segment_number};

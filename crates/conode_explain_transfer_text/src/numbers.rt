@@ -2,85 +2,64 @@
 //! may be there.
 
 ghost use Rattle.std.specs.Prelude.{◌≡◌, ◌<◌, ◌++◌, OnOk, string_bytes};
-ghost use Rattle.conode_explain_transfer_text.specs.Numbers.{
-  three_digits,
-  millions,
-  thousands,
-  grouped,
-  counted_text,
-  seconds_text,
-  hexadecimal,
-};
+ghost use Rattle.co_text.specs.Printed.{printed_digit};
+ghost use Rattle.conode_explain_transfer_text.specs.Numbers.{three_digits, grouped, plural, seconds_text};
 
-use co_text::{push_decimal, push_digit, push_u16, push_u32};
+use arrayvec::ArrayString;
+use co_text::push_decimal;
+use conode_text::{Value, push_filled};
 use std::alloc::AllocError;
 
-/// Appends words.
-pub(crate) fn push_words(text: &mut String, words: &str) -> Result<(), AllocError>
-    ensures { OnOk result (string_bytes text.new ≡ string_bytes text.old ++ words.now) }
+fn decimal_char(digit: u64) -> char
+    requires { digit < 10 }
+    ensures value { result ≡ printed_digit digit }
+    ensures ascii { result < 128 }
 {
-    text.push_str(words)
+    (b'0' + digit as u8) as char
 }
 
 #[tactic(auto, unfolding(co_text::specs::Printed::digits_text))]
-fn push_three_digits(text: &mut String, number: u64) -> Result<(), AllocError>
-    ensures { OnOk result (string_bytes text.new ≡ string_bytes text.old ++ three_digits number) }
+fn three_digits(number: u64) -> ArrayString<3>
+    ensures { result.bytes ≡ three_digits number }
 {
-    push_digit(text, (number / 10 / 10 % 10) as u8)?;
-    push_digit(text, (number / 10 % 10) as u8)?;
-    push_digit(text, (number % 10) as u8)
-}
-
-#[tactic(auto, unfolding(crate::specs::Numbers::millions))]
-fn push_millions(text: &mut String, number: u64) -> Result<(), AllocError>
-    ensures { OnOk result (string_bytes text.new ≡ string_bytes text.old ++ millions number) }
-{
-    if number < 1000 {
-        return push_decimal(text, number);
-    }
-    push_decimal(text, number / 1000)?;
-    text.push(',')?;
-    push_three_digits(text, number % 1000)
-}
-
-#[tactic(auto, unfolding(crate::specs::Numbers::thousands))]
-fn push_thousands(text: &mut String, number: u64) -> Result<(), AllocError>
-    ensures { OnOk result (string_bytes text.new ≡ string_bytes text.old ++ thousands number) }
-{
-    if number < 1000 {
-        return push_decimal(text, number);
-    }
-    push_millions(text, number / 1000)?;
-    text.push(',')?;
-    push_three_digits(text, number % 1000)
+    let mut digits = ArrayString::new();
+    digits.push(decimal_char(number / 10 / 10 % 10));
+    digits.push(decimal_char(number / 10 % 10));
+    digits.push(decimal_char(number % 10));
+    digits
 }
 
 /// Appends a number with commas between its digits.
-#[tactic(auto, unfolding(crate::specs::Numbers::grouped))]
+#[tactic(auto, unfolding(crate::specs::Numbers::grouped, crate::specs::Numbers::thousands, crate::specs::Numbers::millions, conode_text::specs::Filled::filled))]
 pub(crate) fn push_grouped(text: &mut String, number: u64) -> Result<(), AllocError>
     ensures { OnOk result (string_bytes text.new ≡ string_bytes text.old ++ grouped number) }
 {
     if number < 1000 {
         return push_decimal(text, number);
     }
-    push_thousands(text, number / 1000)?;
-    text.push(',')?;
-    push_three_digits(text, number % 1000)
+    let ones = three_digits(number % 1000);
+    let ones = Value::Words(ones.as_str());
+    let thousands = number / 1000;
+    if thousands < 1000 {
+        return push_filled(text, "%,%", &[Value::Number(thousands), ones]);
+    }
+    let middle = three_digits(thousands % 1000);
+    let middle = Value::Words(middle.as_str());
+    let millions = thousands / 1000;
+    if millions < 1000 {
+        return push_filled(text, "%,%,%", &[Value::Number(millions), middle, ones]);
+    }
+    let upper = three_digits(millions % 1000);
+    let upper = Value::Words(upper.as_str());
+    let first = Value::Number(millions / 1000);
+    push_filled(text, "%,%,%,%", &[first, upper, middle, ones])
 }
 
-/// Appends a number with a thing after it, in the plural unless it is 1.
-#[tactic(auto, unfolding(crate::specs::Numbers::counted_text))]
-pub(crate) fn push_counted(text: &mut String, number: u64, thing: &str) -> Result<(), AllocError>
-    ensures { OnOk result (string_bytes text.new
-        ≡ string_bytes text.old ++ counted_text number thing.now) }
+/// What comes after a thing of which there are so many.
+pub(crate) fn plural(number: u64) -> &'static str
+    ensures { result.now ≡ plural number }
 {
-    push_grouped(text, number)?;
-    text.push(' ')?;
-    text.push_str(thing)?;
-    if number != 1 {
-        text.push('s')?;
-    }
-    Ok(())
+    if number == 1 { "" } else { "s" }
 }
 
 /// Appends the time from one stamp to another in seconds, with three digits after the point; 0
@@ -90,22 +69,10 @@ pub(crate) fn push_seconds(text: &mut String, from: u64, to: u64) -> Result<(), 
     ensures { OnOk result (string_bytes text.new ≡ string_bytes text.old ++ seconds_text from to) }
 {
     let millis = to.saturating_sub(from) / 1000;
-    push_decimal(text, millis / 1000)?;
-    text.push('.')?;
-    push_three_digits(text, millis % 1000)?;
-    text.push_str(" s")
-}
-
-/// Appends a CRC in four hexadecimal digits.
-pub(crate) fn push_crc(text: &mut String, crc: u16) -> Result<(), AllocError>
-    ensures { OnOk result (string_bytes text.new ≡ string_bytes text.old ++ hexadecimal 4 crc) }
-{
-    push_u16(text, crc)
-}
-
-/// Appends an abort code in eight hexadecimal digits.
-pub(crate) fn push_code(text: &mut String, code: u32) -> Result<(), AllocError>
-    ensures { OnOk result (string_bytes text.new ≡ string_bytes text.old ++ hexadecimal 8 code) }
-{
-    push_u32(text, code)
+    let rest = three_digits(millis % 1000);
+    push_filled(
+        text,
+        "%.% s",
+        &[Value::Number(millis / 1000), Value::Words(rest.as_str())],
+    )
 }

@@ -1,0 +1,66 @@
+//! The parts of a line of a transfer.
+
+ghost use Rattle.std.specs.Prelude.{◌≡◌, ◌++◌, OnOk, string_bytes};
+ghost use Rattle.conode_explain_transfer_text.specs.Ends.{entry_text, in_brackets};
+ghost use Rattle.conode_explain_transfer_text.specs.Parts.{part_text};
+
+use crate::numbers::{push_grouped, push_seconds};
+use co_text::{push_u16, push_u32};
+use co_value::Key;
+use conode_text::{HasText, Value, push_filled};
+use std::alloc::AllocError;
+
+/// A part of a line of a transfer.
+#[derive(Clone, Copy)]
+pub(crate) enum Part<'a> {
+    /// Words of the program.
+    Words(&'a str),
+    /// The key of an entry, and its name in double quotes, if it has one.
+    Entry(Key, &'a str),
+    /// Words in brackets after a blank, where there are some.
+    InBrackets(&'a str),
+    /// A number with commas between its digits.
+    Grouped(u64),
+    /// The time from one stamp to another, in seconds.
+    Seconds(u64, u64),
+    /// A CRC.
+    Crc(u16),
+    /// An abort code.
+    Code(u32),
+}
+
+#[tactic(auto, unfolding(crate::specs::Ends::entry_text))]
+fn push_entry(text: &mut String, key: Key, name: &str) -> Result<(), AllocError>
+    ensures { OnOk result
+        (string_bytes text.new ≡ string_bytes text.old ++ entry_text key name.now) }
+{
+    if name.is_empty() {
+        return text.push_str(key.text().as_str());
+    }
+    push_filled(text, "% \"%\"", &[Value::Key(key), Value::Words(name)])
+}
+
+fn push_in_brackets(text: &mut String, words: &str) -> Result<(), AllocError>
+    ensures { OnOk result (string_bytes text.new ≡ string_bytes text.old ++ in_brackets words.now) }
+{
+    if words.is_empty() {
+        return Ok(());
+    }
+    push_filled(text, " (%)", &[Value::Words(words)])
+}
+
+impl HasText for Part<'_> {
+    ghost text_of = { part_text };
+
+    fn push(&self, text: &mut String) -> Result<(), AllocError> {
+        match *self {
+            Part::Words(words) => text.push_str(words),
+            Part::Entry(key, name) => push_entry(text, key, name),
+            Part::InBrackets(words) => push_in_brackets(text, words),
+            Part::Grouped(number) => push_grouped(text, number),
+            Part::Seconds(from, to) => push_seconds(text, from, to),
+            Part::Crc(crc) => push_u16(text, crc),
+            Part::Code(code) => push_u32(text, code),
+        }
+    }
+}
