@@ -1,6 +1,7 @@
 -- What values of a drive's entries mean, computed from the definitions on both sides of each edge.
 use Rattle.std.proofs.Common.{◌≡◌, ℕ, true, false, List, [], ◌∷◌, refl, map}
 use Rattle.std.specs.Prelude.{codes}
+use Rattle.conode_text.specs.Filled.{filled}
 use Rattle.conode_explain_services.specs.Codes.{code_words, known_class, single_words}
 use Rattle.conode_explain_services.specs.Drives.{command_words, controlword_words, drive_words, has_meaning, is_drive, meaning_at, mode_words, state_words, statusword_words, word_text}
 
@@ -21,11 +22,11 @@ controls : map (λ low. means 0x6040 (low ∷ 0x00 ∷ []))
     ≡ codes " (shutdown)" ∷ codes " (shutdown)" ∷ codes " (switch on)" ∷ codes " (enable operation)" ∷ codes " (enable operation)"
     ∷ codes " (disable voltage)" ∷ codes " (disable voltage)" ∷ codes " (quick stop)" ∷ codes " (quick stop)"
     ∷ codes " (fault reset)" ∷ codes " (fault reset)" ∷ []
-unfolding drive_words meaning_at word_text controlword_words command_words
+unfolding drive_words meaning_at word_text controlword_words command_words filled
 controls = refl
 
 halted : means 0x6040 (0x0F ∷ 0x01 ∷ []) ≡ codes " (enable operation, halt)"
-unfolding drive_words meaning_at word_text controlword_words command_words
+unfolding drive_words meaning_at word_text controlword_words command_words filled
 halted = refl
 
 -- ---- the statusword
@@ -35,14 +36,14 @@ states : map (λ low. means 0x6041 (low ∷ 0x02 ∷ []))
     ∷ codes " (switch on disabled)" ∷ codes " (ready to switch on)" ∷ codes " (switched on)" ∷ codes " (operation enabled)"
     ∷ codes " (operation enabled)" ∷ codes " (quick stop active)" ∷ codes " (fault reaction active)" ∷ codes " (fault reaction active)"
     ∷ codes " (fault)" ∷ codes " (fault)" ∷ codes " (no state)" ∷ codes " (no state)" ∷ codes " (no state)" ∷ codes " (no state)" ∷ []
-unfolding drive_words meaning_at word_text statusword_words state_words
+unfolding drive_words meaning_at word_text statusword_words state_words filled
 states = refl
 
 flags : map (λ high. means 0x6041 (0xA7 ∷ high ∷ [])) (0x00 ∷ 0x04 ∷ 0x08 ∷ 0x0C ∷ 0xF3 ∷ [])
     ≡ codes " (operation enabled, warning)" ∷ codes " (operation enabled, warning, target reached)"
     ∷ codes " (operation enabled, warning, internal limit)" ∷ codes " (operation enabled, warning, target reached, internal limit)"
     ∷ codes " (operation enabled, warning)" ∷ []
-unfolding drive_words meaning_at word_text statusword_words state_words
+unfolding drive_words meaning_at word_text statusword_words state_words filled
 flags = refl
 
 -- ---- modes, and the error code
@@ -52,23 +53,23 @@ modes : map (λ mode. means 0x6060 (mode ∷ [])) (0 ∷ 1 ∷ 2 ∷ 3 ∷ 4 ∷
     ∷ codes " (cyclic synchronous velocity)" ∷ codes " (cyclic synchronous torque)"
     ∷ codes " (cyclic synchronous torque with commutation angle)" ∷ [] ∷ [] ∷ codes " (mode of the manufacturer)"
     ∷ codes " (mode of the manufacturer)" ∷ []
-unfolding drive_words meaning_at mode_words
+unfolding drive_words meaning_at mode_words filled
 modes = refl
 
 displayed : means 0x6061 (8 ∷ []) ≡ codes " (cyclic synchronous position)"
-unfolding drive_words meaning_at mode_words
+unfolding drive_words meaning_at mode_words filled
 displayed = refl
 
 error_code : map (λ high. means 0x603F (0x10 ∷ high ∷ [])) (0x23 ∷ 0x81 ∷ 0x71 ∷ 0xA1 ∷ [])
     ≡ codes " (current, output side)" ∷ codes " (communication: CAN overrun, objects lost)"
     ∷ codes " (additional modules)" ∷ [] ∷ []
-unfolding drive_words meaning_at word_text code_words known_class single_words
+unfolding drive_words meaning_at word_text code_words known_class single_words filled
 error_code = refl
 
 -- ---- which entries: each axis, and beside; sub-indices; other numbers of bytes
 axes : map (λ index. means index (0x06 ∷ 0 ∷ [])) (0x6840 ∷ 0x9840 ∷ 0x5840 ∷ 0xA040 ∷ 0x6042 ∷ 0x603E ∷ [])
     ≡ codes " (shutdown)" ∷ codes " (shutdown)" ∷ [] ∷ [] ∷ [] ∷ [] ∷ []
-unfolding drive_words meaning_at word_text controlword_words command_words
+unfolding drive_words meaning_at word_text controlword_words command_words filled
 axes = refl
 
 no_sub_index : drive_words (record { index = 0x6040; sub = 1 }) (0x06 ∷ 0 ∷ []) ≡ []
@@ -76,13 +77,13 @@ unfolding drive_words
 no_sub_index = refl
 
 other_widths : means 0x6040 (0x06 ∷ []) ≡ []
-unfolding drive_words meaning_at
+unfolding drive_words meaning_at filled
 other_widths = refl
 
 three_bytes : means 0x6041 (0x27 ∷ 0 ∷ 0 ∷ []) ≡ []
-unfolding drive_words meaning_at
+unfolding drive_words meaning_at filled
 three_bytes = refl
 
 two_bytes_of_a_mode : means 0x6060 (0x01 ∷ 0 ∷ []) ≡ []
-unfolding drive_words meaning_at word_text
+unfolding drive_words meaning_at word_text filled
 two_bytes_of_a_mode = refl
