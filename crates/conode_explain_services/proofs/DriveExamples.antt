@@ -22,11 +22,11 @@ controls : map (λ low. means 0x6040 (low ∷ 0x00 ∷ []))
     ≡ codes " (shutdown)" ∷ codes " (shutdown)" ∷ codes " (switch on)" ∷ codes " (enable operation)" ∷ codes " (enable operation)"
     ∷ codes " (disable voltage)" ∷ codes " (disable voltage)" ∷ codes " (quick stop)" ∷ codes " (quick stop)"
     ∷ codes " (fault reset)" ∷ codes " (fault reset)" ∷ []
-unfolding drive_words meaning_at word_text controlword_words command_words filled
+unfolding drive_words meaning_at word_text controlword_words command_words
 controls = refl
 
 halted : means 0x6040 (0x0F ∷ 0x01 ∷ []) ≡ codes " (enable operation, halt)"
-unfolding drive_words meaning_at word_text controlword_words command_words filled
+unfolding drive_words meaning_at word_text controlword_words command_words
 halted = refl
 
 -- ---- the statusword
@@ -36,14 +36,14 @@ states : map (λ low. means 0x6041 (low ∷ 0x02 ∷ []))
     ∷ codes " (switch on disabled)" ∷ codes " (ready to switch on)" ∷ codes " (switched on)" ∷ codes " (operation enabled)"
     ∷ codes " (operation enabled)" ∷ codes " (quick stop active)" ∷ codes " (fault reaction active)" ∷ codes " (fault reaction active)"
     ∷ codes " (fault)" ∷ codes " (fault)" ∷ codes " (no state)" ∷ codes " (no state)" ∷ codes " (no state)" ∷ codes " (no state)" ∷ []
-unfolding drive_words meaning_at word_text statusword_words state_words filled
+unfolding drive_words meaning_at word_text statusword_words state_words
 states = refl
 
 flags : map (λ high. means 0x6041 (0xA7 ∷ high ∷ [])) (0x00 ∷ 0x04 ∷ 0x08 ∷ 0x0C ∷ 0xF3 ∷ [])
     ≡ codes " (operation enabled, warning)" ∷ codes " (operation enabled, warning, target reached)"
     ∷ codes " (operation enabled, warning, internal limit)" ∷ codes " (operation enabled, warning, target reached, internal limit)"
     ∷ codes " (operation enabled, warning)" ∷ []
-unfolding drive_words meaning_at word_text statusword_words state_words filled
+unfolding drive_words meaning_at word_text statusword_words state_words
 flags = refl
 
 -- ---- modes, and the error code
@@ -53,11 +53,11 @@ modes : map (λ mode. means 0x6060 (mode ∷ [])) (0 ∷ 1 ∷ 2 ∷ 3 ∷ 4 ∷
     ∷ codes " (cyclic synchronous velocity)" ∷ codes " (cyclic synchronous torque)"
     ∷ codes " (cyclic synchronous torque with commutation angle)" ∷ [] ∷ [] ∷ codes " (mode of the manufacturer)"
     ∷ codes " (mode of the manufacturer)" ∷ []
-unfolding drive_words meaning_at mode_words filled
+unfolding drive_words meaning_at mode_words
 modes = refl
 
 displayed : means 0x6061 (8 ∷ []) ≡ codes " (cyclic synchronous position)"
-unfolding drive_words meaning_at mode_words filled
+unfolding drive_words meaning_at mode_words
 displayed = refl
 
 error_code : map (λ high. means 0x603F (0x10 ∷ high ∷ [])) (0x23 ∷ 0x81 ∷ 0x71 ∷ 0xA1 ∷ [])
@@ -69,7 +69,7 @@ error_code = refl
 -- ---- which entries: each axis, and beside; sub-indices; other numbers of bytes
 axes : map (λ index. means index (0x06 ∷ 0 ∷ [])) (0x6840 ∷ 0x9840 ∷ 0x5840 ∷ 0xA040 ∷ 0x6042 ∷ 0x603E ∷ [])
     ≡ codes " (shutdown)" ∷ codes " (shutdown)" ∷ [] ∷ [] ∷ [] ∷ [] ∷ []
-unfolding drive_words meaning_at word_text controlword_words command_words filled
+unfolding drive_words meaning_at word_text controlword_words command_words
 axes = refl
 
 no_sub_index : drive_words (record { index = 0x6040; sub = 1 }) (0x06 ∷ 0 ∷ []) ≡ []
@@ -77,13 +77,13 @@ unfolding drive_words
 no_sub_index = refl
 
 other_widths : means 0x6040 (0x06 ∷ []) ≡ []
-unfolding drive_words meaning_at filled
+unfolding drive_words meaning_at
 other_widths = refl
 
 three_bytes : means 0x6041 (0x27 ∷ 0 ∷ 0 ∷ []) ≡ []
-unfolding drive_words meaning_at filled
+unfolding drive_words meaning_at
 three_bytes = refl
 
 two_bytes_of_a_mode : means 0x6060 (0x01 ∷ 0 ∷ []) ≡ []
-unfolding drive_words meaning_at word_text filled
+unfolding drive_words meaning_at word_text
 two_bytes_of_a_mode = refl

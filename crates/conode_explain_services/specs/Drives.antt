@@ -1,10 +1,9 @@
 -- What the values of a drive's entries mean (CiA 402): the controlword, the statusword, the error
 -- code, the mode of operation.
-use Rattle.std.specs.Prelude.{ℕ, ◌+◌, ◌%◌, ◌==◌, nat_lt, Bool, ◌&&◌, if◌then◌else◌, bit_and, List, [], ◌∷◌, codes, find, is_some, length, slice_index, Option, None, option_map, true, false}
+use Rattle.std.specs.Prelude.{ℕ, ◌+◌, ◌%◌, ◌==◌, nat_lt, Bool, ◌&&◌, if◌then◌else◌, bit_and, List, [], ◌∷◌, ◌++◌, codes, find, is_some, length, slice_index, Option, None, option_map, true, false}
 use Rattle.std.specs.Option.{option_map_or}
 use Rattle.co_value.specs.declared.key.Key.{Key}
 use Rattle.co_value.specs.Numbers.{unsigned_of}
-use Rattle.conode_text.specs.Filled.{filled}
 use Rattle.conode_explain_services.specs.declared.drives.Meaning.{Meaning}
 use Rattle.conode_explain_services.specs.declared.drives.Meaning.TheVariants.{ErrorCode, Controlword, Statusword, Mode}
 use Rattle.conode_explain_services.specs.Codes.{code_words}
@@ -60,7 +59,7 @@ command_words word =
     else (if bit_and word 0x08 == 0 then codes "switch on" else codes "enable operation"))))
 
 unfoldable pub controlword_words : ℕ → List ℕ
-controlword_words word = filled (codes " (%%)") (command_words word ∷ where_set word 0x100 (codes ", halt") ∷ [])
+controlword_words word = command_words word ++ where_set word 0x100 (codes ", halt")
 
 -- the states of a statusword: by bits 0 to 3 and 6, and of two of them by bit 5 (quick stop where
 -- 0)
@@ -83,9 +82,9 @@ known_or (letter ∷ letters) = letter ∷ letters
 
 unfoldable pub statusword_words : ℕ → List ℕ
 statusword_words word =
-    filled (codes " (%%%%)")
-    (known_or (state_words (bit_and word 0x6F)) ∷ where_set word 0x080 (codes ", warning")
-    ∷ where_set word 0x400 (codes ", target reached") ∷ where_set word 0x800 (codes ", internal limit") ∷ [])
+    known_or (state_words (bit_and word 0x6F))
+    ++ where_set word 0x080 (codes ", warning") ++ where_set word 0x400 (codes ", target reached")
+    ++ where_set word 0x800 (codes ", internal limit")
 
 -- the modes of operation, an INTEGER8; negative ones are the manufacturer's
 unfoldable pub mode_words : ℕ → List ℕ
@@ -102,14 +101,14 @@ mode_words mode =
 -- words in brackets, where there are some
 abbrev pub bracketed : List ℕ → List ℕ
 bracketed [] = []
-bracketed (letter ∷ letters) = filled (codes " (%)") ((letter ∷ letters) ∷ [])
+bracketed (letter ∷ letters) = codes " (" ++ (letter ∷ letters) ++ codes ")"
 
 -- what a value means; an error code is one as in an emergency; a value of another number of bytes
 -- means nothing
 unfoldable pub word_text : Meaning → ℕ → List ℕ
 word_text ErrorCode word = code_words word
-word_text Controlword word = controlword_words word
-word_text Statusword word = statusword_words word
+word_text Controlword word = codes " (" ++ controlword_words word ++ codes ")"
+word_text Statusword word = codes " (" ++ statusword_words word ++ codes ")"
 word_text Mode word = []
 
 abbrev pub meaning_text : Meaning → List ℕ → List ℕ

@@ -1,6 +1,6 @@
 //! What the values of a drive's entries mean (CiA 402).
 
-ghost use Rattle.std.specs.Prelude.{◌≡◌, ◌++◌, OnOk, string_bytes};
+ghost use Rattle.std.specs.Prelude.{◌≡◌, ◌++◌, OnOk, codes, string_bytes};
 ghost use Rattle.conode_explain_services.specs.Drives.{
   axis_index,
   bracketed,
@@ -83,10 +83,10 @@ fn command_words(word: u16) -> &'static str
     }
 }
 
-#[tactic(auto, unfolding(crate::specs::Drives::controlword_words))]
+#[tactic(auto, unfolding(crate::specs::Drives::controlword_words, conode_text::specs::Filled::filled))]
 fn push_controlword(text: &mut String, word: u16) -> Result<(), AllocError>
-    ensures { OnOk result
-        (string_bytes text.new ≡ string_bytes text.old ++ controlword_words word) }
+    ensures { OnOk result (string_bytes text.new
+        ≡ string_bytes text.old ++ codes " (" ++ controlword_words word ++ codes ")") }
 {
     let halt = where_set(word, 0x100, ", halt");
     push_filled(
@@ -125,10 +125,10 @@ fn known_or(words: &'static str) -> &'static str
     if words.is_empty() { "no state" } else { words }
 }
 
-#[tactic(auto, unfolding(crate::specs::Drives::statusword_words))]
+#[tactic(auto, unfolding(crate::specs::Drives::statusword_words, conode_text::specs::Filled::filled))]
 fn push_statusword(text: &mut String, word: u16) -> Result<(), AllocError>
-    ensures { OnOk result
-        (string_bytes text.new ≡ string_bytes text.old ++ statusword_words word) }
+    ensures { OnOk result (string_bytes text.new
+        ≡ string_bytes text.old ++ codes " (" ++ statusword_words word ++ codes ")") }
 {
     push_filled(
         text,
@@ -169,6 +169,7 @@ fn mode_words(mode: u8) -> &'static str
     }
 }
 
+#[tactic(auto, unfolding(conode_text::specs::Filled::filled))]
 fn push_bracketed(text: &mut String, words: &str) -> Result<(), AllocError>
     ensures { OnOk result (string_bytes text.new ≡ string_bytes text.old ++ bracketed words.now) }
 {
