@@ -26,3 +26,9 @@ too_many = refl
 in_text : filled (codes "% %") (codes "5%" ∷ codes "x" ∷ []) ≡ codes "5% x"
 unfolding filled
 in_text = refl
+
+-- a long line is computed as fast as a short one
+long_line : filled (codes "recording.log:%: heartbeat-late: % ms since the last one, 1017:00 has % ms") (codes "12" ∷ codes "1020.001" ∷ codes "1000" ∷ [])
+    ≡ codes "recording.log:12: heartbeat-late: 1020.001 ms since the last one, 1017:00 has 1000 ms"
+unfolding filled
+long_line = refl

@@ -1,5 +1,5 @@
 -- Words with texts in them, by what comes before their first place.
-use Rattle.std.proofs.Common.{◌≡◌, ◌≢◌, ℕ, suc, ◌==◌, ◌<◌, Bool, true, false, List, [], ◌∷◌, ◌++◌, Option, Some, None, IfSome, IfNone, Bor, length, get_or, drop, refl, ap, arith}
+use Rattle.std.proofs.Common.{◌≡◌, ◌≢◌, ℕ, suc, ◌==◌, ◌<◌, Bool, true, false, List, [], ◌∷◌, ◌++◌, Option, Some, None, IfSome, IfNone, Bor, length, get_or, drop, refl, ◌∙◌, ap, arith}
 use Rattle.std.specs.List.{position_or_len}
 use Rattle.std.proofs.lemmas.Bool.{eqb-true}
 use Rattle.std.proofs.lemmas.Str.Pattern.{IsSplitOnceResult, split_once_first, split_parts}
@@ -7,6 +7,11 @@ use Rattle.conode_text.specs.Filled.{filled, first_text}
 
 abbrev is_place : ℕ → Bool
 is_place byte = byte == 37
+
+-- a byte that is no place is as it is
+itself : (byte : ℕ) (rest : List ℕ) (texts : List (List ℕ)) → (byte == 37) ≡ false → filled (byte ∷ rest) texts ≡ byte ∷ filled rest texts
+unfolding filled
+itself byte rest texts e = rw e refl
 
 -- up to their first place words are as they are, and there comes the first text
 at_place : (front back : List ℕ) (texts : List (List ℕ)) → ((i : ℕ) → i < length front → get_or front i 0 ≢ 37)
@@ -18,7 +23,7 @@ at_place (byte ∷ front) back texts h = by (byte == 37) refl (at_place front ba
     by : (b : Bool) → (byte == 37) ≡ b → filled (front ++ (37 ∷ back)) texts ≡ front ++ (first_text texts ++ filled back (drop 1 texts))
         → filled (byte ∷ (front ++ (37 ∷ back))) texts ≡ byte ∷ (front ++ (first_text texts ++ filled back (drop 1 texts)))
     by true e more = absurd (h 0 (omega arith) (eqb-true byte 37 e))
-    by false e more = simp e (ap (λ xs. byte ∷ xs) more)
+    by false e more = itself byte (front ++ (37 ∷ back)) texts e ∙ ap (λ xs. byte ∷ xs) more
 
 -- without a place they are as they are
 no_place : (words : List ℕ) (texts : List (List ℕ)) → position_or_len is_place words ≡ length words → filled words texts ≡ words
@@ -31,7 +36,7 @@ no_place (byte ∷ rest) texts h = by (byte == 37) refl (no_place rest texts)
     by true e more = absurd (let g = simp e at h in omega arith)
     by false e more =
         let k : position_or_len is_place rest ≡ length rest = (let g = simp e at h in omega arith) in
-        simp e (ap (λ xs. byte ∷ xs) (more k))
+        itself byte rest texts e ∙ ap (λ xs. byte ∷ xs) (more k)
 
 -- ---- by how a text is cut at its first percent sign
 
