@@ -1,5 +1,5 @@
 -- What services say, computed from the definitions on both sides of each edge.
-use Rattle.std.proofs.Common.{◌≡◌, ℕ, true, false, List, [], ◌∷◌, ◌++◌, refl, Some, None, map}
+use Rattle.std.proofs.Common.{◌≡◌, ℕ, true, false, List, [], ◌∷◌, refl, Some, None, map}
 use Rattle.std.specs.Prelude.{codes, Option}
 use Rattle.std.specs.Fmt.{digits}
 use Rattle.co_text.specs.Printed.{digits_text}
@@ -121,15 +121,13 @@ abbrev eight : ℕ → ℕ → ℕ → ℕ → ℕ → ℕ → ℕ → ℕ → L
 eight a b c d e f g h = a ∷ b ∷ c ∷ d ∷ e ∷ f ∷ g ∷ h ∷ []
 
 emergency : says nothing_seen 0x085 (eight 0x10 0x82 0x11 0x01 0x02 0x03 0x04 0xFF)
-    ≡ Some (filled (codes "EMCY node % code %% register % (%) manufacturer %")
-    (codes "5" ∷ codes "8210" ∷ code_words 0x8210 ∷ codes "11" ∷ register_text None 0x11 ∷ codes "01020304FF" ∷ []))
-unfolding service_words emergency_words digits_text digits
+    ≡ Some (codes "EMCY node 5 code 8210 (protocol error: PDO not processed due to length error) register 11 (generic, communication) manufacturer 01020304FF")
+unfolding service_words emergency_words of_node code_words known_class single_words register_text bits_text bit_text bit_word digits_text digits filled
 emergency = refl
 
 next_emergency : says (record { register = Some 0x11; guarding = NotSeen; state = Unknown }) 0x0FF (eight 0 0 0 0 0 0 0 0)
-    ≡ Some (filled (codes "EMCY node % code %% register % (%) manufacturer %")
-    (codes "127" ∷ codes "0000" ∷ code_words 0 ∷ codes "00" ∷ register_text (Some 0x11) 0 ∷ codes "0000000000" ∷ []))
-unfolding service_words emergency_words digits_text digits
+    ≡ Some (codes "EMCY node 127 code 0000 (error reset or no error) register 00 (no error; went: generic, communication) manufacturer 0000000000")
+unfolding service_words emergency_words of_node code_words known_class single_words register_text bits_text bit_text bit_word digits_text digits filled
 next_emergency = refl
 
 -- identifiers beside, and seven bytes
@@ -143,14 +141,11 @@ short_emergency = refl
 
 -- ---- node guarding
 
-abbrev answer : List ℕ → List ℕ → List ℕ → List ℕ → Option (List ℕ)
-answer node state toggle awaited = Some (filled (codes "guarding answer node % % toggle %%") (node ∷ state ∷ toggle ∷ awaited ∷ []))
-
 -- the states with the toggle bit; 0 and other numbers are none
 toggled : map (λ byte. says nothing_seen 0x705 (byte ∷ [])) (0x84 ∷ 0x85 ∷ 0xFF ∷ 0x80 ∷ 0x83 ∷ 0x86 ∷ 0xFE ∷ [])
-    ≡ answer (codes "5") (codes "stopped") (codes "1") [] ∷ answer (codes "5") (codes "operational") (codes "1") []
-    ∷ answer (codes "5") (codes "pre-operational") (codes "1") [] ∷ None ∷ None ∷ None ∷ None ∷ []
-unfolding service_words guarding_answer_words state_words digits
+    ≡ Some (codes "guarding answer node 5 stopped toggle 1") ∷ Some (codes "guarding answer node 5 operational toggle 1")
+    ∷ Some (codes "guarding answer node 5 pre-operational toggle 1") ∷ None ∷ None ∷ None ∷ None ∷ []
+unfolding service_words guarding_answer_words state_words of_node digits filled
 toggled = refl
 
 -- without it they are heartbeats, unless the node is guarded
@@ -162,30 +157,30 @@ abbrev guarded : Guarding → Last
 guarded guarding = record { register = None; guarding = guarding; state = Unknown }
 
 answers : map (λ byte. says (guarded (Requested None)) 0x77F (byte ∷ [])) (0x00 ∷ 0x04 ∷ 0x85 ∷ [])
-    ≡ None ∷ answer (codes "127") (codes "stopped") (codes "0") [] ∷ answer (codes "127") (codes "operational") (codes "1") [] ∷ []
-unfolding service_words guarding_answer_words state_words digits
+    ≡ None ∷ Some (codes "guarding answer node 127 stopped toggle 0") ∷ Some (codes "guarding answer node 127 operational toggle 1") ∷ []
+unfolding service_words guarding_answer_words state_words of_node digits filled
 answers = refl
 
 awaited_one : map (λ byte. says (guarded (Requested (Some true))) 0x701 (byte ∷ [])) (0x05 ∷ 0x85 ∷ [])
-    ≡ answer (codes "1") (codes "operational") (codes "0") (codes " (1 is awaited)") ∷ answer (codes "1") (codes "operational") (codes "1") [] ∷ []
-unfolding service_words guarding_answer_words state_words digits
+    ≡ Some (codes "guarding answer node 1 operational toggle 0 (1 is awaited)") ∷ Some (codes "guarding answer node 1 operational toggle 1") ∷ []
+unfolding service_words guarding_answer_words state_words of_node digits filled
 awaited_one = refl
 
 awaited_zero : map (λ byte. says (guarded (Requested (Some false))) 0x701 (byte ∷ [])) (0x7F ∷ 0xFF ∷ [])
-    ≡ answer (codes "1") (codes "pre-operational") (codes "0") [] ∷ answer (codes "1") (codes "pre-operational") (codes "1") (codes " (0 is awaited)") ∷ []
-unfolding service_words guarding_answer_words state_words digits
+    ≡ Some (codes "guarding answer node 1 pre-operational toggle 0") ∷ Some (codes "guarding answer node 1 pre-operational toggle 1 (0 is awaited)") ∷ []
+unfolding service_words guarding_answer_words state_words of_node digits filled
 awaited_zero = refl
 
 -- without a request that was recorded: the next answer, or the one before again, which without the toggle bit is a heartbeat
 next_answers : map (λ guarding. says (guarded guarding) 0x701 (0x05 ∷ [])) (Answered false ∷ Answered true ∷ BootedUp ∷ [])
-    ≡ answer (codes "1") (codes "operational") (codes "0") [] ∷ None ∷ None ∷ []
-unfolding service_words guarding_answer_words state_words digits
+    ≡ Some (codes "guarding answer node 1 operational toggle 0") ∷ None ∷ None ∷ []
+unfolding service_words guarding_answer_words state_words of_node digits filled
 next_answers = refl
 
 next_toggled : map (λ guarding. says (guarded guarding) 0x701 (0x85 ∷ [])) (Answered false ∷ Answered true ∷ BootedUp ∷ [])
-    ≡ answer (codes "1") (codes "operational") (codes "1") (codes " (0 is awaited)") ∷ answer (codes "1") (codes "operational") (codes "1") []
-    ∷ answer (codes "1") (codes "operational") (codes "1") (codes " (0 is awaited)") ∷ []
-unfolding service_words guarding_answer_words state_words digits
+    ≡ Some (codes "guarding answer node 1 operational toggle 1 (0 is awaited)") ∷ Some (codes "guarding answer node 1 operational toggle 1")
+    ∷ Some (codes "guarding answer node 1 operational toggle 1 (0 is awaited)") ∷ []
+unfolding service_words guarding_answer_words state_words of_node digits filled
 next_toggled = refl
 
 -- identifiers beside, and two bytes; 780h is reserved
@@ -289,20 +284,16 @@ scan_begins : asks (eight 0x51 1 2 3 4 0x80 0 0) ≡ codes "LSS request fastscan
 unfolding lss_text request_words request_parameter parameter_text scan_text filled
 scan_begins = refl
 
-abbrev scanned : List ℕ → List ℕ → List ℕ → List ℕ → List ℕ
-scanned part number bit next =
-    codes "LSS request fastscan " ++ filled (codes "% % bits 31-%, next %") (part ∷ number ∷ bit ∷ next ∷ [])
-
-scan_goes_on : asks (eight 0x51 0x9A 0 0 0 31 0 1) ≡ scanned (codes "vendor-ID") (codes "0000009A") (codes "31") (codes "product code")
-unfolding lss_text request_words request_parameter parameter_text scan_text part_text part_words digits_text digits
+scan_goes_on : asks (eight 0x51 0x9A 0 0 0 31 0 1) ≡ codes "LSS request fastscan vendor-ID 0000009A bits 31-31, next product code"
+unfolding lss_text request_words request_parameter parameter_text scan_text part_text part_words digits_text digits filled
 scan_goes_on = refl
 
-other_parts : asks (eight 0x51 0 0 0 0x80 0 3 4) ≡ scanned (codes "serial number") (codes "80000000") (codes "0") (codes "part 4")
-unfolding lss_text request_words request_parameter parameter_text scan_text part_text part_words digits_text digits
+other_parts : asks (eight 0x51 0 0 0 0x80 0 3 4) ≡ codes "LSS request fastscan serial number 80000000 bits 31-0, next part 4"
+unfolding lss_text request_words request_parameter parameter_text scan_text part_text part_words digits_text digits filled
 other_parts = refl
 
-revision_part : asks (eight 0x51 0 0 0 0 9 2 3) ≡ scanned (codes "revision number") (codes "00000000") (codes "9") (codes "serial number")
-unfolding lss_text request_words request_parameter parameter_text scan_text part_text part_words digits_text digits
+revision_part : asks (eight 0x51 0 0 0 0 9 2 3) ≡ codes "LSS request fastscan revision number 00000000 bits 31-9, next serial number"
+unfolding lss_text request_words request_parameter parameter_text scan_text part_text part_words digits_text digits filled
 revision_part = refl
 
 lss_answer : says nothing_seen 0x7E4 (eight 0x11 0 0 0 0 0 0 0) ≡ Some (codes "LSS answer configure node-ID done")
@@ -318,8 +309,8 @@ failures = refl
 
 other_failures : map (λ error. tells (eight 0x17 error 9 0 0 0 0 0)) (2 ∷ 3 ∷ 254 ∷ 255 ∷ [])
     ≡ codes "LSS answer store configuration failed: storage media access error" ∷ codes "LSS answer store configuration failed: error 3"
-    ∷ codes "LSS answer store configuration failed: error 254" ∷ (codes "LSS answer store configuration failed: " ++ filled (codes "error % of the manufacturer") (codes "9" ∷ [])) ∷ []
-unfolding lss_text answer_words answer_parameter parameter_text outcome_text failure_text node_failure timing_failure store_failure digits
+    ∷ codes "LSS answer store configuration failed: error 254" ∷ codes "LSS answer store configuration failed: error 9 of the manufacturer" ∷ []
+unfolding lss_text answer_words answer_parameter parameter_text outcome_text failure_text node_failure timing_failure store_failure digits filled
 other_failures = refl
 
 second_errors : map (λ specifier. tells (eight specifier 2 9 0 0 0 0 0)) (0x11 ∷ 0x13 ∷ [])

@@ -49,7 +49,7 @@ const CLASSES: [Row; 25] = [
 fn known_class(class: u8) -> &'static str
     ensures { result.now ≡ known_class class }
 {
-    words_in(&CLASSES, u16::from(class))
+    words_in(&CLASSES, class as u16)
 }
 
 fn group_words(class: u8) -> &'static str

@@ -165,7 +165,7 @@ fn mode_words(mode: u8) -> &'static str
     if mode > 127 {
         "mode of the manufacturer"
     } else {
-        words_in(&MODES, u16::from(mode))
+        words_in(&MODES, mode as u16)
     }
 }
 

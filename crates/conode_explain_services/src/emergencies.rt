@@ -32,7 +32,7 @@ impl HasText for Part<'_> {
 
     fn push(&self, text: &mut String) -> Result<(), AllocError> {
         match *self {
-            Part::Node(node) => push_decimal(text, u64::from(node)),
+            Part::Node(node) => push_decimal(text, node as u64),
             Part::Code(code) => push_u16(text, code),
             Part::CodeWords(code) => push_code_words(text, code),
             Part::Register(register) => push_byte(text, register),

@@ -38,7 +38,7 @@ const STATES: [Row; 3] = [
 fn state_words(byte: u8) -> &'static str
     ensures { result.now ≡ state_words byte }
 {
-    words_in(&STATES, u16::from(byte % 128))
+    words_in(&STATES, (byte % 128) as u16)
 }
 
 fn awaited_of(guarding: Guarding) -> Option<bool>
@@ -132,7 +132,7 @@ pub(crate) fn push_answer(
         text,
         "guarding answer node % % toggle %%",
         &[
-            Value::Number(u64::from(node)),
+            Value::Number(node as u64),
             Value::Words(state_words(byte)),
             Value::Words(toggle_text(toggle)),
             Value::Words(awaited_text(awaited_of(guarding), toggle)),

@@ -41,7 +41,7 @@ const MODES: [Row; 2] = [Row(0, "waiting"), Row(1, "configuration")];
 fn mode_words(mode: u8) -> &'static str
     ensures { result.now ≡ mode_words mode }
 {
-    words_in(&MODES, u16::from(mode))
+    words_in(&MODES, mode as u16)
 }
 
 // Appends words, or where there are none a name and a number.
@@ -51,7 +51,7 @@ fn push_or_number(text: &mut String, words: &str, name: &str, number: u8) -> Res
         ≡ string_bytes text.old ++ or_else words.now (name.now ++ decimal number)) }
 {
     if words.is_empty() {
-        let number = Value::Number(u64::from(number));
+        let number = Value::Number(number as u64);
         return push_filled(text, "%%", &[Value::Words(name), number]);
     }
     text.push_str(words)
@@ -63,7 +63,7 @@ fn push_node(text: &mut String, node: u8) -> Result<(), AllocError>
     if node == 255 {
         text.push_str("none")
     } else {
-        push_decimal(text, u64::from(node))
+        push_decimal(text, node as u64)
     }
 }
 
@@ -84,7 +84,7 @@ const RATES: [Row; 9] = [
 fn rate_words(index: u8) -> &'static str
     ensures { result.now ≡ rate_words index }
 {
-    words_in(&RATES, u16::from(index))
+    words_in(&RATES, index as u16)
 }
 
 fn rate_in(table: u8, index: u8) -> &'static str
@@ -100,8 +100,8 @@ fn push_timing(text: &mut String, table: u8, index: u8) -> Result<(), AllocError
 {
     let rate = rate_in(table, index);
     if rate.is_empty() {
-        let table = Value::Number(u64::from(table));
-        let index = Value::Number(u64::from(index));
+        let table = Value::Number(table as u64);
+        let index = Value::Number(index as u64);
         return push_filled(text, "table % index %", &[table, index]);
     }
     text.push_str(rate)
@@ -119,7 +119,7 @@ const PARTS: [Row; 4] = [
 fn push_part(text: &mut String, part: u8) -> Result<(), AllocError>
     ensures { OnOk result (string_bytes text.new ≡ string_bytes text.old ++ part_text part) }
 {
-    push_or_number(text, words_in(&PARTS, u16::from(part)), "part ", part)
+    push_or_number(text, words_in(&PARTS, part as u16), "part ", part)
 }
 
 /// What fastscan names.
@@ -140,7 +140,7 @@ impl HasText for Scanned {
         match *self {
             Scanned::Part(part) => push_part(text, part),
             Scanned::Number(number) => push_u32(text, number),
-            Scanned::Bit(bit) => push_decimal(text, u64::from(bit)),
+            Scanned::Bit(bit) => push_decimal(text, bit as u64),
         }
     }
 }
@@ -180,9 +180,9 @@ fn failure_words(specifier: u8, error: u8) -> &'static str
     ensures { result.now ≡ failure_words specifier error }
 {
     match specifier {
-        0x11 => words_in(&NODE_FAILURES, u16::from(error)),
-        0x13 => words_in(&TIMING_FAILURES, u16::from(error)),
-        0x17 => words_in(&STORE_FAILURES, u16::from(error)),
+        0x11 => words_in(&NODE_FAILURES, error as u16),
+        0x13 => words_in(&TIMING_FAILURES, error as u16),
+        0x17 => words_in(&STORE_FAILURES, error as u16),
         _ => "",
     }
 }
@@ -193,7 +193,7 @@ fn push_failure(text: &mut String, specifier: u8, error: u8, specific: u8) -> Re
         ≡ string_bytes text.old ++ failure_text specifier error specific) }
 {
     if error == 255 {
-        let specific = Value::Number(u64::from(specific));
+        let specific = Value::Number(specific as u64);
         return push_filled(text, "error % of the manufacturer", &[specific]);
     }
     push_or_number(text, failure_words(specifier, error), "error ", error)
@@ -228,7 +228,7 @@ fn push_parameter(text: &mut String, parameter: Parameter, bytes: &[u8]) -> Resu
         Parameter::Number => push_u32(text, read_u32(&bytes[1..5])),
         Parameter::Timing => push_timing(text, bytes[1], bytes[2]),
         Parameter::Delay => {
-            let delay = Value::Number(u64::from(read_u16(&bytes[1..3])));
+            let delay = Value::Number(read_u16(&bytes[1..3]) as u64);
             push_filled(text, "% ms", &[delay])
         }
         Parameter::Scan => { push_scan(text, read_u32(&bytes[1..5]), bytes[5], bytes[6], bytes[7]) }

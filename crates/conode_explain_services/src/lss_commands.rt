@@ -61,7 +61,7 @@ const REQUESTS: [Row; 22] = [
 pub(crate) fn request_words(specifier: u8) -> &'static str
     ensures { result.now ≡ request_words specifier }
 {
-    words_in(&REQUESTS, u16::from(specifier))
+    words_in(&REQUESTS, specifier as u16)
 }
 
 /// What a master's command has after its specifier.
@@ -100,7 +100,7 @@ const ANSWERS: [Row; 11] = [
 pub(crate) fn answer_words(specifier: u8) -> &'static str
     ensures { result.now ≡ answer_words specifier }
 {
-    words_in(&ANSWERS, u16::from(specifier))
+    words_in(&ANSWERS, specifier as u16)
 }
 
 /// What a slave's answer has after its specifier.

@@ -32,7 +32,7 @@ const BITS: [Row; 8] = [
 fn bit_word(place: u8) -> &'static str
     ensures { result.now ≡ bit_word place }
 {
-    words_in(&BITS, u16::from(place))
+    words_in(&BITS, place as u16)
 }
 
 /// A register, and the place of a bit in it.

@@ -34,6 +34,6 @@ pub(crate) fn push_of_node(text: &mut String, service: &str, node: u8) -> Result
     ensures { OnOk result
         (string_bytes text.new ≡ string_bytes text.old ++ of_node service.now node) }
 {
-    let node = Value::Number(u64::from(node));
+    let node = Value::Number(node as u64);
     push_filled(text, "% node %", &[Value::Words(service), node])
 }

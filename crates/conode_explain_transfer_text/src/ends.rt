@@ -77,10 +77,7 @@ fn push_ending(
         Ending::SizeDiffers { indicated } => push_filled(
             text,
             "confirmed, but size % indicated, % came",
-            &[
-                Part::Grouped(u64::from(indicated)),
-                Part::Grouped(ended.bytes),
-            ],
+            &[Part::Grouped(indicated as u64), Part::Grouped(ended.bytes)],
         ),
         Ending::CrcDiffers { came, computed } => push_filled(
             text,

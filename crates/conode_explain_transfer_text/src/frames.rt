@@ -49,8 +49,8 @@ pub fn push_segment(text: &mut String, side: Side, node: u8, number: u8) -> Resu
         "SDO % node % block segment %",
         &[
             Value::Words(service_text(side)),
-            Value::Number(u64::from(node)),
-            Value::Number(u64::from(number)),
+            Value::Number(node as u64),
+            Value::Number(number as u64),
         ],
     )
 }
@@ -83,11 +83,7 @@ fn push_remark(text: &mut String, what: What) -> Result<(), AllocError>
 {
     match what {
         What::OutOfSequence { number: _, awaited } => {
-            push_filled(
-                text,
-                " (% is awaited)",
-                &[Value::Number(u64::from(awaited))],
-            )
+            push_filled(text, " (% is awaited)", &[Value::Number(awaited as u64)])
         }
         _ => text.push_str(remark_words(what)),
     }
