@@ -90,14 +90,14 @@ pub fn push_micros(text: &mut String, micros: u32) -> Result<(), AllocError>
 }
 
 // seconds, blanks before them up to this width, and six digits of microseconds
-#[tactic(auto, unfolding(crate::specs::Stamps::time_text, conode_text::specs::Filled::filled))]
+#[tactic(auto, unfolding(crate::specs::Stamps::time_text))]
 fn push_time(text: &mut String, micros: u64, width: usize) -> Result<(), AllocError>
     ensures { OnOk result
         (string_bytes text.new ≡ string_bytes text.old ++ time_text width micros) }
 {
     push_padded(text, micros / 1_000_000, width)?;
-    let micros = micros_digits((micros % 1_000_000) as u32);
-    push_filled(text, ".%", &[Value::Words(micros.as_str())])
+    text.push('.')?;
+    push_micros(text, (micros % 1_000_000) as u32)
 }
 
 // a sign and a time
