@@ -57,9 +57,12 @@ onto_first : (found : List Condition) (condition : Condition) (rest : Result (Li
 onto_first found condition (Ok more) = ap Ok (sym (append_assoc found (condition ∷ []) more))
 onto_first found condition (Err word) = refl
 
-pub onto_none : (rest : Result (List Condition) (List ℕ)) → onto [] rest ≡ rest
+onto_none : (rest : Result (List Condition) (List ℕ)) → rest ≡ onto [] rest
 onto_none (Ok more) = refl
 onto_none (Err word) = refl
+
+pub onto_empty : (found : List Condition) (rest : Result (List Condition) (List ℕ)) → found ≡ [] → rest ≡ onto found rest
+onto_empty found rest h = rw h (onto_none rest)
 
 module _ (option : FilterOption) (text rest : List ℕ) (found : List Condition)
     (so_far : conditions_of option (words_in option text) ≡ onto found (conditions_of option (words_in option rest))) where

@@ -98,19 +98,24 @@ fn id_condition(word: &[u8]) -> Option<Condition>
     ensures { result ≡ id_condition word.now }
 {
     match split_at_first(word, b'-') {
-        Some((first, last)) => range_of(written_in(first)?, written_in(last)?),
-        None => {
-            let id = written_in(word)?;
-            range_of(id, id)
-        }
+        Some((first, last)) => match (written_in(first), written_in(last)) {
+            (Some(first), Some(last)) => range_of(first, last),
+            _ => None,
+        },
+        None => match written_in(word) {
+            Some(id) => range_of(id, id),
+            None => None,
+        },
     }
 }
 
 fn node_condition(word: &[u8]) -> Option<Condition>
     ensures { result ≡ node_condition word.now }
 {
-    let node = decimal_in(word, 1, 127)?;
-    Some(Condition::Node(node as u8))
+    match decimal_in(word, 1, 127) {
+        Some(node) => Some(Condition::Node(node as u8)),
+        None => None,
+    }
 }
 
 impl Condition {

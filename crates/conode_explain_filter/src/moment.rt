@@ -45,16 +45,20 @@ fn fraction_in(word: &[u8]) -> Option<u64>
     if word.len() > 6 {
         return None;
     }
-    let number = decimal_in(word, 0, 999_999)?;
-    Some(u64::from(number) * scale_of(word.len()))
+    match decimal_in(word, 0, 999_999) {
+        Some(number) => Some(u64::from(number) * scale_of(word.len())),
+        None => None,
+    }
 }
 
 fn seconds_in(word: &[u8]) -> Option<u64>
     ensures value { result ≡ seconds_in word.now }
     ensures small { IfSome result (λ micros. micros < 2 ^ 52) }
 {
-    let seconds = decimal_in(word, 0, u32::MAX)?;
-    Some(1_000_000 * u64::from(seconds))
+    match decimal_in(word, 0, u32::MAX) {
+        Some(seconds) => Some(1_000_000 * u64::from(seconds)),
+        None => None,
+    }
 }
 
 #[tactic(auto, unfolding(crate::specs::Moments::micros_in))]
@@ -62,7 +66,10 @@ fn micros_in(word: &[u8]) -> Option<u64>
     ensures { result ≡ micros_in word.now }
 {
     match split_at_first(word, b'.') {
-        Some((seconds, fraction)) => Some(seconds_in(seconds)? + fraction_in(fraction)?),
+        Some((seconds, fraction)) => match (seconds_in(seconds), fraction_in(fraction)) {
+            (Some(seconds), Some(fraction)) => Some(seconds + fraction),
+            _ => None,
+        },
         None => seconds_in(word),
     }
 }

@@ -66,43 +66,45 @@ fn push(conditions: &mut Vec<Condition>, condition: Condition) -> Result<(), All
     Ok(())
 }
 
-// what the text of an option asks for
-#[tactic(auto, using(crate::proofs::Readings::goes_on, crate::proofs::Readings::fails_at, crate::proofs::Readings::ends, crate::proofs::Readings::fails_last, crate::proofs::Readings::onto_none))]
-fn conditions_in(
-    alloc: Global,
+// appends what the text of an option asks for; there is nothing before it
+#[tactic(auto, using(crate::proofs::Readings::goes_on, crate::proofs::Readings::fails_at, crate::proofs::Readings::ends, crate::proofs::Readings::fails_last, crate::proofs::Readings::onto_empty))]
+fn add_conditions<'a>(
+    conditions: &mut Vec<Condition>,
     option: FilterOption,
-    text: &str,
-) -> Result<Vec<Condition>, FilterFault<'_>>
-    ensures ok { IfOk result (λ found. asked option (Some text.now) ≡ Ok found.items) }
+    text: &'a str,
+) -> Result<(), FilterFault<'a>>
+    requires { conditions.old.items ≡ [] }
+    ensures ok { OnOk result (asked option (Some text.now) ≡ Ok conditions.new.items) }
     ensures err { IfErr result (IsFaultOf option (Some text.now)) }
 {
-    let mut conditions = Vec::new(alloc);
     let mut rest = text;
     while let Some((word, more)) = first_word(option, rest) {
         let Some(condition) = Condition::read(option, word) else {
             return Err(FilterFault::Word(option, word));
         };
-        push(&mut conditions, condition)?;
+        push(conditions, condition)?;
         rest = more;
     }
     let Some(condition) = Condition::read(option, rest) else {
         return Err(FilterFault::Word(option, rest));
     };
-    push(&mut conditions, condition)?;
-    Ok(conditions)
+    push(conditions, condition)?;
+    Ok(())
 }
 
-fn asked(
-    alloc: Global,
+// likewise of an option that may not be used
+fn add_asked<'a>(
+    conditions: &mut Vec<Condition>,
     option: FilterOption,
-    text: Option<&str>,
-) -> Result<Vec<Condition>, FilterFault<'_>>
-    ensures ok { IfOk result (λ found. asked option (option_copied text.entry) ≡ Ok found.items) }
+    text: Option<&'a str>,
+) -> Result<(), FilterFault<'a>>
+    requires { conditions.old.items ≡ [] }
+    ensures ok { OnOk result (asked option (option_copied text.entry) ≡ Ok conditions.new.items) }
     ensures err { IfErr result (IsFaultOf option (option_copied text.entry)) }
 {
     match text {
-        Some(text) => conditions_in(alloc, option, text),
-        None => Ok(Vec::new(alloc)),
+        Some(text) => add_conditions(conditions, option, text),
+        None => Ok(()),
     }
 }
 
@@ -113,17 +115,31 @@ impl Filter {
         ensures ok { IfOk result (λ filter. IsFilter words.now filter) }
         ensures err { IfErr result (λ fault. IsFault words.now fault) }
     {
-        let of = asked(alloc, FilterOption::Of, words.of)?;
-        let id = asked(alloc, FilterOption::Id, words.id)?;
-        let kind = asked(alloc, FilterOption::Kind, words.kind)?;
-        let from = asked(alloc, FilterOption::From, words.from)?;
-        let to = asked(alloc, FilterOption::To, words.to)?;
-        Ok(Filter {
-            of,
-            id,
-            kind,
-            from,
-            to,
-        })
+        let mut filter = Filter {
+            of: Vec::new(alloc),
+            id: Vec::new(alloc),
+            kind: Vec::new(alloc),
+            from: Vec::new(alloc),
+            to: Vec::new(alloc),
+        };
+        filter.add(words)?;
+        Ok(filter)
+    }
+
+    // adds what words ask for; there is nothing before it
+    fn add<'a>(&mut self, words: &FilterWords<'a>) -> Result<(), FilterFault<'a>>
+        requires of { self.old.of.items ≡ [] }
+        requires id { self.old.id.items ≡ [] }
+        requires kind { self.old.kind.items ≡ [] }
+        requires from { self.old.from.items ≡ [] }
+        requires to { self.old.to.items ≡ [] }
+        ensures ok { OnOk result (IsFilter words.now self.new) }
+        ensures err { IfErr result (λ fault. IsFault words.now fault) }
+    {
+        add_asked(&mut self.of, FilterOption::Of, words.of)?;
+        add_asked(&mut self.id, FilterOption::Id, words.id)?;
+        add_asked(&mut self.kind, FilterOption::Kind, words.kind)?;
+        add_asked(&mut self.from, FilterOption::From, words.from)?;
+        add_asked(&mut self.to, FilterOption::To, words.to)
     }
 }

@@ -1,6 +1,7 @@
 -- What values of a drive's entries mean, computed from the definitions on both sides of each edge.
 use Rattle.std.proofs.Common.{◌≡◌, ℕ, true, false, List, [], ◌∷◌, refl, map}
 use Rattle.std.specs.Prelude.{codes}
+use Rattle.conode_text.specs.Filled.{filled}
 use Rattle.conode_explain_services.specs.Codes.{code_words, known_class, single_words}
 use Rattle.conode_explain_services.specs.Drives.{command_words, controlword_words, drive_words, has_meaning, is_drive, meaning_at, mode_words, state_words, statusword_words, word_text}
 
@@ -62,7 +63,7 @@ displayed = refl
 error_code : map (λ high. means 0x603F (0x10 ∷ high ∷ [])) (0x23 ∷ 0x81 ∷ 0x71 ∷ 0xA1 ∷ [])
     ≡ codes " (current, output side)" ∷ codes " (communication: CAN overrun, objects lost)"
     ∷ codes " (additional modules)" ∷ [] ∷ []
-unfolding drive_words meaning_at word_text code_words known_class single_words
+unfolding drive_words meaning_at word_text code_words known_class single_words filled
 error_code = refl
 
 -- ---- which entries: each axis, and beside; sub-indices; other numbers of bytes

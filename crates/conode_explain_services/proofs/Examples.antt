@@ -3,17 +3,18 @@ use Rattle.std.proofs.Common.{◌≡◌, ℕ, true, false, List, [], ◌∷◌, 
 use Rattle.std.specs.Prelude.{codes, Option}
 use Rattle.std.specs.Fmt.{digits}
 use Rattle.co_text.specs.Printed.{digits_text}
+use Rattle.conode_text.specs.Filled.{filled}
 use Rattle.conode_explain_services.specs.declared.guarding.Guarding.{Guarding}
 use Rattle.conode_explain_services.specs.declared.guarding.Guarding.TheVariants.{NotSeen, BootedUp, Requested, Answered}
 use Rattle.conode_explain_services.specs.declared.nmt_state.KnownState.TheVariants.{Unknown}
 use Rattle.conode_explain_services.specs.declared.last.Last.{Last}
-use Rattle.conode_explain_services.specs.Codes.{class_words, code_text, code_words, known_class, single_words}
-use Rattle.conode_explain_services.specs.Emergencies.{bytes_after, emergency_words}
+use Rattle.conode_explain_services.specs.Codes.{class_words, code_words, known_class, single_words}
+use Rattle.conode_explain_services.specs.Emergencies.{emergency_words}
 use Rattle.conode_explain_services.specs.Guardings.{guarding_answer_words, state_words}
-use Rattle.conode_explain_services.specs.Lss.{answer_parameter, answer_words, compared_text, lss_answer_words, lss_request_words, lss_text, failure_text, mode_words, node_failure, numbered_text, outcome_text, parameter_text, part_text, part_words, rate_words, request_parameter, request_words, scan_text, store_failure, timing_failure, timing_text}
+use Rattle.conode_explain_services.specs.Lss.{answer_parameter, answer_words, lss_answer_words, lss_request_words, lss_text, failure_text, mode_words, node_failure, outcome_text, parameter_text, part_text, part_words, rate_words, request_parameter, request_words, scan_text, store_failure, timing_failure, timing_text}
 use Rattle.conode_explain_services.specs.Nodes.{nothing_seen}
 use Rattle.conode_explain_services.specs.Parts.{of_node}
-use Rattle.conode_explain_services.specs.Registers.{bit_text, bit_word, bits_text, high_bits_text, low_bits_text, register_text}
+use Rattle.conode_explain_services.specs.Registers.{bit_text, bit_word, bits_text, register_text}
 use Rattle.conode_explain_services.specs.Reserved.{is_reserved, reserved_words}
 use Rattle.conode_explain_services.specs.Times.{time_words}
 use Rattle.conode_explain_text.specs.Dates.{date_in_year, date_of, day_of_year, year_of_cycle}
@@ -54,16 +55,16 @@ each_code : map single_words (0x8110 ∷ 0x8120 ∷ 0x8130 ∷ 0x8140 ∷ 0x8150
 unfolding single_words
 each_code = refl
 
-class_alone : code_text 0xA310 ≡ codes " code A310"
-unfolding code_text code_words known_class single_words digits_text
+class_alone : code_words 0xA310 ≡ []
+unfolding code_words known_class single_words filled
 class_alone = refl
 
-class_and_digits : code_text 0x42FF ≡ codes " code 42FF (device temperature)"
-unfolding code_text code_words known_class single_words digits_text
+class_and_digits : code_words 0x42FF ≡ codes " (device temperature)"
+unfolding code_words known_class single_words filled
 class_and_digits = refl
 
-class_and_code : code_text 0x8130 ≡ codes " code 8130 (communication: life guard error or heartbeat error)"
-unfolding code_text code_words known_class single_words digits_text
+class_and_code : code_words 0x8130 ≡ codes " (communication: life guard error or heartbeat error)"
+unfolding code_words known_class single_words filled
 class_and_code = refl
 
 -- ---- the error register
@@ -71,44 +72,44 @@ class_and_code = refl
 each_bit : map bits_text (0x01 ∷ 0x02 ∷ 0x04 ∷ 0x08 ∷ 0x10 ∷ 0x20 ∷ 0x40 ∷ 0x80 ∷ [])
     ≡ codes "generic" ∷ codes "current" ∷ codes "voltage" ∷ codes "temperature" ∷ codes "communication"
     ∷ codes "device profile" ∷ codes "reserved bit 6" ∷ codes "manufacturer" ∷ []
-unfolding bits_text low_bits_text high_bits_text bit_text bit_word
+unfolding bits_text bit_text bit_word filled
 each_bit = refl
 
 all_bits : bits_text 0xFF ≡ codes "generic, current, voltage, temperature, communication, device profile, reserved bit 6, manufacturer"
-unfolding bits_text low_bits_text high_bits_text bit_text bit_word
+unfolding bits_text bit_text bit_word filled
 all_bits = refl
 
 two_bits : bits_text 0x90 ≡ codes "communication, manufacturer"
-unfolding bits_text low_bits_text high_bits_text bit_text bit_word
+unfolding bits_text bit_text bit_word filled
 two_bits = refl
 
 -- the first emergency of a node; one as the last; one that came; one that went; each for another; the last that went
-first_register : register_text None 0x11 ≡ codes " register 11 (generic, communication)"
-unfolding register_text bits_text low_bits_text high_bits_text bit_text bit_word digits_text
+first_register : register_text None 0x11 ≡ codes "generic, communication"
+unfolding register_text bits_text bit_text bit_word digits_text filled
 first_register = refl
 
-same_register : register_text (Some 0x11) 0x11 ≡ codes " register 11 (generic, communication)"
-unfolding register_text bits_text low_bits_text high_bits_text bit_text bit_word digits_text
+same_register : register_text (Some 0x11) 0x11 ≡ codes "generic, communication"
+unfolding register_text bits_text bit_text bit_word digits_text filled
 same_register = refl
 
-one_came : register_text (Some 0x01) 0x11 ≡ codes " register 11 (generic, communication; came: communication)"
-unfolding register_text bits_text low_bits_text high_bits_text bit_text bit_word digits_text
+one_came : register_text (Some 0x01) 0x11 ≡ codes "generic, communication; came: communication"
+unfolding register_text bits_text bit_text bit_word digits_text filled
 one_came = refl
 
-one_went : register_text (Some 0x11) 0x01 ≡ codes " register 01 (generic; went: communication)"
-unfolding register_text bits_text low_bits_text high_bits_text bit_text bit_word digits_text
+one_went : register_text (Some 0x11) 0x01 ≡ codes "generic; went: communication"
+unfolding register_text bits_text bit_text bit_word digits_text filled
 one_went = refl
 
-one_for_another : register_text (Some 0x85) 0x0B ≡ codes " register 0B (generic, current, temperature; came: current, temperature; went: voltage, manufacturer)"
-unfolding register_text bits_text low_bits_text high_bits_text bit_text bit_word digits_text
+one_for_another : register_text (Some 0x85) 0x0B ≡ codes "generic, current, temperature; came: current, temperature; went: voltage, manufacturer"
+unfolding register_text bits_text bit_text bit_word digits_text filled
 one_for_another = refl
 
-all_went : register_text (Some 0x11) 0x00 ≡ codes " register 00 (no error; went: generic, communication)"
-unfolding register_text bits_text low_bits_text high_bits_text bit_text bit_word digits_text
+all_went : register_text (Some 0x11) 0x00 ≡ codes "no error; went: generic, communication"
+unfolding register_text bits_text bit_text bit_word digits_text filled
 all_went = refl
 
-none_yet : register_text None 0x00 ≡ codes " register 00 (no error)"
-unfolding register_text bits_text low_bits_text high_bits_text bit_text bit_word digits_text
+none_yet : register_text None 0x00 ≡ codes "no error"
+unfolding register_text bits_text bit_text bit_word digits_text filled
 none_yet = refl
 
 -- ---- frames: emergencies
@@ -121,12 +122,12 @@ eight a b c d e f g h = a ∷ b ∷ c ∷ d ∷ e ∷ f ∷ g ∷ h ∷ []
 
 emergency : says nothing_seen 0x085 (eight 0x10 0x82 0x11 0x01 0x02 0x03 0x04 0xFF)
     ≡ Some (codes "EMCY node 5 code 8210 (protocol error: PDO not processed due to length error) register 11 (generic, communication) manufacturer 01020304FF")
-unfolding service_words emergency_words bytes_after of_node code_text code_words known_class single_words register_text bits_text low_bits_text high_bits_text bit_text bit_word digits_text digits
+unfolding service_words emergency_words of_node code_words known_class single_words register_text bits_text bit_text bit_word digits_text digits filled
 emergency = refl
 
 next_emergency : says (record { register = Some 0x11; guarding = NotSeen; state = Unknown }) 0x0FF (eight 0 0 0 0 0 0 0 0)
     ≡ Some (codes "EMCY node 127 code 0000 (error reset or no error) register 00 (no error; went: generic, communication) manufacturer 0000000000")
-unfolding service_words emergency_words bytes_after of_node code_text code_words known_class single_words register_text bits_text low_bits_text high_bits_text bit_text bit_word digits_text digits
+unfolding service_words emergency_words of_node code_words known_class single_words register_text bits_text bit_text bit_word digits_text digits filled
 next_emergency = refl
 
 -- identifiers beside, and seven bytes
@@ -144,7 +145,7 @@ short_emergency = refl
 toggled : map (λ byte. says nothing_seen 0x705 (byte ∷ [])) (0x84 ∷ 0x85 ∷ 0xFF ∷ 0x80 ∷ 0x83 ∷ 0x86 ∷ 0xFE ∷ [])
     ≡ Some (codes "guarding answer node 5 stopped toggle 1") ∷ Some (codes "guarding answer node 5 operational toggle 1")
     ∷ Some (codes "guarding answer node 5 pre-operational toggle 1") ∷ None ∷ None ∷ None ∷ None ∷ []
-unfolding service_words guarding_answer_words state_words of_node digits
+unfolding service_words guarding_answer_words state_words of_node digits filled
 toggled = refl
 
 -- without it they are heartbeats, unless the node is guarded
@@ -157,29 +158,29 @@ guarded guarding = record { register = None; guarding = guarding; state = Unknow
 
 answers : map (λ byte. says (guarded (Requested None)) 0x77F (byte ∷ [])) (0x00 ∷ 0x04 ∷ 0x85 ∷ [])
     ≡ None ∷ Some (codes "guarding answer node 127 stopped toggle 0") ∷ Some (codes "guarding answer node 127 operational toggle 1") ∷ []
-unfolding service_words guarding_answer_words state_words of_node digits
+unfolding service_words guarding_answer_words state_words of_node digits filled
 answers = refl
 
 awaited_one : map (λ byte. says (guarded (Requested (Some true))) 0x701 (byte ∷ [])) (0x05 ∷ 0x85 ∷ [])
     ≡ Some (codes "guarding answer node 1 operational toggle 0 (1 is awaited)") ∷ Some (codes "guarding answer node 1 operational toggle 1") ∷ []
-unfolding service_words guarding_answer_words state_words of_node digits
+unfolding service_words guarding_answer_words state_words of_node digits filled
 awaited_one = refl
 
 awaited_zero : map (λ byte. says (guarded (Requested (Some false))) 0x701 (byte ∷ [])) (0x7F ∷ 0xFF ∷ [])
     ≡ Some (codes "guarding answer node 1 pre-operational toggle 0") ∷ Some (codes "guarding answer node 1 pre-operational toggle 1 (0 is awaited)") ∷ []
-unfolding service_words guarding_answer_words state_words of_node digits
+unfolding service_words guarding_answer_words state_words of_node digits filled
 awaited_zero = refl
 
 -- without a request that was recorded: the next answer, or the one before again, which without the toggle bit is a heartbeat
 next_answers : map (λ guarding. says (guarded guarding) 0x701 (0x05 ∷ [])) (Answered false ∷ Answered true ∷ BootedUp ∷ [])
     ≡ Some (codes "guarding answer node 1 operational toggle 0") ∷ None ∷ None ∷ []
-unfolding service_words guarding_answer_words state_words of_node digits
+unfolding service_words guarding_answer_words state_words of_node digits filled
 next_answers = refl
 
 next_toggled : map (λ guarding. says (guarded guarding) 0x701 (0x85 ∷ [])) (Answered false ∷ Answered true ∷ BootedUp ∷ [])
     ≡ Some (codes "guarding answer node 1 operational toggle 1 (0 is awaited)") ∷ Some (codes "guarding answer node 1 operational toggle 1")
     ∷ Some (codes "guarding answer node 1 operational toggle 1 (0 is awaited)") ∷ []
-unfolding service_words guarding_answer_words state_words of_node digits
+unfolding service_words guarding_answer_words state_words of_node digits filled
 next_toggled = refl
 
 -- identifiers beside, and two bytes; 780h is reserved
@@ -193,17 +194,17 @@ long_answer = refl
 
 remote : map remote_words (0x700 ∷ 0x701 ∷ 0x77F ∷ 0x780 ∷ [])
     ≡ codes "remote frame" ∷ codes "guarding request node 1" ∷ codes "guarding request node 127" ∷ codes "remote frame" ∷ []
-unfolding remote_words of_node digits
+unfolding remote_words of_node digits filled
 remote = refl
 
 -- ---- TIME: 43,200,000 ms on day 2; the first ms of 1984; five and seven bytes, and an identifier beside
 
 noon : says nothing_seen 0x100 (0x00 ∷ 0x2E ∷ 0x93 ∷ 0x02 ∷ 0x02 ∷ 0x00 ∷ []) ≡ Some (codes "TIME 1984-01-03 12:00:00.000")
-unfolding service_words time_words value_text moment_text ms_text date_text time_of_day_text date_of date_in_year day_of_year year_of_cycle digits digits_text
+unfolding service_words time_words value_text moment_text ms_text date_text time_of_day_text date_of date_in_year day_of_year year_of_cycle digits digits_text filled
 noon = refl
 
 first_moment : says nothing_seen 0x100 (0x01 ∷ 0x00 ∷ 0x00 ∷ 0xF0 ∷ 0x00 ∷ 0x00 ∷ []) ≡ Some (codes "TIME 1984-01-01 00:00:00.001")
-unfolding service_words time_words value_text moment_text ms_text date_text time_of_day_text date_of date_in_year day_of_year year_of_cycle digits digits_text
+unfolding service_words time_words value_text moment_text ms_text date_text time_of_day_text date_of date_in_year day_of_year year_of_cycle digits digits_text filled
 first_moment = refl
 
 no_times : map (says nothing_seen 0x100) ((0 ∷ 0 ∷ 0 ∷ 0 ∷ 0 ∷ []) ∷ (0 ∷ 0 ∷ 0 ∷ 0 ∷ 0 ∷ 0 ∷ 0 ∷ []) ∷ []) ≡ None ∷ None ∷ []
@@ -223,17 +224,17 @@ abbrev tells : List ℕ → List ℕ
 tells bytes = lss_answer_words bytes
 
 requests : says nothing_seen 0x7E5 (eight 0x04 1 0 0 0 0 0 0) ≡ Some (codes "LSS request switch state global configuration")
-unfolding service_words lss_text request_words request_parameter parameter_text mode_words
+unfolding service_words lss_text request_words request_parameter parameter_text mode_words filled
 requests = refl
 
 modes : map (λ mode. asks (eight 0x04 mode 0 0 0 0 0 0)) (0 ∷ 2 ∷ [])
     ≡ codes "LSS request switch state global waiting" ∷ codes "LSS request switch state global mode 2" ∷ []
-unfolding lss_text request_words request_parameter parameter_text mode_words digits
+unfolding lss_text request_words request_parameter parameter_text mode_words digits filled
 modes = refl
 
 node_ids : map (λ node. asks (eight 0x11 node 0 0 0 0 0 0)) (5 ∷ 254 ∷ 255 ∷ [])
     ≡ codes "LSS request configure node-ID 5" ∷ codes "LSS request configure node-ID 254" ∷ codes "LSS request configure node-ID none" ∷ []
-unfolding lss_text request_words request_parameter parameter_text digits
+unfolding lss_text request_words request_parameter parameter_text digits filled
 node_ids = refl
 
 rates : map (λ index. asks (eight 0x13 0 index 0 0 0 0 0)) (0 ∷ 1 ∷ 2 ∷ 3 ∷ 4 ∷ 5 ∷ 6 ∷ 7 ∷ 8 ∷ 9 ∷ 10 ∷ [])
@@ -243,15 +244,15 @@ rates : map (λ index. asks (eight 0x13 0 index 0 0 0 0 0)) (0 ∷ 1 ∷ 2 ∷ 3
     ∷ codes "LSS request configure bit timing 50 kbit/s" ∷ codes "LSS request configure bit timing 20 kbit/s"
     ∷ codes "LSS request configure bit timing 10 kbit/s" ∷ codes "LSS request configure bit timing automatic"
     ∷ codes "LSS request configure bit timing table 0 index 10" ∷ []
-unfolding lss_text request_words request_parameter parameter_text timing_text rate_words digits
+unfolding lss_text request_words request_parameter parameter_text timing_text rate_words digits filled
 rates = refl
 
 other_table : asks (eight 0x13 128 3 0 0 0 0 0) ≡ codes "LSS request configure bit timing table 128 index 3"
-unfolding lss_text request_words request_parameter parameter_text timing_text rate_words digits
+unfolding lss_text request_words request_parameter parameter_text timing_text rate_words digits filled
 other_table = refl
 
 delay : asks (eight 0x15 0xE8 0x03 9 0 0 0 0) ≡ codes "LSS request activate bit timing 1000 ms"
-unfolding lss_text request_words request_parameter parameter_text digits
+unfolding lss_text request_words request_parameter parameter_text digits filled
 delay = refl
 
 -- each with a part of an address, its low byte first
@@ -262,7 +263,7 @@ numbers : map (λ specifier. asks (eight specifier 0x9A 0x01 0x02 0xF0 7 7 7))
     ∷ codes "LSS request identify vendor-ID F002019A" ∷ codes "LSS request identify product code F002019A"
     ∷ codes "LSS request identify revision number from F002019A" ∷ codes "LSS request identify revision number to F002019A"
     ∷ codes "LSS request identify serial number from F002019A" ∷ codes "LSS request identify serial number to F002019A" ∷ []
-unfolding lss_text request_words request_parameter parameter_text digits_text
+unfolding lss_text request_words request_parameter parameter_text digits_text filled
 numbers = refl
 
 -- each without a parameter; and specifiers beside
@@ -270,64 +271,64 @@ plain : map (λ specifier. asks (eight specifier 1 2 3 4 5 6 7)) (0x17 ∷ 0x4C 
     ≡ codes "LSS request store configuration" ∷ codes "LSS request identify non-configured slaves" ∷ codes "LSS request inquire vendor-ID"
     ∷ codes "LSS request inquire product code" ∷ codes "LSS request inquire revision number" ∷ codes "LSS request inquire serial number"
     ∷ codes "LSS request inquire node-ID" ∷ []
-unfolding lss_text request_words request_parameter parameter_text
+unfolding lss_text request_words request_parameter parameter_text filled
 plain = refl
 
 unknown_requests : map (λ specifier. asks (eight specifier 0 0 0 0 0 0 0)) (0x00 ∷ 0x44 ∷ 0x4F ∷ 0x50 ∷ 0x52 ∷ 0x5F ∷ [])
     ≡ codes "LSS request unknown" ∷ codes "LSS request unknown" ∷ codes "LSS request unknown" ∷ codes "LSS request unknown"
     ∷ codes "LSS request unknown" ∷ codes "LSS request unknown" ∷ []
-unfolding lss_text request_words request_parameter
+unfolding lss_text request_words request_parameter filled
 unknown_requests = refl
 
 scan_begins : asks (eight 0x51 1 2 3 4 0x80 0 0) ≡ codes "LSS request fastscan from the start"
-unfolding lss_text request_words request_parameter parameter_text scan_text
+unfolding lss_text request_words request_parameter parameter_text scan_text filled
 scan_begins = refl
 
 scan_goes_on : asks (eight 0x51 0x9A 0 0 0 31 0 1) ≡ codes "LSS request fastscan vendor-ID 0000009A bits 31-31, next product code"
-unfolding lss_text request_words request_parameter parameter_text scan_text compared_text part_text part_words digits_text digits
+unfolding lss_text request_words request_parameter parameter_text scan_text part_text part_words digits_text digits filled
 scan_goes_on = refl
 
 other_parts : asks (eight 0x51 0 0 0 0x80 0 3 4) ≡ codes "LSS request fastscan serial number 80000000 bits 31-0, next part 4"
-unfolding lss_text request_words request_parameter parameter_text scan_text compared_text part_text part_words digits_text digits
+unfolding lss_text request_words request_parameter parameter_text scan_text part_text part_words digits_text digits filled
 other_parts = refl
 
 revision_part : asks (eight 0x51 0 0 0 0 9 2 3) ≡ codes "LSS request fastscan revision number 00000000 bits 31-9, next serial number"
-unfolding lss_text request_words request_parameter parameter_text scan_text compared_text part_text part_words digits_text digits
+unfolding lss_text request_words request_parameter parameter_text scan_text part_text part_words digits_text digits filled
 revision_part = refl
 
 lss_answer : says nothing_seen 0x7E4 (eight 0x11 0 0 0 0 0 0 0) ≡ Some (codes "LSS answer configure node-ID done")
-unfolding service_words lss_text answer_words answer_parameter parameter_text outcome_text
+unfolding service_words lss_text answer_words answer_parameter parameter_text outcome_text filled
 lss_answer = refl
 
 failures : map (λ specifier. tells (eight specifier 1 9 0 0 0 0 0)) (0x11 ∷ 0x13 ∷ 0x17 ∷ [])
     ≡ codes "LSS answer configure node-ID failed: node-ID out of range"
     ∷ codes "LSS answer configure bit timing failed: bit timing not supported"
     ∷ codes "LSS answer store configuration failed: not supported" ∷ []
-unfolding lss_text answer_words answer_parameter parameter_text outcome_text failure_text numbered_text node_failure timing_failure store_failure
+unfolding lss_text answer_words answer_parameter parameter_text outcome_text failure_text node_failure timing_failure store_failure filled
 failures = refl
 
 other_failures : map (λ error. tells (eight 0x17 error 9 0 0 0 0 0)) (2 ∷ 3 ∷ 254 ∷ 255 ∷ [])
     ≡ codes "LSS answer store configuration failed: storage media access error" ∷ codes "LSS answer store configuration failed: error 3"
     ∷ codes "LSS answer store configuration failed: error 254" ∷ codes "LSS answer store configuration failed: error 9 of the manufacturer" ∷ []
-unfolding lss_text answer_words answer_parameter parameter_text outcome_text failure_text numbered_text node_failure timing_failure store_failure digits
+unfolding lss_text answer_words answer_parameter parameter_text outcome_text failure_text node_failure timing_failure store_failure digits filled
 other_failures = refl
 
 second_errors : map (λ specifier. tells (eight specifier 2 9 0 0 0 0 0)) (0x11 ∷ 0x13 ∷ [])
     ≡ codes "LSS answer configure node-ID failed: error 2" ∷ codes "LSS answer configure bit timing failed: error 2" ∷ []
-unfolding lss_text answer_words answer_parameter parameter_text outcome_text failure_text numbered_text node_failure timing_failure store_failure digits
+unfolding lss_text answer_words answer_parameter parameter_text outcome_text failure_text node_failure timing_failure store_failure digits filled
 second_errors = refl
 
 told_numbers : map (λ specifier. tells (eight specifier 0x9A 0x01 0 0 0 0 0)) (0x5A ∷ 0x5B ∷ 0x5C ∷ 0x5D ∷ 0x5E ∷ [])
     ≡ codes "LSS answer vendor-ID 0000019A" ∷ codes "LSS answer product code 0000019A" ∷ codes "LSS answer revision number 0000019A"
     ∷ codes "LSS answer serial number 0000019A" ∷ codes "LSS answer node-ID 154" ∷ []
-unfolding lss_text answer_words answer_parameter parameter_text digits_text digits
+unfolding lss_text answer_words answer_parameter parameter_text digits_text digits filled
 told_numbers = refl
 
 told : map (λ specifier. tells (eight specifier 0 0 0 0 0 0 0)) (0x44 ∷ 0x4F ∷ 0x50 ∷ 0x04 ∷ 0x15 ∷ 0x43 ∷ 0x51 ∷ 0x59 ∷ 0x5F ∷ [])
     ≡ codes "LSS answer switch state selective: in state configuration" ∷ codes "LSS answer identified" ∷ codes "LSS answer non-configured slave identified"
     ∷ codes "LSS answer unknown" ∷ codes "LSS answer unknown" ∷ codes "LSS answer unknown" ∷ codes "LSS answer unknown"
     ∷ codes "LSS answer unknown" ∷ codes "LSS answer unknown" ∷ []
-unfolding lss_text answer_words answer_parameter parameter_text
+unfolding lss_text answer_words answer_parameter parameter_text filled
 told = refl
 
 -- seven bytes are no command
@@ -346,5 +347,5 @@ not_reserved : map is_reserved (0x000 ∷ 0x080 ∷ 0x100 ∷ 0x181 ∷ 0x6DF �
 not_reserved = refl
 
 says_reserved : map (λ id. says nothing_seen id []) (0x07F ∷ 0x181 ∷ []) ≡ Some (codes "identifier that CiA 301 reserves") ∷ None ∷ []
-unfolding service_words reserved_words
+unfolding service_words reserved_words filled
 says_reserved = refl

@@ -3,3 +3,4 @@ mod DriveExamples
 mod Examples
 mod NodeExamples
 mod StateExamples
+mod Tables

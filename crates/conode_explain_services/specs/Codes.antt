@@ -1,7 +1,7 @@
 -- Emergency error codes (CiA 301, 7.2.7.1, table 26).
-use Rattle.std.specs.Prelude.{ℕ, ◌-◌, ◌/◌, ◌%◌, nat_lt, if◌then◌else◌, List, [], ◌∷◌, ◌++◌, codes}
-use Rattle.co_text.specs.Printed.{digits_text}
-use Rattle.conode_explain_services.specs.Parts.{after, words_in}
+use Rattle.std.specs.Prelude.{ℕ, ◌-◌, ◌/◌, ◌%◌, nat_lt, if◌then◌else◌, List, [], ◌∷◌, codes}
+use Rattle.conode_text.specs.Filled.{filled}
+use Rattle.conode_explain_services.specs.Parts.{words_in}
 
 -- the classes: the two upper digits of a code
 abbrev pub classes : List (ℕ × List ℕ)
@@ -72,11 +72,8 @@ single_words code = words_in single_codes code
 -- both in brackets; nothing where the standard doesn't have the group
 abbrev pub in_brackets : List ℕ → List ℕ → List ℕ
 in_brackets [] single = []
-in_brackets (letter ∷ letters) single = codes " (" ++ (letter ∷ letters) ++ after (codes ": ") single ++ codes ")"
+in_brackets (letter ∷ letters) [] = filled (codes " (%)") ((letter ∷ letters) ∷ [])
+in_brackets (letter ∷ letters) (first ∷ others) = filled (codes " (%: %)") ((letter ∷ letters) ∷ (first ∷ others) ∷ [])
 
 unfoldable pub code_words : ℕ → List ℕ
 code_words code = in_brackets (class_words (code / 256)) (single_words code)
-
--- a code with its words
-unfoldable pub code_text : ℕ → List ℕ
-code_text code = codes " code " ++ digits_text 16 4 code ++ code_words code

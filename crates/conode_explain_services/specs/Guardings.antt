@@ -1,6 +1,7 @@
 -- Node guarding (CiA 301, 7.2.8.3.2.1): a master asks by a remote frame, the node answers with its
 -- state and a bit that toggles from answer to answer.
-use Rattle.std.specs.Prelude.{ℕ, ◌%◌, ◌==◌, Bool, true, false, not, ◌&&◌, ◌||◌, nat_lt, if◌then◌else◌, List, [], ◌∷◌, ◌++◌, codes, Option, Some, None}
+use Rattle.std.specs.Prelude.{ℕ, ◌%◌, ◌==◌, Bool, true, false, not, ◌&&◌, ◌||◌, nat_lt, if◌then◌else◌, List, [], ◌∷◌, codes, decimal, Option, Some, None}
+use Rattle.conode_text.specs.Filled.{filled}
 use Rattle.conode_explain_services.specs.declared.guarding.Guarding.{Guarding}
 use Rattle.conode_explain_services.specs.declared.guarding.Guarding.TheVariants.{NotSeen, BootedUp, Requested, Answered}
 use Rattle.conode_explain_services.specs.Parts.{of_node, words_in}
@@ -57,8 +58,8 @@ awaited_text (Some false) toggle = if toggle then codes " (0 is awaited)" else [
 
 unfoldable pub guarding_answer_words : ℕ → Guarding → ℕ → List ℕ
 guarding_answer_words node guarding byte =
-    of_node (codes "guarding answer") node ++ codes " " ++ state_words byte ++ codes " toggle " ++ toggle_text (toggle_of byte)
-    ++ awaited_text (awaited_of guarding) (toggle_of byte)
+    filled (codes "guarding answer node % % toggle %%")
+    (decimal node ∷ state_words byte ∷ toggle_text (toggle_of byte) ∷ awaited_text (awaited_of guarding) (toggle_of byte) ∷ [])
 
 abbrev pub guarding_request_words : ℕ → List ℕ
 guarding_request_words node = of_node (codes "guarding request") node

@@ -3,8 +3,11 @@ use Rattle.std.specs.Prelude.{ℕ, ◌==◌, if◌then◌else◌, List, [], ◌�
 use Rattle.std.specs.Option.{option_map_or}
 use Rattle.co_text.specs.Printed.{digits_text}
 use Rattle.co_value.specs.Numbers.{unsigned_of}
+use Rattle.conode_text.specs.Filled.{filled}
 use Rattle.conode_explain_services.specs.declared.lss_commands.Parameter.{Parameter}
 use Rattle.conode_explain_services.specs.declared.lss_commands.Parameter.TheVariants.{Nothing, Mode, Node, Number, Timing, Delay, Scan, Outcome}
+use Rattle.conode_explain_services.specs.declared.lss.Scanned.{Scanned}
+use Rattle.conode_explain_services.specs.declared.lss.Scanned.TheVariants.{Part, Number as Value, Bit}
 use Rattle.conode_explain_services.specs.Parts.{words_in}
 
 -- ---- the commands
@@ -102,7 +105,7 @@ abbrev pub rate_in : ℕ → ℕ → List ℕ
 rate_in table index = if table == 0 then rate_words index else []
 
 unfoldable pub timing_text : ℕ → ℕ → List ℕ
-timing_text table index = or_else (rate_in table index) (codes "table " ++ decimal table ++ codes " index " ++ decimal index)
+timing_text table index = or_else (rate_in table index) (filled (codes "table % index %") (decimal table ∷ decimal index ∷ []))
 
 -- the parts of an LSS address, that fastscan goes over
 unfoldable pub part_words : ℕ → List ℕ
@@ -112,16 +115,18 @@ part_words part =
 unfoldable pub part_text : ℕ → List ℕ
 part_text part = or_else (part_words part) (codes "part " ++ decimal part)
 
+-- what fastscan names
+abbrev pub scanned_text : Scanned → List ℕ
+scanned_text (Part part) = part_text part
+scanned_text (Value number) = digits_text 16 8 number
+scanned_text (Bit bit) = decimal bit
+
 -- fastscan: the bits of a part from bit 31 down to one of them are compared with the number; 80h
 -- begins it anew
-unfoldable pub compared_text : ℕ → ℕ → ℕ → List ℕ
-compared_text number bit part =
-    part_text part ++ codes " " ++ digits_text 16 8 number ++ codes " bits 31-" ++ decimal bit
-
 unfoldable pub scan_text : ℕ → ℕ → ℕ → ℕ → List ℕ
 scan_text number bit part next =
     if bit == 0x80 then codes "from the start"
-    else compared_text number bit part ++ codes ", next " ++ part_text next
+    else filled (codes "% % bits 31-%, next %") (part_text part ∷ digits_text 16 8 number ∷ decimal bit ∷ part_text next ∷ [])
 
 -- why a slave did not do it
 unfoldable pub node_failure : ℕ → List ℕ
@@ -139,13 +144,10 @@ failure_words specifier error =
     else (if specifier == 0x13 then timing_failure error
     else (if specifier == 0x17 then store_failure error else []))
 
-unfoldable pub numbered_text : List ℕ → ℕ → List ℕ → List ℕ
-numbered_text front number end = front ++ decimal number ++ end
-
 -- error FFh is the manufacturer's
 unfoldable pub failure_text : ℕ → ℕ → ℕ → List ℕ
 failure_text specifier error specific =
-    if error == 255 then numbered_text (codes "error ") specific (codes " of the manufacturer")
+    if error == 255 then filled (codes "error % of the manufacturer") (decimal specific ∷ [])
     else or_else (failure_words specifier error) (codes "error " ++ decimal error)
 
 -- error 0 is none
@@ -160,7 +162,7 @@ parameter_text Mode bytes = codes " " ++ mode_text (slice_index bytes 1)
 parameter_text Node bytes = codes " " ++ node_text (slice_index bytes 1)
 parameter_text Number bytes = codes " " ++ digits_text 16 8 (unsigned_of (slice_range bytes 1 5))
 parameter_text Timing bytes = codes " " ++ timing_text (slice_index bytes 1) (slice_index bytes 2)
-parameter_text Delay bytes = codes " " ++ decimal (unsigned_of (slice_range bytes 1 3)) ++ codes " ms"
+parameter_text Delay bytes = codes " " ++ filled (codes "% ms") (decimal (unsigned_of (slice_range bytes 1 3)) ∷ [])
 parameter_text Scan bytes =
     codes " "
     ++ scan_text (unsigned_of (slice_range bytes 1 5)) (slice_index bytes 5) (slice_index bytes 6) (slice_index bytes 7)

@@ -1,16 +1,20 @@
 -- What the texts of services share.
-use Rattle.std.specs.Prelude.{ℕ, ◌==◌, List, [], ◌∷◌, ◌++◌, codes, find, decimal}
+use Rattle.std.specs.Prelude.{ℕ, ◌==◌, List, [], ◌∷◌, codes, find, decimal}
 use Rattle.std.specs.Option.{option_map_or}
+use Rattle.conode_text.specs.Filled.{filled}
+use Rattle.conode_explain_services.specs.declared.texts.Row.{Row}
 
 -- the words of a number in a table; none where the table doesn't have it
 abbrev pub words_in : List (ℕ × List ℕ) → ℕ → List ℕ
 words_in table number = option_map_or (λ row. row.1) (find (λ row. row.0 == number) table) []
 
--- words after others, where there are some
-abbrev pub after : List ℕ → List ℕ → List ℕ
-after front [] = []
-after front (letter ∷ letters) = front ++ letter ∷ letters
+-- a row of a table of the code, and the words of a number in such a table
+abbrev pub row_of : Row → ℕ × List ℕ
+row_of row = (row.0, row.1.now)
+
+abbrev pub words_of : List Row → ℕ → List ℕ
+words_of rows number = option_map_or (λ row. row.1.now) (find (λ row. row.0 == number) rows) []
 
 -- a service of a node
 unfoldable pub of_node : List ℕ → ℕ → List ℕ
-of_node service node = service ++ codes " node " ++ decimal node
+of_node service node = filled (codes "% node %") (service ∷ decimal node ∷ [])

@@ -1,7 +1,8 @@
 -- The bits of the error register, object 1001h (CiA 301, 7.5.2.2), and which came and went since
 -- the node's last emergency.
-use Rattle.std.specs.Prelude.{ℕ, ◌-◌, ◌%◌, ◌==◌, if◌then◌else◌, bit_and, List, [], ◌∷◌, ◌++◌, codes, Option, Some, None}
-use Rattle.co_text.specs.Printed.{digits_text}
+use Rattle.std.specs.Prelude.{ℕ, ◌-◌, ◌==◌, if◌then◌else◌, bit_and, List, [], ◌∷◌, ◌++◌, codes, Option, Some, None}
+use Rattle.conode_text.specs.Filled.{filled}
+use Rattle.conode_explain_services.specs.declared.registers.Bit.{Bit}
 use Rattle.conode_explain_services.specs.Parts.{words_in}
 
 -- the bits; a place is 1 for the lowest one, then 2, 4, ..
@@ -16,19 +17,19 @@ bit_word place =
 -- the word of a bit where it is set, after a comma unless it is the lowest one that is
 unfoldable pub bit_text : ℕ → ℕ → List ℕ
 bit_text register place =
-    if bit_and register place == 0 then [] else (if register % place == 0 then [] else codes ", ") ++ bit_word place
+    if bit_and register place == 0 then []
+    else (if bit_and register (place - 1) == 0 then bit_word place else filled (codes ", %") (bit_word place ∷ []))
+
+-- of a register and a place
+abbrev pub text_of_bit : Bit → List ℕ
+text_of_bit bit = bit_text bit.0 bit.1
 
 -- the words of all bits that are set
-unfoldable pub low_bits_text : ℕ → List ℕ
-low_bits_text register =
-    bit_text register 0x01 ++ bit_text register 0x02 ++ bit_text register 0x04 ++ bit_text register 0x08
-
-unfoldable pub high_bits_text : ℕ → List ℕ
-high_bits_text register =
-    bit_text register 0x10 ++ bit_text register 0x20 ++ bit_text register 0x40 ++ bit_text register 0x80
-
 unfoldable pub bits_text : ℕ → List ℕ
-bits_text register = low_bits_text register ++ high_bits_text register
+bits_text register =
+    filled (codes "%%%%%%%%")
+    (bit_text register 0x01 ∷ bit_text register 0x02 ∷ bit_text register 0x04 ∷ bit_text register 0x08
+    ∷ bit_text register 0x10 ∷ bit_text register 0x20 ∷ bit_text register 0x40 ∷ bit_text register 0x80 ∷ [])
 
 -- which errors there are
 abbrev pub errors_text : ℕ → List ℕ
@@ -50,6 +51,4 @@ changes_text (Some last) register =
 
 -- the register of an emergency, after that of the node's last one
 unfoldable pub register_text : Option ℕ → ℕ → List ℕ
-register_text last register =
-    codes " register " ++ digits_text 16 2 register ++ codes " (" ++ errors_text register ++ changes_text last register
-    ++ codes ")"
+register_text last register = errors_text register ++ changes_text last register

@@ -1,6 +1,6 @@
 //! What the values of a drive's entries mean (CiA 402).
 
-ghost use Rattle.std.specs.Prelude.{◌≡◌, ◌++◌, OnOk, string_bytes};
+ghost use Rattle.std.specs.Prelude.{◌≡◌, ◌++◌, OnOk, codes, string_bytes};
 ghost use Rattle.conode_explain_services.specs.Drives.{
   axis_index,
   bracketed,
@@ -22,8 +22,9 @@ ghost use Rattle.conode_explain_services.specs.Drives.{
 };
 
 use crate::codes::push_code_words;
-use crate::texts::push_words;
+use crate::texts::{Row, words_in};
 use co_value::{Key, read_u16};
+use conode_text::{Value, push_filled};
 use std::alloc::AllocError;
 
 /// What the value of an entry of a drive is.
@@ -82,30 +83,40 @@ fn command_words(word: u16) -> &'static str
     }
 }
 
-#[tactic(auto, unfolding(crate::specs::Drives::controlword_words))]
+#[tactic(auto, unfolding(crate::specs::Drives::controlword_words, conode_text::specs::Filled::filled))]
 fn push_controlword(text: &mut String, word: u16) -> Result<(), AllocError>
-    ensures { OnOk result
-        (string_bytes text.new ≡ string_bytes text.old ++ controlword_words word) }
+    ensures { OnOk result (string_bytes text.new
+        ≡ string_bytes text.old ++ codes " (" ++ controlword_words word ++ codes ")") }
 {
-    push_words(text, command_words(word))?;
-    push_words(text, where_set(word, 0x100, ", halt"))
+    let halt = where_set(word, 0x100, ", halt");
+    push_filled(
+        text,
+        " (%%)",
+        &[Value::Words(command_words(word)), Value::Words(halt)],
+    )
 }
+
+/// The states of a statusword, by its bits.
+const STATES: [Row; 12] = [
+    Row(0x00, "not ready to switch on"),
+    Row(0x20, "not ready to switch on"),
+    Row(0x40, "switch on disabled"),
+    Row(0x60, "switch on disabled"),
+    Row(0x21, "ready to switch on"),
+    Row(0x23, "switched on"),
+    Row(0x27, "operation enabled"),
+    Row(0x07, "quick stop active"),
+    Row(0x0F, "fault reaction active"),
+    Row(0x2F, "fault reaction active"),
+    Row(0x08, "fault"),
+    Row(0x28, "fault"),
+];
 
 #[tactic(auto, unfolding(crate::specs::Drives::state_words))]
 fn state_words(bits: u16) -> &'static str
     ensures { result.now ≡ state_words bits }
 {
-    match bits {
-        0x00 | 0x20 => "not ready to switch on",
-        0x40 | 0x60 => "switch on disabled",
-        0x21 => "ready to switch on",
-        0x23 => "switched on",
-        0x27 => "operation enabled",
-        0x07 => "quick stop active",
-        0x0F | 0x2F => "fault reaction active",
-        0x08 | 0x28 => "fault",
-        _ => "",
-    }
+    words_in(&STATES, bits)
 }
 
 fn known_or(words: &'static str) -> &'static str
@@ -114,48 +125,58 @@ fn known_or(words: &'static str) -> &'static str
     if words.is_empty() { "no state" } else { words }
 }
 
-#[tactic(auto, unfolding(crate::specs::Drives::statusword_words))]
+#[tactic(auto, unfolding(crate::specs::Drives::statusword_words, conode_text::specs::Filled::filled))]
 fn push_statusword(text: &mut String, word: u16) -> Result<(), AllocError>
-    ensures { OnOk result
-        (string_bytes text.new ≡ string_bytes text.old ++ statusword_words word) }
+    ensures { OnOk result (string_bytes text.new
+        ≡ string_bytes text.old ++ codes " (" ++ statusword_words word ++ codes ")") }
 {
-    push_words(text, known_or(state_words(word & 0x6F)))?;
-    push_words(text, where_set(word, 0x080, ", warning"))?;
-    push_words(text, where_set(word, 0x400, ", target reached"))?;
-    push_words(text, where_set(word, 0x800, ", internal limit"))
+    push_filled(
+        text,
+        " (%%%%)",
+        &[
+            Value::Words(known_or(state_words(word & 0x6F))),
+            Value::Words(where_set(word, 0x080, ", warning")),
+            Value::Words(where_set(word, 0x400, ", target reached")),
+            Value::Words(where_set(word, 0x800, ", internal limit")),
+        ],
+    )
 }
+
+/// The modes of operation from 0 on.
+const MODES: [Row; 11] = [
+    Row(0, "no mode"),
+    Row(1, "profile position"),
+    Row(2, "velocity"),
+    Row(3, "profile velocity"),
+    Row(4, "profile torque"),
+    Row(6, "homing"),
+    Row(7, "interpolated position"),
+    Row(8, "cyclic synchronous position"),
+    Row(9, "cyclic synchronous velocity"),
+    Row(10, "cyclic synchronous torque"),
+    Row(11, "cyclic synchronous torque with commutation angle"),
+];
 
 // the words of a mode from 0 on
 #[tactic(auto, unfolding(crate::specs::Drives::mode_words))]
 fn mode_words(mode: u8) -> &'static str
     ensures { result.now ≡ mode_words mode }
 {
-    match mode {
-        128..=255 => "mode of the manufacturer",
-        0 => "no mode",
-        1 => "profile position",
-        2 => "velocity",
-        3 => "profile velocity",
-        4 => "profile torque",
-        6 => "homing",
-        7 => "interpolated position",
-        8 => "cyclic synchronous position",
-        9 => "cyclic synchronous velocity",
-        10 => "cyclic synchronous torque",
-        11 => "cyclic synchronous torque with commutation angle",
-        _ => "",
+    if mode > 127 {
+        "mode of the manufacturer"
+    } else {
+        words_in(&MODES, mode as u16)
     }
 }
 
+#[tactic(auto, unfolding(conode_text::specs::Filled::filled))]
 fn push_bracketed(text: &mut String, words: &str) -> Result<(), AllocError>
     ensures { OnOk result (string_bytes text.new ≡ string_bytes text.old ++ bracketed words.now) }
 {
     if words.is_empty() {
         return Ok(());
     }
-    push_words(text, " (")?;
-    push_words(text, words)?;
-    push_words(text, ")")
+    push_filled(text, " (%)", &[Value::Words(words)])
 }
 
 #[tactic(auto, unfolding(crate::specs::Drives::meaning_at))]
@@ -204,16 +225,8 @@ fn push_word(text: &mut String, meaning: Meaning, word: u16) -> Result<(), Alloc
 {
     match meaning {
         Meaning::ErrorCode => push_code_words(text, word),
-        Meaning::Controlword => {
-            push_words(text, " (")?;
-            push_controlword(text, word)?;
-            push_words(text, ")")
-        }
-        Meaning::Statusword => {
-            push_words(text, " (")?;
-            push_statusword(text, word)?;
-            push_words(text, ")")
-        }
+        Meaning::Controlword => push_controlword(text, word),
+        Meaning::Statusword => push_statusword(text, word),
         Meaning::Mode => Ok(()),
     }
 }
@@ -233,6 +246,7 @@ fn push_meaning(text: &mut String, meaning: Meaning, bytes: &[u8]) -> Result<(),
 
 /// Appends what the value of an entry of a drive means, in brackets after a blank: of the
 /// controlword and the statusword, the error code and the modes of operation, of each of 8 axes;
+
 /// nothing for every other entry. The value is its bytes, the low one first. On an `Err` memory ran
 /// out, and a part of it may be there.
 #[tactic(auto, unfolding(crate::specs::Drives::drive_words))]

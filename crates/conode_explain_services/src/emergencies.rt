@@ -1,29 +1,45 @@
 //! What an emergency says (CiA 301, 7.2.7).
 
 ghost use Rattle.std.specs.Prelude.{◌≡◌, ◌++◌, OnOk, string_bytes};
-ghost use Rattle.conode_explain_services.specs.Emergencies.{bytes_after, emergency_words, manufacturer_text};
+ghost use Rattle.conode_explain_services.specs.Emergencies.{emergency_words, part_text};
 
-use crate::codes::push_code;
+use crate::codes::push_code_words;
 use crate::registers::push_register;
-use crate::texts::{push_of_node, push_words};
 use co_frame::Emergency;
-use co_text::push_bytes;
+use co_text::{push_byte, push_bytes, push_decimal, push_u16};
+use conode_text::{HasText, push_filled};
 use std::alloc::AllocError;
 
-#[tactic(auto, unfolding(crate::specs::Emergencies::bytes_after))]
-fn push_bytes_after(text: &mut String, front: &str, bytes: &[u8]) -> Result<(), AllocError>
-    ensures { OnOk result
-        (string_bytes text.new ≡ string_bytes text.old ++ bytes_after front.now bytes.now) }
-{
-    push_words(text, front)?;
-    push_bytes(text, bytes)
+/// A part of what an emergency says.
+#[derive(Clone, Copy)]
+enum Part<'a> {
+    /// The node-ID.
+    Node(u8),
+    /// The error code.
+    Code(u16),
+    /// What the error code means, in brackets.
+    CodeWords(u16),
+    /// The error register.
+    Register(u8),
+    /// What the error register means, after that of the node's last emergency.
+    RegisterWords(Option<u8>, u8),
+    /// The bytes that the manufacturer defines.
+    Bytes(&'a [u8]),
 }
 
-fn push_manufacturer(text: &mut String, bytes: &[u8]) -> Result<(), AllocError>
-    ensures { OnOk result
-        (string_bytes text.new ≡ string_bytes text.old ++ manufacturer_text bytes.now) }
-{
-    push_bytes_after(text, " manufacturer ", bytes)
+impl HasText for Part<'_> {
+    ghost text_of = { part_text };
+
+    fn push(&self, text: &mut String) -> Result<(), AllocError> {
+        match *self {
+            Part::Node(node) => push_decimal(text, node as u64),
+            Part::Code(code) => push_u16(text, code),
+            Part::CodeWords(code) => push_code_words(text, code),
+            Part::Register(register) => push_byte(text, register),
+            Part::RegisterWords(last, register) => push_register(text, last, register),
+            Part::Bytes(bytes) => push_bytes(text, bytes),
+        }
+    }
 }
 
 /// Appends what an emergency of a node says; `last` is the error register of the node's last one.
@@ -38,8 +54,16 @@ pub(crate) fn push_emergency(
     ensures { OnOk result (string_bytes text.new
         ≡ string_bytes text.old ++ emergency_words node last emergency.now) }
 {
-    push_of_node(text, "EMCY", node)?;
-    push_code(text, emergency.code)?;
-    push_register(text, last, emergency.register)?;
-    push_manufacturer(text, &emergency.manufacturer)
+    push_filled(
+        text,
+        "EMCY node % code %% register % (%) manufacturer %",
+        &[
+            Part::Node(node),
+            Part::Code(emergency.code),
+            Part::CodeWords(emergency.code),
+            Part::Register(emergency.register),
+            Part::RegisterWords(last, emergency.register),
+            Part::Bytes(&emergency.manufacturer),
+        ],
+    )
 }

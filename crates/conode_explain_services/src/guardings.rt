@@ -16,7 +16,8 @@ ghost use Rattle.conode_explain_services.specs.Guardings.{
 };
 
 use crate::guarding::Guarding;
-use crate::texts::{push_of_node, push_words};
+use crate::texts::{Row, words_in};
+use conode_text::{Value, push_filled};
 use std::alloc::AllocError;
 
 fn is_state(byte: u8) -> bool
@@ -26,16 +27,18 @@ fn is_state(byte: u8) -> bool
     state == 4 || state == 5 || state == 127
 }
 
+/// The states, by the lower seven bits of the byte.
+const STATES: [Row; 3] = [
+    Row(4, "stopped"),
+    Row(5, "operational"),
+    Row(127, "pre-operational"),
+];
+
 #[tactic(auto, unfolding(crate::specs::Guardings::state_words))]
 fn state_words(byte: u8) -> &'static str
     ensures { result.now ≡ state_words byte }
 {
-    match byte % 128 {
-        4 => "stopped",
-        5 => "operational",
-        127 => "pre-operational",
-        _ => "",
-    }
+    words_in(&STATES, (byte % 128) as u16)
 }
 
 fn awaited_of(guarding: Guarding) -> Option<bool>
@@ -125,10 +128,14 @@ pub(crate) fn push_answer(
         (string_bytes text.new ≡ string_bytes text.old ++ guarding_answer_words node guarding byte) }
 {
     let toggle = byte > 127;
-    push_of_node(text, "guarding answer", node)?;
-    push_words(text, " ")?;
-    push_words(text, state_words(byte))?;
-    push_words(text, " toggle ")?;
-    push_words(text, toggle_text(toggle))?;
-    push_words(text, awaited_text(awaited_of(guarding), toggle))
+    push_filled(
+        text,
+        "guarding answer node % % toggle %%",
+        &[
+            Value::Number(node as u64),
+            Value::Words(state_words(byte)),
+            Value::Words(toggle_text(toggle)),
+            Value::Words(awaited_text(awaited_of(guarding), toggle)),
+        ],
+    )
 }

@@ -4,7 +4,6 @@
 ghost use Rattle.std.specs.Prelude.{◌≡◌, ◌++◌, OnOk, decimal, length, string_bytes};
 ghost use Rattle.conode_explain_services.specs.Lss.{
   command_text,
-  compared_text,
   failure_text,
   failure_words,
   lss_answer_words,
@@ -12,81 +11,80 @@ ghost use Rattle.conode_explain_services.specs.Lss.{
   lss_text,
   mode_text,
   mode_words,
-  node_failure,
   node_text,
-  numbered_text,
   or_else,
   outcome_text,
   parameter_text,
   part_text,
-  part_words,
   rate_in,
   rate_words,
   scan_text,
-  store_failure,
-  timing_failure,
+  scanned_text,
   timing_text,
 };
 
 use crate::lss_commands::{
     Parameter, answer_parameter, answer_words, request_parameter, request_words,
 };
-use crate::texts::push_words;
+use crate::texts::{Row, words_in};
 use co_text::{push_decimal, push_u32};
 use co_value::{read_u16, read_u32};
+use conode_text::{HasText, Value, push_filled};
 use std::alloc::AllocError;
 
 // ---- what comes after a specifier
+
+/// The states that all slaves switch to.
+const MODES: [Row; 2] = [Row(0, "waiting"), Row(1, "configuration")];
 
 #[tactic(auto, unfolding(crate::specs::Lss::mode_words))]
 fn mode_words(mode: u8) -> &'static str
     ensures { result.now ≡ mode_words mode }
 {
-    match mode {
-        0 => "waiting",
-        1 => "configuration",
-        _ => "",
-    }
+    words_in(&MODES, mode as u16)
 }
 
 // Appends words, or where there are none a name and a number.
+#[tactic(auto, unfolding(conode_text::specs::Filled::filled))]
 fn push_or_number(text: &mut String, words: &str, name: &str, number: u8) -> Result<(), AllocError>
     ensures { OnOk result (string_bytes text.new
         ≡ string_bytes text.old ++ or_else words.now (name.now ++ decimal number)) }
 {
     if words.is_empty() {
-        push_words(text, name)?;
-        return push_decimal(text, u64::from(number));
+        let number = Value::Number(number as u64);
+        return push_filled(text, "%%", &[Value::Words(name), number]);
     }
-    push_words(text, words)
+    text.push_str(words)
 }
 
 fn push_node(text: &mut String, node: u8) -> Result<(), AllocError>
     ensures { OnOk result (string_bytes text.new ≡ string_bytes text.old ++ node_text node) }
 {
     if node == 255 {
-        push_words(text, "none")
+        text.push_str("none")
     } else {
-        push_decimal(text, u64::from(node))
+        push_decimal(text, node as u64)
     }
 }
+
+/// The bit rates of table 0, by index.
+const RATES: [Row; 9] = [
+    Row(0, "1000 kbit/s"),
+    Row(1, "800 kbit/s"),
+    Row(2, "500 kbit/s"),
+    Row(3, "250 kbit/s"),
+    Row(4, "125 kbit/s"),
+    Row(6, "50 kbit/s"),
+    Row(7, "20 kbit/s"),
+    Row(8, "10 kbit/s"),
+    Row(9, "automatic"),
+];
 
 #[tactic(auto, unfolding(crate::specs::Lss::rate_words))]
 fn rate_words(index: u8) -> &'static str
     ensures { result.now ≡ rate_words index }
 {
-    match index {
-        0 => "1000 kbit/s",
-        1 => "800 kbit/s",
-        2 => "500 kbit/s",
-        3 => "250 kbit/s",
-        4 => "125 kbit/s",
-        6 => "50 kbit/s",
-        7 => "20 kbit/s",
-        8 => "10 kbit/s",
-        9 => "automatic",
-        _ => "",
-    }
+    words_in(&RATES, index as u16)
 }
 
 fn rate_in(table: u8, index: u8) -> &'static str
@@ -102,44 +100,49 @@ fn push_timing(text: &mut String, table: u8, index: u8) -> Result<(), AllocError
 {
     let rate = rate_in(table, index);
     if rate.is_empty() {
-        push_words(text, "table ")?;
-        push_decimal(text, u64::from(table))?;
-        push_words(text, " index ")?;
-        return push_decimal(text, u64::from(index));
+        let table = Value::Number(table as u64);
+        let index = Value::Number(index as u64);
+        return push_filled(text, "table % index %", &[table, index]);
     }
-    push_words(text, rate)
+    text.push_str(rate)
 }
 
-#[tactic(auto, unfolding(crate::specs::Lss::part_words))]
-fn part_words(part: u8) -> &'static str
-    ensures { result.now ≡ part_words part }
-{
-    match part {
-        0 => "vendor-ID",
-        1 => "product code",
-        2 => "revision number",
-        3 => "serial number",
-        _ => "",
-    }
-}
+/// The parts of an LSS address.
+const PARTS: [Row; 4] = [
+    Row(0, "vendor-ID"),
+    Row(1, "product code"),
+    Row(2, "revision number"),
+    Row(3, "serial number"),
+];
 
-#[tactic(auto, unfolding(crate::specs::Lss::part_text))]
+#[tactic(auto, unfolding(crate::specs::Lss::part_text, crate::specs::Lss::part_words))]
 fn push_part(text: &mut String, part: u8) -> Result<(), AllocError>
     ensures { OnOk result (string_bytes text.new ≡ string_bytes text.old ++ part_text part) }
 {
-    push_or_number(text, part_words(part), "part ", part)
+    push_or_number(text, words_in(&PARTS, part as u16), "part ", part)
 }
 
-#[tactic(auto, unfolding(crate::specs::Lss::compared_text))]
-fn push_compared(text: &mut String, number: u32, bit: u8, part: u8) -> Result<(), AllocError>
-    ensures { OnOk result
-        (string_bytes text.new ≡ string_bytes text.old ++ compared_text number bit part) }
-{
-    push_part(text, part)?;
-    push_words(text, " ")?;
-    push_u32(text, number)?;
-    push_words(text, " bits 31-")?;
-    push_decimal(text, u64::from(bit))
+/// What fastscan names.
+#[derive(Clone, Copy)]
+enum Scanned {
+    /// A part of an LSS address.
+    Part(u8),
+    /// What it is compared with.
+    Number(u32),
+    /// The last bit that is compared.
+    Bit(u8),
+}
+
+impl HasText for Scanned {
+    ghost text_of = { scanned_text };
+
+    fn push(&self, text: &mut String) -> Result<(), AllocError> {
+        match *self {
+            Scanned::Part(part) => push_part(text, part),
+            Scanned::Number(number) => push_u32(text, number),
+            Scanned::Bit(bit) => push_decimal(text, bit as u64),
+        }
+    }
 }
 
 #[tactic(auto, unfolding(crate::specs::Lss::scan_text))]
@@ -148,63 +151,40 @@ fn push_scan(text: &mut String, number: u32, bit: u8, part: u8, next: u8) -> Res
         ≡ string_bytes text.old ++ scan_text number bit part next) }
 {
     if bit == 0x80 {
-        return push_words(text, "from the start");
+        return text.push_str("from the start");
     }
-    push_compared(text, number, bit, part)?;
-    push_words(text, ", next ")?;
-    push_part(text, next)
+    push_filled(
+        text,
+        "% % bits 31-%, next %",
+        &[
+            Scanned::Part(part),
+            Scanned::Number(number),
+            Scanned::Bit(bit),
+            Scanned::Part(next),
+        ],
+    )
 }
 
-#[tactic(auto, unfolding(crate::specs::Lss::node_failure))]
-fn node_failure(error: u8) -> &'static str
-    ensures { result.now ≡ node_failure error }
-{
-    match error {
-        1 => "node-ID out of range",
-        _ => "",
-    }
-}
+const NODE_FAILURES: [Row; 1] = [Row(1, "node-ID out of range")];
 
-#[tactic(auto, unfolding(crate::specs::Lss::timing_failure))]
-fn timing_failure(error: u8) -> &'static str
-    ensures { result.now ≡ timing_failure error }
-{
-    match error {
-        1 => "bit timing not supported",
-        _ => "",
-    }
-}
+const TIMING_FAILURES: [Row; 1] = [Row(1, "bit timing not supported")];
 
-#[tactic(auto, unfolding(crate::specs::Lss::store_failure))]
-fn store_failure(error: u8) -> &'static str
-    ensures { result.now ≡ store_failure error }
-{
-    match error {
-        1 => "not supported",
-        2 => "storage media access error",
-        _ => "",
-    }
-}
+const STORE_FAILURES: [Row; 2] = [
+    Row(1, "not supported"),
+    Row(2, "storage media access error"),
+];
 
+// why a slave did not do what a command specifier asks
+#[tactic(auto, unfolding(crate::specs::Lss::node_failure, crate::specs::Lss::timing_failure, crate::specs::Lss::store_failure))]
 fn failure_words(specifier: u8, error: u8) -> &'static str
     ensures { result.now ≡ failure_words specifier error }
 {
     match specifier {
-        0x11 => node_failure(error),
-        0x13 => timing_failure(error),
-        0x17 => store_failure(error),
+        0x11 => words_in(&NODE_FAILURES, error as u16),
+        0x13 => words_in(&TIMING_FAILURES, error as u16),
+        0x17 => words_in(&STORE_FAILURES, error as u16),
         _ => "",
     }
-}
-
-#[tactic(auto, unfolding(crate::specs::Lss::numbered_text))]
-fn push_numbered(text: &mut String, front: &str, number: u8, end: &str) -> Result<(), AllocError>
-    ensures { OnOk result (string_bytes text.new
-        ≡ string_bytes text.old ++ numbered_text front.now number end.now) }
-{
-    push_words(text, front)?;
-    push_decimal(text, u64::from(number))?;
-    push_words(text, end)
 }
 
 #[tactic(auto, unfolding(crate::specs::Lss::failure_text))]
@@ -213,7 +193,8 @@ fn push_failure(text: &mut String, specifier: u8, error: u8, specific: u8) -> Re
         ≡ string_bytes text.old ++ failure_text specifier error specific) }
 {
     if error == 255 {
-        return push_numbered(text, "error ", specific, " of the manufacturer");
+        let specific = Value::Number(specific as u64);
+        return push_filled(text, "error % of the manufacturer", &[specific]);
     }
     push_or_number(text, failure_words(specifier, error), "error ", error)
 }
@@ -224,9 +205,9 @@ fn push_outcome(text: &mut String, specifier: u8, error: u8, specific: u8) -> Re
         ≡ string_bytes text.old ++ outcome_text specifier error specific) }
 {
     if error == 0 {
-        return push_words(text, "done");
+        return text.push_str("done");
     }
-    push_words(text, "failed: ")?;
+    text.push_str("failed: ")?;
     push_failure(text, specifier, error, specific)
 }
 
@@ -239,7 +220,7 @@ fn push_parameter(text: &mut String, parameter: Parameter, bytes: &[u8]) -> Resu
     if let Parameter::Nothing = parameter {
         return Ok(());
     }
-    push_words(text, " ")?;
+    text.push_str(" ")?;
     match parameter {
         Parameter::Nothing => Ok(()),
         Parameter::Mode => push_or_number(text, mode_words(bytes[1]), "mode ", bytes[1]),
@@ -247,8 +228,8 @@ fn push_parameter(text: &mut String, parameter: Parameter, bytes: &[u8]) -> Resu
         Parameter::Number => push_u32(text, read_u32(&bytes[1..5])),
         Parameter::Timing => push_timing(text, bytes[1], bytes[2]),
         Parameter::Delay => {
-            push_decimal(text, u64::from(read_u16(&bytes[1..3])))?;
-            push_words(text, " ms")
+            let delay = Value::Number(read_u16(&bytes[1..3]) as u64);
+            push_filled(text, "% ms", &[delay])
         }
         Parameter::Scan => { push_scan(text, read_u32(&bytes[1..5]), bytes[5], bytes[6], bytes[7]) }
         Parameter::Outcome => push_outcome(text, bytes[0], bytes[1], bytes[2]),
@@ -268,9 +249,9 @@ fn push_command(
         ≡ string_bytes text.old ++ command_text words.now parameter bytes.now) }
 {
     if words.is_empty() {
-        return push_words(text, "unknown");
+        return text.push_str("unknown");
     }
-    push_words(text, words)?;
+    text.push_str(words)?;
     push_parameter(text, parameter, bytes)
 }
 
@@ -286,7 +267,7 @@ fn push_lss(
     ensures { OnOk result (string_bytes text.new
         ≡ string_bytes text.old ++ lss_text front.now words.now parameter bytes.now) }
 {
-    push_words(text, front)?;
+    text.push_str(front)?;
     push_command(text, words, parameter, bytes)
 }
 

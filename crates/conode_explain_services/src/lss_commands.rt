@@ -8,6 +8,8 @@ ghost use Rattle.conode_explain_services.specs.Lss.{
   request_words,
 };
 
+use crate::texts::{Row, words_in};
+
 /// What a command has after its specifier.
 #[derive(Clone, Copy)]
 pub(crate) enum Parameter {
@@ -28,36 +30,38 @@ pub(crate) enum Parameter {
     Outcome,
 }
 
+/// A master's commands.
+const REQUESTS: [Row; 22] = [
+    Row(0x04, "switch state global"),
+    Row(0x11, "configure node-ID"),
+    Row(0x13, "configure bit timing"),
+    Row(0x15, "activate bit timing"),
+    Row(0x17, "store configuration"),
+    Row(0x40, "switch state selective vendor-ID"),
+    Row(0x41, "switch state selective product code"),
+    Row(0x42, "switch state selective revision number"),
+    Row(0x43, "switch state selective serial number"),
+    Row(0x46, "identify vendor-ID"),
+    Row(0x47, "identify product code"),
+    Row(0x48, "identify revision number from"),
+    Row(0x49, "identify revision number to"),
+    Row(0x4A, "identify serial number from"),
+    Row(0x4B, "identify serial number to"),
+    Row(0x4C, "identify non-configured slaves"),
+    Row(0x51, "fastscan"),
+    Row(0x5A, "inquire vendor-ID"),
+    Row(0x5B, "inquire product code"),
+    Row(0x5C, "inquire revision number"),
+    Row(0x5D, "inquire serial number"),
+    Row(0x5E, "inquire node-ID"),
+];
+
 /// The words for a master's command specifier; empty for one that the standard doesn't have.
 #[tactic(auto, unfolding(crate::specs::Lss::request_words))]
 pub(crate) fn request_words(specifier: u8) -> &'static str
     ensures { result.now ≡ request_words specifier }
 {
-    match specifier {
-        0x04 => "switch state global",
-        0x11 => "configure node-ID",
-        0x13 => "configure bit timing",
-        0x15 => "activate bit timing",
-        0x17 => "store configuration",
-        0x40 => "switch state selective vendor-ID",
-        0x41 => "switch state selective product code",
-        0x42 => "switch state selective revision number",
-        0x43 => "switch state selective serial number",
-        0x46 => "identify vendor-ID",
-        0x47 => "identify product code",
-        0x48 => "identify revision number from",
-        0x49 => "identify revision number to",
-        0x4A => "identify serial number from",
-        0x4B => "identify serial number to",
-        0x4C => "identify non-configured slaves",
-        0x51 => "fastscan",
-        0x5A => "inquire vendor-ID",
-        0x5B => "inquire product code",
-        0x5C => "inquire revision number",
-        0x5D => "inquire serial number",
-        0x5E => "inquire node-ID",
-        _ => "",
-    }
+    words_in(&REQUESTS, specifier as u16)
 }
 
 /// What a master's command has after its specifier.
@@ -76,25 +80,27 @@ pub(crate) fn request_parameter(specifier: u8) -> Parameter
     }
 }
 
+/// A slave's answers.
+const ANSWERS: [Row; 11] = [
+    Row(0x11, "configure node-ID"),
+    Row(0x13, "configure bit timing"),
+    Row(0x17, "store configuration"),
+    Row(0x44, "switch state selective: in state configuration"),
+    Row(0x4F, "identified"),
+    Row(0x50, "non-configured slave identified"),
+    Row(0x5A, "vendor-ID"),
+    Row(0x5B, "product code"),
+    Row(0x5C, "revision number"),
+    Row(0x5D, "serial number"),
+    Row(0x5E, "node-ID"),
+];
+
 /// The words for a slave's command specifier; empty for one that the standard doesn't have.
 #[tactic(auto, unfolding(crate::specs::Lss::answer_words))]
 pub(crate) fn answer_words(specifier: u8) -> &'static str
     ensures { result.now ≡ answer_words specifier }
 {
-    match specifier {
-        0x11 => "configure node-ID",
-        0x13 => "configure bit timing",
-        0x17 => "store configuration",
-        0x44 => "switch state selective: in state configuration",
-        0x4F => "identified",
-        0x50 => "non-configured slave identified",
-        0x5A => "vendor-ID",
-        0x5B => "product code",
-        0x5C => "revision number",
-        0x5D => "serial number",
-        0x5E => "node-ID",
-        _ => "",
-    }
+    words_in(&ANSWERS, specifier as u16)
 }
 
 /// What a slave's answer has after its specifier.

@@ -14,7 +14,6 @@ ghost use Rattle.conode_explain_services.specs.NmtStates.{
 };
 
 use crate::nmt_state::{KnownState, NmtState};
-use crate::texts::push_words;
 use co_frame::Frame;
 use std::alloc::AllocError;
 
@@ -113,5 +112,5 @@ pub(crate) fn push_shown(text: &mut String, known: KnownState, byte: u8) -> Resu
     if same_state(commanded, shown) {
         return Ok(());
     }
-    push_words(text, found_words(known))
+    text.push_str(found_words(known))
 }

@@ -1,90 +1,86 @@
 //! The error register in words (CiA 301, 7.5.2.2, object 1001h).
 
-ghost use Rattle.std.specs.Prelude.{◌≡◌, ◌<◌, ◌++◌, OnOk, string_bytes};
+ghost use Rattle.std.specs.Prelude.{◌≡◌, ◌++◌, OnOk, string_bytes};
 ghost use Rattle.conode_explain_services.specs.Registers.{
-  bit_text,
   bit_word,
   bits_text,
   changed_text,
   changes_text,
   errors_text,
-  high_bits_text,
-  low_bits_text,
   register_text,
+  text_of_bit,
 };
 
-use crate::texts::push_words;
-use co_text::push_byte;
+use crate::texts::{Row, words_in};
+use conode_text::{HasText, Value, push_filled};
 use std::alloc::AllocError;
+
+/// The bits of the register, each by its place.
+const BITS: [Row; 8] = [
+    Row(0x01, "generic"),
+    Row(0x02, "current"),
+    Row(0x04, "voltage"),
+    Row(0x08, "temperature"),
+    Row(0x10, "communication"),
+    Row(0x20, "device profile"),
+    Row(0x40, "reserved bit 6"),
+    Row(0x80, "manufacturer"),
+];
 
 // the word of a bit by its place: 1, 2, 4, ..
 #[tactic(auto, unfolding(crate::specs::Registers::bit_word))]
 fn bit_word(place: u8) -> &'static str
     ensures { result.now ≡ bit_word place }
 {
-    match place {
-        0x01 => "generic",
-        0x02 => "current",
-        0x04 => "voltage",
-        0x08 => "temperature",
-        0x10 => "communication",
-        0x20 => "device profile",
-        0x40 => "reserved bit 6",
-        0x80 => "manufacturer",
-        _ => "",
-    }
+    words_in(&BITS, place as u16)
 }
 
-#[tactic(auto, unfolding(crate::specs::Registers::bit_text))]
-fn push_bit(text: &mut String, register: u8, place: u8) -> Result<(), AllocError>
-    requires { 0 < place }
-    ensures { OnOk result
-        (string_bytes text.new ≡ string_bytes text.old ++ bit_text register place) }
-{
-    if register & place == 0 {
-        return Ok(());
-    }
-    if register % place != 0 {
-        push_words(text, ", ")?;
-    }
-    push_words(text, bit_word(place))
-}
+/// A register, and the place of a bit in it.
+#[derive(Clone, Copy)]
+struct Bit(u8, u8);
 
-#[tactic(auto, unfolding(crate::specs::Registers::low_bits_text))]
-fn push_low_bits(text: &mut String, register: u8) -> Result<(), AllocError>
-    ensures { OnOk result
-        (string_bytes text.new ≡ string_bytes text.old ++ low_bits_text register) }
-{
-    push_bit(text, register, 0x01)?;
-    push_bit(text, register, 0x02)?;
-    push_bit(text, register, 0x04)?;
-    push_bit(text, register, 0x08)
-}
+impl HasText for Bit {
+    ghost text_of = { text_of_bit };
 
-#[tactic(auto, unfolding(crate::specs::Registers::high_bits_text))]
-fn push_high_bits(text: &mut String, register: u8) -> Result<(), AllocError>
-    ensures { OnOk result
-        (string_bytes text.new ≡ string_bytes text.old ++ high_bits_text register) }
-{
-    push_bit(text, register, 0x10)?;
-    push_bit(text, register, 0x20)?;
-    push_bit(text, register, 0x40)?;
-    push_bit(text, register, 0x80)
+    #[tactic(auto, unfolding(crate::specs::Registers::bit_text))]
+    fn push(&self, text: &mut String) -> Result<(), AllocError> {
+        if self.0 & self.1 == 0 {
+            return Ok(());
+        }
+        let word = bit_word(self.1);
+        if self.0 & self.1.saturating_sub(1) == 0 {
+            text.push_str(word)
+        } else {
+            push_filled(text, ", %", &[Value::Words(word)])
+        }
+    }
 }
 
 #[tactic(auto, unfolding(crate::specs::Registers::bits_text))]
 fn push_bits(text: &mut String, register: u8) -> Result<(), AllocError>
     ensures { OnOk result (string_bytes text.new ≡ string_bytes text.old ++ bits_text register) }
 {
-    push_low_bits(text, register)?;
-    push_high_bits(text, register)
+    push_filled(
+        text,
+        "%%%%%%%%",
+        &[
+            Bit(register, 0x01),
+            Bit(register, 0x02),
+            Bit(register, 0x04),
+            Bit(register, 0x08),
+            Bit(register, 0x10),
+            Bit(register, 0x20),
+            Bit(register, 0x40),
+            Bit(register, 0x80),
+        ],
+    )
 }
 
 fn push_errors(text: &mut String, register: u8) -> Result<(), AllocError>
     ensures { OnOk result (string_bytes text.new ≡ string_bytes text.old ++ errors_text register) }
 {
     if register == 0 {
-        push_words(text, "no error")
+        text.push_str("no error")
     } else {
         push_bits(text, register)
     }
@@ -97,7 +93,7 @@ fn push_changed(text: &mut String, word: &str, bits: u8) -> Result<(), AllocErro
     if bits == 0 {
         return Ok(());
     }
-    push_words(text, word)?;
+    text.push_str(word)?;
     push_bits(text, bits)
 }
 
@@ -112,8 +108,9 @@ fn push_changes(text: &mut String, last: Option<u8>, register: u8) -> Result<(),
     push_changed(text, "; went: ", last & (255 - register))
 }
 
-/// Appends the error register of an emergency, and what changed since the node's last one:
-/// `register 11 (generic, communication; came: communication)`.
+/// Appends what the error register of an emergency means, and what changed since the node's last
+/// one: `generic, communication; came: communication`. On an `Err` memory ran out, and a part of it
+/// may be there.
 #[tactic(auto, unfolding(crate::specs::Registers::register_text))]
 pub(crate) fn push_register(
     text: &mut String,
@@ -123,10 +120,6 @@ pub(crate) fn push_register(
     ensures { OnOk result
         (string_bytes text.new ≡ string_bytes text.old ++ register_text last register) }
 {
-    push_words(text, " register ")?;
-    push_byte(text, register)?;
-    push_words(text, " (")?;
     push_errors(text, register)?;
-    push_changes(text, last, register)?;
-    push_words(text, ")")
+    push_changes(text, last, register)
 }

@@ -17,7 +17,7 @@ use crate::lss::{push_lss_answer, push_lss_request};
 use crate::nmt_states::{found_words, is_command, push_shown};
 use crate::nodes::{is_emergency, is_error_control, is_error_control_id};
 use crate::reserved::{LSS_ANSWER, LSS_REQUEST, is_reserved, reserved_words};
-use crate::texts::{push_of_node, push_words};
+use crate::texts::push_of_node;
 use crate::times::push_time;
 use co_frame::{Emergency, Frame};
 use std::alloc::AllocError;
@@ -74,7 +74,7 @@ pub fn push_service(text: &mut String, last: Last, frame: &Frame) -> Result<bool
         return Ok(true);
     }
     if is_reserved(frame.id()) {
-        push_words(text, reserved_words())?;
+        text.push_str(reserved_words())?;
         return Ok(true);
     }
     Ok(false)
@@ -94,7 +94,7 @@ pub fn push_state(text: &mut String, last: Last, frame: &Frame) -> Result<(), Al
         if bytes[1] == 0 {
             return Ok(());
         }
-        return push_words(text, found_words(last.state));
+        return text.push_str(found_words(last.state));
     }
     if is_error_control(frame) {
         return push_shown(text, last.state, bytes[0]);
@@ -112,5 +112,5 @@ pub fn push_remote(text: &mut String, id: u16) -> Result<(), AllocError>
     if is_error_control_id(id) {
         return push_of_node(text, "guarding request", (id - 0x700) as u8);
     }
-    push_words(text, "remote frame")
+    text.push_str("remote frame")
 }

@@ -3,7 +3,6 @@
 ghost use Rattle.std.specs.Prelude.{◌≡◌, ◌++◌, OnOk, length, string_bytes};
 ghost use Rattle.conode_explain_services.specs.Times.{time_words};
 
-use crate::texts::push_words;
 use conode_explain_values::{ValueType, push_value};
 use std::alloc::AllocError;
 
@@ -14,6 +13,6 @@ pub(crate) fn push_time(text: &mut String, bytes: &[u8]) -> Result<(), AllocErro
     ensures { OnOk result
         (string_bytes text.new ≡ string_bytes text.old ++ time_words bytes.now) }
 {
-    push_words(text, "TIME ")?;
+    text.push_str("TIME ")?;
     push_value(text, ValueType::TimeOfDay, 48, bytes)
 }

@@ -17,18 +17,19 @@ ghost use Rattle.conode_explain_text.specs.Columns.{
 
 use crate::stamps::push_blanks;
 use arrayvec::ArrayString;
-use co_text::{byte_digits, push_byte, push_decimal, push_u32};
+use co_text::{byte_digits, push_u32};
 use conode_record::{Content, Identifier};
+use conode_text::{Value, push_filled};
 use std::alloc::AllocError;
 
+#[tactic(auto, unfolding(conode_text::specs::Filled::filled))]
 fn push_escaped(text: &mut String, byte: u8) -> Result<(), AllocError>
     ensures { OnOk result (string_bytes text.new ≡ string_bytes text.old ++ escaped byte) }
 {
     if (0x21..=0x7E).contains(&byte) {
         return text.push(byte as char);
     }
-    text.push_str("\\x")?;
-    push_byte(text, byte)
+    push_filled(text, "\\x%", &[Value::Byte(byte)])
 }
 
 /// Appends a name; bytes that can't be printed are written as `\x07`. On an `Err` memory ran out, and a
@@ -87,13 +88,12 @@ fn push_each(text: &mut String, bytes: &[u8]) -> Result<(), AllocError>
     Ok(())
 }
 
+#[tactic(auto, unfolding(conode_text::specs::Filled::filled))]
 fn push_length(text: &mut String, count: usize) -> Result<(), AllocError>
     ensures { OnOk result
         (string_bytes text.new ≡ string_bytes text.old ++ length_text count) }
 {
-    text.push_str("[")?;
-    push_decimal(text, count as u64)?;
-    text.push_str("]")
+    push_filled(text, "[%]", &[Value::Number(count as u64)])
 }
 
 #[tactic(auto, unfolding(crate::specs::Columns::bytes_text))]

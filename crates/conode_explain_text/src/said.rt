@@ -36,6 +36,15 @@ fn add_byte(line: &mut Vec<u8>, byte: u8) -> Result<(), AllocError>
     }
 }
 
+fn add_each(line: &mut Vec<u8>, said: &[u8]) -> Result<(), AllocError>
+    ensures { OnOk result (line.new.items ≡ line.old.items ++ shown said.now) }
+{
+    for byte in said {
+        add_byte(line, *byte)?;
+    }
+    Ok(())
+}
+
 /// Appends what a frame says, its control characters as `\x1B`. On an `Err` memory ran out, and a
 /// part of it may be there.
 #[tactic(auto, using(crate::proofs::SaidLemmas::plain_stays))]
@@ -46,8 +55,5 @@ pub(crate) fn add_shown(line: &mut Vec<u8>, said: &[u8]) -> Result<(), AllocErro
     if is_plain(said) {
         return line.extend_from_slice(said);
     }
-    for byte in said {
-        add_byte(line, *byte)?;
-    }
-    Ok(())
+    add_each(line, said)
 }

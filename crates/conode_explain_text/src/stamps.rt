@@ -22,7 +22,7 @@ use crate::dates::{Date, date_of};
 use crate::pieces::{gap_piece, stamp_piece};
 use crate::so_far::Times;
 use arrayvec::ArrayString;
-use co_text::{push_decimal, push_digit};
+use conode_text::{Value, push_filled};
 use itoa::Buffer;
 use std::alloc::AllocError;
 
@@ -132,23 +132,30 @@ fn push_difference(
 }
 
 #[tactic(auto, unfolding(co_text::specs::Printed::digits_text))]
-fn push_two_digits(text: &mut String, number: u64) -> Result<(), AllocError>
-    ensures { OnOk result
-        (string_bytes text.new ≡ string_bytes text.old ++ two_digits number) }
+fn two_digits(number: u64) -> ArrayString<2>
+    ensures { result.bytes ≡ two_digits number }
 {
-    push_digit(text, (number / 10 % 10) as u8)?;
-    push_digit(text, (number % 10) as u8)
+    let mut digits = ArrayString::new();
+    digits.push(decimal_char((number / 10 % 10) as u32));
+    digits.push(decimal_char((number % 10) as u32));
+    digits
 }
 
-#[tactic(auto, unfolding(crate::specs::Stamps::date_text))]
+#[tactic(auto, unfolding(crate::specs::Stamps::date_text, conode_text::specs::Filled::filled))]
 fn push_date(text: &mut String, date: Date) -> Result<(), AllocError>
     ensures { OnOk result (string_bytes text.new ≡ string_bytes text.old ++ date_text date) }
 {
-    push_decimal(text, date.year)?;
-    text.push('-')?;
-    push_two_digits(text, date.month)?;
-    text.push('-')?;
-    push_two_digits(text, date.day)
+    let month = two_digits(date.month);
+    let day = two_digits(date.day);
+    push_filled(
+        text,
+        "%-%-%",
+        &[
+            Value::Number(date.year),
+            Value::Words(month.as_str()),
+            Value::Words(day.as_str()),
+        ],
+    )
 }
 
 /// Appends the date of a day that is counted from 1 January 1970, as `2015-07-10`.
@@ -161,20 +168,27 @@ pub fn push_day(text: &mut String, day: u64) -> Result<(), AllocError>
 }
 
 /// Appends seconds as hours, minutes and seconds, as `06:17:32`.
-#[tactic(auto, unfolding(crate::specs::Stamps::time_of_day_text))]
+#[tactic(auto, unfolding(crate::specs::Stamps::time_of_day_text, conode_text::specs::Filled::filled))]
 pub fn push_time_of_day(text: &mut String, seconds: u64) -> Result<(), AllocError>
     ensures { OnOk result
         (string_bytes text.new ≡ string_bytes text.old ++ time_of_day_text seconds) }
 {
-    push_two_digits(text, seconds / 3600)?;
-    text.push(':')?;
-    push_two_digits(text, seconds / 60 % 60)?;
-    text.push(':')?;
-    push_two_digits(text, seconds % 60)
+    let hours = two_digits(seconds / 3600);
+    let minutes = two_digits(seconds / 60 % 60);
+    let seconds = two_digits(seconds % 60);
+    push_filled(
+        text,
+        "%:%:%",
+        &[
+            Value::Words(hours.as_str()),
+            Value::Words(minutes.as_str()),
+            Value::Words(seconds.as_str()),
+        ],
+    )
 }
 
 /// Appends the date and the time of day of a stamp, in UTC, as `2015-07-10 06:17:32.249713`.
-#[tactic(auto, unfolding(crate::specs::Stamps::moment_text))]
+#[tactic(auto, unfolding(crate::specs::Stamps::moment_text, conode_text::specs::Filled::filled))]
 pub fn push_moment(text: &mut String, micros: u64) -> Result<(), AllocError>
     ensures { OnOk result (string_bytes text.new ≡ string_bytes text.old ++ moment_text micros) }
 {
@@ -182,8 +196,8 @@ pub fn push_moment(text: &mut String, micros: u64) -> Result<(), AllocError>
     push_day(text, seconds / 86_400)?;
     text.push(' ')?;
     push_time_of_day(text, seconds % 86_400)?;
-    text.push('.')?;
-    push_micros(text, (micros % 1_000_000) as u32)
+    let micros = micros_digits((micros % 1_000_000) as u32);
+    push_filled(text, ".%", &[Value::Words(micros.as_str())])
 }
 
 /// Appends the stamp of a frame.

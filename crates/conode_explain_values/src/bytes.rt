@@ -4,7 +4,8 @@
 ghost use Rattle.std.specs.Prelude.{◌≡◌, ◌++◌, OnOk, string_bytes};
 ghost use Rattle.conode_explain_values.specs.Bytes.{raw_text, is_itself, visible_byte, visible_text};
 
-use co_text::{push_byte, push_bytes};
+use co_text::push_bytes;
+use conode_text::{Value, push_filled};
 use std::alloc::AllocError;
 
 /// Appends bytes, two hexadecimal digits each; a hyphen for none.
@@ -24,6 +25,7 @@ fn is_itself(byte: u8) -> bool
     (0x20 <= byte && byte <= 0x7E) && !(byte == b'"' || byte == b'\\')
 }
 
+#[tactic(auto, unfolding(conode_text::specs::Filled::filled))]
 fn push_visible_byte(text: &mut String, byte: u8) -> Result<(), AllocError>
     ensures { OnOk result
         (string_bytes text.new ≡ string_bytes text.old ++ visible_byte byte) }
@@ -31,8 +33,7 @@ fn push_visible_byte(text: &mut String, byte: u8) -> Result<(), AllocError>
     if is_itself(byte) {
         return text.push(byte as char);
     }
-    text.push_str("\\x")?;
-    push_byte(text, byte)
+    push_filled(text, "\\x%", &[Value::Byte(byte)])
 }
 
 /// Appends a VISIBLE_STRING in double quotes.

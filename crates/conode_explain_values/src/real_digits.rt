@@ -17,6 +17,7 @@ ghost use Rattle.conode_explain_values.specs.Reals.{
 
 use crate::scaled::{ORIGIN, power_of_ten};
 use co_text::{decimal_digits, push_decimal, push_digit};
+use conode_text::{Value, push_filled};
 use std::alloc::{AllocError, Global};
 
 // appends the last digits of a number, as many as are asked for
@@ -57,6 +58,7 @@ fn push_fixed(text: &mut String, number: u64, places: u16) -> Result<(), AllocEr
     push_last_digits(text, places, number % unit)
 }
 
+#[tactic(auto, unfolding(conode_text::specs::Filled::filled))]
 fn push_exponent(text: &mut String, tens: u16) -> Result<(), AllocError>
     ensures { OnOk result
         (string_bytes text.new ≡ string_bytes text.old ++ exponent_text tens) }
@@ -64,8 +66,7 @@ fn push_exponent(text: &mut String, tens: u16) -> Result<(), AllocError>
     if tens >= ORIGIN {
         return push_decimal(text, u64::from(tens - ORIGIN));
     }
-    text.push_str("-")?;
-    push_decimal(text, u64::from(ORIGIN - tens))
+    push_filled(text, "-%", &[Value::Number(u64::from(ORIGIN - tens))])
 }
 
 fn later_digits(number: u64) -> u16
@@ -102,6 +103,7 @@ fn is_short(number: u64, tens: u16) -> bool
             && u128::from(number) * power_of_ten(tens - ORIGIN) < power_of_ten(16))
 }
 
+#[tactic(auto, unfolding(conode_text::specs::Filled::filled))]
 fn push_short(text: &mut String, number: u64, tens: u16) -> Result<(), AllocError>
     requires number { number < 10 ^ 18 }
     requires short { is_short number tens ≡ true }
@@ -109,8 +111,7 @@ fn push_short(text: &mut String, number: u64, tens: u16) -> Result<(), AllocErro
         ++ (decimal (number * 10 ^ (tens - 1100)) ++ codes ".0")) }
 {
     let whole = u128::from(number) * power_of_ten(tens - ORIGIN);
-    push_decimal(text, whole as u64)?;
-    text.push_str(".0")
+    push_filled(text, "%.0", &[Value::Number(whole as u64)])
 }
 
 fn push_digits(text: &mut String, number: u64, tens: u16) -> Result<(), AllocError>
@@ -140,6 +141,21 @@ pub(crate) fn push_sign(text: &mut String, is_negative: bool) -> Result<(), Allo
     }
 }
 
+fn push_rounded(
+    text: &mut String,
+    is_negative: bool,
+    number: u64,
+    tens: u16,
+) -> Result<(), AllocError>
+    requires number { number < 10 ^ 18 }
+    requires tens { tens ≤ 4000 }
+    ensures { OnOk result (string_bytes text.new
+        ≡ string_bytes text.old ++ rounded_text is_negative number tens) }
+{
+    push_sign(text, is_negative)?;
+    push_digits(text, number, tens)
+}
+
 /// The text of `number` × 10 ^ (`tens` - 1100), with its sign.
 pub(crate) fn rounded_text(
     alloc: Global,
@@ -152,7 +168,6 @@ pub(crate) fn rounded_text(
     ensures { IfOk result (λ made. string_bytes made ≡ rounded_text is_negative number tens) }
 {
     let mut text = String::new(alloc);
-    push_sign(&mut text, is_negative)?;
-    push_digits(&mut text, number, tens)?;
+    push_rounded(&mut text, is_negative, number, tens)?;
     Ok(text)
 }

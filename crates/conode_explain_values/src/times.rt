@@ -2,6 +2,7 @@
 //! ran out, and a part of it may be there.
 
 ghost use Rattle.std.specs.Prelude.{◌≡◌, ◌++◌, ◌<◌, ◌^◌, OnOk, length, string_bytes};
+ghost use Rattle.co_text.specs.Printed.{digits_text, printed_digit};
 ghost use Rattle.conode_explain_values.specs.Times.{
   days_in,
   difference_text,
@@ -10,9 +11,10 @@ ghost use Rattle.conode_explain_values.specs.Times.{
   ms_text,
 };
 
-use co_text::{push_decimal, push_digit};
+use arrayvec::ArrayString;
 use co_value::unsigned_of;
 use conode_explain_text::{push_day, push_time_of_day};
+use conode_text::{Value, push_filled};
 use std::alloc::AllocError;
 
 /// 1 January 1984, counted in days from 1 January 1970.
@@ -34,16 +36,32 @@ fn days_in(bytes: &[u8]) -> u64
     unsigned_of(&bytes[4..])
 }
 
-#[tactic(auto, unfolding(co_text::specs::Printed::digits_text, crate::specs::Times::ms_text))]
+fn decimal_char(digit: u16) -> char
+    requires { digit < 10 }
+    ensures value { result ≡ printed_digit digit }
+    ensures ascii { result < 128 }
+{
+    (b'0' + digit as u8) as char
+}
+
+#[tactic(auto, unfolding(co_text::specs::Printed::digits_text))]
+fn three_digits(number: u16) -> ArrayString<3>
+    ensures { result.bytes ≡ digits_text 10 3 number }
+{
+    let mut digits = ArrayString::new();
+    digits.push(decimal_char(number / 10 / 10 % 10));
+    digits.push(decimal_char(number / 10 % 10));
+    digits.push(decimal_char(number % 10));
+    digits
+}
+
+#[tactic(auto, unfolding(crate::specs::Times::ms_text, conode_text::specs::Filled::filled))]
 fn push_ms(text: &mut String, ms: u64) -> Result<(), AllocError>
     ensures { OnOk result (string_bytes text.new ≡ string_bytes text.old ++ ms_text ms) }
 {
     push_time_of_day(text, ms / 1000)?;
-    text.push_str(".")?;
-    let rest = (ms % 1000) as u16;
-    push_digit(text, (rest / 10 / 10 % 10) as u8)?;
-    push_digit(text, (rest / 10 % 10) as u8)?;
-    push_digit(text, (rest % 10) as u8)
+    let rest = three_digits((ms % 1000) as u16);
+    push_filled(text, ".%", &[Value::Words(rest.as_str())])
 }
 
 /// Appends a TIME_OF_DAY as its date and time.
@@ -59,13 +77,12 @@ pub(crate) fn push_moment(text: &mut String, bytes: &[u8]) -> Result<(), AllocEr
 }
 
 /// Appends a TIME_DIFFERENCE as its days and time.
-#[tactic(auto, unfolding(crate::specs::Times::difference_text))]
+#[tactic(auto, unfolding(crate::specs::Times::difference_text, conode_text::specs::Filled::filled))]
 pub(crate) fn push_difference(text: &mut String, bytes: &[u8]) -> Result<(), AllocError>
     requires { length bytes.now ≡ 6 }
     ensures { OnOk result
         (string_bytes text.new ≡ string_bytes text.old ++ difference_text bytes.now) }
 {
-    push_decimal(text, days_in(bytes))?;
-    text.push_str(" d ")?;
+    push_filled(text, "% d ", &[Value::Number(days_in(bytes))])?;
     push_ms(text, ms_in(bytes))
 }

@@ -14,7 +14,7 @@ ghost use Rattle.conode_explain_values.specs.Unicode.{
   unit_text,
 };
 
-use co_text::push_u16;
+use conode_text::{Value, push_filled};
 use std::alloc::AllocError;
 
 fn unit_of(low: u8, high: u8) -> u16
@@ -43,12 +43,12 @@ fn scalar(code: u32) -> char
     char::from_u32(code).unwrap()
 }
 
+#[tactic(auto, unfolding(conode_text::specs::Filled::filled))]
 fn push_unit(text: &mut String, unit: u16) -> Result<(), AllocError>
     ensures { OnOk result (string_bytes text.new ≡ string_bytes text.old ++ unit_text unit) }
 {
     if is_escaped(unit) {
-        text.push_str("\\u")?;
-        return push_u16(text, unit);
+        return push_filled(text, "\\u%", &[Value::Short(unit)]);
     }
     text.push(scalar(u32::from(unit)))
 }

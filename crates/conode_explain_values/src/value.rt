@@ -23,8 +23,8 @@ use crate::reals::real_text;
 use crate::times::{push_difference, push_moment};
 use crate::unicode::push_unicode;
 use crate::value_type::ValueType;
-use co_text::push_decimal;
 use co_value::{DataType, unsigned_of};
+use conode_text::{Value, push_filled};
 use std::alloc::AllocError;
 
 /// The code of VISIBLE_STRING (CiA 301, 7.4.7.1).
@@ -85,17 +85,16 @@ fn push_whole(
     }
 }
 
+#[tactic(auto, unfolding(conode_text::specs::Filled::filled))]
 fn push_count(text: &mut String, size: Option<usize>, bits: usize) -> Result<(), AllocError>
     ensures { OnOk result
         (string_bytes text.new ≡ string_bytes text.old ++ count_text size bits) }
 {
-    text.push_str(" (")?;
-    push_decimal(text, bits as u64)?;
-    if let Some(all) = size {
-        text.push_str(" of ")?;
-        push_decimal(text, all as u64)?;
+    let bits = Value::Number(bits as u64);
+    match size {
+        Some(all) => push_filled(text, " (% of % bits)", &[bits, Value::Number(all as u64)]),
+        None => push_filled(text, " (% bits)", &[bits]),
     }
-    text.push_str(" bits)")
 }
 
 /// Appends the text of a value of a type: of so many bits, the lowest first, in as few bytes as

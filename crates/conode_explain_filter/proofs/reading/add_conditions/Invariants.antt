@@ -3,7 +3,7 @@ use denote.Text.{Utf8}
 use denote.Shadow.{shadow}
 use Rattle.conode_explain_filter.specs.Conditions.{conditions_of, words_in}
 use Rattle.conode_explain_filter.proofs.Readings.{onto}
-use Rattle.conode_explain_filter.proofs.reading.conditions_in.Given as goal
+use Rattle.conode_explain_filter.proofs.reading.add_conditions.Given as goal
 
 -- what the words so far ask for, and then those of the rest
 abbrev pub invariant-loop-word : goal.invariant-loop-word
