@@ -14,7 +14,6 @@ use Rattle.conode_show_text.specs.Layout.{Part, placed, line_of}
 use Rattle.conode_show_text.specs.declared.values.Word.{Word}
 use Rattle.conode_show_text.specs.Values.{sum_text, known_text, quoted, value_text, unnumbered_text, word_of}
 use Rattle.conode_show_text.specs.CobIds.{identifier_text, cob_id_text, pdo_cob_id_text, sync_text}
-use Rattle.conode_text.specs.Filled.{filled}
 use Rattle.conode_show_text.specs.Meanings.{meaning_text, word_text, transmission_text, counted_syncs, millis_text, time_text, consumer_text, mapped_text}
 use Rattle.conode_show_text.specs.Entries.{type_name}
 
@@ -256,19 +255,19 @@ unfolding transmission_text
 type_1 = refl
 
 type_2 : meaning_text Transmission (word 2) ≡ codes "2: every 2 SYNCs"
-unfolding transmission_text counted_syncs filled digits
+unfolding transmission_text counted_syncs digits
 type_2 = refl
 
 type_240 : meaning_text Transmission (word 240) ≡ codes "240: every 240 SYNCs"
-unfolding transmission_text counted_syncs filled digits
+unfolding transmission_text counted_syncs digits
 type_240 = refl
 
 type_241 : meaning_text Transmission (word 241) ≡ codes "241: reserved"
-unfolding transmission_text counted_syncs filled digits
+unfolding transmission_text counted_syncs digits
 type_241 = refl
 
 type_251 : meaning_text Transmission (word 251) ≡ codes "251: reserved"
-unfolding transmission_text counted_syncs filled digits
+unfolding transmission_text counted_syncs digits
 type_251 = refl
 
 type_252 : meaning_text Transmission (word 252) ≡ codes "252: remote, synchronous"
@@ -288,7 +287,7 @@ unfolding transmission_text
 type_255 = refl
 
 type_256 : meaning_text Transmission (word 256) ≡ codes "256: reserved"
-unfolding transmission_text counted_syncs filled digits
+unfolding transmission_text counted_syncs digits
 type_256 = refl
 
 -- ---- times
@@ -332,11 +331,11 @@ unfolding consumer_text
 consumer_node_0 = refl
 
 consumer_node_1 : meaning_text Consumer (word 0x00010001) ≡ codes "node 1, within 1 ms"
-unfolding consumer_text filled digits
+unfolding consumer_text digits
 consumer_node_1 = refl
 
 consumer_node_127 : meaning_text Consumer (word 0x007FFFFF) ≡ codes "node 127, within 65535 ms"
-unfolding consumer_text filled digits
+unfolding consumer_text digits
 consumer_node_127 = refl
 
 consumer_node_128 : meaning_text Consumer (word 0x00800064) ≡ codes "not used"
@@ -352,7 +351,7 @@ unfolding consumer_text
 consumer_without_time = refl
 
 consumer_bit_24 : meaning_text Consumer (word 0x01050064) ≡ codes "node 5, within 100 ms, bits 31 to 24 set"
-unfolding consumer_text filled digits
+unfolding consumer_text digits
 consumer_bit_24 = refl
 
 mapped : meaning_text Mapped (word 0x64010210) ≡ codes "6401:02, 16 bits"

@@ -1,5 +1,5 @@
 -- What sections give, evaluated: each kind of line, and both sides of each edge.
-use Rattle.std.proofs.Common.{◌≡◌, ℕ, [], ◌∷◌, List, Some, None, refl, false, true, pos, negsuc}
+use Rattle.std.proofs.Common.{◌≡◌, ℕ, [], ◌∷◌, List, Some, None, refl, false, true}
 use Rattle.std.specs.Prelude.{codes, nat_lt}
 use Rattle.std.specs.Fmt.{digits}
 use Rattle.std.specs.Str.{is_utf8, chars}
@@ -19,12 +19,9 @@ use Rattle.conode_show_text.specs.CobIds.{cob_id_text, identifier_text, pdo_cob_
 use Rattle.conode_show_text.specs.Meanings.{said, word_text}
 use Rattle.conode_show_text.specs.declared.meaning.Meaning.TheVariants.{PdoCobId}
 use Rattle.conode_show_text.specs.Entries.{entry_line, entry_type, mappable_text, object_line, section_text, object_head, type_name, type_text}
-use Rattle.conode_text.specs.Filled.{filled}
-use Rattle.conode_show_text.specs.Services.{service_name, service_of}
+use Rattle.conode_show_text.specs.Services.{channel_name, service_name, service_of}
 use Rattle.conode_show_text.specs.Pdos.{is_counted, is_pdo_cob_id, mapping_count, pdo_name}
 use Rattle.conode_show_text.specs.Document.{rank}
-use Rattle.conode_show_text.specs.Pieces.{piece_text}
-use Rattle.conode_show_text.specs.declared.piece.Piece.TheVariants as piece
 
 abbrev key : ℕ → ℕ → Key
 key index sub = record { index = index; sub = sub }
@@ -131,19 +128,11 @@ after_channels : service_of (key 0x1300 1) ≡ None
 after_channels = refl
 
 server_name : service_name (SdoRequests 1) ≡ codes "SDO 1, client to server"
-unfolding service_name filled digits
+unfolding service_name channel_name digits
 server_name = refl
 
-server_answer : service_name (SdoResponses 128) ≡ codes "SDO 128, server to client"
-unfolding service_name filled digits
-server_answer = refl
-
-client_request : service_name (ClientRequests 1) ≡ codes "SDO client 1, client to server"
-unfolding service_name filled digits
-client_request = refl
-
 client_name : service_name (ClientResponses 128) ≡ codes "SDO client 128, server to client"
-unfolding service_name filled digits
+unfolding service_name channel_name digits
 client_name = refl
 
 -- ---- PDOs
@@ -244,17 +233,3 @@ by_sub_index = refl
 
 by_index : nat_lt (rank (SubIndex (key 0x1018 0xFF))) (rank (Object 0x1019)) ≡ true
 by_index = refl
-
--- ---- pieces: a value with and without its bits, a data type without a name
-
-value_with_bits : piece_text (piece.Value (pos 100) (Some 0x64)) ≡ codes "100 (64h)"
-unfolding in_parentheses hex_text digits
-value_with_bits = refl
-
-value_without_bits : piece_text (piece.Value (negsuc 0) None) ≡ codes "-1"
-unfolding in_parentheses digits
-value_without_bits = refl
-
-nameless_type : piece_text (piece.TypeCode 0x40) ≡ codes "type 40h"
-unfolding hex_text digits
-nameless_type = refl

@@ -1,10 +1,8 @@
 -- A step of a loop that appends what each element gives.
-use Rattle.std.proofs.Common.{◌≡◌, ◌∙◌, ℕ, ◌+◌, ◌<◌, List, [], ◌∷◌, ◌++◌, Option, Some, map, length, take, get_or, replicate, append_assoc, append-nil, ap, sym, refl}
+use Rattle.std.proofs.Common.{◌≡◌, ◌∙◌, ℕ, ◌+◌, ◌<◌, List, [], ◌∷◌, ◌++◌, map, length, take, get_or, replicate, append_assoc, ap, sym}
 use Rattle.std.specs.List.{flat_map, fold}
-use Rattle.std.proofs.lemmas.Grind.{fold-append, flat_map-append}
+use Rattle.std.proofs.lemmas.Grind.{fold-append}
 use Rattle.std.proofs.lemmas.List.{flat_map_more, map_more, replicate_more, take_more}
-use Rattle.conode_text.specs.Appended.{Appended}
-use Rattle.conode_text.proofs.Appending.{both}
 
 pub appended_more : {X Y : Type 0} (f : X → List Y) (xs : List X) (i : ℕ) (d : X) (base before after : List Y) → i < length xs
     → before ≡ base ++ flat_map f (take i xs) → after ≡ before ++ f (get_or xs i d) → after ≡ base ++ flat_map f (take (i + 1) xs)
@@ -12,16 +10,12 @@ appended_more f xs i d base before after h so_far more =
     more ∙ ap (λ l. l ++ f (get_or xs i d)) so_far ∙ flat_map_more f base (take i xs) (get_or xs i d)
     ∙ ap (λ l. base ++ flat_map f l) (sym (take_more xs i d h))
 
--- of elements as contracts see them, on a page
-pub one_more_view : {X Z Y : Type 0} (f : Z → List Y) (view : X → Z) (xs : List X) (i : ℕ) (d : X) {t u v : Option (List Y)} → i < length xs
-    → Appended t (flat_map f (map view (take i xs))) u → Appended u (f (view (get_or xs i d))) v → Appended t (flat_map f (map view (take (i + 1) xs))) v
-one_more_view f view xs i d h so_far more =
-    rw (ap (flat_map f) (map_more view xs i d h) ∙ flat_map-append f (map view (take i xs)) (view (get_or xs i d) ∷ []) ∙ ap (λ ys. flat_map f (map view (take i xs)) ++ ys) (append-nil (f (view (get_or xs i d)))))
-    (both so_far more)
-
--- a page that began with nothing has what was appended
-pub page_text : {X : Type 0} (text lines : List X) → Appended (Some []) lines (Some text) → text ≡ lines
-page_text text lines h = let e : Some lines ≡ Some text = h.whole text refl in cc
+-- of elements as contracts see them
+pub appended_view_more : {X Z Y : Type 0} (f : Z → List Y) (view : X → Z) (xs : List X) (i : ℕ) (d : X) (base before after : List Y) → i < length xs
+    → before ≡ base ++ flat_map f (map view (take i xs)) → after ≡ before ++ f (view (get_or xs i d)) → after ≡ base ++ flat_map f (map view (take (i + 1) xs))
+appended_view_more f view xs i d base before after h so_far more =
+    more ∙ ap (λ l. l ++ f (view (get_or xs i d))) so_far ∙ flat_map_more f base (map view (take i xs)) (view (get_or xs i d))
+    ∙ ap (λ l. base ++ flat_map f l) (sym (map_more view xs i d h))
 
 pub folded_more : {X Z Y : Type 0} (f : Y → Z → Y) (view : X → Z) (xs : List X) (i : ℕ) (d : X) (begun before after : Y) → i < length xs
     → before ≡ fold f begun (map view (take i xs)) → after ≡ f before (view (get_or xs i d)) → after ≡ fold f begun (map view (take (i + 1) xs))

@@ -10,4 +10,3 @@ pub mod Services
 pub mod Pdos
 pub mod Document
 pub mod Cells
-pub mod Pieces

@@ -7,7 +7,6 @@ use Rattle.co_sheet_text.specs.Sections.{TextSection}
 use Rattle.conode_show_text.specs.declared.meaning.Meaning.{Meaning}
 use Rattle.conode_show_text.specs.declared.meaning.Meaning.TheVariants.{PdoCobId, CobId, SyncCobId, Transmission, PdoInhibit, EventTimer, EmcyInhibit, Consumer, Producer, Mapped}
 use Rattle.co_sheet.specs.Commissioning.{is_node_number}
-use Rattle.conode_text.specs.Filled.{filled}
 use Rattle.conode_show_text.specs.Names.{name_among}
 use Rattle.conode_show_text.specs.CobIds.{pdo_cob_id_text, cob_id_text, sync_text}
 use Rattle.conode_show_text.specs.Texts.{plain_text}
@@ -27,8 +26,8 @@ transmission_name n = name_among n transmission_names
 -- the others: up to 240 by SYNCs, above it reserved
 unfoldable pub counted_syncs : ℕ → List ℕ
 counted_syncs n =
-    if nat_le n 240 then filled (codes "%: every % SYNCs") (decimal n ∷ decimal n ∷ [])
-    else filled (codes "%: reserved") (decimal n ∷ [])
+    if nat_le n 240 then decimal n ++ codes ": every " ++ decimal n ++ codes " SYNCs"
+    else decimal n ++ codes ": reserved"
 
 unfoldable pub transmission_text : ℕ → List ℕ
 transmission_text n = option_map_or (λ name. name) (transmission_name n) (counted_syncs n)
@@ -54,7 +53,8 @@ consumer_reserved n = if n / 0x1000000 == 0 then [] else codes ", bits 31 to 24 
 unfoldable pub consumer_text : ℕ → List ℕ
 consumer_text n =
     if is_consumer_used n
-    then filled (codes "node %, within % ms%") (decimal (n / 0x10000 % 0x100) ∷ decimal (n % 0x10000) ∷ consumer_reserved n ∷ [])
+    then codes "node " ++ decimal (n / 0x10000 % 0x100) ++ codes ", within " ++ decimal (n % 0x10000) ++ codes " ms"
+    ++ consumer_reserved n
     else codes "not used"
 
 -- what a word of a mapping names: index, sub-index and length in bits

@@ -1,5 +1,5 @@
 -- SYNC, EMCY, heartbeats and SDO channels in words (CiA 301, 7.5.2).
-use Rattle.std.specs.Prelude.{ℕ, ◌+◌, ◌-◌, ◌==◌, nat_le, ◌&&◌, if◌then◌else◌, List, [], ◌∷◌, codes, decimal, Option, Some, None}
+use Rattle.std.specs.Prelude.{ℕ, ◌+◌, ◌-◌, ◌==◌, nat_le, ◌&&◌, if◌then◌else◌, List, [], ◌∷◌, ◌++◌, codes, decimal, Option, Some, None}
 use Rattle.std.specs.Option.{option_map_or}
 use Rattle.co_value.specs.declared.key.Key.{Key}
 use Rattle.co_value.specs.KeyTexts.{key_text}
@@ -11,7 +11,6 @@ use Rattle.conode_show_text.specs.declared.meaning.Meaning.{Meaning}
 use Rattle.conode_show_text.specs.declared.meaning.Meaning.TheVariants.{CobId, SyncCobId, EmcyInhibit, Consumer, Producer}
 use Rattle.conode_show_text.specs.declared.service.Service.{Service}
 use Rattle.conode_show_text.specs.declared.service.Service.TheVariants.{Sync, Emcy, EmcyInhibitTime, HeartbeatConsumer, HeartbeatProducer, SdoRequests, SdoResponses, ClientRequests, ClientResponses}
-use Rattle.conode_text.specs.Filled.{filled}
 use Rattle.conode_show_text.specs.Layout.{Part, line_of}
 use Rattle.conode_show_text.specs.Meanings.{said}
 
@@ -29,18 +28,21 @@ service_of key =
     else if nat_le 0x1280 key.index && nat_le key.index 0x12FF && key.sub == 2 then Some (ClientResponses (key.index - 0x1280 + 1))
     else None
 
--- the name of a service; of an SDO channel, of which the device is the server or the client, each
--- direction has one
+-- one direction of an SDO channel, of which the device is the server or the client
+unfoldable pub channel_name : List ℕ → ℕ → List ℕ → List ℕ
+channel_name end channel way = end ++ decimal channel ++ way
+
+-- the name of a service
 unfoldable pub service_name : Service → List ℕ
 service_name Sync = codes "SYNC"
 service_name Emcy = codes "EMCY"
 service_name EmcyInhibitTime = codes "EMCY inhibit time"
 service_name HeartbeatConsumer = codes "Heartbeat consumer"
 service_name HeartbeatProducer = codes "Heartbeat producer"
-service_name (SdoRequests channel) = filled (codes "SDO %, client to server") (decimal channel ∷ [])
-service_name (SdoResponses channel) = filled (codes "SDO %, server to client") (decimal channel ∷ [])
-service_name (ClientRequests channel) = filled (codes "SDO client %, client to server") (decimal channel ∷ [])
-service_name (ClientResponses channel) = filled (codes "SDO client %, server to client") (decimal channel ∷ [])
+service_name (SdoRequests channel) = channel_name (codes "SDO ") channel (codes ", client to server")
+service_name (SdoResponses channel) = channel_name (codes "SDO ") channel (codes ", server to client")
+service_name (ClientRequests channel) = channel_name (codes "SDO client ") channel (codes ", client to server")
+service_name (ClientResponses channel) = channel_name (codes "SDO client ") channel (codes ", server to client")
 
 -- the meaning of its number
 abbrev pub service_meaning : Service → Meaning

@@ -1,6 +1,6 @@
 //! The object dictionary of a sheet, as it is shown: its entries, its PDOs and its services.
 
-ghost use Rattle.std.specs.Prelude.{◌≡◌, map, IfOk};
+ghost use Rattle.std.specs.Prelude.{◌≡◌, ◌++◌, map, OnOk, IfOk};
 ghost use Rattle.co_sheet_text.specs.Views.{section_view};
 ghost use Rattle.conode_show_text.specs.Document.{
   chapter_lines,
@@ -8,15 +8,13 @@ ghost use Rattle.conode_show_text.specs.Document.{
   chapter_text,
   document,
   head_of,
+  with_head,
 };
-ghost use Rattle.conode_text.specs.Appended.{Appended};
 
-use crate::dictionary::Dictionary;
-use crate::entries::put_section;
+use crate::entries::{entries_head, push_section};
 use crate::format::Format;
-use crate::page::Page;
-use crate::pdos::put_pdo;
-use crate::service::put_service;
+use crate::pdos::push_pdo;
+use crate::service::push_service;
 use co_sheet_text::TextSection;
 use std::alloc::{AllocError, Global};
 
@@ -34,8 +32,7 @@ fn head_of(chapter: Chapter, format: Format) -> &'static str
     ensures { result.now ≡ head_of chapter format }
 {
     match (chapter, format) {
-        (Chapter::Entries, Format::Text) =>
-            "Entry   Name                              Type       Access PDO Default                Limits\n",
+        (Chapter::Entries, Format::Text) => entries_head(Format::Text),
         (Chapter::Entries, Format::Markdown) => "## Objects\n",
         (Chapter::Pdos, Format::Text) =>
             "\nPDO     COB-ID, mapped                Transmission type, name           Timers\n",
@@ -48,43 +45,127 @@ fn head_of(chapter: Chapter, format: Format) -> &'static str
 }
 
 // what a chapter has for a section
-fn put_text<'p>(
-    page: &mut Page,
-    dictionary: Dictionary<'p>,
+fn push_text<'p>(
+    text: &mut Vec<u8>,
+    line: &mut Vec<u8>,
+    part: &mut String,
     chapter: Chapter,
+    format: Format,
+    node: Option<u8>,
+    sections: &'p [TextSection<'p, 'p>],
     section: &'p TextSection<'p, 'p>,
-)
-    ensures { Appended page.old
-        (chapter_text chapter dictionary.entry.format dictionary.entry.node
-        (map section_view dictionary.entry.sections.now) (section_view section.entry.now))
-        page.new }
+) -> Result<(), AllocError>
+    ensures { OnOk result (text.new.items ≡ text.old.items
+        ++ chapter_text chapter format node (map section_view sections.entry.now)
+        (section_view section.entry.now)) }
 {
     match chapter {
-        Chapter::Entries => put_section(page, dictionary, section),
-        Chapter::Pdos => put_pdo(page, dictionary, section),
-        Chapter::Services => put_service(page, dictionary, section),
+        Chapter::Entries => push_section(text, line, part, format, node, section),
+        Chapter::Pdos => push_pdo(text, line, part, format, node, sections, section),
+        Chapter::Services => push_service(text, line, part, format, node, section),
     }
 }
 
-fn put_lines(page: &mut Page, dictionary: Dictionary<'_>, chapter: Chapter)
-    ensures { Appended page.old
-        (chapter_lines chapter dictionary.entry.format dictionary.entry.node
-        (map section_view dictionary.entry.sections.now)) page.new }
+fn push_lines<'p>(
+    text: &mut Vec<u8>,
+    line: &mut Vec<u8>,
+    part: &mut String,
+    chapter: Chapter,
+    format: Format,
+    node: Option<u8>,
+    sections: &'p [TextSection<'p, 'p>],
+) -> Result<(), AllocError>
+    ensures { OnOk result (text.new.items ≡ text.old.items
+        ++ chapter_lines chapter format node (map section_view sections.entry.now)) }
 {
-    for section in dictionary.sections {
-        put_text(page, dictionary, chapter, section);
+    for section in sections {
+        push_text(text, line, part, chapter, format, node, sections, section)?;
     }
+    Ok(())
+}
+
+// lines after their head, nothing if there is none
+fn push_body(text: &mut Vec<u8>, head: &str, body: &[u8]) -> Result<(), AllocError>
+    ensures { OnOk result (text.new.items ≡ text.old.items ++ with_head head.now body.now) }
+{
+    if body.is_empty() {
+        return Ok(());
+    }
+    text.extend_from_slice(head.as_bytes())?;
+    text.extend_from_slice(body)
 }
 
 // a chapter with its head, nothing if it has no line
-fn put_chapter(alloc: Global, page: &mut Page, dictionary: Dictionary<'_>, chapter: Chapter)
-    ensures { Appended page.old
-        (chapter_of chapter dictionary.entry.format dictionary.entry.node
-        (map section_view dictionary.entry.sections.now)) page.new }
+fn push_chapter<'p>(
+    alloc: Global,
+    text: &mut Vec<u8>,
+    line: &mut Vec<u8>,
+    part: &mut String,
+    chapter: Chapter,
+    format: Format,
+    node: Option<u8>,
+    sections: &'p [TextSection<'p, 'p>],
+) -> Result<(), AllocError>
+    ensures { OnOk result (text.new.items ≡ text.old.items
+        ++ chapter_of chapter format node (map section_view sections.entry.now)) }
 {
-    let mut body = Page::new(alloc);
-    put_lines(&mut body, dictionary, chapter);
-    page.put_body(head_of(chapter, dictionary.format), &body);
+    let mut body = Vec::new(alloc);
+    push_lines(&mut body, line, part, chapter, format, node, sections)?;
+    push_body(text, head_of(chapter, format), body.as_slice())
+}
+
+// all chapters
+#[tactic(auto, unfolding(crate::specs::Document::document))]
+fn push_chapters<'p>(
+    alloc: Global,
+    text: &mut Vec<u8>,
+    line: &mut Vec<u8>,
+    part: &mut String,
+    format: Format,
+    node: Option<u8>,
+    sections: &'p [TextSection<'p, 'p>],
+) -> Result<(), AllocError>
+    ensures { OnOk result (text.new.items
+        ≡ text.old.items ++ document format node (map section_view sections.entry.now)) }
+{
+    text.extend_from_slice(head_of(Chapter::Entries, format).as_bytes())?;
+    push_lines(text, line, part, Chapter::Entries, format, node, sections)?;
+    push_chapter(
+        alloc,
+        text,
+        line,
+        part,
+        Chapter::Pdos,
+        format,
+        node,
+        sections,
+    )?;
+    push_chapter(
+        alloc,
+        text,
+        line,
+        part,
+        Chapter::Services,
+        format,
+        node,
+        sections,
+    )
+}
+
+// appends all chapters
+fn push_document(
+    alloc: Global,
+    text: &mut Vec<u8>,
+    format: Format,
+    node: Option<u8>,
+    sections: &[TextSection],
+) -> Result<(), AllocError>
+    ensures { OnOk result (text.new.items
+        ≡ text.old.items ++ document format node (map section_view sections.now)) }
+{
+    let mut line = Vec::new(alloc);
+    let mut part = String::new(alloc);
+    push_chapters(alloc, text, &mut line, &mut part, format, node, sections)
 }
 
 /// The object dictionary of sections in order: its entries, its PDOs, and its services. `Err`: out
@@ -98,15 +179,7 @@ pub fn document(
     ensures { IfOk result
         (λ text. text.items ≡ document format node (map section_view sections.now)) }
 {
-    let dictionary = Dictionary {
-        format,
-        node,
-        sections,
-    };
-    let mut page = Page::new(alloc);
-    page.put_words(head_of(Chapter::Entries, format));
-    put_lines(&mut page, dictionary, Chapter::Entries);
-    put_chapter(alloc, &mut page, dictionary, Chapter::Pdos);
-    put_chapter(alloc, &mut page, dictionary, Chapter::Services);
-    page.into_text()
+    let mut text = Vec::new(alloc);
+    push_document(alloc, &mut text, format, node, sections)?;
+    Ok(text)
 }

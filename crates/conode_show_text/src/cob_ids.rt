@@ -1,24 +1,25 @@
-//! COB-IDs in words (CiA 301, 7.2.2.7 and 7.5.2).
+//! COB-IDs in words (CiA 301, 7.2.2.7 and 7.5.2). Each function with a text appends to it. `Err`:
+//! out of memory; a part of the text may be there.
 
 ghost use Rattle.std.specs.Prelude.{◌≡◌, ◌++◌, OnOk, string_bytes};
 ghost use Rattle.conode_show_text.specs.CobIds.{
   frame_name,
   identifier_text,
   is_not_used,
+  pdo_cob_id_text,
   sync_name,
   use_name,
 };
 
-use crate::piece::Piece;
+use crate::numbers::{push_hex_between, push_words};
 use crate::values::Word;
-use conode_text::push_filled;
 use std::alloc::AllocError;
 
 /// Bit 31: the object isn't enabled.
 const DISABLED: u64 = 0x8000_0000;
 
 /// Bit 30: no RTR for a PDO; the device produces SYNC.
-pub(crate) const BIT_30: u64 = 0x4000_0000;
+const BIT_30: u64 = 0x4000_0000;
 
 /// Bit 29: the identifier has 29 bits.
 const EXTENDED: u64 = 0x2000_0000;
@@ -37,6 +38,16 @@ fn frame_name(number: u64) -> &'static str
     } else {
         ""
     }
+}
+
+/// Appends an identifier, and words after it.
+#[tactic(auto, unfolding(crate::specs::CobIds::identifier_text))]
+pub(crate) fn push_identifier(text: &mut String, number: u64, end: &str) -> Result<(), AllocError>
+    ensures { OnOk result (string_bytes text.new
+        ≡ string_bytes text.old ++ identifier_text number ++ end.now) }
+{
+    push_hex_between(text, "", number % EXTENDED, frame_name(number))?;
+    push_words(text, end)
 }
 
 // whether it is identifier 0 of 11 bits, which is that of NMT
@@ -59,6 +70,19 @@ pub(crate) fn use_name(word: Word) -> &'static str
     }
 }
 
+/// Appends the COB-ID of a PDO in words.
+#[tactic(auto, unfolding(crate::specs::CobIds::pdo_cob_id_text, crate::specs::CobIds::cob_id_text))]
+pub(crate) fn push_pdo_cob_id(text: &mut String, word: Word) -> Result<(), AllocError>
+    ensures { OnOk result (string_bytes text.new ≡ string_bytes text.old ++ pdo_cob_id_text word) }
+{
+    push_identifier(text, word.number, use_name(word))?;
+    if word.number / BIT_30 % 2 == 1 {
+        push_words(text, ", no RTR")
+    } else {
+        Ok(())
+    }
+}
+
 /// Whether the device produces SYNC, in words.
 pub(crate) fn sync_name(word: Word) -> &'static str
     ensures { result.now ≡ sync_name word }
@@ -70,28 +94,4 @@ pub(crate) fn sync_name(word: Word) -> &'static str
     } else {
         ", not produced"
     }
-}
-
-/// Appends a COB-ID, with these words after it. `Err`: out of memory; a part of the text may be
-/// there.
-#[tactic(auto, unfolding(crate::specs::CobIds::identifier_text, conode_text::specs::Filled::filled))]
-pub(crate) fn push_cob_id(
-    text: &mut String,
-    number: u64,
-    use_name: &'static str,
-    rtr: &'static str,
-) -> Result<(), AllocError>
-    ensures { OnOk result (string_bytes text.new
-        ≡ string_bytes text.old ++ identifier_text number ++ use_name.now ++ rtr.now) }
-{
-    push_filled(
-        text,
-        "%%%%",
-        &[
-            Piece::Hex(number % EXTENDED),
-            Piece::Words(frame_name(number)),
-            Piece::Words(use_name),
-            Piece::Words(rtr),
-        ],
-    )
 }

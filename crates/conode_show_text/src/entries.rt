@@ -1,34 +1,69 @@
 //! The lines of entries and objects (CiA 306, object description).
 
-ghost use Rattle.std.specs.Prelude.{◌≡◌, [], if◌then◌else◌};
+ghost use Rattle.std.specs.Prelude.{◌≡◌, ◌++◌, OnOk, flat_map, string_bytes};
 ghost use Rattle.co_sheet_text.specs.Views.{section_view};
 ghost use Rattle.conode_show_text.specs.Entries.{
-  described,
+  entries_head,
   entry_line,
+  entry_type,
   has_sub_indices,
   is_mappable,
+  mappable_text,
   object_head,
   object_heading,
   section_text,
+  type_text,
 };
-ghost use Rattle.co_sheet_text.specs.declared.section_kind.SectionKind.TheVariants.{Object};
-ghost use Rattle.conode_text.specs.Appended.{Appended};
 
-use crate::cells::{Cell, Content};
-use crate::dictionary::Dictionary;
+use crate::cells::{Cell, Content, push_line};
 use crate::format::Format;
-use crate::page::Page;
+use crate::layout::push_cell;
+use crate::numbers::push_words;
 use crate::sections::object_code;
-use crate::texts::words_if;
+use crate::texts::{push_plain, push_property};
+use crate::type_names::push_type_name;
 use co_sheet_text::{SectionKind, TextSection};
 use co_text::word_digits;
 use co_value::Key;
+use std::alloc::AllocError;
 
 /// Whether an object's entries have sections of their own.
 pub fn has_sub_indices(section: &TextSection<'_, '_>) -> bool
     ensures { result ≡ has_sub_indices (section_view section.now) }
 {
     matches!(object_code(section), Some(8 | 9))
+}
+
+// the type of an entry
+#[tactic(auto, unfolding(crate::specs::Entries::entry_type))]
+fn push_entry_type(text: &mut String, section: &TextSection<'_, '_>) -> Result<(), AllocError>
+    ensures { OnOk result (string_bytes text.new
+        ≡ string_bytes text.old ++ entry_type (section_view section.now)) }
+{
+    let Some(property) = section.property(b"DataType") else {
+        return match object_code(section) {
+            Some(2) => push_words(text, "DOMAIN"),
+            _ => Ok(()),
+        };
+    };
+    match property.number() {
+        Some(code) => push_type_name(text, code),
+        None => push_plain(text, property.value),
+    }
+}
+
+/// Appends the type of an object with sub-indices, or of an entry. `Err`: out of memory; a part of
+/// the text may be there.
+#[tactic(auto, unfolding(crate::specs::Entries::type_text))]
+pub(crate) fn push_type(text: &mut String, section: &TextSection<'_, '_>) -> Result<(), AllocError>
+    ensures { OnOk result (string_bytes text.new
+        ≡ string_bytes text.old ++ type_text (section_view section.now)) }
+{
+    match object_code(section) {
+        Some(8) => push_words(text, "ARRAY"),
+        Some(9) => push_words(text, "RECORD"),
+        _ => push_entry_type(text, section),
+    }
 }
 
 /// Whether the entry may be mapped into a PDO.
@@ -38,123 +73,138 @@ pub fn is_mappable(section: &TextSection<'_, '_>) -> bool
     !matches!(section.number_at(b"PDOMapping"), None | Some(0))
 }
 
-#[tactic(auto, unfolding(crate::specs::Entries::entry_line, crate::specs::Entries::mappable_text))]
-fn put_entry<'p>(
-    page: &mut Page,
-    dictionary: Dictionary<'p>,
+#[tactic(auto, unfolding(crate::specs::Entries::mappable_text))]
+fn mappable_word(section: &TextSection<'_, '_>) -> &'static str
+    ensures { result.now ≡ mappable_text (section_view section.now) }
+{
+    if is_mappable(section) { "PDO" } else { "" }
+}
+
+#[tactic(auto, unfolding(crate::specs::Entries::entry_line))]
+fn push_entry_line<'p>(
+    text: &mut Vec<u8>,
+    line: &mut Vec<u8>,
+    part: &mut String,
+    format: Format,
+    node: Option<u8>,
     key: Key,
     section: &'p TextSection<'p, 'p>,
-)
-    ensures { Appended page.old
-        (entry_line dictionary.entry.format dictionary.entry.node key
-        (section_view section.entry.now)) page.new }
+) -> Result<(), AllocError>
+    ensures { OnOk result (text.new.items
+        ≡ text.old.items ++ entry_line format node key (section_view section.entry.now)) }
 {
-    let mappable = words_if(is_mappable(section), "PDO");
-    page.put_line(
-        dictionary.format,
-        dictionary.node,
+    push_line(
+        text,
+        line,
+        part,
+        format,
+        node,
         &[
             Cell(0, Content::Key(key)),
-            Cell(8, Content::Name(section)),
+            Cell(8, Content::Property(b"ParameterName", section)),
             Cell(42, Content::TypeOf(section)),
-            Cell(53, Content::Access(section)),
-            Cell(60, Content::Words(mappable)),
+            Cell(53, Content::Property(b"AccessType", section)),
+            Cell(60, Content::Words(mappable_word(section))),
             Cell(64, Content::Default(section)),
             Cell(87, Content::Limits(section)),
         ],
-    );
+    )
 }
 
 /// The head of a table of entries.
-const TABLE_HEAD: &str =
-    "| Entry | Name | Type | Access | PDO | Default | Limits |\n| --- | --- | --- | --- | --- | --- | --- |\n";
+pub(crate) fn entries_head(format: Format) -> &'static str
+    ensures { result.now ≡ entries_head format }
+{
+    match format {
+        Format::Text =>
+            "Entry   Name                              Type       Access PDO Default                Limits\n",
+        Format::Markdown =>
+            "| Entry | Name | Type | Access | PDO | Default | Limits |\n| --- | --- | --- | --- | --- | --- | --- |\n",
+    }
+}
+
+fn push_all(text: &mut Vec<u8>, parts: &[&str]) -> Result<(), AllocError>
+    ensures { OnOk result
+        (text.new.items ≡ text.old.items ++ flat_map (λ part. part.now) parts.now) }
+{
+    for part in parts {
+        text.extend_from_slice(part.as_bytes())?;
+    }
+    Ok(())
+}
 
 // the heading of an object, and the head of its table
-fn put_heading<'p>(page: &mut Page, index: u16, section: &'p TextSection<'p, 'p>)
-    ensures { Appended page.old (object_heading index (section_view section.entry.now)) page.new }
+#[tactic(auto, unfolding(crate::specs::Entries::object_heading))]
+fn push_heading(
+    text: &mut Vec<u8>,
+    part: &mut String,
+    index: u16,
+    section: &TextSection<'_, '_>,
+) -> Result<(), AllocError>
+    ensures { OnOk result
+        (text.new.items ≡ text.old.items ++ object_heading index (section_view section.now)) }
 {
-    page.put_words("\n### ");
-    page.put_words(word_digits(index).as_str());
-    page.put_words("h ");
-    page.put_escaped(&Content::Name(section));
-    page.put_words("\n\n");
-    page.put_words(TABLE_HEAD);
+    part.clear();
+    push_property(part, section, b"ParameterName")?;
+    push_all(text, &["\n### ", word_digits(index).as_str(), "h "])?;
+    push_cell(text, part.as_bytes())?;
+    push_all(text, &["\n\n", entries_head(Format::Markdown)])
 }
 
 // what comes before the entries of an object
-#[tactic(auto, unfolding(crate::specs::Entries::object_head, crate::specs::Entries::object_line), using(conode_text::proofs::Appending::nothing))]
-fn put_object_head<'p>(
-    page: &mut Page,
+#[tactic(auto, unfolding(crate::specs::Entries::object_head, crate::specs::Entries::object_line))]
+fn push_object_head<'p>(
+    text: &mut Vec<u8>,
+    line: &mut Vec<u8>,
+    part: &mut String,
     format: Format,
     index: u16,
     section: &'p TextSection<'p, 'p>,
-)
-    ensures { Appended page.old (object_head format index (section_view section.entry.now))
-        page.new }
+) -> Result<(), AllocError>
+    ensures { OnOk result (text.new.items
+        ≡ text.old.items ++ object_head format index (section_view section.entry.now)) }
 {
     match format {
-        Format::Text if has_sub_indices(section) => page.put_line(
+        Format::Text if has_sub_indices(section) => push_line(
+            text,
+            line,
+            part,
             Format::Text,
             None,
             &[
                 Cell(0, Content::Index(index)),
-                Cell(8, Content::Name(section)),
+                Cell(8, Content::Property(b"ParameterName", section)),
                 Cell(42, Content::TypeOf(section)),
             ],
         ),
-        Format::Text => {}
-        Format::Markdown => put_heading(page, index, section),
+        Format::Text => Ok(()),
+        Format::Markdown => push_heading(text, part, index, section),
     }
-}
-
-// the entry of an object that has no sub-indices
-#[tactic(auto, using(conode_text::proofs::Appending::nothing))]
-fn put_own_entry<'p>(
-    page: &mut Page,
-    dictionary: Dictionary<'p>,
-    index: u16,
-    section: &'p TextSection<'p, 'p>,
-)
-    ensures { Appended page.old (if has_sub_indices (section_view section.entry.now) then []
-        else entry_line dictionary.entry.format dictionary.entry.node
-        (record { index = index; sub = 0 }) (section_view section.entry.now)) page.new }
-{
-    if has_sub_indices(section) {
-        return;
-    }
-    put_entry(page, dictionary, Key { index, sub: 0 }, section);
-}
-
-// an object, with its entry if it has no sub-indices
-fn put_object<'p>(
-    page: &mut Page,
-    dictionary: Dictionary<'p>,
-    index: u16,
-    section: &'p TextSection<'p, 'p>,
-)
-    ensures { Appended page.old
-        (described dictionary.entry.format dictionary.entry.node (section_view section.entry.now)
-        (Object index)) page.new }
-{
-    put_object_head(page, dictionary.format, index, section);
-    put_own_entry(page, dictionary, index, section);
 }
 
 /// Appends the lines of a section: an object, with its entry if it has no sub-indices, or the entry
 /// of a sub-index.
-#[tactic(auto, using(conode_text::proofs::Appending::nothing))]
-pub(crate) fn put_section<'p>(
-    page: &mut Page,
-    dictionary: Dictionary<'p>,
+pub(crate) fn push_section<'p>(
+    text: &mut Vec<u8>,
+    line: &mut Vec<u8>,
+    part: &mut String,
+    format: Format,
+    node: Option<u8>,
     section: &'p TextSection<'p, 'p>,
-)
-    ensures { Appended page.old
-        (section_text dictionary.entry.format dictionary.entry.node
-        (section_view section.entry.now)) page.new }
+) -> Result<(), AllocError>
+    ensures { OnOk result (text.new.items
+        ≡ text.old.items ++ section_text format node (section_view section.entry.now)) }
 {
-    match section.kind {
-        SectionKind::Object(index) => put_object(page, dictionary, index, section),
-        SectionKind::SubIndex(key) => put_entry(page, dictionary, key, section),
-        _ => {}
-    }
+    let key = match section.kind {
+        SectionKind::Object(index) => {
+            push_object_head(text, line, part, format, index, section)?;
+            if has_sub_indices(section) {
+                return Ok(());
+            }
+            Key { index, sub: 0 }
+        }
+        SectionKind::SubIndex(key) => key,
+        _ => return Ok(()),
+    };
+    push_entry_line(text, line, part, format, node, key, section)
 }

@@ -5,7 +5,6 @@
 mod cells;
 mod chapters;
 mod cob_ids;
-mod dictionary;
 mod entries;
 mod format;
 mod layout;
@@ -13,9 +12,7 @@ mod meaning;
 mod names;
 mod numbers;
 mod ordering;
-mod page;
 mod pdos;
-mod piece;
 mod sections;
 mod service;
 mod texts;

@@ -17,14 +17,13 @@ ghost use Rattle.conode_show_text.specs.Meanings.{
   transmission_text,
 };
 
-use crate::cob_ids::{BIT_30, push_cob_id, sync_name, use_name};
+use crate::cob_ids::{push_identifier, push_pdo_cob_id, sync_name, use_name};
 use crate::names::name_among;
-use crate::piece::Piece;
-use crate::texts::{push_plain, words_if};
+use crate::numbers::{push_between, push_words};
+use crate::texts::push_plain;
 use crate::values::{Word, value_of, word_of};
 use co_sheet_text::TextSection;
 use co_value::Key;
-use conode_text::push_filled;
 use std::alloc::AllocError;
 
 /// The meaning of a number in the communication profile.
@@ -75,18 +74,18 @@ fn push_transmission(text: &mut String, number: u64) -> Result<(), AllocError>
         (string_bytes text.new ≡ string_bytes text.old ++ transmission_text number) }
 {
     if let Some(name) = transmission_name(number) {
-        return text.push_str(name);
+        return push_words(text, name);
     }
-    let number_piece = Piece::Number(number);
     if 240 < number {
-        return push_filled(text, "%: reserved", &[number_piece]);
+        return push_between(text, "", number, ": reserved");
     }
-    push_filled(text, "%: every % SYNCs", &[number_piece, number_piece])
+    push_between(text, "", number, ": every ")?;
+    push_between(text, "", number, " SYNCs")
 }
 
 // a time after the words `before`, or the words `off` for 0; in ms, with tenths if the number is in
 // 100 µs
-#[tactic(auto, unfolding(crate::specs::Meanings::time_text, crate::specs::Meanings::millis_text, conode_text::specs::Filled::filled))]
+#[tactic(auto, unfolding(crate::specs::Meanings::time_text, crate::specs::Meanings::millis_text))]
 fn push_time(
     text: &mut String,
     off: &str,
@@ -98,21 +97,13 @@ fn push_time(
         ≡ string_bytes text.old ++ time_text off.now before.now in_tenths number) }
 {
     if number == 0 {
-        return text.push_str(off);
+        return push_words(text, off);
     }
-    let before = Piece::Words(before);
     if in_tenths {
-        push_filled(
-            text,
-            "%%.% ms",
-            &[
-                before,
-                Piece::Number(number / 10),
-                Piece::Number(number % 10),
-            ],
-        )
+        push_between(text, before, number / 10, ".")?;
+        push_between(text, "", number % 10, " ms")
     } else {
-        push_filled(text, "%% ms", &[before, Piece::Number(number)])
+        push_between(text, before, number, " ms")
     }
 }
 
@@ -128,7 +119,11 @@ fn is_consumer_used(number: u64) -> bool
 fn consumer_reserved(number: u64) -> &'static str
     ensures { result.now ≡ consumer_reserved number }
 {
-    words_if(number / 0x100_0000 != 0, ", bits 31 to 24 set")
+    if number / 0x100_0000 == 0 {
+        ""
+    } else {
+        ", bits 31 to 24 set"
+    }
 }
 
 #[tactic(auto, unfolding(crate::specs::Meanings::consumer_text))]
@@ -136,17 +131,11 @@ fn push_consumer(text: &mut String, number: u64) -> Result<(), AllocError>
     ensures { OnOk result (string_bytes text.new ≡ string_bytes text.old ++ consumer_text number) }
 {
     if !is_consumer_used(number) {
-        return text.push_str("not used");
+        return push_words(text, "not used");
     }
-    push_filled(
-        text,
-        "node %, within % ms%",
-        &[
-            Piece::Number(number / 0x1_0000 % 0x100),
-            Piece::Number(number % 0x1_0000),
-            Piece::Words(consumer_reserved(number)),
-        ],
-    )
+    push_between(text, "node ", number / 0x1_0000 % 0x100, ", within ")?;
+    push_between(text, "", number % 0x1_0000, " ms")?;
+    push_words(text, consumer_reserved(number))
 }
 
 /// The key that a word of a mapping names (CiA 301, 7.5.2.36).
@@ -159,40 +148,31 @@ pub fn mapped_key(number: u64) -> Key
     }
 }
 
-#[tactic(auto, unfolding(crate::specs::Meanings::mapped_text, conode_text::specs::Filled::filled))]
+#[tactic(auto, unfolding(crate::specs::Meanings::mapped_text))]
 fn push_mapped(text: &mut String, number: u64) -> Result<(), AllocError>
     ensures { OnOk result (string_bytes text.new ≡ string_bytes text.old ++ mapped_text number) }
 {
-    push_filled(
-        text,
-        "%, % bits",
-        &[
-            Piece::Key(mapped_key(number)),
-            Piece::Number(number % 0x100),
-        ],
-    )
+    let key = mapped_key(number).text();
+    push_words(text, key.as_str())?;
+    push_between(text, ", ", number % 0x100, " bits")
 }
 
-#[tactic(auto, unfolding(crate::specs::CobIds::pdo_cob_id_text, crate::specs::CobIds::cob_id_text, crate::specs::CobIds::sync_text))]
+#[tactic(auto, unfolding(crate::specs::CobIds::cob_id_text, crate::specs::CobIds::sync_text))]
 fn push_meaning(text: &mut String, meaning: Meaning, word: Word) -> Result<(), AllocError>
     ensures { OnOk result
         (string_bytes text.new ≡ string_bytes text.old ++ meaning_text meaning word) }
 {
-    let number = word.number;
     match meaning {
-        Meaning::PdoCobId => {
-            let rtr = words_if(number / BIT_30 % 2 == 1, ", no RTR");
-            push_cob_id(text, number, use_name(word), rtr)
-        }
-        Meaning::CobId => push_cob_id(text, number, use_name(word), ""),
-        Meaning::SyncCobId => push_cob_id(text, number, sync_name(word), ""),
-        Meaning::Transmission => push_transmission(text, number),
-        Meaning::PdoInhibit => push_time(text, "", "inhibit ", true, number),
-        Meaning::EventTimer => push_time(text, "", "event ", false, number),
-        Meaning::EmcyInhibit => push_time(text, "none", "", true, number),
-        Meaning::Consumer => push_consumer(text, number),
-        Meaning::Producer => push_time(text, "off", "every ", false, number),
-        Meaning::Mapped => push_mapped(text, number),
+        Meaning::PdoCobId => push_pdo_cob_id(text, word),
+        Meaning::CobId => push_identifier(text, word.number, use_name(word)),
+        Meaning::SyncCobId => push_identifier(text, word.number, sync_name(word)),
+        Meaning::Transmission => push_transmission(text, word.number),
+        Meaning::PdoInhibit => push_time(text, "", "inhibit ", true, word.number),
+        Meaning::EventTimer => push_time(text, "", "event ", false, word.number),
+        Meaning::EmcyInhibit => push_time(text, "none", "", true, word.number),
+        Meaning::Consumer => push_consumer(text, word.number),
+        Meaning::Producer => push_time(text, "off", "every ", false, word.number),
+        Meaning::Mapped => push_mapped(text, word.number),
     }
 }
 
@@ -213,6 +193,8 @@ pub(crate) fn push_said(
     let Some(word) = word_of(node, property.value) else {
         return push_plain(text, property.value);
     };
-    text.push_str(words_if(word.relative, "$NODEID+"))?;
+    if word.relative {
+        push_words(text, "$NODEID+")?;
+    }
     push_meaning(text, meaning, word)
 }

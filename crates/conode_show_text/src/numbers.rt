@@ -1,31 +1,33 @@
-//! Numbers in both bases.
+//! Numbers in both bases. Each function appends a text. `Err`: out of memory; a part of the text
+//! may be there.
 
-ghost use Rattle.std.specs.Prelude.{
-  ◌≡◌,
-  ◌≤◌,
-  ◌+◌,
-  ◌++◌,
-  ◌*◌,
-  ◌^◌,
-  option_and_then,
-  pos,
-  OnOk,
-  string_bytes,
-};
+ghost use Rattle.std.specs.Prelude.{◌≡◌, ◌≤◌, ◌++◌, ◌*◌, ◌^◌, pos, decimal, OnOk, string_bytes};
 ghost use Rattle.std.specs.Fmt.{signed_decimal};
 ghost use Rattle.co_value.specs.Numbers.{bits_of};
-ghost use Rattle.conode_show_text.specs.Numbers.{
-  hex_text,
-  if_small,
-  in_parentheses,
-  is_one_digit,
-  number_text,
-};
+ghost use Rattle.conode_show_text.specs.Numbers.{hex_text, if_small, is_one_digit, number_text};
 
 use std::alloc::AllocError;
 
-/// Appends a number in hexadecimal digits with `h` between two texts. `Err`: out of memory; a part
-/// of the text may be there.
+pub(crate) fn push_words(text: &mut String, words: &str) -> Result<(), AllocError>
+    ensures { OnOk result (string_bytes text.new ≡ string_bytes text.old ++ words.now) }
+{
+    text.push_str(words)
+}
+
+/// Appends a number in decimal between two texts.
+pub(crate) fn push_between(
+    text: &mut String,
+    before: &str,
+    number: u64,
+    after: &str,
+) -> Result<(), AllocError>
+    ensures { OnOk result (string_bytes text.new
+        ≡ string_bytes text.old ++ before.now ++ decimal number ++ after.now) }
+{
+    write!(text, "{before}{number}{after}")
+}
+
+/// Appends a number in hexadecimal digits with `h` between two texts.
 #[tactic(auto, unfolding(crate::specs::Numbers::hex_text))]
 pub(crate) fn push_hex_between(
     text: &mut String,
@@ -72,25 +74,28 @@ fn is_one_digit(number: i128) -> bool
     0 <= number && number < 10
 }
 
-/// The bits of a number of a type of `width` bytes that are printed after it: none if they are the
-/// same digit, or more than 64.
-#[tactic(auto, unfolding(crate::specs::Numbers::number_text, crate::specs::Numbers::in_parentheses))]
-pub(crate) fn shown_bits(width: usize, number: i128) -> Option<u64>
-    requires { width ≤ 8 }
-    ensures { signed_decimal number ++ in_parentheses result ≡ number_text width number }
+/// Appends a number in decimal.
+pub(crate) fn push_decimal_of(text: &mut String, number: i128) -> Result<(), AllocError>
+    ensures { OnOk result
+        (string_bytes text.new ≡ string_bytes text.old ++ signed_decimal number) }
 {
-    if is_one_digit(number) {
-        return None;
-    }
-    small_bits(width, number)
+    write!(text, "{number}")
 }
 
-/// The sum of a number with a node-ID, of at most 64 bits.
-pub(crate) fn sum_of(node: Option<u8>, addend: u64) -> Option<u64>
-    ensures { result ≡ option_and_then (λ id. if_small (addend + id)) node }
+/// Appends a number of a type of `width` bytes: in decimal, and in hexadecimal digits if these
+/// differ.
+#[tactic(auto, unfolding(crate::specs::Numbers::number_text, crate::specs::Numbers::in_parentheses))]
+pub(crate) fn push_number(text: &mut String, width: usize, number: i128) -> Result<(), AllocError>
+    requires { width ≤ 8 }
+    ensures { OnOk result
+        (string_bytes text.new ≡ string_bytes text.old ++ number_text width number) }
 {
-    match node {
-        Some(node_id) => addend.checked_add(u64::from(node_id)),
-        None => None,
+    push_decimal_of(text, number)?;
+    if is_one_digit(number) {
+        return Ok(());
     }
+    let Some(bits) = small_bits(width, number) else {
+        return Ok(());
+    };
+    push_hex_between(text, " (", bits, ")")
 }

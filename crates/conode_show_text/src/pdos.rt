@@ -1,6 +1,6 @@
 //! PDOs in words: COB-ID, transmission type, timers, what they map (CiA 301, 7.5.2.35 to 7.5.2.38).
 
-ghost use Rattle.std.specs.Prelude.{◌≡◌, ◌≤◌, ◌++◌, map, option_map, OnOk, string_bytes};
+ghost use Rattle.std.specs.Prelude.{◌≡◌, ◌≤◌, ◌++◌, ℕ, Option, map, option_map, OnOk, string_bytes};
 ghost use Rattle.std.specs.Option.{option_copied};
 ghost use Rattle.co_sheet_text.specs.Views.{section_view};
 ghost use Rattle.conode_show_text.specs.Cells.{cell_text};
@@ -12,26 +12,22 @@ ghost use Rattle.conode_show_text.specs.Pdos.{
   mapped_lines,
   mapped_name,
   mapping_count,
-  pdo_line,
   pdo_lines,
   pdo_name,
   pdo_text,
   said_at,
   section_word,
 };
-ghost use Rattle.conode_text.specs.Appended.{Appended};
 
-use crate::cells::{Cell, Content};
-use crate::dictionary::Dictionary;
-use crate::meaning::{Meaning, mapped_key, push_said};
-use crate::page::Page;
-use crate::piece::Piece;
+use crate::cells::{Cell, Content, push_line};
+use crate::format::Format;
+use crate::meaning::{Meaning, mapped_key};
+use crate::numbers::push_between;
 use crate::values::{Word, value_of, word_of};
 use co_profile::IndexRange;
 use co_sheet::section_at;
 use co_sheet_text::{SectionKind, TextSection};
 use co_value::Key;
-use conode_text::push_filled;
 use std::alloc::AllocError;
 
 /// Whether an entry is the COB-ID of a PDO.
@@ -45,35 +41,26 @@ pub fn is_pdo_cob_id(key: Key) -> bool
 
 /// Appends a PDO's name with its number, from 1, by the index of its communication parameter.
 /// `Err`: out of memory; a part of the text may be there.
-#[tactic(auto, unfolding(crate::specs::Pdos::pdo_name, conode_text::specs::Filled::filled))]
+#[tactic(auto, unfolding(crate::specs::Pdos::pdo_name))]
 pub(crate) fn push_pdo_name(text: &mut String, index: u16) -> Result<(), AllocError>
     ensures { OnOk result (string_bytes text.new ≡ string_bytes text.old ++ pdo_name index) }
 {
-    let (words, before) = if IndexRange::RPDO_COMMUNICATION.contains(index) {
-        ("RPDO %", 0x13FF)
+    if IndexRange::RPDO_COMMUNICATION.contains(index) {
+        push_between(text, "RPDO ", u64::from(index.saturating_sub(0x13FF)), "")
     } else {
-        ("TPDO %", 0x17FF)
-    };
-    let number = Piece::Number(u64::from(index.saturating_sub(before)));
-    push_filled(text, words, &[number])
+        push_between(text, "TPDO ", u64::from(index.saturating_sub(0x17FF)), "")
+    }
 }
 
-/// Appends the value of a sub-index in words, nothing if it isn't there. `Err`: out of memory; a
-/// part of the text may be there.
+// the value of a sub-index in words
 #[tactic(auto, unfolding(crate::specs::Pdos::said_at))]
-pub(crate) fn push_said_at(
-    text: &mut String,
-    meaning: Meaning,
-    node: Option<u8>,
-    sections: &[TextSection],
-    key: Key,
-) -> Result<(), AllocError>
-    ensures { OnOk result (string_bytes text.new ≡ string_bytes text.old
-        ++ said_at meaning node (map section_view sections.now) key) }
+fn said_at<'p>(meaning: Meaning, sections: &'p [TextSection<'p, 'p>], key: Key) -> Content<'p>
+    ensures { (node : Option ℕ) → cell_text node result
+        ≡ said_at meaning node (map section_view sections.entry.now) key }
 {
     match section_at(sections, SectionKind::SubIndex(key)) {
-        Some(section) => push_said(text, meaning, node, section),
-        None => Ok(()),
+        Some(section) => Content::Said(meaning, section),
+        None => Content::Words(""),
     }
 }
 
@@ -116,7 +103,7 @@ fn mapped_name<'p>(
         return Content::Words("");
     };
     match entry_section(sections, mapped_key(word.number)) {
-        Some(entry) => Content::Name(entry),
+        Some(entry) => Content::Property(b"ParameterName", entry),
         None => Content::Words(""),
     }
 }
@@ -148,116 +135,118 @@ pub fn is_counted(index: u16, count: u64, kind: SectionKind) -> bool
 }
 
 // the line of a section, if it is a word that counts in the mapping
-#[tactic(auto, unfolding(crate::specs::Pdos::mapped_line), using(conode_text::proofs::Appending::nothing))]
-fn put_if_counted<'p>(
-    page: &mut Page,
-    dictionary: Dictionary<'p>,
+#[tactic(auto, unfolding(crate::specs::Pdos::mapped_line))]
+fn push_if_counted<'p>(
+    text: &mut Vec<u8>,
+    line: &mut Vec<u8>,
+    part: &mut String,
+    format: Format,
+    node: Option<u8>,
+    sections: &'p [TextSection<'p, 'p>],
     index: u16,
     count: u64,
     section: &'p TextSection<'p, 'p>,
-)
-    ensures { Appended page.old
-        (counted_line dictionary.entry.format dictionary.entry.node
-        (map section_view dictionary.entry.sections.now) index count
-        (section_view section.entry.now)) page.new }
+) -> Result<(), AllocError>
+    ensures { OnOk result (text.new.items ≡ text.old.items ++ counted_line format node
+        (map section_view sections.entry.now) index count (section_view section.entry.now)) }
 {
     if !is_counted(index, count, section.kind) {
-        return;
+        return Ok(());
     }
-    let node = dictionary.node;
-    page.put_line(
-        dictionary.format,
+    push_line(
+        text,
+        line,
+        part,
+        format,
         node,
         &[
             Cell(0, Content::Words("")),
             Cell(8, Content::Said(Meaning::Mapped, section)),
-            Cell(38, mapped_name(node, dictionary.sections, section)),
+            Cell(38, mapped_name(node, sections, section)),
             Cell(72, Content::Words("")),
             Cell(88, Content::Words("")),
         ],
-    );
+    )
 }
 
 // the lines of what a mapping maps
-fn put_mapped_lines(page: &mut Page, dictionary: Dictionary<'_>, index: u16)
-    ensures { Appended page.old
-        (mapped_lines dictionary.entry.format dictionary.entry.node
-        (map section_view dictionary.entry.sections.now) index
-        (mapping_count dictionary.entry.node (map section_view dictionary.entry.sections.now)
-        index)) page.new }
-{
-    let count = mapping_count(dictionary.node, dictionary.sections, index);
-    for section in dictionary.sections {
-        put_if_counted(page, dictionary, index, count, section);
-    }
-}
-
-// a PDO before what it maps
-#[tactic(auto, unfolding(crate::specs::Pdos::pdo_line))]
-fn put_pdo_line<'p>(
-    page: &mut Page,
-    dictionary: Dictionary<'p>,
+#[tactic(auto, unfolding(crate::specs::Pdos::mapped_lines))]
+fn push_mapped_lines<'p>(
+    text: &mut Vec<u8>,
+    line: &mut Vec<u8>,
+    part: &mut String,
+    format: Format,
+    node: Option<u8>,
+    sections: &'p [TextSection<'p, 'p>],
     index: u16,
-    section: &'p TextSection<'p, 'p>,
-)
-    ensures { Appended page.old
-        (pdo_line dictionary.entry.format dictionary.entry.node
-        (map section_view dictionary.entry.sections.now) index (section_view section.entry.now))
-        page.new }
+    count: u64,
+) -> Result<(), AllocError>
+    ensures { OnOk result (text.new.items ≡ text.old.items ++ mapped_lines format node
+        (map section_view sections.entry.now) index count) }
 {
-    let sections = dictionary.sections;
-    let transmission = Key { index, sub: 2 };
-    let inhibit = Key { index, sub: 3 };
-    let timer = Key { index, sub: 5 };
-    page.put_line(
-        dictionary.format,
-        dictionary.node,
-        &[
-            Cell(0, Content::Pdo(index)),
-            Cell(8, Content::Said(Meaning::PdoCobId, section)),
-            Cell(
-                38,
-                Content::SaidAt(Meaning::Transmission, sections, transmission),
-            ),
-            Cell(72, Content::SaidAt(Meaning::PdoInhibit, sections, inhibit)),
-            Cell(88, Content::SaidAt(Meaning::EventTimer, sections, timer)),
-        ],
-    );
+    for section in sections {
+        push_if_counted(
+            text, line, part, format, node, sections, index, count, section,
+        )?;
+    }
+    Ok(())
 }
 
 // a PDO, by the section of its COB-ID
-fn put_pdo_lines<'p>(
-    page: &mut Page,
-    dictionary: Dictionary<'p>,
+#[tactic(auto, unfolding(crate::specs::Pdos::pdo_lines, crate::specs::Pdos::pdo_line))]
+fn push_pdo_lines<'p>(
+    text: &mut Vec<u8>,
+    line: &mut Vec<u8>,
+    part: &mut String,
+    format: Format,
+    node: Option<u8>,
+    sections: &'p [TextSection<'p, 'p>],
     index: u16,
     section: &'p TextSection<'p, 'p>,
-)
+) -> Result<(), AllocError>
     requires { index ≤ 0x1BFF }
-    ensures { Appended page.old
-        (pdo_lines dictionary.entry.format dictionary.entry.node
-        (map section_view dictionary.entry.sections.now) index (section_view section.entry.now))
-        page.new }
+    ensures { OnOk result (text.new.items ≡ text.old.items ++ pdo_lines format node
+        (map section_view sections.entry.now) index (section_view section.entry.now)) }
 {
-    put_pdo_line(page, dictionary, index, section);
-    put_mapped_lines(page, dictionary, index + 0x200);
+    let transmission = Key { index, sub: 2 };
+    let inhibit = Key { index, sub: 3 };
+    let timer = Key { index, sub: 5 };
+    push_line(
+        text,
+        line,
+        part,
+        format,
+        node,
+        &[
+            Cell(0, Content::Pdo(index)),
+            Cell(8, Content::Said(Meaning::PdoCobId, section)),
+            Cell(38, said_at(Meaning::Transmission, sections, transmission)),
+            Cell(72, said_at(Meaning::PdoInhibit, sections, inhibit)),
+            Cell(88, said_at(Meaning::EventTimer, sections, timer)),
+        ],
+    )?;
+    let mapping = index + 0x200;
+    let count = mapping_count(node, sections, mapping);
+    push_mapped_lines(text, line, part, format, node, sections, mapping, count)
 }
 
 /// Appends the lines of a PDO, by the section of its COB-ID; nothing for any other section.
-#[tactic(auto, using(conode_text::proofs::Appending::nothing))]
-pub(crate) fn put_pdo<'p>(
-    page: &mut Page,
-    dictionary: Dictionary<'p>,
+pub(crate) fn push_pdo<'p>(
+    text: &mut Vec<u8>,
+    line: &mut Vec<u8>,
+    part: &mut String,
+    format: Format,
+    node: Option<u8>,
+    sections: &'p [TextSection<'p, 'p>],
     section: &'p TextSection<'p, 'p>,
-)
-    ensures { Appended page.old
-        (pdo_text dictionary.entry.format dictionary.entry.node
-        (map section_view dictionary.entry.sections.now) (section_view section.entry.now))
-        page.new }
+) -> Result<(), AllocError>
+    ensures { OnOk result (text.new.items ≡ text.old.items ++ pdo_text format node
+        (map section_view sections.entry.now) (section_view section.entry.now)) }
 {
     match section.kind {
         SectionKind::SubIndex(key) if is_pdo_cob_id(key) => {
-            put_pdo_lines(page, dictionary, key.index, section);
+            push_pdo_lines(text, line, part, format, node, sections, key.index, section)
         }
-        _ => {}
+        _ => Ok(()),
     }
 }

@@ -1,25 +1,22 @@
 //! SYNC, EMCY, heartbeats and SDO channels in words (CiA 301, 7.5.2).
 
-ghost use Rattle.std.specs.Prelude.{◌≡◌, ◌++◌, ◌∷◌, [], decimal, OnOk, string_bytes};
+ghost use Rattle.std.specs.Prelude.{◌≡◌, ◌++◌, OnOk, string_bytes};
 ghost use Rattle.co_sheet_text.specs.Views.{section_view};
 ghost use Rattle.conode_show_text.specs.Services.{
+  channel_name,
   key_of,
   service_meaning,
   service_name,
   service_of,
   service_text,
 };
-ghost use Rattle.conode_text.specs.Appended.{Appended};
-ghost use Rattle.conode_text.specs.Filled.{filled};
 
-use crate::cells::{Cell, Content};
-use crate::dictionary::Dictionary;
+use crate::cells::{Cell, Content, push_line};
+use crate::format::Format;
 use crate::meaning::Meaning;
-use crate::page::Page;
-use crate::piece::Piece;
+use crate::numbers::{push_between, push_words};
 use co_sheet_text::{SectionKind, TextSection};
 use co_value::Key;
-use conode_text::push_filled;
 use std::alloc::AllocError;
 
 /// The service of an entry in the communication profile.
@@ -78,29 +75,38 @@ impl Service {
     }
 }
 
-// the name of a service, with a place for the number of an SDO channel
-fn name_of(service: Service) -> (&'static str, u16)
-    ensures { filled result.0.now (decimal result.1 ∷ []) ≡ service_name service }
+#[tactic(auto, unfolding(crate::specs::Services::channel_name))]
+fn push_channel(text: &mut String, end: &str, channel: u16, way: &str) -> Result<(), AllocError>
+    ensures { OnOk result
+        (string_bytes text.new ≡ string_bytes text.old ++ channel_name end.now channel way.now) }
 {
-    match service {
-        Service::Sync => ("SYNC", 0),
-        Service::Emcy => ("EMCY", 0),
-        Service::EmcyInhibitTime => ("EMCY inhibit time", 0),
-        Service::HeartbeatConsumer => ("Heartbeat consumer", 0),
-        Service::HeartbeatProducer => ("Heartbeat producer", 0),
-        Service::SdoRequests(channel) => ("SDO %, client to server", channel),
-        Service::SdoResponses(channel) => ("SDO %, server to client", channel),
-        Service::ClientRequests(channel) => ("SDO client %, client to server", channel),
-        Service::ClientResponses(channel) => ("SDO client %, server to client", channel),
-    }
+    push_between(text, end, u64::from(channel), way)
 }
 
 /// Appends the name of a service. `Err`: out of memory; a part of the text may be there.
+#[tactic(auto, unfolding(crate::specs::Services::service_name))]
 pub(crate) fn push_service_name(text: &mut String, service: Service) -> Result<(), AllocError>
     ensures { OnOk result (string_bytes text.new ≡ string_bytes text.old ++ service_name service) }
 {
-    let (words, channel) = name_of(service);
-    push_filled(text, words, &[Piece::Number(u64::from(channel))])
+    match service {
+        Service::Sync => push_words(text, "SYNC"),
+        Service::Emcy => push_words(text, "EMCY"),
+        Service::EmcyInhibitTime => push_words(text, "EMCY inhibit time"),
+        Service::HeartbeatConsumer => push_words(text, "Heartbeat consumer"),
+        Service::HeartbeatProducer => push_words(text, "Heartbeat producer"),
+        Service::SdoRequests(channel) => {
+            push_channel(text, "SDO ", channel, ", client to server")
+        }
+        Service::SdoResponses(channel) => {
+            push_channel(text, "SDO ", channel, ", server to client")
+        }
+        Service::ClientRequests(channel) => {
+            push_channel(text, "SDO client ", channel, ", client to server")
+        }
+        Service::ClientResponses(channel) => {
+            push_channel(text, "SDO client ", channel, ", server to client")
+        }
+    }
 }
 
 /// The key of the entry that a section describes.
@@ -115,29 +121,34 @@ pub fn key_of(kind: SectionKind) -> Option<Key>
 }
 
 /// Appends the line of an entry of a service; nothing for any other section.
-#[tactic(auto, unfolding(crate::specs::Services::service_line), using(conode_text::proofs::Appending::nothing))]
-pub(crate) fn put_service<'p>(
-    page: &mut Page,
-    dictionary: Dictionary<'p>,
+#[tactic(auto, unfolding(crate::specs::Services::service_line))]
+pub(crate) fn push_service<'p>(
+    text: &mut Vec<u8>,
+    line: &mut Vec<u8>,
+    part: &mut String,
+    format: Format,
+    node: Option<u8>,
     section: &'p TextSection<'p, 'p>,
-)
-    ensures { Appended page.old
-        (service_text dictionary.entry.format dictionary.entry.node
-        (section_view section.entry.now)) page.new }
+) -> Result<(), AllocError>
+    ensures { OnOk result (text.new.items
+        ≡ text.old.items ++ service_text format node (section_view section.entry.now)) }
 {
     let Some(key) = key_of(section.kind) else {
-        return;
+        return Ok(());
     };
     let Some(service) = Service::of(key) else {
-        return;
+        return Ok(());
     };
-    page.put_line(
-        dictionary.format,
-        dictionary.node,
+    push_line(
+        text,
+        line,
+        part,
+        format,
+        node,
         &[
             Cell(0, Content::Key(key)),
             Cell(8, Content::Service(service)),
             Cell(38, Content::Said(service.meaning(), section)),
         ],
-    );
+    )
 }

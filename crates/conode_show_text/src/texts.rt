@@ -1,15 +1,7 @@
-//! Texts of a sheet. Each function with a text appends to it. `Err`: out of memory; a part of the
-//! text may be there.
+//! Texts of a sheet. Each function appends a text. `Err`: out of memory; a part of the text may be
+//! there.
 
-ghost use Rattle.std.specs.Prelude.{
-  ◌≡◌,
-  ◌++◌,
-  [],
-  if◌then◌else◌,
-  not,
-  OnOk,
-  string_bytes,
-};
+ghost use Rattle.std.specs.Prelude.{◌≡◌, ◌++◌, OnOk, not, string_bytes};
 ghost use Rattle.std.specs.List.{flat_map, list_all};
 ghost use Rattle.std.specs.Option.{option_copied};
 ghost use Rattle.co_sheet_text.specs.Views.{section_view};
@@ -21,17 +13,11 @@ ghost use Rattle.conode_show_text.specs.Texts.{
   property_text,
 };
 
+use crate::numbers::push_words;
 use co_sheet_text::TextSection;
 use co_text::push_byte;
 use std::alloc::AllocError;
 use std::str;
-
-/// These words if a test holds, else none.
-pub(crate) fn words_if(holds: bool, words: &'static str) -> &'static str
-    ensures { result.now ≡ if holds then words.now else [] }
-{
-    if holds { words } else { "" }
-}
 
 // whether a text has no control character
 fn has_no_control(text: &[u8]) -> bool
@@ -59,7 +45,7 @@ fn push_escaped_byte(text: &mut String, byte: u8) -> Result<(), AllocError>
     if 32 <= byte && byte <= 126 {
         return text.push(byte as char);
     }
-    text.push_str("\\x")?;
+    push_words(text, "\\x")?;
     push_byte(text, byte)
 }
 
@@ -80,7 +66,7 @@ pub(crate) fn push_plain(text: &mut String, bytes: &[u8]) -> Result<(), AllocErr
     ensures { OnOk result (string_bytes text.new ≡ string_bytes text.old ++ plain_text bytes.now) }
 {
     match if_plain(bytes) {
-        Some(plain) => text.push_str(plain),
+        Some(plain) => push_words(text, plain),
         None => push_escaped(text, bytes),
     }
 }

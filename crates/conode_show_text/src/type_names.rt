@@ -1,16 +1,13 @@
 //! The names of data types.
 
-ghost use Rattle.std.specs.Prelude.{◌≡◌};
+ghost use Rattle.std.specs.Prelude.{◌≡◌, ◌++◌, OnOk, string_bytes};
 ghost use Rattle.std.specs.Option.{option_copied};
-ghost use Rattle.co_sheet_text.specs.Views.{section_view};
-ghost use Rattle.conode_show_text.specs.Entries.{entry_type, type_name, type_names, type_text};
+ghost use Rattle.conode_show_text.specs.Entries.{type_name, type_names};
 ghost use Rattle.conode_show_text.specs.Names.{name_among};
-ghost use Rattle.conode_show_text.specs.Pieces.{piece_text};
 
 use crate::names::name_among;
-use crate::piece::Piece;
-use crate::sections::object_code;
-use co_sheet_text::TextSection;
+use crate::numbers::{push_hex_between, push_words};
+use std::alloc::AllocError;
 
 /// Data types by their codes (CiA 301, 7.4.7.1).
 const TYPE_NAMES: [(u64, &str); 25] = [
@@ -47,42 +44,13 @@ fn known_name(code: u64) -> Option<&'static str>
     name_among(code, &TYPE_NAMES)
 }
 
-// the name of a data type, or its number if the code has no name
+/// Appends the name of a data type, or its number if the code has no name.
 #[tactic(auto, unfolding(crate::specs::Entries::type_name))]
-fn type_name(code: u64) -> Piece<'static>
-    ensures { piece_text result ≡ type_name code }
+pub(crate) fn push_type_name(text: &mut String, code: u64) -> Result<(), AllocError>
+    ensures { OnOk result (string_bytes text.new ≡ string_bytes text.old ++ type_name code) }
 {
     match known_name(code) {
-        Some(name) => Piece::Words(name),
-        None => Piece::TypeCode(code),
-    }
-}
-
-// the type of an entry
-#[tactic(auto, unfolding(crate::specs::Entries::entry_type))]
-fn entry_type<'a>(section: &TextSection<'_, 'a>) -> Piece<'a>
-    ensures { piece_text result ≡ entry_type (section_view section.now) }
-{
-    let Some(property) = section.property(b"DataType") else {
-        return match object_code(section) {
-            Some(2) => Piece::Words("DOMAIN"),
-            _ => Piece::Words(""),
-        };
-    };
-    match property.number() {
-        Some(code) => type_name(code),
-        None => Piece::Plain(property.value),
-    }
-}
-
-/// The type of an object with sub-indices, or of an entry.
-#[tactic(auto, unfolding(crate::specs::Entries::type_text))]
-pub(crate) fn type_piece<'a>(section: &TextSection<'_, 'a>) -> Piece<'a>
-    ensures { piece_text result ≡ type_text (section_view section.now) }
-{
-    match object_code(section) {
-        Some(8) => Piece::Words("ARRAY"),
-        Some(9) => Piece::Words("RECORD"),
-        _ => entry_type(section),
+        Some(name) => push_words(text, name),
+        None => push_hex_between(text, "type ", code, ""),
     }
 }

@@ -4,19 +4,16 @@
 ghost use Rattle.std.specs.Prelude.{
   ◌≡◌,
   ◌++◌,
+  ◌+◌,
   ◌≤◌,
-  ◌&&◌,
-  ◌||◌,
-  [],
-  codes,
-  if◌then◌else◌,
   OnOk,
   option_map,
+  option_and_then,
   string_bytes,
 };
 ghost use Rattle.co_sheet_text.specs.Views.{property_view, section_view};
 ghost use Rattle.co_sheet.specs.Views.{default_view};
-ghost use Rattle.conode_show_text.specs.Pieces.{piece_text};
+ghost use Rattle.conode_show_text.specs.Numbers.{if_small};
 ghost use Rattle.conode_show_text.specs.Values.{
   default_text,
   known_text,
@@ -27,21 +24,21 @@ ghost use Rattle.conode_show_text.specs.Values.{
   numeric_value,
   property_value,
   small_number,
+  sum_text,
   type_of,
+  unnumbered_text,
   value_number,
   value_of,
   word_from,
   word_of,
 };
 
-use crate::numbers::shown_bits;
-use crate::piece::Piece;
-use crate::texts::words_if;
+use crate::numbers::{push_decimal_of, push_hex_between, push_number, push_words};
+use crate::texts::push_plain;
 use co_sheet::{data_type_with, numeric_default};
 use co_sheet_rows::Preset;
 use co_sheet_text::{Property, TextSection, signed_numeral};
 use co_value::DataType;
-use conode_text::push_filled;
 use std::alloc::AllocError;
 
 /// A number of the communication profile, of at most 32 bits.
@@ -63,26 +60,66 @@ fn numeric_value(data_type: DataType, text: &[u8]) -> Preset<'static>
     }
 }
 
-// a numeric value of so many bytes; any other text as it is
+// the sum with a node-ID, of at most 64 bits
+fn sum_of(node: Option<u8>, addend: u64) -> Option<u64>
+    ensures { result ≡ option_and_then (λ id. if_small (addend + id)) node }
+{
+    match node {
+        Some(node_id) => addend.checked_add(u64::from(node_id)),
+        None => None,
+    }
+}
+
+#[tactic(auto, unfolding(crate::specs::Values::sum_text))]
+fn push_sum(text: &mut String, node: Option<u8>, addend: u64) -> Result<(), AllocError>
+    ensures { OnOk result (string_bytes text.new ≡ string_bytes text.old ++ sum_text node addend) }
+{
+    push_words(text, "$NODEID")?;
+    if addend != 0 {
+        push_hex_between(text, "+", addend, "")?;
+    }
+    match sum_of(node, addend) {
+        Some(sum) => push_hex_between(text, " = ", sum, ""),
+        None => Ok(()),
+    }
+}
+
 #[tactic(auto, unfolding(crate::specs::Values::known_text))]
-fn known_piece<'a>(
+fn push_known(
+    text: &mut String,
     node: Option<u8>,
     width: usize,
-    value: &'a [u8],
+    value: &[u8],
     known: Preset<'static>,
-) -> Piece<'a>
+) -> Result<(), AllocError>
     requires { width ≤ 8 }
-    ensures { piece_text result ≡ known_text node width value.entry.now (default_view known.entry) }
+    ensures { OnOk result (string_bytes text.new
+        ≡ string_bytes text.old ++ known_text node width value.now (default_view known.entry)) }
 {
     match known {
-        Preset::Number(number) => Piece::Value(number, shown_bits(width, number)),
-        Preset::NodeId(addend) => Piece::Sum(node, addend),
-        Preset::Absent | Preset::Text(_) | Preset::Pairs(_) => Piece::Plain(value),
+        Preset::Number(number) => push_number(text, width, number),
+        Preset::NodeId(addend) => push_sum(text, node, addend),
+        Preset::Absent | Preset::Text(_) | Preset::Pairs(_) => push_plain(text, value),
     }
 }
 
 /// The code of VISIBLE_STRING (CiA 301, 7.4.7.1).
 const VISIBLE_STRING: u16 = 0x09;
+
+// a value of a type that isn't numeric
+#[tactic(auto, unfolding(crate::specs::Values::unnumbered_text, crate::specs::Values::quoted))]
+fn push_unnumbered(text: &mut String, data_type: DataType, value: &[u8]) -> Result<(), AllocError>
+    ensures { OnOk result (string_bytes text.new
+        ≡ string_bytes text.old ++ unnumbered_text data_type value.now) }
+{
+    if data_type.code() == VISIBLE_STRING {
+        push_words(text, "\"")?;
+        push_plain(text, value)?;
+        push_words(text, "\"")
+    } else {
+        push_plain(text, value)
+    }
+}
 
 fn number_for(node: Option<u8>, value: Preset<'static>) -> Option<i128>
     ensures { result ≡ number_for node (default_view value.entry) }
@@ -117,39 +154,32 @@ pub fn type_of(section: &TextSection<'_, '_>) -> Option<DataType>
 }
 
 // the value of a property, nothing if there is none
-#[tactic(auto, unfolding(crate::specs::Values::property_value, crate::specs::Values::value_text, crate::specs::Values::unnumbered_text))]
-fn value_piece<'a>(
+#[tactic(auto, unfolding(crate::specs::Values::property_value, crate::specs::Values::value_text))]
+fn push_value_of(
+    text: &mut String,
     node: Option<u8>,
     data_type: Option<DataType>,
-    property: Option<Property<'a>>,
-) -> Piece<'a>
-    ensures { piece_text result
-        ≡ property_value node data_type (option_map property_view property.entry) }
+    property: Option<Property<'_>>,
+) -> Result<(), AllocError>
+    ensures { OnOk result (string_bytes text.new ≡ string_bytes text.old
+        ++ property_value node data_type (option_map property_view property.entry)) }
 {
     let Some(property) = property else {
-        return Piece::Words("");
+        return Ok(());
     };
     let value = property.value;
     let Some(data_type) = data_type else {
-        return Piece::Plain(value);
+        return push_plain(text, value);
     };
     match data_type.width() {
-        Some(width) => known_piece(node, width, value, numeric_value(data_type, value)),
-        None if data_type.code() == VISIBLE_STRING => Piece::Quoted(value),
-        None => Piece::Plain(value),
+        Some(width) => push_known(text, node, width, value, numeric_value(data_type, value)),
+        None => push_unnumbered(text, data_type, value),
     }
-}
-
-// the words between a value and a default
-fn default_words(value: bool, default: bool) -> &'static str
-    ensures { result.now ≡ if value && default then codes ", default " else [] }
-{
-    words_if(value && default, ", default ")
 }
 
 /// Appends the value of a device configuration file and then the default, or the one of them that
 /// is there.
-#[tactic(auto, unfolding(crate::specs::Values::default_text, conode_text::specs::Filled::filled))]
+#[tactic(auto, unfolding(crate::specs::Values::default_text))]
 pub(crate) fn push_default(
     text: &mut String,
     node: Option<u8>,
@@ -161,16 +191,11 @@ pub(crate) fn push_default(
     let data_type = type_of(section);
     let value = section.property(b"ParameterValue");
     let default = section.property(b"DefaultValue");
-    let between = default_words(value.is_some(), default.is_some());
-    push_filled(
-        text,
-        "%%%",
-        &[
-            value_piece(node, data_type, value),
-            Piece::Words(between),
-            value_piece(node, data_type, default),
-        ],
-    )
+    push_value_of(text, node, data_type, value)?;
+    if value.is_some() && default.is_some() {
+        push_words(text, ", default ")?;
+    }
+    push_value_of(text, node, data_type, default)
 }
 
 /// The number of a limit of this type, if it is one.
@@ -183,28 +208,26 @@ pub fn limit_number(data_type: Option<DataType>, value: &[u8]) -> Option<i128>
     }
 }
 
-#[tactic(auto, unfolding(crate::specs::Values::limit_text, crate::specs::Numbers::in_parentheses))]
-fn limit_piece<'a>(data_type: Option<DataType>, limit: Option<Property<'a>>) -> Piece<'a>
-    ensures { piece_text result ≡ limit_text data_type (option_map property_view limit.entry) }
+#[tactic(auto, unfolding(crate::specs::Values::limit_text))]
+fn push_limit(
+    text: &mut String,
+    data_type: Option<DataType>,
+    limit: Option<Property<'_>>,
+) -> Result<(), AllocError>
+    ensures { OnOk result (string_bytes text.new ≡ string_bytes text.old
+        ++ limit_text data_type (option_map property_view limit.entry)) }
 {
     let Some(limit) = limit else {
-        return Piece::Words("");
+        return Ok(());
     };
     match limit_number(data_type, limit.value) {
-        Some(number) => Piece::Value(number, None),
-        None => Piece::Plain(limit.value),
+        Some(number) => push_decimal_of(text, number),
+        None => push_plain(text, limit.value),
     }
 }
 
-// the words between two limits
-fn limit_words(low: bool, high: bool) -> &'static str
-    ensures { result.now ≡ if low || high then codes ".." else [] }
-{
-    words_if(low || high, "..")
-}
-
 /// Appends both limits, as `0..100`, nothing if there is neither.
-#[tactic(auto, unfolding(crate::specs::Values::limits_text, conode_text::specs::Filled::filled))]
+#[tactic(auto, unfolding(crate::specs::Values::limits_text))]
 pub(crate) fn push_limits(
     text: &mut String,
     section: &TextSection<'_, '_>,
@@ -215,16 +238,11 @@ pub(crate) fn push_limits(
     let data_type = type_of(section);
     let low = section.property(b"LowLimit");
     let high = section.property(b"HighLimit");
-    let between = limit_words(low.is_some(), high.is_some());
-    push_filled(
-        text,
-        "%%%",
-        &[
-            limit_piece(data_type, low),
-            Piece::Words(between),
-            limit_piece(data_type, high),
-        ],
-    )
+    push_limit(text, data_type, low)?;
+    if low.is_some() || high.is_some() {
+        push_words(text, "..")?;
+    }
+    push_limit(text, data_type, high)
 }
 
 /// The greatest number of the communication profile, of 32 bits.

@@ -2,7 +2,7 @@ use Rattle.std.proofs.Common.{◌≡◌, map, take}
 use Rattle.std.specs.List.{fold}
 use Rattle.conode_show_text.specs.Cells.{cell_part}
 use Rattle.conode_show_text.specs.Layout.{begun, placed}
-use Rattle.conode_show_text.proofs.page.push_line.Given as goal
+use Rattle.conode_show_text.proofs.cells.push_line.Given as goal
 
 -- the cells so far
 abbrev pub invariant-loop-cell : goal.invariant-loop-cell
