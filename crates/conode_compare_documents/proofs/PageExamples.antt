@@ -15,7 +15,7 @@ use Rattle.conode_compare_report.specs.Contexts.{KeptLine}
 use Rattle.conode_compare_report.specs.Spans.{LanesView}
 use Rattle.conode_compare_text.specs.FindingTexts.{finding_text, millis_text, timed_number}
 use Rattle.conode_explain_values.specs.declared.value_type.ValueType.TheVariants.{Plain}
-use Rattle.conode_lint_text.specs.Characters.{characters_of}
+use Rattle.conode_json.specs.Characters.{characters_of}
 use Rattle.conode_json.specs.Escapes.{escaped_character}
 use Rattle.conode_json.specs.Filled.{code_digits, seconds_text}
 use Rattle.conode_compare_report.specs.declared.outcome.Outcome.{Outcome}

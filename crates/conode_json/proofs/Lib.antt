@@ -1,5 +1,7 @@
-pub mod Appending
+pub use Rattle.conode_text.proofs.Appending
+mod CharacterLemmas
 pub mod EscapeLaws
 mod FilledLaws
+mod CharacterExamples
 mod JsonExamples
 mod MarkupExamples

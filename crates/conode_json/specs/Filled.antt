@@ -3,8 +3,8 @@ use Rattle.std.specs.Prelude.{ℕ, ◌/◌, ◌%◌, ◌==◌, if◌then◌else�
 use Rattle.std.specs.Option.{option_copied, option_map}
 use Rattle.co_text.specs.Printed.{digits_text}
 use Rattle.co_value.specs.KeyTexts.{key_text}
-use Rattle.conode_json.specs.declared.filled.Value.{Value}
-use Rattle.conode_json.specs.declared.filled.Value.TheVariants.{Text, Name, AnyText, Words, Either, Number, Count, Seconds, Key, Code, AnyCode}
+use Rattle.conode_json.specs.declared.value.Value.{Value}
+use Rattle.conode_json.specs.declared.value.Value.TheVariants.{Text, Name, AnyText, Words, Either, Number, Count, Seconds, Key, Code, AnyCode}
 use Rattle.conode_json.specs.Escapes.{escaped}
 
 -- microseconds, in seconds with six digits after the point
