@@ -1,2 +1,4 @@
 pub mod JsonExamples
 pub mod RetypedLemmas
+mod Ended
+mod Grouped

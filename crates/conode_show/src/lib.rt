@@ -1,6 +1,7 @@
 //! The object dictionary of a data sheet (CiA 306, CiA 301), shown as text or as one JSON document.
 #![tactic(auto)]
 
+mod document;
 mod form;
 mod json_entries;
 mod json_form;
