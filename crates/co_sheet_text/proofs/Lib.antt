@@ -11,3 +11,4 @@ mod PassLemmas
 mod FirstFaultLemmas
 pub mod SectionLawLemmas
 pub mod ReadLemmas
+pub mod ReadNameLemmas

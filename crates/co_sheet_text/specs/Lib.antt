@@ -12,3 +12,4 @@ pub mod SectionsKept
 pub mod OutOfMemory
 pub mod SectionsSoFar
 pub mod SectionLaws
+pub mod ReadNames

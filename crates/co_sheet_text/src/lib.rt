@@ -5,6 +5,7 @@
 
 mod fault;
 mod header;
+mod laws;
 mod line;
 mod numeral;
 mod open_section;
@@ -17,6 +18,7 @@ mod text;
 mod text_section;
 
 pub use fault::{TextFault, TextFaultKind};
+pub use laws::names_read;
 pub use numeral::{Numeral, NumeralFault, all_digits, number_in, signed_numeral, unsigned_number};
 pub use parsed_text::ParsedText;
 pub use pass::{all_sections_in, sections_in};
