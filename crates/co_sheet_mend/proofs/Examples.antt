@@ -1,14 +1,15 @@
 -- What comes in place of lines at fault, evaluated on both sides of each edge.
-use Rattle.std.proofs.Common.{◌≡◌, ℕ, List, [], ◌∷◌, Some, None, refl, map}
+use Rattle.std.proofs.Common.{◌≡◌, ℕ, List, [], ◌∷◌, ◌++◌, Some, None, refl, map}
 use Rattle.std.specs.Fmt.{digits}
 use Rattle.std.specs.Prelude.{codes, false}
 use Rattle.co_sheet_rows.specs.declared.fault.FaultKind.{FaultKind}
-use Rattle.co_sheet_rows.specs.declared.fault.FaultKind.TheVariants.{BadNumber, BadType, BadAccess, BadDefault, BadList, MissingKey, MissingMandatory, MissingSection, MissingSub0, TooLarge}
+use Rattle.co_sheet_rows.specs.declared.fault.FaultKind.TheVariants.{BadNumber, BadType, BadAccess, BadDefault, BadList, MissingKey, MissingMandatory, MissingSection, MissingSub0, TooLarge, Memory}
 use Rattle.co_sheet_rows.specs.declared.fault.SheetFault.{SheetFault}
 use Rattle.co_sheet_text.specs.Text.{Line}
 use Rattle.co_sheet_changes.specs.Pieces.{assigned}
-use Rattle.co_sheet_mend.specs.declared.repair.Repair.TheVariants.{Emptied, Typed, ReadWrite, Completed}
-use Rattle.co_sheet_mend.specs.Repairs.{counted_text, line_as, mandatory_sections, mended_by, mended_lines, repair_at, repair_for, sub0_text, type_code}
+use Rattle.co_sheet_faults.specs.AllFaults.{faults_of}
+use Rattle.co_sheet_mend.specs.declared.repair.Repair.TheVariants.{Emptied, Typed, ReadWrite, Completed, Counted, Numbered}
+use Rattle.co_sheet_mend.specs.Repairs.{counted_text, line_as, mandatory_sections, mended_by, mended_lines, objects_named, repair_at, repair_for, sub0_text, type_code}
 
 abbrev line : ℕ → List ℕ → Line
 line number bytes = record { number = number; bytes = bytes }
@@ -16,15 +17,26 @@ line number bytes = record { number = number; bytes = bytes }
 abbrev fault : ℕ → FaultKind → SheetFault
 fault number kind = record { kind = kind; line = number }
 
+-- lines as a text, each ended by LF
+abbrev joined : List (List ℕ) → List ℕ
+joined [] = []
+joined (bytes ∷ more) = bytes ++ 10 ∷ joined more
+
 -- ---- which repair a line has
 
 at_its_line : map (repair_at (fault 5 BadNumber ∷ [])) (4 ∷ 5 ∷ 6 ∷ []) ≡ None ∷ Some Emptied ∷ None ∷ []
 unfolding repair_at repair_for
 at_its_line = refl
 
-nothing_helps : repair_at (fault 0 TooLarge ∷ []) 0 ≡ None
+-- out of memory is no fault of the text
+nothing_helps : repair_at (fault 0 Memory ∷ []) 0 ≡ None
 unfolding repair_at repair_for
 nothing_helps = refl
+
+-- a line of more than 512 bytes
+long_line : repair_at (fault 5 TooLarge ∷ []) 5 ≡ Some Emptied
+unfolding repair_at repair_for
+long_line = refl
 
 -- of two faults at a line, whatever their order
 first_of_two : repair_at (fault 5 BadType ∷ fault 5 BadDefault ∷ []) 5 ≡ Some Emptied
@@ -67,10 +79,20 @@ no_fixed_type : line_as (Some Typed) (Some (record { index = 0x1017; sub = 1 }))
 unfolding line_as type_code assigned digits
 no_fixed_type = refl
 
+-- the type that the entry has: its object is a DOMAIN
+own_type : line_as (Some Typed) (Some (record { index = 0x1017; sub = 0 })) (line 1 (codes "DataType=0x0006")) [] ≡ codes "\n"
+unfolding line_as type_code
+own_type = refl
+
 -- of an object type nothing
 no_object_type : line_as (Some Typed) None (line 1 (codes "ObjectType=0x99")) [] ≡ codes "\n"
 unfolding line_as assigned
 no_object_type = refl
+
+-- of a section line that line, and a VAR
+no_domain : line_as (Some Typed) (Some (record { index = 0x1017; sub = 0 })) (line 4 (codes "[1017]")) [] ≡ codes "[1017]\nObjectType=7\n"
+unfolding line_as assigned
+no_domain = refl
 
 read_write : line_as (Some ReadWrite) None (line 1 (codes "AccessType=all")) [] ≡ codes "AccessType=rw\n"
 unfolding line_as assigned
@@ -112,6 +134,42 @@ counted_anew : mended_lines (repair_at (fault 1 BadList ∷ [])) false None
     ≡ codes "[OptionalObjects]\nSupportedObjects=2\n1=0x1008\n2=0x1017\n\n\n\n[1008]\n1=2\n"
 unfolding repair_at repair_for line_as counted_text assigned digits
 counted_anew = refl
+
+-- an index of 16 bits, and one of more
+counted_indices : counted_text (objects_named (line 2 (codes "1=0xFFFF") ∷ line 3 (codes "2=0x10000") ∷ [])) ≡ codes "SupportedObjects=1\n1=0xFFFF\n"
+unfolding counted_text assigned digits
+counted_indices = refl
+
+-- ---- names
+
+-- an entry without AccessType, whose values are at fault, and with a second name
+abbrev faulty : List (List ℕ)
+faulty = codes "[MandatoryObjects]" ∷ codes "SupportedObjects=1" ∷ codes "1=0x2000" ∷ codes "[2000]" ∷ codes "ParameterName=A" ∷ codes "DataType=5"
+    ∷ codes "LowLimit=300" ∷ codes "DefaultValue=0x6G" ∷ codes "PDOMapping=z" ∷ codes "ParameterName=B" ∷ []
+
+repairs_of_faulty : map (repair_at (faults_of (joined faulty))) (4 ∷ 5 ∷ 6 ∷ 7 ∷ 8 ∷ 9 ∷ 10 ∷ [])
+    ≡ Some Completed ∷ None ∷ None ∷ Some Emptied ∷ Some Emptied ∷ Some Emptied ∷ Some Emptied ∷ []
+unfolding repair_at repair_for
+repairs_of_faulty = refl
+
+-- a type and an access that are none
+repairs_of_words : map (repair_at (faults_of (joined (codes "[MandatoryObjects]" ∷ codes "SupportedObjects=1" ∷ codes "1=0x2000" ∷ codes "[2000]" ∷ codes "ParameterName=A"
+    ∷ codes "DataType=0x99" ∷ codes "AccessType=all" ∷ [])))) (4 ∷ 5 ∷ 6 ∷ 7 ∷ []) ≡ None ∷ None ∷ Some Typed ∷ Some ReadWrite ∷ []
+unfolding repair_at repair_for
+repairs_of_words = refl
+
+-- an ARRAY without sub-index 0, and a sub-index whose type is no number
+repairs_of_array : map (repair_at (faults_of (joined (codes "[MandatoryObjects]" ∷ codes "SupportedObjects=1" ∷ codes "1=0x2000" ∷ codes "[2000]" ∷ codes "ParameterName=A"
+    ∷ codes "ObjectType=8" ∷ codes "[2000sub1]" ∷ codes "ParameterName=B" ∷ codes "DataType=z" ∷ codes "AccessType=ro" ∷ [])))) (4 ∷ 5 ∷ 6 ∷ 7 ∷ 8 ∷ 9 ∷ [])
+    ≡ Some Numbered ∷ None ∷ None ∷ None ∷ None ∷ Some Emptied ∷ []
+unfolding repair_at repair_for
+repairs_of_array = refl
+
+-- a DOMAIN without a type, where CiA 301 fixes another: at the section line; with one at the type
+repairs_of_domain : map (repair_at (faults_of (joined (codes "[MandatoryObjects]" ∷ codes "SupportedObjects=1" ∷ codes "1=0x1017" ∷ codes "[1017]" ∷ codes "ParameterName=A"
+    ∷ codes "ObjectType=2" ∷ [])))) (0 ∷ 4 ∷ 5 ∷ 6 ∷ []) ≡ Some Counted ∷ Some Typed ∷ None ∷ None ∷ []
+unfolding repair_at repair_for
+repairs_of_domain = refl
 
 -- ---- a text with a fault at no line
 

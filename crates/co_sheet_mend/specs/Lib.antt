@@ -1,2 +1,3 @@
 pub mod ReadableTexts
 pub mod Repairs
+pub mod NameLaws

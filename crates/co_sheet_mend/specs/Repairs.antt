@@ -1,7 +1,8 @@
 -- What comes in place of the lines at fault of a data sheet's text (CiA 306).
-use Rattle.std.specs.Prelude.{ℕ, suc, ◌==◌, nat_le, Bool, true, false, not, ◌&&◌, if◌then◌else◌, List, [], ◌∷◌, ◌++◌, codes, decimal, length, Option, Some, None, is_some, option_and_then, unwrap_or}
+use Rattle.std.specs.Prelude.{ℕ, suc, ◌==◌, nat_le, nat_lt, Bool, true, false, not, ◌&&◌, if◌then◌else◌, List, [], ◌∷◌, ◌++◌, codes, decimal, length, Option, Some, None, is_some, option_and_then, unwrap_or}
 use Rattle.std.specs.List.{filter_map, list_any}
 use Rattle.std.specs.Option.{option_map_or}
+use Rattle.std.specs.Result.{result_ok}
 use Rattle.co_sheet_rows.specs.declared.fault.FaultKind.{FaultKind}
 use Rattle.co_sheet_rows.specs.declared.fault.FaultKind.TheVariants as kind
 use Rattle.co_sheet_rows.specs.declared.fault.SheetFault.{SheetFault}
@@ -14,6 +15,7 @@ use Rattle.co_sheet_text.specs.declared.section_kind.SectionKind.TheVariants.{Ma
 use Rattle.co_sheet_text.specs.Names.{is_list, kind_of, same_kind}
 use Rattle.co_sheet_text.specs.LinesAtFault.{emptied}
 use Rattle.co_sheet_text.specs.LinesRead.{all_digits}
+use Rattle.co_sheet_text.specs.Numerals.{unsigned_number}
 use Rattle.co_sheet_text.specs.Text.{Line, same_name}
 use Rattle.co_sheet_changes.specs.Groups.{before_sections, property_in, section_in}
 use Rattle.co_sheet_changes.specs.Pieces.{assigned}
@@ -22,6 +24,7 @@ use Rattle.co_sheet_mend.specs.declared.repair.Repair.TheVariants.{Emptied, Type
 
 -- by the kind of the fault
 unfoldable pub repair_for : FaultKind → Option Repair
+repair_for kind.TooLarge = Some Emptied
 repair_for kind.BadLine = Some Emptied
 repair_for kind.KeyOutsideSection = Some Emptied
 repair_for kind.DuplicateSection = Some Emptied
@@ -85,6 +88,10 @@ repair_at faults line =
     first_asked (has_repair faults line Emptied) (has_repair faults line Typed) (has_repair faults line ReadWrite)
     (has_repair faults line Completed) (has_repair faults line Counted) (has_repair faults line Numbered)
 
+-- the number that a value is, if it is one
+abbrev pub read_number : List ℕ → Option ℕ
+read_number value = result_ok (unsigned_number value)
+
 -- a line gives a property of a name
 abbrev pub gives : List ℕ → Line → Bool
 gives name line = option_map_or (λ given. same_name given.name name) (property_in line) false
@@ -116,6 +123,13 @@ key_at before line = option_map_or (λ name. key_in (kind_of name)) (section_in 
 unfoldable pub type_code : Option Key → ℕ
 type_code key = code_of (unwrap_or (option_and_then fixed_type_of key) Domain)
 
+abbrev pub is_number : ℕ → Option ℕ → Bool
+is_number number read = option_map_or (λ n. n == number) read false
+
+-- a line gives this number
+abbrev pub states : ℕ → Line → Bool
+states number line = option_map_or (λ given. is_number number (read_number given.value)) (property_in line) false
+
 abbrev pub typed : Option Key → List ℕ
 typed key = assigned (codes "DataType") (decimal (type_code key))
 
@@ -124,9 +138,15 @@ lacking_type key lines = if gives_any (codes "DataType") lines then [] else type
 
 -- ---- of an object list (CiA 306, lists of objects)
 
+-- an index of more than 16 bits names no object
+abbrev pub names_object : List ℕ → Bool
+names_object value = not (option_map_or (nat_lt 0xFFFF) (read_number value) false)
+
 -- the object at a place: what comes after a number and `=`
 abbrev pub place_value : Line → Option (List ℕ)
-place_value line = option_and_then (λ given. if all_digits given.name then Some given.value else None) (property_in line)
+place_value line =
+    option_and_then (λ given. if all_digits given.name && names_object given.value then Some given.value else None)
+    (property_in line)
 
 -- the objects that the lines up to the next section line name
 abbrev pub objects_named : List Line → List (List ℕ)
@@ -145,8 +165,14 @@ list_text lines = counted_text (objects_named lines)
 
 -- ---- what a line becomes, which these lines follow
 
+-- A type that is the entry's own is at fault since its object is a DOMAIN: it is dropped. So a
+-- section line is at fault where a DOMAIN states no type and CiA 301 fixes another: it becomes a
+-- VAR, and its own ObjectType is at fault in the next round.
 abbrev pub retyped : Option Key → Line → List ℕ
-retyped key line = if gives (codes "DataType") line then typed key else ended (emptied line).bytes
+retyped key line =
+    if gives (codes "DataType") line then (if states (type_code key) line then ended [] else typed key)
+    else (if is_some (section_in line) then ended line.bytes ++ assigned (codes "ObjectType") (codes "7")
+    else ended (emptied line).bytes)
 
 abbrev pub completed : Option Key → Line → List Line → List ℕ
 completed key line more = ended line.bytes ++ lacking_type key more ++ lacking (codes "AccessType") (codes "rw") more

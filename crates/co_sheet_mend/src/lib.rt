@@ -2,11 +2,13 @@
 //! without what is at fault.
 #![tactic(auto)]
 
+mod laws;
 mod lines;
 mod mended;
 mod repair;
 mod repairs;
 mod rewriting;
 
+pub use laws::names_stay;
 pub use repair::Repair;
 pub use rewriting::{Rewritten, readable};

@@ -21,11 +21,13 @@ ghost use Rattle.co_sheet_mend.specs.Repairs.{
   list_text,
   listed,
   mandatory_sections,
+  names_object,
   numbered,
   numbered_from,
   objects_named,
   place_value,
   retyped,
+  states,
   sub0_text,
   type_code,
   typed,
@@ -36,13 +38,18 @@ ghost use Rattle.co_sheet_text.specs.LinesAtFault.{emptied};
 use crate::repair::Repair;
 use co_profile::fixed_type;
 use co_sheet_changes::{Line, before_sections, push_number};
-use co_sheet_text::{SectionKind, all_digits, same_name, trim};
+use co_sheet_text::{SectionKind, all_digits, same_name, trim, unsigned_number};
 use co_value::{DataType, Key};
 use std::alloc::{AllocError, Global};
 
 const DATA_TYPE: &[u8] = b"DataType";
 
 const ACCESS_TYPE: &[u8] = b"AccessType";
+
+const OBJECT_TYPE: &[u8] = b"ObjectType";
+
+/// The object type of a VAR (CiA 306).
+const VAR: &[u8] = b"7";
 
 const READ_WRITE: &[u8] = b"rw";
 
@@ -106,12 +113,19 @@ fn push_lacking(
     push_assigned(made, name, value)
 }
 
+// whether a value of a list isn't an index of more than 16 bits
+fn names_object(value: &[u8]) -> bool
+    ensures { result ≡ names_object value.now }
+{
+    !matches!(unsigned_number(value), Ok(index) if index > 0xFFFF)
+}
+
 // the object at a place of a list
 fn place_value<'a>(line: &Line<'a>) -> Option<&'a [u8]>
     ensures { option_copied result ≡ place_value (line_view line.now) }
 {
     let (name, value) = line.property()?;
-    if all_digits(name, 10) {
+    if all_digits(name, 10) && names_object(value) {
         Some(value)
     } else {
         None
@@ -238,6 +252,16 @@ fn push_type(alloc: Global, made: &mut Vec<u8>, key: Option<Key>) -> Result<(), 
     push_count(alloc, made, DATA_TYPE, u64::from(type_code(key)))
 }
 
+// whether a line gives this number
+fn states(line: &Line<'_>, number: u16) -> bool
+    ensures { result ≡ states number (line_view line.now) }
+{
+    match line.property() {
+        Some((_, value)) => matches!(unsigned_number(value), Ok(read) if read == u64::from(number)),
+        None => false,
+    }
+}
+
 fn push_retyped(
     alloc: Global,
     made: &mut Vec<u8>,
@@ -248,7 +272,14 @@ fn push_retyped(
         ≡ made.old.items ++ retyped key (line_view line.now)) }
 {
     if gives(line, DATA_TYPE) {
+        if states(line, type_code(key)) {
+            return push_ended(made, b"");
+        }
         return push_type(alloc, made, key);
+    }
+    if line.section().is_some() {
+        push_ended(made, line.bytes)?;
+        return push_assigned(made, OBJECT_TYPE, VAR);
     }
     push_ended(made, emptied(line))
 }

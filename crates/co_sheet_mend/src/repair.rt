@@ -11,7 +11,7 @@ pub enum Repair {
     /// Nothing, and of a section line one that begins a section which nothing reads.
     Emptied,
     /// Of a data type the one that CiA 301 fixes for the entry, else DOMAIN, whose values are
-    /// bytes; nothing of another property.
+    /// bytes; of a section line that line, and a VAR; nothing of another property.
     Typed,
     /// An entry that is read and written.
     ReadWrite,
@@ -60,7 +60,8 @@ pub(crate) fn repair_for(kind: FaultKind) -> Option<Repair>
     ensures { result ≡ repair_for kind }
 {
     match kind {
-        FaultKind::BadLine
+        FaultKind::TooLarge
+        | FaultKind::BadLine
         | FaultKind::KeyOutsideSection
         | FaultKind::DuplicateSection
         | FaultKind::DuplicateKey
@@ -76,6 +77,6 @@ pub(crate) fn repair_for(kind: FaultKind) -> Option<Repair>
         FaultKind::MissingKey => Some(Repair::Completed),
         FaultKind::BadList | FaultKind::MissingMandatory => Some(Repair::Counted),
         FaultKind::MissingSub0 => Some(Repair::Numbered),
-        FaultKind::TooLarge | FaultKind::Memory => None,
+        FaultKind::Memory => None,
     }
 }
