@@ -6,3 +6,4 @@ pub mod ListLineLemmas
 pub mod NameLemmas
 pub mod RepairLemmas
 pub mod RoundLemmas
+pub mod TextLineLemmas
