@@ -175,8 +175,8 @@ fn make_readable<E: Write>(
 
 // a data sheet, and its original data types
 fn sheet_in<'t>(alloc: Global, of: &'t SheetText<'_>) -> Result<ReadSheet<'t>, SheetFault> {
-    let sheet = read(alloc, of.text.as_slice())?;
-    let originals = originals_in(alloc, of.text.as_slice())?;
+    let sheet = attempt!(read(alloc, of.text.as_slice()));
+    let originals = attempt!(originals_in(alloc, of.text.as_slice()));
     Ok(ReadSheet {
         word: of.word,
         sheet,
@@ -210,6 +210,27 @@ fn add_sheets<'t, O: Write, E: Write>(
     Ok(())
 }
 
+// explains the recording of a path by the data sheets of these texts
+fn explain_texts<R: Files + AllocGlobal + Input, O: Write, E: Write>(
+    rt: &R,
+    path: &str,
+    texts: &mut [SheetText<'_>],
+    form: Layout<'_>,
+    out: &mut O,
+    err: &mut E,
+) -> ExitCode
+    ensures { (exit_status result ≡ 0) ⊎ ((exit_status result ≡ 1) ⊎ (exit_status result ≡ 2)) }
+{
+    if make_readable(rt.alloc(), texts, err).is_err() {
+        return stopped(CmdFault::Memory, out, err).status();
+    }
+    let mut sheets = Vec::new(rt.alloc());
+    match add_sheets(rt.alloc(), &mut sheets, texts, out, err) {
+        Ok(()) => explain_by(rt, path, sheets.as_slice(), form, out, err),
+        Err(status) => status,
+    }
+}
+
 // explains the recording of a path by the data sheets that words name
 fn explain_named<R: Files + AllocGlobal + Input, O: Write, E: Write>(
     rt: &R,
@@ -221,18 +242,10 @@ fn explain_named<R: Files + AllocGlobal + Input, O: Write, E: Write>(
 ) -> ExitCode
     ensures { (exit_status result ≡ 0) ⊎ ((exit_status result ≡ 1) ⊎ (exit_status result ≡ 2)) }
 {
-    let mut texts = match texts_of(rt, words, out, err) {
-        Ok(texts) => texts,
-        Err(status) => return status,
-    };
-    if make_readable(rt.alloc(), texts.as_mut_slice(), err).is_err() {
-        return stopped(CmdFault::Memory, out, err).status();
+    match texts_of(rt, words, out, err) {
+        Ok(mut texts) => explain_texts(rt, path, texts.as_mut_slice(), form, out, err),
+        Err(status) => status,
     }
-    let mut sheets = Vec::new(rt.alloc());
-    if let Err(status) = add_sheets(rt.alloc(), &mut sheets, texts.as_slice(), out, err) {
-        return status;
-    }
-    explain_by(rt, path, sheets.as_slice(), form, out, err)
 }
 
 // explains the recording of a path by the data sheets that the words of the command line name

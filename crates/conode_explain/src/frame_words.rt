@@ -56,9 +56,9 @@ fn push_plain_words(
     ensures { OnOk result (string_bytes said.new
         ≡ string_bytes said.old ++ plain_words (names_view names.entry) last frame.now) }
 {
-    push_assumed_mark(said, frame.id())?;
-    push_text(said, names, frame)?;
-    push_abort_words(said, frame)?;
+    attempt!(push_assumed_mark(said, frame.id()));
+    attempt!(push_text(said, names, frame));
+    attempt!(push_abort_words(said, frame));
     push_state(said, last, frame)
 }
 
@@ -73,7 +73,7 @@ fn push_served_words(
     ensures { OnOk result (string_bytes said.new
         ≡ string_bytes said.old ++ served_words (names_view names.entry) last frame.now) }
 {
-    if push_service(said, last, frame)? {
+    if attempt!(push_service(said, last, frame)) {
         return Ok(());
     }
     push_plain_words(said, names, last, frame)
@@ -136,7 +136,7 @@ fn assumed_front(step: u16) -> &'static str
 fn push_assumed_words(said: &mut String, id: u16) -> Result<(), AllocError>
     ensures { OnOk result (string_bytes said.new ≡ string_bytes said.old ++ assumed_words id) }
 {
-    said.push_str(assumed_front(id / 128))?;
+    attempt!(said.push_str(assumed_front(id / 128)));
     push_decimal(said, u64::from(id % 128))
 }
 

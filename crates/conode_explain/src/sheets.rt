@@ -1,6 +1,6 @@
 //! The data sheets by which a recording is explained.
 
-ghost use Rattle.std.specs.Prelude.{◌≡◌, ◌++◌, IfOk, map};
+ghost use Rattle.std.specs.Prelude.{◌≡◌, ◌++◌, IfOk, OnOk, map};
 ghost use Rattle.co_sheet_changes.specs.Names.{names_view};
 ghost use Rattle.conode_explain_pdo.specs.Known.{known_view};
 ghost use Rattle.conode_explain.specs.Sheets.{in_order, is_kind, node_for, of_kind, read_view};
@@ -56,29 +56,43 @@ impl<'t> ReadSheet<'t> {
     }
 }
 
-// with those that are for one node, or for all, and for one interface, or for each
-fn with_kind<'s, 't>(
+// adds those that are for one node, or for all, and for one interface, or for each
+fn add_kind<'s, 't>(
     alloc: Global,
-    known: Vec<KnownSheet<'s, 't>>,
+    known: &mut Vec<KnownSheet<'s, 't>>,
     sheets: &'s [ReadSheet<'t>],
     node: bool,
     interface: bool,
-) -> Result<Vec<KnownSheet<'s, 't>>, AllocError>
-    ensures { IfOk result (λ all. map known_view all.items
-        ≡ map known_view known.entry.items ++ of_kind node interface (map read_view sheets.now)) }
+) -> Result<(), AllocError>
+    ensures { OnOk result (map known_view known.new.items
+        ≡ map known_view known.old.items ++ of_kind node interface (map read_view sheets.now)) }
 {
-    let mut all = known;
     for sheet in sheets {
         if sheet.is_kind(node, interface) {
-            all.push(sheet.known(alloc)?)?;
+            let made = attempt!(sheet.known(alloc));
+            known.push(made)?;
         }
     }
-    Ok(all)
+    Ok(())
+}
+
+#[tactic(auto, unfolding(crate::specs::Sheets::in_order))]
+fn add_in_order<'s, 't>(
+    alloc: Global,
+    known: &mut Vec<KnownSheet<'s, 't>>,
+    sheets: &'s [ReadSheet<'t>],
+) -> Result<(), AllocError>
+    ensures { OnOk result (map known_view known.new.items
+        ≡ map known_view known.old.items ++ in_order (map read_view sheets.now)) }
+{
+    attempt!(add_kind(alloc, known, sheets, true, true));
+    attempt!(add_kind(alloc, known, sheets, true, false));
+    attempt!(add_kind(alloc, known, sheets, false, true));
+    add_kind(alloc, known, sheets, false, false)
 }
 
 /// These data sheets with their PDOs, in the order in which they count: a node's own before one for
 /// all nodes, and of those the one for an interface. On an `Err` memory ran out.
-#[tactic(auto, unfolding(crate::specs::Sheets::in_order))]
 pub(crate) fn known_sheets<'s, 't>(
     alloc: Global,
     sheets: &'s [ReadSheet<'t>],
@@ -86,8 +100,7 @@ pub(crate) fn known_sheets<'s, 't>(
     ensures { IfOk result (λ known.
         map known_view known.items ≡ in_order (map read_view sheets.now)) }
 {
-    let known = with_kind(alloc, Vec::new(alloc), sheets, true, true)?;
-    let known = with_kind(alloc, known, sheets, true, false)?;
-    let known = with_kind(alloc, known, sheets, false, true)?;
-    with_kind(alloc, known, sheets, false, false)
+    let mut known = Vec::new(alloc);
+    attempt!(add_in_order(alloc, &mut known, sheets));
+    Ok(known)
 }

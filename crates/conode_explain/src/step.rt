@@ -81,7 +81,7 @@ fn explain_record<W: Write, E: Write>(
     match RecordLine::read(line) {
         Ok(RecordLine::Skipped) => Ok(0),
         Ok(RecordLine::Frame(frame)) => {
-            write_frame(room, claims, progress, settings, &frame, out)?;
+            attempt!(write_frame(room, claims, progress, settings, &frame, out));
             Ok(0)
         }
         Err(bad) => {
@@ -126,7 +126,7 @@ fn explain_line<W: Write, E: Write>(
         }
         Ok(LogLine::Frame(frame)) => {
             text.clear();
-            add_frame(text, &frame)?;
+            attempt_in_memory!(add_frame(text, &frame));
             let line = text.as_slice();
             explain_record(room, claims, progress, settings, number, line, out, err)
         }
@@ -158,10 +158,10 @@ impl Explaining {
     pub(crate) fn let_out<W: Write>(&self, out: &mut W) -> Result<(), CmdFault>
         ensures text { Keeps (W.contents out.old) (W.contents out.new) }
     {
-        if !self.lines.has_line() {
-            flush(out)?;
+        if self.lines.has_line() {
+            return Ok(());
         }
-        Ok(())
+        flush(out)
     }
 
     /// Takes the next line: writes the line of its frame, if it has one, or names a bad line.

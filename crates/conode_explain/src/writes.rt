@@ -112,12 +112,12 @@ fn set_frame_line(
     let stamps = form.stamps;
     match form.format {
         LineFormat::Text => {
-            set_line(line, text, stamps, seen, frame, words)?;
+            attempt!(set_line(line, text, stamps, seen, frame, words));
             put_tone(alloc, line, form.colours, frame_tone(seen, subject, frame))
         }
         LineFormat::Json => {
             let (kind, node) = (subject.kind, subject.node);
-            *line = json_line(alloc, stamps, seen, frame, words, kind, node)?;
+            *line = attempt!(json_line(alloc, stamps, seen, frame, words, kind, node));
             Ok(())
         }
     }
@@ -150,12 +150,14 @@ fn write_news<W: Write>(
     ensures err { IfErr result (λ fault. (fault ≡ CmdFault.Write) ⊎ (fault ≡ CmdFault.Memory)) }
 {
     let id = read_as(place, frame.id);
-    set_told_words(&mut room.said, bus, claims, last, id, &frame.content, told)?;
+    let said = &mut room.said;
+    let content = &frame.content;
+    attempt_in_memory!(set_told_words(said, bus, claims, last, id, content, told));
     let words = room.said.as_bytes();
-    if !is_news(lasts, form, subject, frame, words)? {
+    if !attempt_in_memory!(is_news(lasts, form, subject, frame, words)) {
         return Ok(());
     }
-    set_frame_line(
+    attempt_in_memory!(set_frame_line(
         room.alloc,
         &mut room.line,
         &mut room.text,
@@ -164,7 +166,7 @@ fn write_news<W: Write>(
         subject,
         frame,
         words,
-    )?;
+    ));
     hand_over(room.line.as_slice(), out)
 }
 
@@ -229,7 +231,9 @@ fn write_signals<W: Write>(
     let data = data_of(&frame.content);
     let bytes = data.as_slice();
     let (stamps, signals) = (form.stamps, form.signals);
-    if !set_signal_line(text, stamps, times, bus, claims, bytes, told, signals)? {
+    if !attempt_in_memory!(set_signal_line(
+        text, stamps, times, bus, claims, bytes, told, signals
+    )) {
         return Ok(());
     }
     hand_over(text.as_bytes(), out)
@@ -289,7 +293,7 @@ pub(crate) fn write_header<W: Write>(
     if settings.form.signals.is_empty() {
         return Ok(());
     }
-    let line = header(alloc, settings.sheets, settings.form.signals)?;
+    let line = attempt_in_memory!(header(alloc, settings.sheets, settings.form.signals));
     hand_over(line.as_slice(), out)
 }
 
@@ -317,8 +321,8 @@ fn write_by<W: Write>(
 {
     let last = progress.last(frame);
     let bus = bus_of(settings, &progress.entries, frame);
-    set_claims(claims, bus, read_as(place, frame.id))?;
-    write_first(
+    attempt_in_memory!(set_claims(claims, bus, read_as(place, frame.id)));
+    attempt!(write_first(
         room,
         &settings.form,
         &progress.seen,
@@ -330,12 +334,12 @@ fn write_by<W: Write>(
         frame,
         told,
         out,
-    )?;
+    ));
     let seen = &progress.seen;
-    write_told_end(room, seen, settings, place, frame, told, out)?;
+    attempt!(write_told_end(room, seen, settings, place, frame, told, out));
     let channels = progress.further.channels();
-    write_boot_up(room, seen, settings, channels, frame, told, out)?;
-    progress.add(frame, told)?;
+    attempt!(write_boot_up(room, seen, settings, channels, frame, told, out));
+    attempt_in_memory!(progress.add(frame, told));
     Ok(())
 }
 
