@@ -75,7 +75,7 @@ fn push_node(text: &mut String, node: Option<u8>) -> Result<(), AllocError>
         (string_bytes text.new ≡ string_bytes text.old ++ joined (node_lines node)) }
 {
     match node {
-        Some(id) => push_filled(text, "node %\n", &[Value::Number(u64::from(id))]),
+        Some(id) => push_filled(text, "node %\n", &[Value::Number(id as u64)]),
         None => Ok(()),
     }
 }

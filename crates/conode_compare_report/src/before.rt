@@ -58,7 +58,7 @@ fn rpdo_id(rows: &[EntryRow<'_>], node: u8, number: u8) -> Option<u16>
     ensures { result ≡ rpdo_id (map row_view rows.now) node number }
 {
     let key = Key {
-        index: 0x1400 + u16::from(number),
+        index: 0x1400 + number as u16,
         sub: 1,
     };
     match preset_at(rows, node, key) {

@@ -146,7 +146,7 @@ fn count_type(types: &mut Vec<Numbered>, role: Role) -> Result<(), AllocError>
 {
     if let Role::Tpdo(_, parameters) = role {
         if let Some(kind) = parameters.kind {
-            return count_number(types, MOST_TYPES, u32::from(kind));
+            return count_number(types, MOST_TYPES, kind as u32);
         }
     }
     Ok(())

@@ -24,7 +24,7 @@ fn put_counted(document: &mut Document, row: &FailureRow, code: Part<'_>)
 {
     document.put(&[
         Part::BeginObject,
-        Part::Number("node", u64::from(row.cause.node)),
+        Part::Number("node", row.cause.node as u64),
         code,
         Part::Number("count", row.count),
         Part::Number("first", row.first),
@@ -102,9 +102,9 @@ fn put_open_in(document: &mut Document, node: u8, all: &Tally, transfer: &Option
     match transfer {
         Some(transfer) if is_waiting(all, transfer) => document.put(&[
             Part::BeginObject,
-            Part::Number("node", u64::from(node)),
-            Part::Number("index", u64::from(transfer.key.index)),
-            Part::Number("subIndex", u64::from(transfer.key.sub)),
+            Part::Number("node", node as u64),
+            Part::Number("index", transfer.key.index as u64),
+            Part::Number("subIndex", transfer.key.sub as u64),
             Part::Number("since", transfer.newest),
             Part::EndObject,
         ]),

@@ -56,7 +56,7 @@ fn time_in(time: Option<u16>) -> Option<u64>
     ensures { result ≡ time }
 {
     match time {
-        Some(time) => Some(u64::from(time)),
+        Some(time) => Some(time as u64),
         None => None,
     }
 }
@@ -90,7 +90,7 @@ fn put_front(document: &mut Document, number: u32, node: &Node)
     let times = &node.times;
     document.put(&[
         Part::BeginObject,
-        Part::Number("node", u64::from(number)),
+        Part::Number("node", number as u64),
         Part::Number("bootUps", node.boot_ups),
         Part::Number("restartsWithoutCommand", node.restarts),
         Part::NumberIf("lastRestart", restart_in(node)),
@@ -160,7 +160,7 @@ fn put_node_in(document: &mut Document, bus: &Bus, sheet: Option<u16>, number: u
     if !is_shown(node) && silence.is_none() {
         return;
     }
-    put_front(document, u32::from(number), node);
+    put_front(document, number as u32, node);
     put_waits(document, &node.heartbeats);
     put_end(
         document,
@@ -175,7 +175,7 @@ fn put_node_in(document: &mut Document, bus: &Bus, sheet: Option<u16>, number: u
 pub(crate) fn put_nodes(document: &mut Document, sheets: &[SheetFacts<'_>], bus: &Bus) {
     document.put(&[Part::Array("nodes")]);
     for number in 1..128u8 {
-        if let Some(node) = bus.nodes().get(usize::from(number)) {
+        if let Some(node) = bus.nodes().get(number as usize) {
             let sheet = sheet_time(sheets, bus.interface(), number);
             put_node_in(document, bus, sheet, number, node);
         }

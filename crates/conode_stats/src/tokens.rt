@@ -91,7 +91,7 @@ fn put_bus(alloc: Global, document: &mut Document, page: &Page<'_>, bus: &Bus) {
 // the bit rate of an interface, if it is known
 fn rate_of(page: &Page<'_>, interface: &[u8]) -> Option<u64> {
     match sheet_rate(page.bit_rate, page.sheets, interface) {
-        Some(rate) => Some(u64::from(rate)),
+        Some(rate) => Some(rate as u64),
         None => None,
     }
 }

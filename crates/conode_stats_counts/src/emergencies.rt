@@ -42,7 +42,7 @@ fn error_code(bytes: &[u8]) -> Option<u32>
     ensures { result ≡ first_word bytes.now }
 {
     match first_word(bytes) {
-        Some(code) => Some(u32::from(code)),
+        Some(code) => Some(code as u32),
         None => None,
     }
 }

@@ -50,7 +50,7 @@ fn wait(since: Option<u64>, micros: u64) -> Option<u64>
 pub fn is_late(time: u16, gap: u64) -> bool
     ensures { result ≡ is_late time gap }
 {
-    0 < time && 1500 * u64::from(time) < gap
+    0 < time && 1500 * (time as u64) < gap
 }
 
 impl Heartbeats {

@@ -41,14 +41,14 @@ impl Second {
         if self.second == second {
             Second {
                 second,
-                bits: counted(self.bits, u64::from(size.bits)),
-                most: counted(self.most, u64::from(size.most)),
+                bits: counted(self.bits, size.bits as u64),
+                most: counted(self.most, size.most as u64),
             }
         } else {
             Second {
                 second,
-                bits: u64::from(size.bits),
-                most: u64::from(size.most),
+                bits: size.bits as u64,
+                most: size.most as u64,
             }
         }
     }
@@ -82,8 +82,8 @@ impl Load {
         let now = self.now.with(second, size);
         let unknown = if size.bits == 0 { 1 } else { 0 };
         *self = Load {
-            bits: counted(self.bits, u64::from(size.bits)),
-            most: counted(self.most, u64::from(size.most)),
+            bits: counted(self.bits, size.bits as u64),
+            most: counted(self.most, size.most as u64),
             unknown: counted(self.unknown, unknown),
             now,
             busiest: if self.busiest.bits < now.bits {

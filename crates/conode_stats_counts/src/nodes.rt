@@ -39,7 +39,7 @@ fn command_all(nodes: &mut [Node])
 fn command_one(nodes: &mut [Node], node: u8)
     ensures { nodes.new ≡ changed_at node node_commanded nodes.old }
 {
-    let place = usize::from(node);
+    let place = node as usize;
     if place < nodes.len() {
         nodes[place].command();
     }
@@ -49,7 +49,7 @@ fn command_one(nodes: &mut [Node], node: u8)
 fn show_one(nodes: &mut [Node], node: u8, state: NmtState, micros: u64)
     ensures { nodes.new ≡ changed_at node (node_with state micros) nodes.old }
 {
-    let place = usize::from(node);
+    let place = node as usize;
     if place < nodes.len() {
         nodes[place].show(state, micros);
     }
@@ -59,7 +59,7 @@ fn show_one(nodes: &mut [Node], node: u8, state: NmtState, micros: u64)
 fn exchange_one(nodes: &mut [Node], node: u8, frame: SdoFrame, micros: u64)
     ensures { nodes.new ≡ changed_at node (node_exchanged frame micros) nodes.old }
 {
-    let place = usize::from(node);
+    let place = node as usize;
     if place < nodes.len() {
         nodes[place].exchange(frame, micros);
     }
@@ -85,7 +85,7 @@ pub(crate) fn show_time(nodes: &mut [Node], shown: Option<ShownTime>, micros: u6
     ensures { nodes.new ≡ nodes_timed shown micros nodes.old }
 {
     if let Some(shown) = shown {
-        let place = usize::from(shown.node);
+        let place = shown.node as usize;
         if place < nodes.len() {
             nodes[place].show_time(shown.direction, shown.time, micros);
         }

@@ -22,7 +22,7 @@ pub(crate) fn can_id(id: Identifier) -> u32
     ensures { result ≡ can_id id }
 {
     match id {
-        Identifier::Base(id) => u32::from(id),
+        Identifier::Base(id) => id as u32,
         Identifier::Extended(id) => id + 0x8000_0000,
         Identifier::Error(class) => class + 0x2000_0000,
     }

@@ -44,7 +44,7 @@ fn slot_of(id: u32) -> usize {
 // the place remembered in a slot
 fn place_in(places: &[u16], slot: usize) -> usize {
     match places.get(slot) {
-        Some(place) => usize::from(*place),
+        Some(place) => *place as usize,
         None => 0,
     }
 }

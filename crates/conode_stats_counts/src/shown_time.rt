@@ -24,7 +24,7 @@ pub(crate) fn first_word(bytes: &[u8]) -> Option<u16>
     ensures { result ≡ first_word bytes.now }
 {
     match bytes {
-        [low, high, ..] => Some(u16::from(*low) + u16::from(*high) * 256),
+        [low, high, ..] => Some(*low as u16 + *high as u16 * 256),
         _ => None,
     }
 }

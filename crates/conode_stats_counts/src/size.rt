@@ -36,7 +36,7 @@ fn size_after(wire: Wire, sent: u32) -> Size
     ensures { (bits : List ℕ) → IsAfter wire bits → length bits + 15 ≡ sent
         → result ≡ size_as sent bits }
 {
-    let crc = u64::from(wire.crc);
+    let crc = wire.crc as u64;
     let end = wire.with_number(16, 2 * crc + (1 - crc % 2));
     Size {
         bits: sent + end.stuffed + TAIL_BITS,
@@ -53,7 +53,7 @@ fn base_size(id: u16, remote: u64, code: u64, bytes: &[u8]) -> Size
     ensures { result ≡ size_as (34 + 8 * length bytes.now)
         (base_head id remote code ++ data_bits bytes.now) }
 {
-    let head = 128 * u64::from(id) + 64 * remote + code;
+    let head = 128 * id as u64 + 64 * remote + code;
     let start = base_start((head / 0x1_0000) as u8);
     let wire = start.with_number(16, head).with_bytes(bytes);
     size_after(wire, 34 + 8 * bytes.len() as u32)
@@ -68,8 +68,8 @@ fn extended_size(id: u32, remote: u64, code: u64, bytes: &[u8]) -> Size
     ensures { result ≡ size_as (54 + 8 * length bytes.now)
         (extended_head id remote code ++ data_bits bytes.now) }
 {
-    let upper = u64::from(id / 0x4_0000);
-    let lower = u64::from(id % 0x4_0000);
+    let upper = (id / 0x4_0000) as u64;
+    let lower = (id % 0x4_0000) as u64;
     let head = 0x800_0000 * upper + 0x600_0000 + 128 * lower + 64 * remote + code;
     let start = extended_start((head / 0x1_0000_0000) as u8);
     let wire = start.with_number(32, head).with_bytes(bytes);
@@ -90,14 +90,14 @@ impl Size {
                 base_size(id, 0, bytes.len() as u64, bytes.as_slice())
             }
             (Identifier::Base(id), Content::Remote(count)) => {
-                base_size(id, 1, u64::from(*count), &[])
+                base_size(id, 1, *count as u64, &[])
             }
             (Identifier::Extended(id), Content::Data(data)) => {
                 let bytes = data.to_list();
                 extended_size(id, 0, bytes.len() as u64, bytes.as_slice())
             }
             (Identifier::Extended(id), Content::Remote(count)) => {
-                extended_size(id, 1, u64::from(*count), &[])
+                extended_size(id, 1, *count as u64, &[])
             }
             _ => Size { bits: 0, most: 0 },
         }

@@ -22,8 +22,8 @@ pub(crate) struct Wire {
 fn crc_with_byte(crc: u16, byte: u8) -> u16
     ensures { result ≡ fold crc_with crc (bits_of 8 byte) }
 {
-    let more = u16::from(byte);
-    let place = usize::from((crc / 0x80 ^ more) % 256);
+    let more = byte as u16;
+    let place = ((crc / 0x80 ^ more) % 256) as usize;
     256 * (crc % 0x80) ^ CRC_STEPS[place]
 }
 
@@ -82,10 +82,10 @@ impl Wire {
         ensures few { result.stuffed ≤ self.stuffed + 31 }
     {
         let crc = crc_with_byte(self.crc, byte);
-        let run = usize::from(self.run);
-        let place = usize::from(byte);
+        let run = self.run as usize;
+        let place = byte as usize;
         let step = STUFF_STEPS[256 * run + place];
-        let stuffed = u32::from(step / 8);
+        let stuffed = (step / 8) as u32;
         Wire {
             crc,
             run: step % 8,

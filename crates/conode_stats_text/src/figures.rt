@@ -47,6 +47,6 @@ pub(crate) fn room_in(bit_rate: u32, micros: u64) -> u64
     requires { bit_rate ≤ 1000000 }
     ensures { result ≡ room_in bit_rate micros }
 {
-    let rate = u64::from(bit_rate);
+    let rate = bit_rate as u64;
     micros / 1_000_000 * rate + micros % 1_000_000 * rate / 1_000_000
 }

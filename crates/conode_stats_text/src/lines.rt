@@ -83,7 +83,7 @@ pub(crate) fn push_load(paper: &mut Paper, bit_rate: u32, all: &Tally, load: &Lo
 {
     let room = room_in(bit_rate, all.total);
     push_load_front(paper, load_word(load), room, load);
-    push_busiest(paper, u64::from(bit_rate), load)
+    push_busiest(paper, bit_rate as u64, load)
 }
 
 fn frames_in(count: u64) -> &'static str

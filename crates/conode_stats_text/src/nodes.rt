@@ -69,7 +69,7 @@ pub(crate) fn push_node_in(paper: &mut Paper, interface: &[u8], end: u64, number
     paper.put_cells(&[
         Cell::Column(interface),
         Cell::Gap("  "),
-        Cell::Count(8, u64::from(number)),
+        Cell::Count(8, number as u64),
         Cell::Count(13, node.boot_ups),
         Cell::Count(12, node.restarts),
         Cell::Millis(13, millis_of(end, times.boot_up)),

@@ -127,7 +127,7 @@ impl Pace {
         ensures { piece_text result ≡ pace_figure self }
     {
         match self {
-            Pace::Written(time) | Pace::Sheet(time) => Piece::Number(u64::from(time)),
+            Pace::Written(time) | Pace::Sheet(time) => Piece::Number(time as u64),
             Pace::Median(gap) | Pace::Pdos(gap) => Piece::Millis(gap),
         }
     }

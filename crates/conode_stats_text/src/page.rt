@@ -76,10 +76,10 @@ fn push_nodes_wrong(
     kind: Kind,
 ) {
     for number in 1..128u8 {
-        if let Some(node) = bus.nodes().get(usize::from(number)) {
+        if let Some(node) = bus.nodes().get(number as usize) {
             let time = sheet_time(sheets, bus.interface(), number);
             let finding = kind.of_node(bus, time, number, node);
-            push_listed(paper, excerpt, bus.interface(), u32::from(number), &finding);
+            push_listed(paper, excerpt, bus.interface(), number as u32, &finding);
         }
     }
 }
@@ -96,7 +96,7 @@ fn push_rows_of(
     for row in rows {
         if row.cause.node == node {
             let finding = kind.of_row(row);
-            push_listed(paper, excerpt, interface, u32::from(node), &finding);
+            push_listed(paper, excerpt, interface, node as u32, &finding);
         }
     }
 }
@@ -119,7 +119,7 @@ fn push_open_on(paper: &mut Paper, excerpt: &mut Excerpt, bus: &Bus) {
     let all = bus.all();
     for track in bus.transfers().channels() {
         let finding = open_finding(&all, &track.channel.unfinished(all.last));
-        let node = u32::from(track.node);
+        let node = track.node as u32;
         push_listed(paper, excerpt, bus.interface(), node, &finding);
     }
 }

@@ -45,7 +45,7 @@ fn push_node(text: &mut String, interface: &[u8], node: u32) -> Result<(), Alloc
     attempt!(text.push_str("  "));
     attempt!(push_name(text, interface));
     attempt!(text.push_str(": node "));
-    push_decimal(text, u64::from(node))
+    push_decimal(text, node as u64)
 }
 
 fn push_piece(text: &mut String, piece: &Piece<'_>) -> Result<(), AllocError>

@@ -57,7 +57,7 @@ fn beat_silence(all: &Tally, sheet: Option<u16>, heartbeats: &Heartbeats) -> Opt
 fn is_tpdo(node: u8, id: u32) -> bool
     ensures { result ≡ is_tpdo node id }
 {
-    let node = u32::from(node);
+    let node = node as u32;
     id == 0x180 + node || id == 0x280 + node || id == 0x380 + node || id == 0x480 + node
 }
 
@@ -70,7 +70,7 @@ impl Source {
             Source::Commands => id == 0,
             Source::Syncs => id == 0x80,
             Source::Sender(node) => {
-                let service = u32::from(node);
+                let service = node as u32;
                 is_tpdo(node, id)
                     || id == 0x80 + service
                     || id == 0x580 + service

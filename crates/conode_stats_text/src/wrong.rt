@@ -43,7 +43,7 @@ fn push_counted<'p>(
     ensures { IsAppended paper.old (counted_line interface.entry.now row.now front.entry.now
         (piece_text code.entry) after.entry.now) paper.new }
 {
-    let node = u32::from(row.cause.node);
+    let node = row.cause.node as u32;
     if row.first == row.last {
         return paper.put(&[
             Piece::Node(interface, node),

@@ -6,4 +6,4 @@ pub returns : goal.returns
 returns c =
     let short : c.args.crc < 0x10000 = omega arith in
     let small : c.args.byte < 256 = omega arith in
-    rw (c.from-place.ensures, c.from-more.ensures) (crc_byte c.args.crc c.args.byte short small)
+    crc_byte c.args.crc c.args.byte short small
