@@ -92,7 +92,7 @@ fn push_sections(words: &mut String, index: u16, count: u8) -> Result<(), AllocE
     words.push_str(", [")?;
     push_u16(words, index)?;
     words.push_str("sub0] and ")?;
-    push_decimal(words, u64::from(count))?;
+    push_decimal(words, count as u64)?;
     words.push_str(" more")
 }
 

@@ -4,7 +4,8 @@ use co_sheet_changes::Piece;
 use co_sheet_faults::{FaultKind, SheetFault, find_faults, fix_of, meaning_of, subject_of};
 use co_sheet_text::{number_in, same_name, trim, without_mark};
 use co_text::{push_decimal, split_at_first, split_line};
-use conode_lint_text::{About, Finding, Place, Severity, characters_of, push_finding, push_more};
+use conode_json::characters_of;
+use conode_lint_text::{About, Finding, Place, Severity, push_finding, push_more};
 use std::alloc::{AllocError, Global};
 
 /// The most faults that are printed.

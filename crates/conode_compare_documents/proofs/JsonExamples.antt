@@ -6,7 +6,7 @@ use lib.Utf8.{encode}
 use Rattle.json.specs.Print.{escape_byte, print_from}
 use Rattle.json.specs.Token.{begin_object, end_object, key, number, string}
 use Rattle.co_text.specs.Printed.{digits_text}
-use Rattle.conode_lint_text.specs.Characters.{characters_of, windows_1252}
+use Rattle.conode_json.specs.Characters.{characters_of, windows_1252}
 use Rattle.conode_json.specs.Members.{array_begin, flag_member, number_member, object_begin, text_member}
 use Rattle.conode_text.specs.Filled.{filled}
 use Rattle.conode_compare_text.specs.FindingTexts.{finding_text}

@@ -5,7 +5,7 @@ use Rattle.std.specs.List.{flat_map}
 use Rattle.std.specs.Str.{chars, is_utf8}
 use lib.Utf8.{encode}
 use Rattle.co_text.specs.Printed.{digits_text}
-use Rattle.conode_lint_text.specs.Characters.{characters_of}
+use Rattle.conode_json.specs.Characters.{characters_of}
 use Rattle.conode_json.specs.Escapes.{escaped_character}
 use Rattle.conode_json.specs.Filled.{seconds_text}
 use Rattle.conode_text.specs.Filled.{filled}

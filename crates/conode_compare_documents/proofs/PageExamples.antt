@@ -17,7 +17,7 @@ use Rattle.conode_text.specs.Filled.{filled}
 use Rattle.conode_compare_text.specs.FindingTexts.{finding_text}
 use Rattle.conode_compare_text.specs.Values.{millis_text}
 use Rattle.conode_explain_values.specs.declared.value_type.ValueType.TheVariants.{Plain}
-use Rattle.conode_lint_text.specs.Characters.{characters_of}
+use Rattle.conode_json.specs.Characters.{characters_of}
 use Rattle.conode_json.specs.Escapes.{escaped_character}
 use Rattle.conode_json.specs.Filled.{code_digits, seconds_text}
 use Rattle.conode_compare_report.specs.declared.outcome.Outcome.{Outcome}

@@ -2,7 +2,7 @@
 use Rattle.std.specs.Prelude.{ℕ, List, [], ◌∷◌, ◌++◌, pos, codes}
 use Rattle.std.specs.List.{flat_map}
 use Rattle.json.specs.Token.{Token, begin_object, end_object, end_array}
-use Rattle.conode_lint_text.specs.JsonForm.{utf8_of}
+use Rattle.conode_json.specs.Characters.{utf8_of}
 use Rattle.conode_json.specs.Members.{array_begin, number_member, text_member}
 use Rattle.conode_compare_text.specs.FindingTexts.{finding_text}
 use Rattle.conode_compare_report.specs.declared.noted.Noted.{Noted}

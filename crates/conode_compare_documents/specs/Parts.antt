@@ -4,7 +4,7 @@ use Rattle.std.specs.List.{flat_map}
 use Rattle.std.specs.Option.{option_copied, option_map_or}
 use Rattle.json.specs.Token.{Token, begin_object, end_array, end_object}
 use Rattle.co_text.specs.Printed.{digits_text}
-use Rattle.conode_lint_text.specs.JsonForm.{utf8_of}
+use Rattle.conode_json.specs.Characters.{utf8_of}
 use Rattle.conode_json.specs.Members.{array_begin, flag_member, number_if, number_member, object_begin, text_member}
 use Rattle.conode_compare_documents.specs.declared.parts.Part.{Part}
 use Rattle.conode_compare_documents.specs.declared.parts.Part.TheVariants.{BeginObject, EndObject, Object, Array, EndArray, Text, Bytes, Number, NumberIf, Flag, Code}

@@ -10,7 +10,7 @@ use Rattle.co_text.specs.Printed.{digits_text}
 use Rattle.conode_record.specs.declared.content.Content.TheVariants.{Data, Remote, Fd}
 use Rattle.conode_record.specs.declared.fields.Identifier.TheVariants.{Base, Extended, Error}
 use Rattle.conode_record.specs.declared.line.Record.{Record}
-use Rattle.conode_lint_text.specs.Characters.{characters_of, windows_1252}
+use Rattle.conode_json.specs.Characters.{characters_of, windows_1252}
 use Rattle.conode_explain_filter.specs.declared.kind.Kind.TheVariants.{Sdo, Sync, Pdo, Nmt}
 use Rattle.conode_explain_text.specs.declared.so_far.Times.{Times}
 use Rattle.conode_explain_text.specs.declared.stamps.StampForm.TheVariants.{Relative, Absolute, Delta, Date as AsDate}

@@ -10,7 +10,7 @@ use Rattle.conode_record.specs.declared.content.Content.TheVariants.{Data, Remot
 use Rattle.conode_record.specs.declared.fields.Identifier.{Identifier}
 use Rattle.conode_record.specs.declared.fields.Identifier.TheVariants.{Base, Extended, Error}
 use Rattle.conode_record.specs.declared.line.Record.{Record}
-use Rattle.conode_lint_text.specs.JsonForm.{utf8_of}
+use Rattle.conode_json.specs.Characters.{utf8_of}
 use Rattle.conode_json.specs.Members.{flag_member, number_member, numbers_member, text_member}
 use Rattle.conode_explain_filter.specs.declared.kind.Kind.{Kind}
 use Rattle.conode_explain_filter.specs.declared.kind.Kind.TheVariants.{Sdo, Pdo, Emergency, Nmt, Heartbeat, Sync, Other}

@@ -8,7 +8,7 @@ use Rattle.std.proofs.lemmas.Bool.{and_from, and_parts, cases_Bool, cases_lt, co
 use Rattle.std.proofs.lemmas.Bool.Decides.{nat_tests}
 use Rattle.std.proofs.lemmas.Str.{encode_ascii}
 use Rattle.co_text.specs.Printed.{digits_text, printed_digit}
-use Rattle.conode_lint_text.specs.Characters.{characters_of}
+use Rattle.conode_json.specs.Characters.{characters_of}
 use Rattle.conode_json.specs.Escapes.{escaped, escaped_character, is_character_data, is_plain, is_reference, shown}
 
 -- ---- plain bytes

@@ -1,9 +1,9 @@
 -- Members, evaluated, on both sides of each edge.
-use Rattle.std.proofs.Common.{◌≡◌, true, [], ◌∷◌, Some, None, refl, pos, negsuc}
+use Rattle.std.proofs.Common.{◌≡◌, true, [], ◌∷◌, ◌++◌, Some, None, refl, pos, negsuc}
 use Rattle.std.specs.Prelude.{codes}
 use Rattle.std.specs.Fmt.{digits}
 use Rattle.json.specs.Token.{begin_array, begin_object, boolean, end_array, key, number, string}
-use Rattle.conode_json.specs.Members.{array_begin, flag_member, number_if, number_member, number_token, numbers_member, object_begin, text_member}
+use Rattle.conode_json.specs.Members.{array_begin, count_member, flag_member, number_if, number_member, number_token, numbers_member, object_begin, text_member}
 
 -- ---- numbers: up to 2^53 - 1 in magnitude, and past it
 
@@ -40,6 +40,10 @@ text = refl
 flags : flag_member (codes "read") true ≡ key (codes "read") ∷ boolean true ∷ []
 unfolding flag_member
 flags = refl
+
+counts : count_member (codes "more") 0 ++ count_member (codes "more") 12 ≡ key (codes "more") ∷ number (codes "0") ∷ key (codes "more") ∷ number (codes "12") ∷ []
+unfolding count_member digits
+counts = refl
 
 begun_object : object_begin (codes "frames") ≡ key (codes "frames") ∷ begin_object ∷ []
 unfolding object_begin

@@ -1,5 +1,8 @@
-pub mod Appending
+pub use Rattle.conode_text.proofs.Appending
+mod CharacterLemmas
 pub mod EscapeLaws
+pub mod DocumentLaws
 mod FilledLaws
+mod CharacterExamples
 mod JsonExamples
 mod MarkupExamples

@@ -5,8 +5,8 @@ use Rattle.std.specs.Fmt.{digits}
 use Rattle.std.specs.List.{flat_map}
 use Rattle.std.specs.Str.{chars, is_utf8}
 use Rattle.co_text.specs.Printed.{digits_text}
-use Rattle.conode_lint_text.specs.Characters.{characters_of, windows_1252}
-use Rattle.conode_json.specs.declared.filled.Value.TheVariants.{AnyCode, AnyText, Words, Either, Number, Count, Seconds, Key, Code}
+use Rattle.conode_json.specs.Characters.{characters_of, windows_1252}
+use Rattle.conode_json.specs.declared.value.Value.TheVariants.{AnyCode, AnyText, Words, Either, Number, Count, Seconds, Key, Code}
 use Rattle.conode_json.specs.Escapes.{escaped, escaped_character, is_character_data, is_plain}
 use Rattle.conode_json.specs.Filled.{code_digits, filled, seconds_text}
 

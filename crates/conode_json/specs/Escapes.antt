@@ -4,7 +4,7 @@ use Rattle.std.specs.Char.{encode_utf8, is_control}
 use Rattle.std.specs.List.{flat_map, starts_with}
 use Rattle.std.specs.Option.{option_map_or}
 use Rattle.co_text.specs.Printed.{byte_text}
-use Rattle.conode_lint_text.specs.Characters.{characters_of}
+use Rattle.conode_json.specs.Characters.{characters_of}
 
 -- what stands for a character that has a meaning of its own in markup, and for a tab; U+FFFE and U+FFFF
 -- may not be in XML: U+FFFD is there instead, in UTF-8

@@ -1,10 +1,10 @@
 -- Markup with values in it.
-use Rattle.std.specs.Prelude.{ℕ, ◌/◌, ◌%◌, ◌==◌, if◌then◌else◌, List, [], ◌∷◌, ◌++◌, drop, codes, decimal, Option, Some, None}
+use Rattle.std.specs.Prelude.{ℕ, ◌/◌, ◌%◌, ◌==◌, if◌then◌else◌, Bool, true, false, List, [], ◌∷◌, ◌++◌, drop, codes, decimal, Option, Some, None}
 use Rattle.std.specs.Option.{option_copied, option_map}
 use Rattle.co_text.specs.Printed.{digits_text}
 use Rattle.co_value.specs.KeyTexts.{key_text}
-use Rattle.conode_json.specs.declared.filled.Value.{Value}
-use Rattle.conode_json.specs.declared.filled.Value.TheVariants.{Text, Name, AnyText, Words, Either, Number, Count, Seconds, Key, Code, AnyCode}
+use Rattle.conode_json.specs.declared.value.Value.{Value}
+use Rattle.conode_json.specs.declared.value.Value.TheVariants.{Text, Name, AnyText, Words, Either, Number, Count, Seconds, Key, Code, AnyCode}
 use Rattle.conode_json.specs.Escapes.{escaped}
 
 -- microseconds, in seconds with six digits after the point
@@ -45,8 +45,18 @@ abbrev pub first_text : List Value → List ℕ
 first_text [] = []
 first_text (value ∷ others) = value_text value
 
+-- what a byte gives: the text of the first value at a place, else itself
+abbrev pub text_of_byte : Bool → ℕ → List Value → List ℕ
+text_of_byte true byte values = first_text values
+text_of_byte false byte values = byte ∷ []
+
+-- the values for the places after it
+abbrev pub values_left : Bool → List Value → List Value
+values_left true values = drop 1 values
+values_left false values = values
+
 -- markup with these values in its places, one after another: each percent sign is a place
 abbrev pub filled : List ℕ → List Value → List ℕ
 filled [] values = []
 filled (byte ∷ rest) values =
-    if byte == 37 then first_text values ++ filled rest (drop 1 values) else byte ∷ filled rest values
+    text_of_byte (byte == 37) byte values ++ filled rest (values_left (byte == 37) values)

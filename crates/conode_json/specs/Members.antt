@@ -10,6 +10,9 @@ text_member name text = key name ∷ string text ∷ []
 unfoldable pub flag_member : List ℕ → Bool → List Token
 flag_member name is = key name ∷ boolean is ∷ []
 
+unfoldable pub count_member : List ℕ → ℕ → List Token
+count_member name count = key name ∷ number (decimal count) ∷ []
+
 -- the beginning of a member that is an object, and of one that is an array
 unfoldable pub object_begin : List ℕ → List Token
 object_begin name = key name ∷ begin_object ∷ []

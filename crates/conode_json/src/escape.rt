@@ -10,9 +10,9 @@ ghost use Rattle.conode_json.specs.Escapes.{
   replacement,
 };
 
+use crate::characters::characters_of;
 use co_text::push_byte;
-use conode_lint_text::characters_of;
-use std::alloc::{AllocError, Global};
+use std::alloc::AllocError;
 
 // what stands for a character that has a meaning of its own in markup, or may not be in it
 fn replacement(character: char) -> Option<&'static str>
@@ -59,12 +59,12 @@ fn push_characters(text: &mut String, characters: &[char]) -> Result<(), AllocEr
 /// valid, else as Windows-1252. The characters `&`, `<`, `>`, `"` and `'` become references;
 /// control characters but the line feed are shown, as `\t` and `\x1B`.
 #[tactic(auto, using(crate::proofs::EscapeLaws::escaped_plain))]
-pub(crate) fn push_escaped(alloc: Global, text: &mut String, bytes: &[u8]) -> Result<(), AllocError>
+pub(crate) fn push_escaped(text: &mut String, bytes: &[u8]) -> Result<(), AllocError>
     ensures text { OnOk result
         (string_bytes text.new ≡ string_bytes text.old ++ escaped bytes.now) }
     // It ends no element and no value, and begins none.
     ensures plain { is_character_data (escaped bytes.now) ≡ true }
 {
-    let characters = characters_of(alloc, bytes)?;
+    let characters = characters_of(*text.allocator(), bytes)?;
     push_characters(text, characters.as_slice())
 }

@@ -4,10 +4,11 @@ ghost use Rattle.std.specs.Prelude.{◌≡◌, ◌++◌, [], ◌∷◌, map, IfO
 ghost use Rattle.json.specs.Print.{IsPrintable, print};
 ghost use Rattle.json.specs.Reads.{token_of};
 ghost use Rattle.json.specs.Token.{begin_object, end_array, end_object, key, string};
-ghost use Rattle.conode_lint_text.specs.JsonForm.{utf8_of};
+ghost use Rattle.conode_json.specs.Characters.{utf8_of};
 ghost use Rattle.conode_json.specs.Members.{
   array_begin,
   byte_token,
+  count_member,
   flag_member,
   is_exact,
   number_if,
@@ -18,7 +19,7 @@ ghost use Rattle.conode_json.specs.Members.{
   text_member,
 };
 
-use conode_lint_text::utf8_of;
+use crate::characters::utf8_of;
 use json::{Token, Writer};
 use std::alloc::{AllocError, Global};
 use std::marker::Model;
@@ -41,7 +42,7 @@ fn put_elements(writer: &mut Writer, bytes: &[u8]) -> Result<(), AllocError>
     ensures before { writer.new.before ≡ writer.old.before }
 {
     for byte in bytes {
-        writer.u64(u64::from(*byte))?;
+        writer.u64(*byte as u64)?;
     }
     Ok(())
 }
@@ -153,11 +154,12 @@ impl JsonWriter {
 
     /// A member that is a text from outside, in UTF-8: as it is if it is valid, else converted from
     /// Windows-1252.
+    #[tactic(auto, unfolding(crate::specs::Members::text_member))]
     pub fn put_bytes(&mut self, alloc: Global, name: &str, bytes: &[u8]) -> Result<(), AllocError>
         ensures { OnOk result (self.new ≡ self.old ++ text_member name.now (utf8_of bytes.now)) }
     {
-        let text = utf8_of(alloc, bytes)?;
-        self.put_text(name, text.as_str())
+        self.put(Token::Key(name))?;
+        self.put_element(alloc, bytes)
     }
 
     /// An element that is a text from outside, in UTF-8 in the same way.
@@ -174,6 +176,16 @@ impl JsonWriter {
         ensures { OnOk result (self.new ≡ self.old ++ flag_member name.now is) }
     {
         self.put_member(name, Token::Bool(is))
+    }
+
+    /// A member that is a number of things.
+    #[tactic(auto, unfolding(crate::specs::Members::count_member))]
+    pub fn put_count(&mut self, name: &str, count: u64) -> Result<(), AllocError>
+        ensures { OnOk result (self.new ≡ self.old ++ count_member name.now count) }
+    {
+        self.put(Token::Key(name))?;
+        self.writer.u64(count)?;
+        Ok(())
     }
 
     // a number as a value

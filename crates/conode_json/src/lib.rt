@@ -2,11 +2,15 @@
 //! HTML, in markup with values in it.
 #![tactic(auto)]
 
+mod characters;
+mod document;
 mod escape;
-mod filled;
 mod json_writer;
 mod markup;
+mod value;
 
-pub use filled::Value;
+pub use characters::{characters_of, utf8_of};
+pub use document::{Document, HasTokens, put_parts};
 pub use json_writer::JsonWriter;
 pub use markup::Markup;
+pub use value::Value;

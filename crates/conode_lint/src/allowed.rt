@@ -1,13 +1,13 @@
 //! The names of findings that are allowed.
 
-ghost use Rattle.std.specs.Prelude.{◌≡◌, map, IfOk};
+ghost use Rattle.std.specs.Prelude.{◌≡◌, [], map, OnOk};
 ghost use Rattle.std.specs.Option.{option_map};
 ghost use Rattle.conode_lint.specs.Allowed.{is_among, kept, name_in, names_in, passes_by};
 
 use crate::mark::Mark;
 use crate::words::name_of;
 use co_sheet_text::trim;
-use std::alloc::{AllocError, Global};
+use std::alloc::AllocError;
 
 /// The beginning of a comment that allows findings of a name.
 const ALLOW: &[u8] = b"; lint: allow ";
@@ -29,18 +29,18 @@ fn name_in(line: &[u8]) -> Option<&[u8]>
     }
 }
 
-/// The names that the lines of a sheet allow. `Err`: out of memory.
-pub(crate) fn names_in<'a>(alloc: Global, lines: &[&'a [u8]]) -> Result<Vec<&'a [u8]>, AllocError>
-    ensures { IfOk result (λ names. map (λ name. name.now) names.items
+/// Adds the names that the lines of a sheet allow to none. `Err`: out of memory.
+pub(crate) fn add_names<'a>(names: &mut Vec<&'a [u8]>, lines: &[&'a [u8]]) -> Result<(), AllocError>
+    requires { names.old.items ≡ [] }
+    ensures { OnOk result (map (λ name. name.now) names.new.items
         ≡ names_in (map (λ line. line.now) lines.now)) }
 {
-    let mut names = Vec::new(alloc);
     for line in lines {
         if let Some(name) = name_in(line) {
             names.push(name)?;
         }
     }
-    Ok(names)
+    Ok(())
 }
 
 fn is_among(name: &[u8], names: &[&[u8]]) -> bool
@@ -73,22 +73,22 @@ fn passes(name: &str, given: &[&str], in_sheet: &[&[u8]]) -> bool
     is_given(name, given) || is_among(name.as_bytes(), in_sheet)
 }
 
-/// The marks that neither the command line nor the sheet allows. `Err`: out of memory.
-pub(crate) fn kept(
-    alloc: Global,
+/// Adds the marks that neither the command line nor the sheet allows to none. `Err`: out of memory.
+pub(crate) fn add_kept(
+    left: &mut Vec<Mark>,
     marks: &[Mark],
     given: &[&str],
     in_sheet: &[&[u8]],
-) -> Result<Vec<Mark>, AllocError>
-    ensures { IfOk result (λ made. made.items
+) -> Result<(), AllocError>
+    requires { left.old.items ≡ [] }
+    ensures { OnOk result (left.new.items
         ≡ kept (passes_by (map (λ one. one.now) given.now) (map (λ one. one.now) in_sheet.now))
         marks.now) }
 {
-    let mut left = Vec::new(alloc);
     for mark in marks {
         if !passes(name_of(mark.subject), given, in_sheet) {
             left.push(*mark)?;
         }
     }
-    Ok(left)
+    Ok(())
 }

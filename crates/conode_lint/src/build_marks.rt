@@ -107,6 +107,8 @@ pub(crate) fn add_build_marks(
         ++ built_marks sheet.now (map section_view sections.now)
         (plan_of node_id (limits_view limits.now) sheet.now)) }
 {
-    let found = find_build_faults::<ListStore>(alloc, sheet, node_id, limits)?;
-    add_at_lines(marks, sheet, sections, &found)
+    match find_build_faults::<ListStore>(alloc, sheet, node_id, limits) {
+        Ok(found) => add_at_lines(marks, sheet, sections, &found),
+        Err(fault) => Err(fault),
+    }
 }

@@ -3,14 +3,14 @@
 ghost use Rattle.std.specs.Prelude.{◌≡◌, nat_lt};
 ghost use Rattle.conode_lint.specs.Statuses.{lint_status};
 
-use crate::folder::{is_folder, sheets_in};
+use crate::folder::{Sheets, is_folder, sheets_in};
 use crate::linted_text::lint_text;
 use crate::marks::Checks;
 use crate::report::{Counts, Form, Report};
 use crate::rules::unknown_name;
 use co_sheet::{StreamFault, read_text};
 use conode_io::{CmdFault, cannot_read, file_text, flushed, hand_over, stopped};
-use std::alloc::{AllocError, Global};
+use std::alloc::Global;
 use std::io::{Input, Write};
 use std::process::ExitCode;
 use std::rt::Files;
@@ -36,19 +36,6 @@ struct Session {
 }
 
 impl Session {
-    // lints a text, and adds what is found in it
-    fn add_text(
-        &mut self,
-        alloc: Global,
-        name: &str,
-        text: &[u8],
-        checks: &Checks<'_>,
-    ) -> Result<(), AllocError> {
-        let linted = lint_text(alloc, text, checks)?;
-        self.counts.add(&linted);
-        self.report.add(alloc, name, &linted)
-    }
-
     // lints a text, and writes what is found in it
     fn take_text<O: Write>(
         &mut self,
@@ -58,7 +45,13 @@ impl Session {
         options: &LintOptions<'_>,
         out: &mut O,
     ) -> Result<(), CmdFault> {
-        self.add_text(alloc, name, text, &options.checks)?;
+        match lint_text(alloc, text, &options.checks) {
+            Ok(linted) => {
+                self.counts.add(&linted);
+                self.report.add(alloc, name, &linted)?;
+            }
+            Err(_) => return Err(CmdFault::Memory),
+        }
         hand_over(self.report.lines().as_bytes(), out)?;
         self.report.drop_lines();
         Ok(())
@@ -67,7 +60,6 @@ impl Session {
     // names a file or a folder that can't be read; ends if memory ran out
     fn take_fault<E: Write>(
         &mut self,
-        alloc: Global,
         name: &str,
         fault: CmdFault,
         err: &mut E,
@@ -77,7 +69,7 @@ impl Session {
         }
         let _ = cannot_read(name, err);
         self.counts.unread = self.counts.unread.saturating_add(1);
-        self.report.add_unread(alloc, name)?;
+        self.report.add_unread(name);
         Ok(())
     }
 
@@ -93,31 +85,27 @@ impl Session {
     ) -> Result<(), CmdFault> {
         match text {
             Ok(text) => self.take_text(alloc, name, text.as_slice(), options, out),
-            Err(fault) => self.take_fault(alloc, name, fault, err),
+            Err(fault) => self.take_fault(name, fault, err),
         }
     }
 
-    fn take_folder<R: Files + AllocGlobal + Clone + Drop, O: Write, E: Write>(
+    fn take_sheets<R: Files + AllocGlobal, O: Write, E: Write>(
         &mut self,
         rt: &R,
-        path: &str,
+        folder: &str,
+        sheets: &Sheets,
         options: &LintOptions<'_>,
         out: &mut O,
         err: &mut E,
     ) -> Result<(), CmdFault> {
-        match sheets_in(rt, path) {
-            Ok(sheets) => {
-                for sheet in &sheets.paths {
-                    let path = sheet.as_str();
-                    self.take_read(rt.alloc(), path, file_text(rt, path), options, out, err)?;
-                }
-                if sheets.are_all {
-                    return Ok(());
-                }
-                self.take_fault(rt.alloc(), path, CmdFault::Read, err)
-            }
-            Err(fault) => self.take_fault(rt.alloc(), path, fault, err),
+        for sheet in &sheets.paths {
+            let path = sheet.as_str();
+            self.take_read(rt.alloc(), path, file_text(rt, path), options, out, err)?;
         }
+        if sheets.are_all {
+            return Ok(());
+        }
+        self.take_fault(folder, CmdFault::Read, err)
     }
 
     // a path's file, the sheets of its folder, or `-` for standard input
@@ -129,10 +117,13 @@ impl Session {
         out: &mut O,
         err: &mut E,
     ) -> Result<(), CmdFault> {
-        if path != "-" && is_folder(rt, path) {
-            return self.take_folder(rt, path, options, out, err);
+        if path == "-" || !is_folder(rt, path) {
+            return self.take_read(rt.alloc(), path, text_of(rt, path), options, out, err);
         }
-        self.take_read(rt.alloc(), path, text_of(rt, path), options, out, err)
+        match sheets_in(rt, path) {
+            Ok(sheets) => self.take_sheets(rt, path, &sheets, options, out, err),
+            Err(fault) => self.take_fault(path, fault, err),
+        }
     }
 
     // the whole report but for what is still to be handed over
@@ -144,20 +135,23 @@ impl Session {
         out: &mut O,
         err: &mut E,
     ) -> Result<(), CmdFault> {
-        self.report.begin(rt.alloc(), options.version)?;
+        self.report.begin(rt.alloc(), options.version);
         for path in paths {
             self.take_path(rt, path, options, out, err)?;
         }
-        self.report.end(&self.counts)?;
         Ok(())
     }
 
     // hands the last bytes over, and returns how much was found
     fn finish<O: Write>(self, out: &mut O) -> Result<Counts, CmdFault> {
         let Session { report, counts } = self;
-        let last = report.into_bytes()?;
-        hand_over(last.as_slice(), out)?;
-        Ok(counts)
+        match report.into_bytes(&counts) {
+            Ok(last) => match hand_over(last.as_slice(), out) {
+                Ok(()) => Ok(counts),
+                Err(fault) => Err(fault),
+            },
+            Err(_) => Err(CmdFault::Memory),
+        }
     }
 }
 
@@ -186,8 +180,10 @@ fn lint_paths<R: Files + AllocGlobal + Input + Clone + Drop, O: Write, E: Write>
         report: Report::new(rt.alloc(), options.form),
         counts: Counts::NONE,
     };
-    session.take_paths(rt, paths, options, out, err)?;
-    session.finish(out)
+    match session.take_paths(rt, paths, options, out, err) {
+        Ok(()) => session.finish(out),
+        Err(fault) => Err(fault),
+    }
 }
 
 fn is_any(count: usize) -> bool
@@ -222,8 +218,10 @@ fn lint_all<R: Files + AllocGlobal + Input + Clone + Drop, O: Write, E: Write>(
         return Ok(2);
     }
     let outcome = lint_paths(rt, paths, options, out, err);
-    let counts = flushed(out, outcome)?;
-    Ok(status_of(&counts, options.strict))
+    match flushed(out, outcome) {
+        Ok(counts) => Ok(status_of(&counts, options.strict)),
+        Err(fault) => Err(fault),
+    }
 }
 
 /// Lints files, the `*.eds` and `*.dcf` of folders, and standard input for `-`, and writes what is

@@ -40,10 +40,16 @@ fn add_sheet<R: Files + AllocGlobal>(
     name: &str,
     path: &str,
 ) -> Result<(), AllocError> {
-    if is_sheet_name(name) && !is_folder(rt, path) {
-        paths.push(String::from_str(rt.alloc(), path)?)?;
+    if !is_sheet_name(name) || is_folder(rt, path) {
+        return Ok(());
     }
-    Ok(())
+    match String::from_str(rt.alloc(), path) {
+        Ok(path) => {
+            paths.push(path)?;
+            Ok(())
+        }
+        Err(fault) => Err(fault),
+    }
 }
 
 // adds the path of an entry that is a data sheet; false if its name isn't UTF-8
@@ -96,7 +102,11 @@ pub(crate) fn sheets_in<R: Files + AllocGlobal + Clone + Drop>(
     folder: &str,
 ) -> Result<Sheets, CmdFault> {
     let mut paths = Vec::new(rt.alloc());
-    let are_all = add_sheets(rt, &mut paths, folder)?;
-    paths.sort_unstable();
-    Ok(Sheets { paths, are_all })
+    match add_sheets(rt, &mut paths, folder) {
+        Ok(are_all) => {
+            paths.sort_unstable();
+            Ok(Sheets { paths, are_all })
+        }
+        Err(fault) => Err(fault),
+    }
 }

@@ -1,12 +1,12 @@
 //! Linting a text.
 
-ghost use Rattle.std.specs.Prelude.{◌≡◌, map, take, IfOk};
+ghost use Rattle.std.specs.Prelude.{◌≡◌, [], map, take, IfOk, OnOk};
 ghost use Rattle.co_sheet_warnings.specs.Lines.{text_lines};
 ghost use Rattle.conode_lint.specs.Allowed.{error_count, is_error};
 ghost use Rattle.conode_lint.specs.Found.{finding_of, seen};
 ghost use Rattle.conode_lint.specs.Linted.{IsLinted, IsMadeOf, left};
 
-use crate::allowed::{kept, names_in};
+use crate::allowed::{add_kept, add_names};
 use crate::lines::line_at;
 use crate::mark::Mark;
 use crate::marks::{Checks, add_marks_of};
@@ -49,19 +49,20 @@ fn finding_of<'a>(lines: &[&'a [u8]], mark: Mark) -> Finding<'a>
     }
 }
 
-fn findings_of<'a>(
-    alloc: Global,
+// adds the findings of marks to none
+fn add_findings<'a>(
+    findings: &mut Vec<Finding<'a>>,
     lines: &[&'a [u8]],
     marks: &[Mark],
-) -> Result<Vec<Finding<'a>>, AllocError>
-    ensures { IfOk result (λ made. map seen made.items
+) -> Result<(), AllocError>
+    requires { findings.old.items ≡ [] }
+    ensures { OnOk result (map seen findings.new.items
         ≡ map (finding_of (map (λ line. line.now) lines.now)) marks.now) }
 {
-    let mut findings = Vec::new(alloc);
     for mark in marks {
         findings.push(finding_of(lines, *mark))?;
     }
-    Ok(findings)
+    Ok(())
 }
 
 fn is_error(severity: Severity) -> bool
@@ -95,19 +96,24 @@ fn first_marks(marks: &[Mark]) -> &[Mark]
     }
 }
 
-// the marks that neither the command line nor the sheet allows
+// adds the marks that neither the command line nor the sheet allows to none
 #[tactic(auto, unfolding(crate::specs::Linted::left))]
-fn left(
+fn add_left(
     alloc: Global,
+    marks: &mut Vec<Mark>,
     lines: &[&[u8]],
     checks: &Checks<'_>,
     found: &[Mark],
-) -> Result<Vec<Mark>, AllocError>
-    ensures { IfOk result (λ marks.
-        marks.items ≡ left (map (λ line. line.now) lines.now) checks.now found.now) }
+) -> Result<(), AllocError>
+    requires { marks.old.items ≡ [] }
+    ensures { OnOk result
+        (marks.new.items ≡ left (map (λ line. line.now) lines.now) checks.now found.now) }
 {
-    let in_sheet = names_in(alloc, lines)?;
-    kept(alloc, found, checks.allowed, in_sheet.as_slice())
+    let mut in_sheet = Vec::new(alloc);
+    match add_names(&mut in_sheet, lines) {
+        Ok(()) => add_kept(marks, found, checks.allowed, in_sheet.as_slice()),
+        Err(fault) => Err(fault),
+    }
 }
 
 // the findings of these marks, none of which is allowed
@@ -115,12 +121,16 @@ fn made_of<'a>(alloc: Global, lines: &[&'a [u8]], marks: &[Mark]) -> Result<Lint
     ensures { IfOk result (IsMadeOf (map (λ line. line.now) lines.now) marks.now) }
 {
     let errors = error_count(marks);
-    Ok(Linted {
-        findings: findings_of(alloc, lines, first_marks(marks))?,
-        errors,
-        warnings: marks.len().saturating_sub(errors),
-        more: marks.len().saturating_sub(MOST),
-    })
+    let mut findings = Vec::new(alloc);
+    match add_findings(&mut findings, lines, first_marks(marks)) {
+        Ok(()) => Ok(Linted {
+            findings,
+            errors,
+            warnings: marks.len().saturating_sub(errors),
+            more: marks.len().saturating_sub(MOST),
+        }),
+        Err(fault) => Err(fault),
+    }
 }
 
 // the findings of what is found in these lines, but for what is allowed
@@ -133,8 +143,11 @@ fn linted_of<'a>(
     ensures { IfOk result (IsMadeOf (map (λ line. line.now) lines.now)
         (left (map (λ line. line.now) lines.now) checks.now found.now)) }
 {
-    let marks = left(alloc, lines, checks, found)?;
-    made_of(alloc, lines, marks.as_slice())
+    let mut marks = Vec::new(alloc);
+    match add_left(alloc, &mut marks, lines, checks, found) {
+        Ok(()) => made_of(alloc, lines, marks.as_slice()),
+        Err(fault) => Err(fault),
+    }
 }
 
 // what is found in a text with these lines
@@ -148,8 +161,10 @@ fn linted_in<'a>(
     ensures { IfOk result (IsLinted text.now checks.now) }
 {
     let mut found = Vec::new(alloc);
-    add_marks_of(alloc, &mut found, text, lines, checks)?;
-    linted_of(alloc, lines, checks, found.as_slice())
+    match add_marks_of(alloc, &mut found, text, lines, checks) {
+        Ok(()) => linted_of(alloc, lines, checks, found.as_slice()),
+        Err(fault) => Err(fault),
+    }
 }
 
 /// Everything that is found in a text: each fault of the sheet, else each reason why no dictionary
@@ -162,6 +177,8 @@ pub fn lint_text<'a>(
 ) -> Result<Linted<'a>, AllocError>
     ensures { IfOk result (IsLinted text.now checks.now) }
 {
-    let lines = text_lines(alloc, text)?;
-    linted_in(alloc, text, lines.as_slice(), checks)
+    match text_lines(alloc, text) {
+        Ok(lines) => linted_in(alloc, text, lines.as_slice(), checks),
+        Err(fault) => Err(fault),
+    }
 }

@@ -143,8 +143,10 @@ fn add_suspicious<'s, 'a>(
     requires sections { map section_view sections.now ≡ sections_read (lines_of text.now) }
     ensures { OnOk result (AddsWarnings text.now checks.now marks.old.items marks.new.items) }
 {
-    let warnings = find_warnings(alloc, text, lines, sections, checks.node, checks.all)?;
-    add_warnings(marks, warnings.as_slice())
+    match find_warnings(alloc, text, lines, sections, checks.node, checks.all) {
+        Ok(warnings) => add_warnings(marks, warnings.as_slice()),
+        Err(fault) => Err(fault),
+    }
 }
 
 // adds the marks of a text with these lines and sections to none: its faults, its build and its
@@ -190,17 +192,19 @@ fn add_parsed<'a>(
     requires sheet { sheet.now ≡ sheet_of text.now }
     ensures { OnOk result (IsMarked text.now checks.now faults.now marks.new.items) }
 {
-    let sections = parsed.sections(alloc)?;
-    add_marks(
-        alloc,
-        marks,
-        text,
-        lines,
-        sections.as_slice(),
-        sheet,
-        faults,
-        checks,
-    )
+    match parsed.sections(alloc) {
+        Ok(sections) => add_marks(
+            alloc,
+            marks,
+            text,
+            lines,
+            sections.as_slice(),
+            sheet,
+            faults,
+            checks,
+        ),
+        Err(fault) => Err(fault),
+    }
 }
 
 // adds the marks of a text with these lines to none
@@ -219,8 +223,10 @@ fn add_marked<'a>(
     requires sheet { sheet.now ≡ sheet_of text.now }
     ensures { OnOk result (IsMarked text.now checks.now faults.now marks.new.items) }
 {
-    let parsed = read_sections(alloc, text)?;
-    add_parsed(alloc, marks, text, lines, &parsed, sheet, faults, checks)
+    match read_sections(alloc, text) {
+        Ok(parsed) => add_parsed(alloc, marks, text, lines, &parsed, sheet, faults, checks),
+        Err(fault) => Err(fault),
+    }
 }
 
 // adds the marks of a text that is too large to be read to none: only that fault
@@ -313,8 +319,10 @@ fn add_of_sheet<'a>(
     requires small { IfSome sheet.now (λ _. length text.now ≤ 1048576) }
     ensures { OnOk result (IsFound text.now checks.now marks.new.items) }
 {
-    let faults = faults_of(alloc, text, sheet)?;
-    add_found(alloc, marks, text, lines, sheet, faults.as_slice(), checks)
+    match faults_of(alloc, text, sheet) {
+        Ok(faults) => add_found(alloc, marks, text, lines, sheet, faults.as_slice(), checks),
+        Err(fault) => Err(fault),
+    }
 }
 
 /// Adds everything that is found in a text with these lines, by line, to no marks. For a text with
@@ -330,6 +338,8 @@ pub(crate) fn add_marks_of<'a>(
     requires lines { map (λ line. line.now) lines.now ≡ text_lines text.now }
     ensures { OnOk result (IsFound text.now checks.now marks.new.items) }
 {
-    let sheet = sheet_of(alloc, text)?;
-    add_of_sheet(alloc, marks, text, lines, &sheet, checks)
+    match sheet_of(alloc, text) {
+        Ok(sheet) => add_of_sheet(alloc, marks, text, lines, &sheet, checks),
+        Err(fault) => Err(fault),
+    }
 }

@@ -1,12 +1,12 @@
 //! What is written about many files, in one of three forms.
 
 use crate::linted_text::Linted;
-use crate::rules::all_rules;
+use crate::rules::add_rules;
+use conode_json::{Document, characters_of};
 use conode_lint_text::{
-    characters_of, push_finding, push_more, push_summary, put_document_end, put_document_head,
-    put_file, put_log_end, put_log_head, put_results,
+    Finding, push_finding, push_more, push_summary, put_document_end, put_document_head, put_file,
+    put_log_end, put_log_head, put_results,
 };
-use json::Writer;
 use percent_encoding::{AsciiSet, NON_ALPHANUMERIC, percent_encode};
 use std::alloc::{AllocError, Global};
 
@@ -93,16 +93,37 @@ fn push_file(
     name: &str,
     linted: &Linted<'_>,
 ) -> Result<(), AllocError> {
-    let file = characters_of(alloc, name.as_bytes())?;
-    push_findings(alloc, text, colours, file.as_slice(), linted)
+    match characters_of(alloc, name.as_bytes()) {
+        Ok(file) => push_findings(alloc, text, colours, file.as_slice(), linted),
+        Err(fault) => Err(fault),
+    }
 }
 
-/// The report so far: the lines that weren't handed over yet, or the tokens of JSON.
+// writes the results of a file's findings; memory may run out for its URI
+fn put_uri_results(alloc: Global, document: &mut Document, name: &str, findings: &[Finding<'_>]) {
+    let mut uri = String::new(alloc);
+    match push_uri(&mut uri, name) {
+        Ok(()) => put_results(document, uri.as_str(), findings),
+        Err(_) => document.fail(),
+    }
+}
+
+// begins a log of SARIF: the tool with all kinds of findings
+fn begin_log(alloc: Global, document: &mut Document, version: &str) {
+    let mut rules = Vec::new(alloc);
+    match add_rules(&mut rules) {
+        Ok(()) => put_log_head(document, version, rules.as_slice()),
+        Err(_) => document.fail(),
+    }
+}
+
+/// The report so far: the lines that weren't handed over yet, or the document of JSON or SARIF,
+/// which remembers until `into_bytes` that memory ran out.
 #[derive(Drop)]
 pub struct Report {
     form: Form,
     text: String,
-    writer: Writer,
+    document: Document,
 }
 
 impl Report {
@@ -111,50 +132,45 @@ impl Report {
         Report {
             form,
             text: String::new(alloc),
-            writer: Writer::new(Vec::new(alloc)),
+            document: Document::new(alloc),
         }
     }
 
-    /// Begins the report: no file yet. `Err`: out of memory, here as for the other calls.
-    pub fn begin(&mut self, alloc: Global, version: &str) -> Result<(), AllocError> {
+    /// Begins the report: no file yet.
+    pub fn begin(&mut self, alloc: Global, version: &str) {
         match self.form {
-            Form::Text { .. } => Ok(()),
-            Form::Json => put_document_head(&mut self.writer),
-            Form::Sarif => {
-                let rules = all_rules(alloc)?;
-                put_log_head(alloc, &mut self.writer, version, rules.as_slice())
-            }
+            Form::Text { .. } => {}
+            Form::Json => put_document_head(&mut self.document),
+            Form::Sarif => begin_log(alloc, &mut self.document, version),
         }
     }
 
-    /// Adds what was found in a file.
+    /// Adds what was found in a file. `Err`: out of memory, here as for the other calls.
     pub fn add(
         &mut self,
         alloc: Global,
         name: &str,
         linted: &Linted<'_>,
     ) -> Result<(), AllocError> {
+        let findings = linted.findings.as_slice();
         match self.form {
-            Form::Text { colours } => push_file(alloc, &mut self.text, colours, name, linted),
+            Form::Text { colours } => {
+                return push_file(alloc, &mut self.text, colours, name, linted);
+            }
             Form::Json => {
                 let counts = (linted.errors, linted.warnings, linted.more);
-                let findings = linted.findings.as_slice();
-                put_file(alloc, &mut self.writer, name, true, counts, findings)
+                put_file(&mut self.document, name, true, counts, findings);
             }
-            Form::Sarif => {
-                let mut uri = String::new(alloc);
-                push_uri(&mut uri, name)?;
-                let findings = linted.findings.as_slice();
-                put_results(alloc, &mut self.writer, uri.as_str(), findings)
-            }
+            Form::Sarif => put_uri_results(alloc, &mut self.document, name, findings),
         }
+        Ok(())
     }
 
     /// Adds a file or a folder that can't be read.
-    pub fn add_unread(&mut self, alloc: Global, name: &str) -> Result<(), AllocError> {
+    pub fn add_unread(&mut self, name: &str) {
         match self.form {
-            Form::Json => put_file(alloc, &mut self.writer, name, false, (0, 0, 0), &[]),
-            Form::Text { .. } | Form::Sarif => Ok(()),
+            Form::Json => put_file(&mut self.document, name, false, (0, 0, 0), &[]),
+            Form::Text { .. } | Form::Sarif => {}
         }
     }
 
@@ -168,31 +184,28 @@ impl Report {
         self.text.clear();
     }
 
-    /// Ends the report.
-    pub fn end(&mut self, counts: &Counts) -> Result<(), AllocError> {
+    /// The last bytes to hand over: the report's end, after the lines that weren't handed over.
+    pub fn into_bytes(self, counts: &Counts) -> Result<Vec<u8>, AllocError> {
         let Counts {
             errors,
             warnings,
             files,
             ..
         } = *counts;
-        match self.form {
-            Form::Text { .. } => push_summary(&mut self.text, errors, warnings, files),
-            Form::Json => put_document_end(&mut self.writer, errors, warnings),
-            Form::Sarif => put_log_end(&mut self.writer),
+        let mut report = self;
+        match report.form {
+            Form::Text { .. } => push_summary(&mut report.text, errors, warnings, files)?,
+            Form::Json => put_document_end(&mut report.document, errors, warnings),
+            Form::Sarif => put_log_end(&mut report.document),
         }
-    }
-
-    /// The last bytes to hand over, once it is ended.
-    pub fn into_bytes(self) -> Result<Vec<u8>, AllocError> {
-        let Report { form, text, writer } = self;
+        let Report {
+            form,
+            text,
+            document,
+        } = report;
         match form {
             Form::Text { .. } => Ok(text.into_bytes()),
-            Form::Json | Form::Sarif => {
-                let mut bytes = writer.into_inner();
-                bytes.push(b'\n')?;
-                Ok(bytes)
-            }
+            Form::Json | Form::Sarif => document.into_text(),
         }
     }
 }

@@ -7,7 +7,7 @@ use co_sheet_faults::FaultKind;
 use co_sheet_warnings::{KnownKey, WarningKind};
 use co_value::Key;
 use conode_lint_text::Rule;
-use std::alloc::{AllocError, Global};
+use std::alloc::AllocError;
 
 const KEY: Key = Key { index: 0, sub: 0 };
 
@@ -88,13 +88,12 @@ fn subjects() -> &'static [Subject] {
     &SUBJECTS
 }
 
-/// All kinds of findings. `Err`: out of memory.
-pub(crate) fn all_rules(alloc: Global) -> Result<Vec<Rule<'static>>, AllocError> {
-    let mut rules = Vec::new(alloc);
+/// Adds all kinds of findings. `Err`: out of memory.
+pub(crate) fn add_rules(rules: &mut Vec<Rule<'static>>) -> Result<(), AllocError> {
     for subject in subjects() {
         rules.push(rule_of(*subject))?;
     }
-    Ok(rules)
+    Ok(())
 }
 
 /// The first of these names that no kind of finding has.

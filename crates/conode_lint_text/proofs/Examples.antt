@@ -1,26 +1,17 @@
 -- The forms, evaluated.
-use Rattle.std.proofs.Common.{◌≡◌, [], ◌∷◌, codes, refl}
+use Rattle.std.proofs.Common.{◌≡◌, ℕ, List, Bor, true, false, [], ◌∷◌, ◌++◌, codes, refl}
 use Rattle.std.specs.Fmt.{digits}
 use Rattle.std.specs.Str.{chars, is_utf8}
 use Rattle.co_text.specs.Printed.{digits_text}
-use Rattle.conode_lint_text.specs.Characters.{characters_of, shown, shown_all, windows_1252}
+use Rattle.conode_text.specs.Filled.{filled}
+use Rattle.conode_json.specs.Characters.{characters_of}
+use Rattle.conode_lint_text.specs.Characters.{shown, shown_all}
+use Rattle.conode_lint_text.specs.declared.finding.Finding.{Finding}
+use Rattle.conode_lint_text.specs.declared.finding.Place.TheVariants.{Beginning, Value}
+use Rattle.conode_lint_text.specs.declared.finding.Severity.TheVariants.{Error, Warning}
 use Rattle.conode_lint_text.specs.declared.finding.About.TheVariants.{Line, Object, Entry, Bits}
-use Rattle.conode_lint_text.specs.Findings.{about_text, bits_text, entry_text, help_of, value_place}
-use Rattle.conode_lint_text.specs.TextForm.{counted, more_line, summary_line}
-
--- a letter, the euro sign, a byte that Windows-1252 leaves open, and a letter of the upper half
-windows : windows_1252 65 ∷ windows_1252 0x80 ∷ windows_1252 0x81 ∷ windows_1252 0x9F ∷ windows_1252 0xE4 ∷ [] ≡ 65 ∷ 0x20AC ∷ 0x81 ∷ 0x178 ∷ 0xE4 ∷ []
-unfolding windows_1252
-windows = refl
-
--- `ä` in UTF-8 is one character; a byte E4h alone is no UTF-8 and is the same character
-utf8_line : characters_of (65 ∷ 0xC3 ∷ 0xA4 ∷ []) ≡ 65 ∷ 0xE4 ∷ []
-unfolding characters_of chars is_utf8 lib.Utf8.encode
-utf8_line = refl
-
-other_line : characters_of (65 ∷ 0xE4 ∷ []) ≡ 65 ∷ 0xE4 ∷ []
-unfolding characters_of windows_1252 chars is_utf8 lib.Utf8.encode
-other_line = refl
+use Rattle.conode_lint_text.specs.Findings.{about_message, column_of, help_of, message_of, place_in, value_place}
+use Rattle.conode_lint_text.specs.TextForm.{counted, finding_lines, more_line, position_text, summary_line}
 
 -- a tab, a control character below 20h and one above 7Fh, a blank and a letter
 controls : shown_all (9 ∷ 27 ∷ 0x7F ∷ 0x9B ∷ 32 ∷ 65 ∷ []) ≡ codes "\\t\\x1B\\x7F\\x9B A"
@@ -32,23 +23,66 @@ values : value_place (codes "a = 5") ∷ value_place (codes "a=5") ∷ value_pla
 values = refl
 
 -- a line, an object, an entry, and how many bits a mapping maps
-abouts : about_text Line ∷ about_text (Object 0x1A00) ∷ about_text (Entry 0x1A00 3) ∷ about_text (Bits 0x1A02 72) ∷ []
-    ≡ [] ∷ codes "1A00: " ∷ codes "1A00:03: " ∷ codes "1A02:00: 72 bits in all: " ∷ []
-unfolding entry_text bits_text digits_text digits
+abouts : about_message Line (codes "m") ∷ about_message (Object 0x1A00) (codes "m") ∷ about_message (Entry 0x1A00 3) (codes "m") ∷ about_message (Bits 0x1A02 72) (codes "m") ∷ []
+    ≡ codes "m" ∷ codes "1A00: m" ∷ codes "1A00:03: m" ∷ codes "1A02:00: 72 bits in all: m" ∷ []
+unfolding about_message filled digits_text digits
 abouts = refl
 
 help_with_subject : help_of (codes "do it") (codes "CiA 301") ≡ codes "do it (CiA 301)"
-unfolding help_of
+unfolding help_of filled
 help_with_subject = refl
 
 help_without_subject : help_of (codes "do it") [] ≡ codes "do it"
-unfolding help_of
+unfolding help_of filled
 help_without_subject = refl
 
 one_and_many : summary_line 1 2 0 ≡ codes "1 error, 2 warnings in 0 files\n"
-unfolding summary_line counted digits
+unfolding summary_line counted filled digits
 one_and_many = refl
 
 further : more_line (codes "a.eds") 3 ≡ codes "a.eds: 3 more\n"
-unfolding more_line shown digits lib.Utf8.encode
+unfolding more_line filled shown digits lib.Utf8.encode
 further = refl
+
+-- ---- the lines of a finding
+
+abbrev words : List ℕ → Bor (List ℕ)
+words text = record { ref_ptr = (0, 0); now = text }
+
+abbrev bad_type : Finding
+bad_type = record {
+  line = 7;
+  place = Value;
+  about = Line;
+  severity = Error;
+  name = words (codes "BadType");
+  meaning = words (codes "no type");
+  fix = words (codes "give one");
+  subject = words (codes "CiA 306-1");
+  text = words (codes " T=\t9");
+}
+
+-- at its value; without colours
+at_value : finding_lines false (codes "a.eds") bad_type
+    ≡ codes "a.eds:7:5: error[BadType]: no type\n     T=\\t9\n  help: give one (CiA 306-1)\n"
+unfolding finding_lines position_text column_of place_in characters_of message_of about_message help_of filled shown chars is_utf8 digits lib.Utf8.encode
+at_value = refl
+
+abbrev no_line : Finding
+no_line = record {
+  line = 0;
+  place = Beginning;
+  about = Object 0x1A00;
+  severity = Warning;
+  name = words (codes "PdoPair");
+  meaning = words (codes "m");
+  fix = words (codes "f");
+  subject = words [];
+  text = words [];
+}
+
+-- no line is to blame; in colours
+without_line : finding_lines true (codes "b") no_line
+    ≡ 27 ∷ codes "[1mb:" ++ 27 ∷ codes "[0m " ++ 27 ∷ codes "[1;35mwarning[PdoPair]:" ++ 27 ∷ codes "[0m 1A00: m\n  " ++ 27 ∷ codes "[1;36mhelp:" ++ 27 ∷ codes "[0m f\n"
+unfolding finding_lines position_text column_of message_of about_message help_of filled shown digits_text lib.Utf8.encode
+without_line = refl

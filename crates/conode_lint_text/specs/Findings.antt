@@ -1,8 +1,10 @@
 -- The texts and the column of a finding.
-use Rattle.std.specs.Prelude.{ℕ, ◌+◌, ◌==◌, nat_lt, if◌then◌else◌, List, [], ◌++◌, length, drop, codes, decimal}
+use Rattle.std.specs.Prelude.{ℕ, ◌+◌, ◌==◌, nat_lt, if◌then◌else◌, List, [], ◌∷◌, length, drop, codes, decimal}
 use Rattle.std.specs.List.{position_or_len}
 use Rattle.co_text.specs.Printed.{digits_text}
-use Rattle.conode_lint_text.specs.Characters.{blanks, characters_of}
+use Rattle.conode_text.specs.Filled.{filled}
+use Rattle.conode_json.specs.Characters.{characters_of}
+use Rattle.conode_lint_text.specs.Characters.{blanks}
 use Rattle.conode_lint_text.specs.declared.finding.About.{About}
 use Rattle.conode_lint_text.specs.declared.finding.About.TheVariants.{Line, Object, Entry, Bits}
 use Rattle.conode_lint_text.specs.declared.finding.Finding.{Finding}
@@ -33,27 +35,21 @@ unfoldable pub column_of : Finding → ℕ
 column_of finding =
     if finding.line == 0 then 0 else place_in finding.place (characters_of finding.text.now) + 1
 
--- an entry, `1A00:00: `
-unfoldable pub entry_text : ℕ → ℕ → List ℕ
-entry_text index sub_index =
-    digits_text 16 4 index ++ codes ":" ++ digits_text 16 2 sub_index ++ codes ": "
-
--- how many bits a mapping maps, `72 bits in all: `
-unfoldable pub bits_text : ℕ → List ℕ
-bits_text bits = decimal bits ++ codes " bits in all: "
-
--- what it is about, if the line doesn't show it: `1A00: `, `1A00:00: `, `1A00:00: 72 bits in all: `
-abbrev pub about_text : About → List ℕ
-about_text Line = []
-about_text (Object index) = digits_text 16 4 index ++ codes ": "
-about_text (Entry index sub_index) = entry_text index sub_index
-about_text (Bits index bits) = entry_text index 0 ++ bits_text bits
+-- what is wrong, after what it is about if the line doesn't show that: an object, an entry, or an entry
+-- with how many bits a mapping maps
+unfoldable pub about_message : About → List ℕ → List ℕ
+about_message Line meaning = meaning
+about_message (Object index) meaning = filled (codes "%: %") (digits_text 16 4 index ∷ meaning ∷ [])
+about_message (Entry index sub_index) meaning =
+    filled (codes "%:%: %") (digits_text 16 4 index ∷ digits_text 16 2 sub_index ∷ meaning ∷ [])
+about_message (Bits index bits) meaning =
+    filled (codes "%:00: % bits in all: %") (digits_text 16 4 index ∷ decimal bits ∷ meaning ∷ [])
 
 -- what is wrong
 unfoldable pub message_of : Finding → List ℕ
-message_of finding = about_text finding.about ++ finding.meaning.now
+message_of finding = about_message finding.about finding.meaning.now
 
 -- how to fix it, and the subject of the standard
 unfoldable pub help_of : List ℕ → List ℕ → List ℕ
 help_of fix subject =
-    fix ++ (if length subject == 0 then [] else codes " (" ++ subject ++ codes ")")
+    if length subject == 0 then fix else filled (codes "% (%)") (fix ∷ subject ∷ [])

@@ -1,34 +1,15 @@
 -- Findings as one document of JSON, in tokens (RFC 8259).
-use Rattle.std.specs.Prelude.{ℕ, Bool, List, [], ◌∷◌, ◌++◌, codes, decimal}
+use Rattle.std.specs.Prelude.{ℕ, Bool, List, [], ◌∷◌, ◌++◌, codes}
 use Rattle.std.specs.List.{flat_map}
-use Rattle.json.specs.Token.{Token, begin_object, end_object, begin_array, end_array, key, string, number, boolean}
-use Rattle.conode_lint_text.specs.Characters.{characters_of, in_utf8}
+use Rattle.json.specs.Token.{Token, begin_object, end_object, end_array}
+use Rattle.conode_json.specs.Characters.{utf8_of}
+use Rattle.conode_json.specs.Members.{array_begin, count_member, flag_member, object_begin, text_member}
 use Rattle.conode_lint_text.specs.Findings.{column_of, message_of, severity_name}
 use Rattle.conode_lint_text.specs.Members.{member_name}
+use Rattle.conode_lint_text.specs.TextForm.{piece_text}
 use Rattle.conode_lint_text.specs.declared.finding.Finding.{Finding}
 use Rattle.conode_lint_text.specs.declared.parts.Part.{Part}
-use Rattle.conode_lint_text.specs.declared.parts.Part.TheVariants.{BeginObject, EndObject, EndArray, Object, Array, Text, Message, Number, Flag, Severity}
-
--- a line in UTF-8
-abbrev pub utf8_of : List ℕ → List ℕ
-utf8_of line = in_utf8 (characters_of line)
-
--- a member that is a text, and one that is a number
-abbrev pub text_member : List ℕ → List ℕ → List Token
-text_member name text = key name ∷ string text ∷ []
-
-abbrev pub number_member : List ℕ → ℕ → List Token
-number_member name count = key name ∷ number (decimal count) ∷ []
-
-abbrev pub flag_member : List ℕ → Bool → List Token
-flag_member name is = key name ∷ boolean is ∷ []
-
--- the beginning of a member that is an object, and of one that is an array
-abbrev pub object_begin : List ℕ → List Token
-object_begin name = key name ∷ begin_object ∷ []
-
-abbrev pub array_begin : List ℕ → List Token
-array_begin name = key name ∷ begin_array ∷ []
+use Rattle.conode_lint_text.specs.declared.parts.Part.TheVariants.{BeginObject, EndObject, EndArray, Object, Array, Text, Piece, Line, Number, Column, Flag}
 
 -- a member that is an object with a text
 abbrev pub message_member : List ℕ → List ℕ → List Token
@@ -42,15 +23,16 @@ part_tokens EndArray = end_array ∷ []
 part_tokens (Object member) = object_begin (member_name member)
 part_tokens (Array member) = array_begin (member_name member)
 part_tokens (Text member text) = text_member (member_name member) text.now
-part_tokens (Message member text) = message_member (member_name member) text.now
-part_tokens (Number member count) = number_member (member_name member) count
+part_tokens (Piece member piece) = text_member (member_name member) (piece_text piece)
+part_tokens (Line member line) = text_member (member_name member) (utf8_of line.now)
+part_tokens (Number member count) = count_member (member_name member) count
+part_tokens (Column member finding) = count_member (member_name member) (column_of finding.now)
 part_tokens (Flag member is) = flag_member (member_name member) is
-part_tokens (Severity member severity) = text_member (member_name member) (severity_name severity)
 
 abbrev pub place_members : Finding → List Token
 place_members finding =
-    number_member (codes "line") finding.line
-    ++ number_member (codes "column") (column_of finding)
+    count_member (codes "line") finding.line
+    ++ count_member (codes "column") (column_of finding)
     ++ text_member (codes "severity") (severity_name finding.severity)
 
 abbrev pub word_members : Finding → List Token
@@ -69,14 +51,14 @@ finding_tokens finding =
 -- how many errors and warnings there are
 abbrev pub count_members : ℕ → ℕ → List Token
 count_members errors warnings =
-    number_member (codes "errors") errors ++ number_member (codes "warnings") warnings
+    count_member (codes "errors") errors ++ count_member (codes "warnings") warnings
 
 -- a file before its findings: whether it could be read, how many errors and warnings it has, and
 -- how many findings are left out
 abbrev pub file_members : List ℕ → Bool → ℕ → ℕ → ℕ → List Token
 file_members name is_read errors warnings more =
     text_member (codes "file") name ++ flag_member (codes "read") is_read
-    ++ count_members errors warnings ++ number_member (codes "more") more
+    ++ count_members errors warnings ++ count_member (codes "more") more
 
 -- a file with its findings
 unfoldable pub file_tokens : List ℕ → Bool → ℕ → ℕ → ℕ → List Finding → List Token
@@ -87,7 +69,7 @@ file_tokens name is_read errors warnings more findings =
 
 -- what comes before the files, and what after them
 unfoldable pub document_head : List Token
-document_head = begin_object ∷ (number_member (codes "version") 1 ++ array_begin (codes "files"))
+document_head = begin_object ∷ (count_member (codes "version") 1 ++ array_begin (codes "files"))
 
 unfoldable pub document_end : ℕ → ℕ → List Token
 document_end errors warnings = end_array ∷ (count_members errors warnings ++ end_object ∷ [])

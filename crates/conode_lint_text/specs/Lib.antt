@@ -4,4 +4,3 @@ pub mod TextForm
 pub mod Members
 pub mod JsonForm
 pub mod SarifForm
-pub mod Documents

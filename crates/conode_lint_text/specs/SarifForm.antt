@@ -2,8 +2,10 @@
 use Rattle.std.specs.Prelude.{ℕ, ◌==◌, if◌then◌else◌, List, [], ◌∷◌, ◌++◌, codes}
 use Rattle.std.specs.List.{flat_map}
 use Rattle.json.specs.Token.{Token, begin_object, end_object, end_array}
+use Rattle.conode_json.specs.Characters.{utf8_of}
+use Rattle.conode_json.specs.Members.{array_begin, count_member, object_begin, text_member}
 use Rattle.conode_lint_text.specs.Findings.{column_of, help_of, message_of, severity_name}
-use Rattle.conode_lint_text.specs.JsonForm.{array_begin, message_member, number_member, object_begin, text_member, utf8_of}
+use Rattle.conode_lint_text.specs.JsonForm.{message_member}
 use Rattle.conode_lint_text.specs.declared.finding.Finding.{Finding}
 use Rattle.conode_lint_text.specs.declared.finding.Rule.{Rule}
 use Rattle.conode_lint_text.specs.declared.finding.Severity.{Severity}
@@ -26,8 +28,8 @@ rule_tokens rule =
 unfoldable pub region_members : Finding → List Token
 region_members finding =
     if finding.line == 0 then []
-    else object_begin (codes "region") ++ number_member (codes "startLine") finding.line
-    ++ number_member (codes "startColumn") (column_of finding)
+    else object_begin (codes "region") ++ count_member (codes "startLine") finding.line
+    ++ count_member (codes "startColumn") (column_of finding)
     ++ message_member (codes "snippet") (utf8_of finding.text.now) ++ end_object ∷ []
 
 -- the file, by its URI

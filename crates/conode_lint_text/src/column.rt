@@ -3,11 +3,12 @@
 ghost use Rattle.std.specs.Prelude.{◌≡◌, ◌==◌, ◌≤◌, length, IfOk};
 ghost use Rattle.std.specs.List.{position_or_len};
 ghost use Rattle.co_text.specs.Texts.{is_blank};
-ghost use Rattle.conode_lint_text.specs.Characters.{blanks, characters_of};
+ghost use Rattle.conode_json.specs.Characters.{characters_of};
+ghost use Rattle.conode_lint_text.specs.Characters.{blanks};
 ghost use Rattle.conode_lint_text.specs.Findings.{column_of, place_in, value_place};
 
-use crate::characters::characters_of;
 use crate::finding::{Finding, Place};
+use conode_json::characters_of;
 use std::alloc::{AllocError, Global};
 
 fn is_blank(character: char) -> bool

@@ -3,7 +3,6 @@
 
 mod characters;
 mod column;
-mod documents;
 mod finding;
 mod json_form;
 mod member;
@@ -13,7 +12,6 @@ mod sarif_form;
 mod text_form;
 mod words;
 
-pub use characters::{characters_of, utf8_of};
 pub use finding::{About, Finding, Place, Rule, Severity};
 pub use json_form::{put_document_end, put_document_head, put_file};
 pub use sarif_form::{put_log_end, put_log_head, put_results};

@@ -1,19 +1,21 @@
 //! JSON in parts: brackets, and members of objects. Each function writes tokens. `Err`: out of
 //! memory; some tokens may be there.
 
-ghost use Rattle.std.specs.Prelude.{◌≡◌, ◌++◌, [], ◌∷◌, OnOk};
-ghost use Rattle.std.specs.List.{flat_map};
-ghost use Rattle.json.specs.Print.{IsPrintable};
-ghost use Rattle.json.specs.Reads.{token_of};
-ghost use Rattle.json.specs.Token.{key};
-ghost use Rattle.conode_lint_text.specs.JsonForm.{message_member, number_member, part_tokens};
+ghost use Rattle.std.specs.Prelude.{◌≡◌, ◌++◌, List, OnOk};
+ghost use Rattle.json.specs.Token.{Token};
+ghost use Rattle.conode_json.specs.Members.{count_member, text_member};
+ghost use Rattle.conode_lint_text.specs.Findings.{column_of};
+ghost use Rattle.conode_lint_text.specs.JsonForm.{part_tokens};
 ghost use Rattle.conode_lint_text.specs.Members.{member_name};
+ghost use Rattle.conode_lint_text.specs.TextForm.{piece_text};
 
-use crate::finding::Severity;
+use crate::column::own_column;
+use crate::finding::Finding;
 use crate::member::Member;
-use crate::words::severity_name;
-use json::{Token, Writer};
-use std::alloc::AllocError;
+use crate::pieces::Piece;
+use conode_json::{HasTokens, JsonWriter};
+use conode_text::HasText;
+use std::alloc::{AllocError, Global};
 
 /// A part of a document.
 #[derive(Clone, Copy)]
@@ -26,66 +28,61 @@ pub(crate) enum Part<'a> {
     /// The beginning of a member that is an array.
     Array(Member),
     Text(Member, &'a str),
-    /// A member that is an object with a member `text`.
-    Message(Member, &'a str),
+    /// A text that is made of a value.
+    Piece(Member, Piece<'a>),
+    /// A line of a file, in UTF-8.
+    Line(Member, &'a [u8]),
     Number(Member, usize),
+    /// The column of a finding.
+    Column(Member, &'a Finding<'a>),
     Flag(Member, bool),
-    /// A member that is the severity of a finding, in a word.
-    Severity(Member, Severity),
 }
 
-// a member whose value is, or begins with, a token that is no number
-fn put_member(writer: &mut Writer, member: Member, value: Token<'_>) -> Result<(), AllocError>
-    requires { IsPrintable (token_of value) }
-    ensures { OnOk result (writer.new.tokens
-        ≡ writer.old.tokens ++ key (member_name member) ∷ token_of value.entry ∷ []) }
-{
-    writer.key(member.name())?;
-    writer.token(value)
-}
-
-fn put_number(writer: &mut Writer, member: Member, count: usize) -> Result<(), AllocError>
+fn put_piece(
+    alloc: Global,
+    writer: &mut JsonWriter,
+    member: Member,
+    piece: Piece<'_>,
+) -> Result<(), AllocError>
     ensures { OnOk result
-        (writer.new.tokens ≡ writer.old.tokens ++ number_member (member_name member) count) }
+        (writer.new ≡ writer.old ++ text_member (member_name member) (piece_text piece.entry)) }
 {
-    writer.key(member.name())?;
-    writer.u64(count as u64)
+    let mut text = String::new(alloc);
+    match piece.push(&mut text) {
+        Ok(()) => writer.put_text(member.name(), text.as_str()),
+        Err(fault) => Err(fault),
+    }
 }
 
-fn put_message(writer: &mut Writer, member: Member, text: &str) -> Result<(), AllocError>
+fn put_column(
+    alloc: Global,
+    writer: &mut JsonWriter,
+    member: Member,
+    finding: &Finding<'_>,
+) -> Result<(), AllocError>
     ensures { OnOk result
-        (writer.new.tokens ≡ writer.old.tokens ++ message_member (member_name member) text.now) }
+        (writer.new ≡ writer.old ++ count_member (member_name member) (column_of finding.now)) }
 {
-    put_member(writer, member, Token::BeginObject)?;
-    put_member(writer, Member::Text, Token::String(text))?;
-    writer.end_object()
+    let column = own_column(alloc, finding)?;
+    writer.put_count(member.name(), column as u64)
 }
 
-fn put_part(writer: &mut Writer, part: &Part<'_>) -> Result<(), AllocError>
-    ensures { OnOk result (writer.new.tokens ≡ writer.old.tokens ++ part_tokens part.now) }
-{
-    match *part {
-        Part::BeginObject => writer.begin_object(),
-        Part::EndObject => writer.end_object(),
-        Part::EndArray => writer.end_array(),
-        Part::Object(member) => put_member(writer, member, Token::BeginObject),
-        Part::Array(member) => put_member(writer, member, Token::BeginArray),
-        Part::Text(member, text) => put_member(writer, member, Token::String(text)),
-        Part::Message(member, text) => put_message(writer, member, text),
-        Part::Severity(member, severity) => {
-            put_member(writer, member, Token::String(severity_name(severity)))
+impl HasTokens for Part<'_> {
+    ghost tokens_of = { part_tokens };
+
+    fn put(&self, alloc: Global, writer: &mut JsonWriter) -> Result<(), AllocError> {
+        match *self {
+            Part::BeginObject => writer.begin_object(),
+            Part::EndObject => writer.end_object(),
+            Part::EndArray => writer.end_array(),
+            Part::Object(member) => writer.begin_object_of(member.name()),
+            Part::Array(member) => writer.begin_array_of(member.name()),
+            Part::Text(member, text) => writer.put_text(member.name(), text),
+            Part::Piece(member, piece) => put_piece(alloc, writer, member, piece),
+            Part::Line(member, line) => writer.put_bytes(alloc, member.name(), line),
+            Part::Number(member, count) => writer.put_count(member.name(), count as u64),
+            Part::Column(member, finding) => put_column(alloc, writer, member, finding),
+            Part::Flag(member, is) => writer.put_flag(member.name(), is),
         }
-        Part::Number(member, count) => put_number(writer, member, count),
-        Part::Flag(member, is) => put_member(writer, member, Token::Bool(is)),
     }
-}
-
-pub(crate) fn put_parts(writer: &mut Writer, parts: &[Part<'_>]) -> Result<(), AllocError>
-    ensures { OnOk result
-        (writer.new.tokens ≡ writer.old.tokens ++ flat_map part_tokens parts.now) }
-{
-    for part in parts {
-        put_part(writer, part)?;
-    }
-    Ok(())
 }

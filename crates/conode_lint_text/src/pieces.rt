@@ -1,35 +1,42 @@
-//! A text in pieces. Each function appends a text. `Err`: out of memory; a part of the text may be
-//! there.
+//! The values in the text of a finding. Each function appends a text. `Err`: out of memory; a part
+//! of it may be there.
 
-ghost use Rattle.std.specs.Prelude.{◌≡◌, ◌++◌, OnOk, string_bytes};
-ghost use Rattle.std.specs.List.{flat_map};
-ghost use Rattle.conode_lint_text.specs.TextForm.{counted, piece_text, position_text};
+ghost use Rattle.std.specs.Prelude.{◌≡◌, ◌++◌, ℕ, List, OnOk, string_bytes};
+ghost use Rattle.conode_lint_text.specs.TextForm.{
+  counted,
+  piece_text,
+  position_text,
+  quoted_text,
+};
 
 use crate::characters::push_all_shown;
-use crate::finding::Severity;
-use crate::words::severity_name;
-use co_text::{push_byte, push_decimal, push_u16};
+use crate::finding::{Finding, Severity};
+use crate::words::{push_help, push_message, severity_name};
+use co_text::push_decimal;
+use conode_text::{HasText, Value, push_filled};
 use std::alloc::AllocError;
 
-/// A piece of a text.
+/// A value in a text.
 #[derive(Clone, Copy)]
 pub(crate) enum Piece<'a> {
-    Text(&'a str),
+    Words(&'a str),
     /// What begins or ends a colour, nothing without colours.
-    Colour(bool, &'static str),
+    Colour(bool, &'a str),
     /// Characters, as they are shown.
     Shown(&'a [char]),
     /// A number in decimal digits.
-    Decimal(usize),
+    Number(usize),
     /// A line and a column, nothing for line 0.
     Position(usize, usize),
+    /// The line with this number, from its characters; nothing for line 0.
+    Quoted(usize, &'a [char]),
     /// A number of things, as `2 errors`.
     Counted(usize, &'a str),
     Severity(Severity),
-    /// Four hexadecimal digits.
-    Word(u16),
-    /// Two hexadecimal digits.
-    Byte(u8),
+    /// What is wrong.
+    Message(&'a Finding<'a>),
+    /// How to fix it, and the subject of the standard.
+    Help(&'a str, &'a str),
 }
 
 #[tactic(auto, unfolding(crate::specs::TextForm::position_text))]
@@ -40,7 +47,23 @@ fn push_position(text: &mut String, line: usize, column: usize) -> Result<(), Al
     if line == 0 {
         return Ok(());
     }
-    write!(text, "{line}:{column}:")
+    push_filled(
+        text,
+        "%:%:",
+        &[Value::Number(line as u64), Value::Number(column as u64)],
+    )
+}
+
+fn push_quoted(text: &mut String, line: usize, characters: &[char]) -> Result<(), AllocError>
+    ensures { OnOk result (string_bytes text.new
+        ≡ string_bytes text.old ++ quoted_text line characters.now) }
+{
+    if line == 0 {
+        return Ok(());
+    }
+    text.push_str("    ")?;
+    push_all_shown(text, characters)?;
+    text.push('\n')
 }
 
 #[tactic(auto, unfolding(crate::specs::TextForm::counted))]
@@ -48,33 +71,29 @@ fn push_counted(text: &mut String, count: usize, thing: &str) -> Result<(), Allo
     ensures { OnOk result
         (string_bytes text.new ≡ string_bytes text.old ++ counted count thing.now) }
 {
-    write!(text, "{count} {thing}{}", if count == 1 { "" } else { "s" })
-}
-
-fn push_piece(text: &mut String, piece: &Piece<'_>) -> Result<(), AllocError>
-    ensures { OnOk result
-        (string_bytes text.new ≡ string_bytes text.old ++ piece_text piece.now) }
-{
-    match *piece {
-        Piece::Text(part) => text.push_str(part),
-        Piece::Colour(true, sequence) => text.push_str(sequence),
-        Piece::Colour(false, _) => Ok(()),
-        Piece::Shown(characters) => push_all_shown(text, characters),
-        Piece::Decimal(number) => push_decimal(text, number as u64),
-        Piece::Position(line, column) => push_position(text, line, column),
-        Piece::Counted(number, thing) => push_counted(text, number, thing),
-        Piece::Severity(severity) => text.push_str(severity_name(severity)),
-        Piece::Word(word) => push_u16(text, word),
-        Piece::Byte(byte) => push_byte(text, byte),
+    let number = Value::Number(count as u64);
+    if count == 1 {
+        push_filled(text, "% %", &[number, Value::Words(thing)])
+    } else {
+        push_filled(text, "% %s", &[number, Value::Words(thing)])
     }
 }
 
-pub(crate) fn push_pieces(text: &mut String, pieces: &[Piece<'_>]) -> Result<(), AllocError>
-    ensures { OnOk result
-        (string_bytes text.new ≡ string_bytes text.old ++ flat_map piece_text pieces.now) }
-{
-    for piece in pieces {
-        push_piece(text, piece)?;
+impl HasText for Piece<'_> {
+    ghost text_of = { piece_text };
+
+    fn push(&self, text: &mut String) -> Result<(), AllocError> {
+        match *self {
+            Piece::Words(words) | Piece::Colour(true, words) => text.push_str(words),
+            Piece::Colour(false, _) => Ok(()),
+            Piece::Shown(characters) => push_all_shown(text, characters),
+            Piece::Number(number) => push_decimal(text, number as u64),
+            Piece::Position(line, column) => push_position(text, line, column),
+            Piece::Quoted(line, characters) => push_quoted(text, line, characters),
+            Piece::Counted(number, thing) => push_counted(text, number, thing),
+            Piece::Severity(severity) => text.push_str(severity_name(severity)),
+            Piece::Message(finding) => push_message(text, finding),
+            Piece::Help(fix, subject) => push_help(text, fix, subject),
+        }
     }
-    Ok(())
 }

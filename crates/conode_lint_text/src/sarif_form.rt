@@ -1,217 +1,159 @@
-//! Findings as a log of SARIF 2.1.0. Each function writes tokens. `Err`: out of memory; some tokens
-//! may be there.
+//! Findings as a log of SARIF 2.1.0.
 
-ghost use Rattle.std.specs.Prelude.{◌≡◌, ◌++◌, OnOk};
+ghost use Rattle.std.specs.Prelude.{◌≡◌, ◌++◌, [], ◌∷◌, List, OnOk};
 ghost use Rattle.std.specs.List.{flat_map};
-ghost use Rattle.conode_lint_text.specs.Findings.{column_of, help_of, message_of};
-ghost use Rattle.conode_lint_text.specs.JsonForm.{utf8_of};
+ghost use Rattle.json.specs.Token.{Token, end_array, end_object};
+ghost use Rattle.conode_text.specs.Appended.{Appended};
 ghost use Rattle.conode_lint_text.specs.SarifForm.{
-  log_begin,
   log_end,
   log_head,
   region_members,
   result_tokens,
   rule_tokens,
-  tool_begin,
 };
 
-use crate::documents::{Document, put_findings};
 use crate::finding::{Finding, Rule};
 use crate::member::Member;
-use crate::parts::{Part, put_parts};
-use crate::words::help_of;
-use json::Writer;
+use crate::parts::Part;
+use crate::pieces::Piece;
+use conode_json::{Document, HasTokens, JsonWriter, put_parts};
 use std::alloc::{AllocError, Global};
 
 /// The JSON schema of SARIF 2.1.0.
 const SCHEMA: &str = "https://json.schemastore.org/sarif-2.1.0.json";
 
-#[tactic(auto, unfolding(crate::specs::SarifForm::rule_tokens))]
-fn put_rule_members<'p>(
-    writer: &mut Writer,
+// writes a rule; `Err`: out of memory, and some tokens may be there
+fn put_rule<'p>(
+    alloc: Global,
+    writer: &mut JsonWriter,
     rule: &'p Rule<'p>,
-    help: &'p str,
 ) -> Result<(), AllocError>
-    requires { help.now ≡ help_of rule.now.fix.now rule.now.subject.now }
-    ensures { OnOk result (writer.new.tokens ≡ writer.old.tokens ++ rule_tokens rule.now) }
+    ensures { OnOk result (writer.new ≡ writer.old ++ rule_tokens rule.now) }
 {
     put_parts(
+        alloc,
         writer,
         &[
             Part::BeginObject,
             Part::Text(Member::Id, rule.name),
-            Part::Message(Member::ShortDescription, rule.meaning),
-            Part::Message(Member::Help, help),
+            Part::Object(Member::ShortDescription),
+            Part::Text(Member::Text, rule.meaning),
+            Part::EndObject,
+            Part::Object(Member::Help),
+            Part::Piece(Member::Text, Piece::Help(rule.fix, rule.subject)),
+            Part::EndObject,
             Part::Object(Member::DefaultConfiguration),
-            Part::Severity(Member::Level, rule.severity),
+            Part::Piece(Member::Level, Piece::Severity(rule.severity)),
             Part::EndObject,
             Part::EndObject,
         ],
     )
 }
 
-fn put_rule(alloc: Global, writer: &mut Writer, rule: &Rule<'_>) -> Result<(), AllocError>
-    ensures { OnOk result (writer.new.tokens ≡ writer.old.tokens ++ rule_tokens rule.now) }
-{
-    let help = help_of(alloc, rule.fix, rule.subject)?;
-    put_rule_members(writer, rule, help.as_str())
-}
+impl HasTokens for Rule<'_> {
+    ghost tokens_of = { rule_tokens };
 
-fn put_rules(alloc: Global, writer: &mut Writer, rules: &[Rule<'_>]) -> Result<(), AllocError>
-    ensures { OnOk result
-        (writer.new.tokens ≡ writer.old.tokens ++ flat_map rule_tokens rules.now) }
-{
-    for rule in rules {
-        put_rule(alloc, writer, rule)?;
+    fn put(&self, alloc: Global, writer: &mut JsonWriter) -> Result<(), AllocError> {
+        put_rule(alloc, writer, self)
     }
-    Ok(())
 }
 
 // the region, if a line is to blame
-#[tactic(auto, unfolding(crate::specs::SarifForm::region_members))]
-fn put_region(
-    writer: &mut Writer,
-    finding: &Finding<'_>,
-    column: usize,
-    snippet: &str,
-) -> Result<(), AllocError>
-    requires column { column ≡ column_of finding.now }
-    requires snippet { snippet.now ≡ utf8_of finding.now.text.now }
-    ensures { OnOk result
-        (writer.new.tokens ≡ writer.old.tokens ++ region_members finding.now) }
+fn put_region<'p>(document: &mut Document, finding: &'p Finding<'p>)
+    ensures { Appended document.old (region_members finding.now) document.new }
 {
     if finding.line == 0 {
-        return Ok(());
+        return;
     }
-    put_parts(
-        writer,
-        &[
-            Part::Object(Member::Region),
-            Part::Number(Member::StartLine, finding.line),
-            Part::Number(Member::StartColumn, column),
-            Part::Object(Member::Snippet),
-            Part::Text(Member::Text, snippet),
-            Part::EndObject,
-            Part::EndObject,
-        ],
-    )
+    document.put(&[
+        Part::Object(Member::Region),
+        Part::Number(Member::StartLine, finding.line),
+        Part::Column(Member::StartColumn, finding),
+        Part::Object(Member::Snippet),
+        Part::Line(Member::Text, finding.text),
+        Part::EndObject,
+        Part::EndObject,
+    ]);
 }
 
-/// Writes a result: its column, what is wrong and the line itself are given.
-#[tactic(auto, unfolding(crate::specs::SarifForm::result_tokens))]
-pub(crate) fn put_result_members<'p>(
-    writer: &mut Writer,
-    uri: &'p str,
-    finding: &'p Finding<'p>,
-    column: usize,
-    message: &'p str,
-    snippet: &'p str,
-) -> Result<(), AllocError>
-    requires column { column ≡ column_of finding.now }
-    requires message { message.now ≡ message_of finding.now }
-    requires snippet { snippet.now ≡ utf8_of finding.now.text.now }
-    ensures { OnOk result
-        (writer.new.tokens ≡ writer.old.tokens ++ result_tokens uri.now finding.now) }
+fn end_result(document: &mut Document)
+    ensures { Appended document.old
+        (end_object ∷ end_object ∷ end_array ∷ end_object ∷ []) document.new }
 {
-    put_parts(
-        writer,
-        &[
-            Part::BeginObject,
-            Part::Text(Member::RuleId, finding.name),
-            Part::Severity(Member::Level, finding.severity),
-            Part::Message(Member::Message, message),
-            Part::Array(Member::Locations),
-            Part::BeginObject,
-            Part::Object(Member::PhysicalLocation),
-            Part::Object(Member::ArtifactLocation),
-            Part::Text(Member::Uri, uri),
-            Part::EndObject,
-        ],
-    )?;
-    put_region(writer, finding, column, snippet)?;
-    put_parts(
-        writer,
-        &[
-            Part::EndObject,
-            Part::EndObject,
-            Part::EndArray,
-            Part::EndObject,
-        ],
-    )
+    document.put(&[
+        Part::EndObject,
+        Part::EndObject,
+        Part::EndArray,
+        Part::EndObject,
+    ]);
+}
+
+fn put_result<'p>(document: &mut Document, uri: &'p str, finding: &'p Finding<'p>)
+    ensures { Appended document.old (result_tokens uri.now finding.now) document.new }
+{
+    document.put(&[
+        Part::BeginObject,
+        Part::Text(Member::RuleId, finding.name),
+        Part::Piece(Member::Level, Piece::Severity(finding.severity)),
+        Part::Object(Member::Message),
+        Part::Piece(Member::Text, Piece::Message(finding)),
+        Part::EndObject,
+        Part::Array(Member::Locations),
+        Part::BeginObject,
+        Part::Object(Member::PhysicalLocation),
+        Part::Object(Member::ArtifactLocation),
+        Part::Text(Member::Uri, uri),
+        Part::EndObject,
+    ]);
+    put_region(document, finding);
+    end_result(document);
 }
 
 /// Writes the results of a file, which has this URI.
-pub fn put_results(
-    alloc: Global,
-    writer: &mut Writer,
-    uri: &str,
-    findings: &[Finding<'_>],
-) -> Result<(), AllocError>
-    ensures { OnOk result (writer.new.tokens
-        ≡ writer.old.tokens ++ flat_map (result_tokens uri.now) findings.now) }
+pub fn put_results(document: &mut Document, uri: &str, findings: &[Finding<'_>])
+    ensures { Appended document.old
+        (flat_map (result_tokens uri.now) findings.now) document.new }
 {
-    put_findings(alloc, writer, Document::Sarif(uri), findings)
+    for finding in findings {
+        put_result(document, uri, finding);
+    }
 }
 
-// the tool before its rules, after the schema and the version of SARIF
-#[tactic(auto, unfolding(crate::specs::SarifForm::log_begin, crate::specs::SarifForm::tool_begin))]
-fn put_tool_begin(writer: &mut Writer, version: &str) -> Result<(), AllocError>
-    ensures { OnOk result
-        (writer.new.tokens ≡ writer.old.tokens ++ (log_begin ++ tool_begin version.now)) }
+/// Writes what comes before the results: the schema and the version of SARIF, and the tool with its
+/// rules.
+pub fn put_log_head(document: &mut Document, version: &str, rules: &[Rule<'_>])
+    ensures { Appended document.old (log_head version.now rules.now) document.new }
 {
-    put_parts(
-        writer,
-        &[
-            Part::BeginObject,
-            Part::Text(Member::Schema, SCHEMA),
-            Part::Text(Member::Version, "2.1.0"),
-            Part::Array(Member::Runs),
-            Part::BeginObject,
-            Part::Object(Member::Tool),
-            Part::Object(Member::Driver),
-            Part::Text(Member::Name, "conode"),
-            Part::Text(Member::Version, version),
-            Part::Array(Member::Rules),
-        ],
-    )
-}
-
-/// Writes what comes before the results: the tool with its rules.
-#[tactic(auto, unfolding(crate::specs::SarifForm::log_head, crate::specs::SarifForm::tool_end))]
-pub fn put_log_head(
-    alloc: Global,
-    writer: &mut Writer,
-    version: &str,
-    rules: &[Rule<'_>],
-) -> Result<(), AllocError>
-    ensures { OnOk result
-        (writer.new.tokens ≡ writer.old.tokens ++ log_head version.now rules.now) }
-{
-    put_tool_begin(writer, version)?;
-    put_rules(alloc, writer, rules)?;
-    put_parts(
-        writer,
-        &[
-            Part::EndArray,
-            Part::EndObject,
-            Part::EndObject,
-            Part::Text(Member::ColumnKind, "unicodeCodePoints"),
-            Part::Array(Member::Results),
-        ],
-    )
+    document.put(&[
+        Part::BeginObject,
+        Part::Text(Member::Schema, SCHEMA),
+        Part::Text(Member::Version, "2.1.0"),
+        Part::Array(Member::Runs),
+        Part::BeginObject,
+        Part::Object(Member::Tool),
+        Part::Object(Member::Driver),
+        Part::Text(Member::Name, "conode"),
+        Part::Text(Member::Version, version),
+        Part::Array(Member::Rules),
+    ]);
+    document.put(rules);
+    document.put(&[
+        Part::EndArray,
+        Part::EndObject,
+        Part::EndObject,
+        Part::Text(Member::ColumnKind, "unicodeCodePoints"),
+        Part::Array(Member::Results),
+    ]);
 }
 
 /// Writes what comes after the results.
-pub fn put_log_end(writer: &mut Writer) -> Result<(), AllocError>
-    ensures { OnOk result (writer.new.tokens ≡ writer.old.tokens ++ log_end) }
+pub fn put_log_end(document: &mut Document)
+    ensures { Appended document.old log_end document.new }
 {
-    put_parts(
-        writer,
-        &[
-            Part::EndArray,
-            Part::EndObject,
-            Part::EndArray,
-            Part::EndObject,
-        ],
-    )
+    document.put(&[
+        Part::EndArray,
+        Part::EndObject,
+        Part::EndArray,
+        Part::EndObject,
+    ]);
 }

@@ -2,23 +2,20 @@
 //! the text may be there.
 
 ghost use Rattle.std.specs.Prelude.{◌≡◌, ◌++◌, ◌∷◌, codes, OnOk, string_bytes};
-ghost use Rattle.conode_lint_text.specs.Characters.{characters_of};
+ghost use Rattle.conode_json.specs.Characters.{characters_of};
 ghost use Rattle.conode_lint_text.specs.Findings.{column_of};
 ghost use Rattle.conode_lint_text.specs.TextForm.{
   severity_colour,
-  head_line,
-  quoted_line,
-  help_line,
   finding_lines,
   more_line,
   summary_line,
 };
 
-use crate::characters::characters_of;
 use crate::column::column_of;
 use crate::finding::{Finding, Severity};
-use crate::pieces::{Piece, push_pieces};
-use crate::words::{push_help, push_message};
+use crate::pieces::Piece;
+use conode_json::characters_of;
+use conode_text::push_filled;
 use std::alloc::{AllocError, Global};
 
 /// The beginnings of colours on a terminal, and their end.
@@ -37,98 +34,37 @@ fn label_colour(severity: Severity) -> &'static str
     }
 }
 
-#[tactic(auto, unfolding(crate::specs::TextForm::head_line))]
-fn push_head<'p>(
+// the place, the label and what is wrong; the line itself; how to fix it
+fn push_lines<'p>(
     text: &mut String,
     colours: bool,
     file: &'p [char],
     finding: &'p Finding<'p>,
-    column: usize,
-) -> Result<(), AllocError>
-    requires { column ≡ column_of finding.now }
-    ensures { OnOk result (string_bytes text.new
-        ≡ string_bytes text.old ++ head_line colours file.now finding.now) }
-{
-    push_pieces(
-        text,
-        &[
-            Piece::Colour(colours, PLACE),
-            Piece::Shown(file),
-            Piece::Text(":"),
-            Piece::Position(finding.line, column),
-            Piece::Colour(colours, END),
-            Piece::Text(" "),
-            Piece::Colour(colours, label_colour(finding.severity)),
-            Piece::Severity(finding.severity),
-            Piece::Text("["),
-            Piece::Text(finding.name),
-            Piece::Text("]:"),
-            Piece::Colour(colours, END),
-            Piece::Text(" "),
-        ],
-    )?;
-    push_message(text, finding)?;
-    text.push_str("\n")
-}
-
-#[tactic(auto, unfolding(crate::specs::TextForm::quoted_line))]
-fn push_quoted(
-    text: &mut String,
-    finding: &Finding<'_>,
-    characters: &[char],
-) -> Result<(), AllocError>
-    requires { characters.now ≡ characters_of finding.now.text.now }
-    ensures { OnOk result
-        (string_bytes text.new ≡ string_bytes text.old ++ quoted_line finding.now) }
-{
-    if finding.line == 0 {
-        return Ok(());
-    }
-    push_pieces(
-        text,
-        &[
-            Piece::Text("    "),
-            Piece::Shown(characters),
-            Piece::Text("\n"),
-        ],
-    )
-}
-
-#[tactic(auto, unfolding(crate::specs::TextForm::help_line))]
-fn push_help_line(text: &mut String, colours: bool, finding: &Finding<'_>) -> Result<(), AllocError>
-    ensures { OnOk result
-        (string_bytes text.new ≡ string_bytes text.old ++ help_line colours finding.now) }
-{
-    push_pieces(
-        text,
-        &[
-            Piece::Text("  "),
-            Piece::Colour(colours, HELP),
-            Piece::Text("help:"),
-            Piece::Colour(colours, END),
-            Piece::Text(" "),
-        ],
-    )?;
-    push_help(text, finding.fix, finding.subject)?;
-    text.push_str("\n")
-}
-
-#[tactic(auto, unfolding(crate::specs::TextForm::finding_lines))]
-fn push_lines(
-    text: &mut String,
-    colours: bool,
-    file: &[char],
-    finding: &Finding<'_>,
-    characters: &[char],
+    characters: &'p [char],
 ) -> Result<(), AllocError>
     requires { characters.now ≡ characters_of finding.now.text.now }
     ensures { OnOk result (string_bytes text.new
         ≡ string_bytes text.old ++ finding_lines colours file.now finding.now) }
 {
-    let column = column_of(finding, characters);
-    push_head(text, colours, file, finding, column)?;
-    push_quoted(text, finding, characters)?;
-    push_help_line(text, colours, finding)
+    push_filled(
+        text,
+        "%%:%% %%[%]:% %\n%  %help:% %\n",
+        &[
+            Piece::Colour(colours, PLACE),
+            Piece::Shown(file),
+            Piece::Position(finding.line, column_of(finding, characters)),
+            Piece::Colour(colours, END),
+            Piece::Colour(colours, label_colour(finding.severity)),
+            Piece::Severity(finding.severity),
+            Piece::Words(finding.name),
+            Piece::Colour(colours, END),
+            Piece::Message(finding),
+            Piece::Quoted(finding.line, characters),
+            Piece::Colour(colours, HELP),
+            Piece::Colour(colours, END),
+            Piece::Help(finding.fix, finding.subject),
+        ],
+    )
 }
 
 /// Appends the lines of a finding: `motor.eds:59:1: error[BadList]:` with what is wrong, the line
@@ -153,14 +89,10 @@ pub fn push_more(text: &mut String, file: &[char], count: usize) -> Result<(), A
     ensures { OnOk result
         (string_bytes text.new ≡ string_bytes text.old ++ more_line file.now count) }
 {
-    push_pieces(
+    push_filled(
         text,
-        &[
-            Piece::Shown(file),
-            Piece::Text(": "),
-            Piece::Decimal(count),
-            Piece::Text(" more\n"),
-        ],
+        "%: % more\n",
+        &[Piece::Shown(file), Piece::Number(count)],
     )
 }
 
@@ -175,15 +107,13 @@ pub fn push_summary(
     ensures { OnOk result (string_bytes text.new
         ≡ string_bytes text.old ++ summary_line errors warnings files) }
 {
-    push_pieces(
+    push_filled(
         text,
+        "%, % in %\n",
         &[
             Piece::Counted(errors, "error"),
-            Piece::Text(", "),
             Piece::Counted(warnings, "warning"),
-            Piece::Text(" in "),
             Piece::Counted(files, "file"),
-            Piece::Text("\n"),
         ],
     )
 }

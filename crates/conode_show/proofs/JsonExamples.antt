@@ -13,7 +13,7 @@ use Rattle.co_sheet_text.specs.declared.section_kind.SectionKind.{SectionKind}
 use Rattle.co_sheet_text.specs.declared.section_kind.SectionKind.TheVariants.{Object, SubIndex, DeviceInfo}
 use Rattle.co_sheet_text.specs.Sections.{TextSection, Property}
 use Rattle.conode_json.specs.Members.{array_begin, flag_member, number_member, object_begin, text_member}
-use Rattle.conode_lint_text.specs.Characters.{characters_of, windows_1252}
+use Rattle.conode_json.specs.Characters.{characters_of, windows_1252}
 use Rattle.conode_show_text.specs.declared.meaning.Meaning.TheVariants.{PdoCobId}
 use Rattle.conode_show_text.specs.Numbers.{hex_text}
 use Rattle.conode_show_text.specs.Texts.{plain_text}

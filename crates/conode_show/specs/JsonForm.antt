@@ -10,7 +10,7 @@ use Rattle.co_sheet_text.specs.declared.section_kind.SectionKind.{SectionKind}
 use Rattle.co_sheet_text.specs.declared.section_kind.SectionKind.TheVariants.{Object, SubIndex}
 use Rattle.co_sheet_text.specs.Sections.{Property, TextSection, property_at, section_at}
 use Rattle.conode_json.specs.Members.{text_member, flag_member, object_begin, array_begin, number_member, number_if}
-use Rattle.conode_lint_text.specs.JsonForm.{utf8_of}
+use Rattle.conode_json.specs.Characters.{utf8_of}
 use Rattle.conode_show_text.specs.declared.chapters.Chapter.{Chapter}
 use Rattle.conode_show_text.specs.declared.chapters.Chapter.TheVariants.{Entries, Pdos, Services}
 use Rattle.conode_show_text.specs.declared.meaning.Meaning.{Meaning}

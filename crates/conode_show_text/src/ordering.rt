@@ -12,8 +12,8 @@ fn rank(kind: SectionKind) -> u32
     ensures { result ≡ rank kind }
 {
     match kind {
-        SectionKind::Object(index) => 257 * u32::from(index),
-        SectionKind::SubIndex(key) => 257 * u32::from(key.index) + u32::from(key.sub) + 1,
+        SectionKind::Object(index) => 257 * index as u32,
+        SectionKind::SubIndex(key) => 257 * key.index as u32 + key.sub as u32 + 1,
         _ => 0,
     }
 }

@@ -46,9 +46,9 @@ pub(crate) fn push_pdo_name(text: &mut String, index: u16) -> Result<(), AllocEr
     ensures { OnOk result (string_bytes text.new ≡ string_bytes text.old ++ pdo_name index) }
 {
     if IndexRange::RPDO_COMMUNICATION.contains(index) {
-        push_between(text, "RPDO ", u64::from(index.saturating_sub(0x13FF)), "")
+        push_between(text, "RPDO ", index.saturating_sub(0x13FF) as u64, "")
     } else {
-        push_between(text, "TPDO ", u64::from(index.saturating_sub(0x17FF)), "")
+        push_between(text, "TPDO ", index.saturating_sub(0x17FF) as u64, "")
     }
 }
 
@@ -128,7 +128,7 @@ pub fn is_counted(index: u16, count: u64, kind: SectionKind) -> bool
 {
     match kind {
         SectionKind::SubIndex(key) => {
-            key.index == index && 1 <= key.sub && u64::from(key.sub) <= count
+            key.index == index && 1 <= key.sub && key.sub as u64 <= count
         }
         _ => false,
     }

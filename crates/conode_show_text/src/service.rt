@@ -80,7 +80,7 @@ fn push_channel(text: &mut String, end: &str, channel: u16, way: &str) -> Result
     ensures { OnOk result
         (string_bytes text.new ≡ string_bytes text.old ++ channel_name end.now channel way.now) }
 {
-    push_between(text, end, u64::from(channel), way)
+    push_between(text, end, channel as u64, way)
 }
 
 /// Appends the name of a service. `Err`: out of memory; a part of the text may be there.

@@ -65,7 +65,7 @@ fn sum_of(node: Option<u8>, addend: u64) -> Option<u64>
     ensures { result ≡ option_and_then (λ id. if_small (addend + id)) node }
 {
     match node {
-        Some(node_id) => addend.checked_add(u64::from(node_id)),
+        Some(node_id) => addend.checked_add(node_id as u64),
         None => None,
     }
 }

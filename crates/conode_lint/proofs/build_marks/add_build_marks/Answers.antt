@@ -7,8 +7,8 @@ use Rattle.conode_lint.specs.declared.mark.Mark.{Mark}
 use Rattle.conode_lint.proofs.MarkLemmas.{plan_marks}
 use Rattle.conode_lint.proofs.build_marks.add_build_marks.Goals as goal
 
-pub returns : goal.returns
-returns c =
+pub returns-in-Ok : goal.returns-in-Ok
+returns-in-Ok c =
     let plan = plan_of c.args.node_id (limits_view c.args.limits.now) c.args.sheet.now in
-    let is = plan_marks c.args.sheet.now (map section_view c.args.sections.now) plan _ _ c.in_ok-found.ensures.faults c.in_ok-found.ensures.mappings in
+    let is = plan_marks c.args.sheet.now (map section_view c.args.sections.now) plan _ _ c.in-Ok.ensures.faults c.in-Ok.ensures.mappings in
     on_ok_weaker c.add_at_lines.result (λ h. h ∙ ap (λ (l : List Mark). c.args.marks.now.items ++ l) is) c.add_at_lines.ensures

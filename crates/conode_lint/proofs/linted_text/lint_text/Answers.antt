@@ -3,4 +3,4 @@ use Rattle.std.proofs.Common.{◌∙◌, ℕ, List, map, ap}
 use Rattle.conode_lint.proofs.linted_text.lint_text.Goals as goal
 
 pub linted_in-requires : goal.linted_in-requires
-linted_in-requires c = ap (map (λ (l : Bor (List ℕ)). l.now)) c.as_slice.ensures.value ∙ c.in_ok-lines.ensures
+linted_in-requires c = ap (map (λ (l : Bor (List ℕ)). l.now)) c.as_slice.ensures.value ∙ c.in-Ok.ensures

@@ -2,8 +2,8 @@ use Rattle.std.proofs.lemmas.Result.{IfOk-weaker}
 use Rattle.conode_lint.proofs.MarkLemmas.{linted_from}
 use Rattle.conode_lint.proofs.linted_text.linted_in.Goals as goal
 
-pub returns : goal.returns
-returns c =
+pub returns-in-Ok : goal.returns-in-Ok
+returns-in-Ok c =
     IfOk-weaker c.linted_of.result _ _
-    (λ made h. linted_from c.args.text.now c.args.checks.now _ c.add_marks_of.new.marks.items _ made c.in_ok-add_marks_of.ensures c.requires c.as_slice.ensures.value h)
+    (λ made h. linted_from c.args.text.now c.args.checks.now _ c.add_marks_of.new.marks.items _ made c.in-Ok.ensures c.requires c.as_slice.ensures.value h)
     c.linted_of.ensures

@@ -2,8 +2,8 @@ use Rattle.std.proofs.lemmas.Result.{IfOk-weaker}
 use Rattle.conode_lint.proofs.MarkLemmas.{made_from}
 use Rattle.conode_lint.proofs.linted_text.linted_of.Goals as goal
 
-pub returns : goal.returns
-returns c =
+pub returns-in-Ok : goal.returns-in-Ok
+returns-in-Ok c =
     IfOk-weaker c.made_of.result _ _
-    (λ made h. made_from _ c.args.checks.now c.args.found.now _ _ made c.in_ok-marks.ensures c.as_slice.ensures.value h)
+    (λ made h. made_from _ c.args.checks.now c.args.found.now _ _ made c.in-Ok.ensures c.as_slice.ensures.value h)
     c.made_of.ensures

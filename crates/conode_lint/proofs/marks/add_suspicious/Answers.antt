@@ -4,12 +4,12 @@ use Rattle.co_sheet_warnings.specs.declared.warning.Warning.{Warning}
 use Rattle.conode_lint.specs.Marks.{warning_mark}
 use Rattle.conode_lint.proofs.marks.add_suspicious.Goals as goal
 
-pub returns : goal.returns
-returns c =
+pub returns-in-Ok : goal.returns-in-Ok
+returns-in-Ok c =
     on_ok_weaker c.add_warnings.result
     (λ h. record {
-      warnings = c.in_ok-warnings.warnings.items;
-      by_line = c.in_ok-warnings.ensures;
+      warnings = c.in-Ok.warnings.items;
+      by_line = c.in-Ok.ensures;
       are = h ∙ ap (λ (l : List Warning). c.args.marks.now.items ++ map warning_mark l) c.as_slice.ensures.value;
     })
     c.add_warnings.ensures

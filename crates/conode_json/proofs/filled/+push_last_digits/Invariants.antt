@@ -1,4 +1,0 @@
-use Rattle.conode_json.proofs.filled.+push_last_digits.Given as goal
-
-abbrev pub decreases-push_last_digits : goal.decreases-push_last_digits
-decreases-push_last_digits l = l.count

@@ -1,0 +1,6 @@
+use Rattle.std.proofs.Common.{◌≡◌, map, take}
+use Rattle.conode_lint.specs.Found.{finding_of, seen}
+use Rattle.conode_lint.proofs.linted_text.add_findings.Given as goal
+
+abbrev pub invariant-loop-mark : goal.invariant-loop-mark
+invariant-loop-mark l = map seen l.findings.items ≡ map (finding_of (map (λ line. line.now) l.lines)) (take l.mark-index l.marks)

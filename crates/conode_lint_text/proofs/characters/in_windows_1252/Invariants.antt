@@ -1,6 +1,0 @@
-use Rattle.std.proofs.Common.{◌≡◌, map, take}
-use Rattle.conode_lint_text.specs.Characters.{windows_1252}
-use Rattle.conode_lint_text.proofs.characters.in_windows_1252.Given as goal
-
-abbrev pub invariant-loop-byte : goal.invariant-loop-byte
-invariant-loop-byte l = l.characters.items ≡ map windows_1252 (take l.byte-index l.line)

@@ -1,7 +1,0 @@
-use Rattle.std.proofs.Common.{◌≡◌, ◌++◌, take}
-use Rattle.std.specs.Prelude.{string_bytes}
-use Rattle.conode_lint_text.specs.Characters.{in_utf8}
-use Rattle.conode_lint_text.proofs.characters.push_utf8.Given as goal
-
-abbrev pub invariant-loop-character : goal.invariant-loop-character
-invariant-loop-character l = string_bytes l.text ≡ string_bytes l.fn.text ++ in_utf8 (take l.character-index l.characters)
