@@ -107,7 +107,7 @@ impl Document {
     }
 
     /// Appends parts, one after another.
-    #[tactic(auto, using(conode_json::proofs::Appending::kept, conode_json::proofs::Appending::never_whole))]
+    #[tactic(auto, using(conode_text::proofs::Appending::kept, conode_text::proofs::Appending::never_whole))]
     pub(crate) fn put(&mut self, parts: &[Part<'_>])
         ensures { Appended self.old (flat_map part_tokens parts.now) self.new }
     {

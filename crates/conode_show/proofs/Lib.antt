@@ -1,2 +1,3 @@
 pub mod JsonExamples
 pub mod RetypedLemmas
+mod Grouped

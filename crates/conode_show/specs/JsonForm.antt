@@ -134,7 +134,7 @@ unfoldable pub mapped_tokens : Option ℕ → List TextSection → TextSection �
 mapped_tokens node sections section =
     begin_object
     ∷ (option_map_or (mapped_members sections) (section_word node section) []
-    ++ text_member (codes "words") (said Mapped node section) ++ end_object ∷ [])
+    ++ (text_member (codes "words") (said Mapped node section) ++ end_object ∷ []))
 
 abbrev pub counted_tokens : Option ℕ → List TextSection → ℕ → ℕ → TextSection → List Token
 counted_tokens node sections index count section =

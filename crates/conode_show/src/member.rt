@@ -29,10 +29,13 @@ pub(crate) enum Member {
     Mapped,
     Mappable,
     Fault,
+    Entries,
+    Pdos,
+    Services,
 }
 
 /// Their names, in this order.
-const NAMES: [&str; 23] = [
+const NAMES: [&str; 26] = [
     "default",
     "value",
     "low",
@@ -56,6 +59,9 @@ const NAMES: [&str; 23] = [
     "mapped",
     "mappable",
     "fault",
+    "entries",
+    "pdos",
+    "services",
 ];
 
 impl Member {

@@ -1,9 +1,9 @@
 //! Parts of a document of JSON. Each function with a writer appends tokens. `Err`: out of memory;
 //! some tokens may be there.
 
-ghost use Rattle.std.specs.Prelude.{◌≡◌, ◌++◌, map, OnOk};
-ghost use Rattle.std.specs.List.{flat_map};
+ghost use Rattle.std.specs.Prelude.{◌≡◌, ◌++◌, List, map, OnOk};
 ghost use Rattle.co_sheet_text.specs.Views.{section_view};
+ghost use Rattle.json.specs.Token.{Token};
 ghost use Rattle.conode_json.specs.Members.{text_member};
 ghost use Rattle.conode_show.specs.JsonForm.{
   limit_member,
@@ -25,7 +25,7 @@ use crate::member::Member;
 use co_sheet::section_at;
 use co_sheet_text::{SectionKind, TextSection};
 use co_value::Key;
-use conode_json::JsonWriter;
+use conode_json::{HasTokens, JsonWriter};
 use conode_show_text::{
     Content, Meaning, entry_section, limit_number, push_content, section_word, type_of,
     value_number,
@@ -45,12 +45,17 @@ pub(crate) enum Part<'p> {
     Text(Member, &'p str),
     /// A number, nothing for `None`.
     Number(Member, Option<i128>),
-    /// The text of a property, nothing if the section doesn't have it.
-    Property(Member, &'static [u8], &'p TextSection<'p, 'p>),
-    /// A value by the property that states it, nothing if the section doesn't have it.
-    Value(Member, Option<u8>, &'static [u8], &'p TextSection<'p, 'p>),
-    /// A limit in the same way.
-    Limit(Member, &'static [u8], &'p TextSection<'p, 'p>),
+    /// The name of an object or an entry, nothing if it has none.
+    Name(&'p TextSection<'p, 'p>),
+    /// How an entry may be accessed, nothing if the sheet doesn't say it.
+    Access(&'p TextSection<'p, 'p>),
+    /// The default for this node-ID, nothing if there is none.
+    Default(Option<u8>, &'p TextSection<'p, 'p>),
+    /// The value of a device configuration file in the same way.
+    Value(Option<u8>, &'p TextSection<'p, 'p>),
+    /// The low limit, nothing if there is none.
+    Low(&'p TextSection<'p, 'p>),
+    High(&'p TextSection<'p, 'p>),
     /// What a cell of the lines has.
     Shown(Member, Option<u8>, Content<'p>),
     /// The value of an entry of the communication profile: its number, and its words.
@@ -66,7 +71,7 @@ pub(crate) fn word_number(node: Option<u8>, section: &TextSection<'_, '_>) -> Op
     ensures { result ≡ word_number node (section_view section.now) }
 {
     match section_word(node, section) {
-        Some(word) if !word.relative => Some(i128::from(word.number)),
+        Some(word) if !word.relative => Some(word.number as i128),
         _ => None,
     }
 }
@@ -224,47 +229,54 @@ fn put_name_at(
     }
 }
 
-fn put_part(alloc: Global, writer: &mut JsonWriter, part: &Part<'_>) -> Result<(), AllocError>
-    ensures { OnOk result (writer.new ≡ writer.old ++ part_tokens part.now) }
-{
-    match *part {
-        Part::BeginObject => writer.begin_object(),
-        Part::EndObject => writer.end_object(),
-        Part::EndArray => writer.end_array(),
-        Part::Array(member) => writer.begin_array_of(member.name()),
-        Part::Flag(member, is) => writer.put_flag(member.name(), is),
-        Part::Text(member, words) => writer.put_text(member.name(), words),
-        Part::Number(member, number) => writer.put_number_if(alloc, member.name(), number),
-        Part::Property(member, property, section) => {
-            put_property(alloc, writer, member, property, section)
-        }
-        Part::Value(member, node, property, section) => {
-            put_value(alloc, writer, member, node, property, section)
-        }
-        Part::Limit(member, property, section) => put_limit(
-            alloc, writer, member, property, section,
-        ),
-        Part::Shown(member, node, content) => put_shown(alloc, writer, member, node, &content),
-        Part::Said(member, meaning, node, section) => {
-            put_said(alloc, writer, member, meaning, node, section)
-        }
-        Part::SaidAt(member, meaning, node, sections, key) => {
-            put_said_at(alloc, writer, member, meaning, node, sections, key)
-        }
-        Part::NameAt(sections, key) => put_name_at(alloc, writer, sections, key),
-    }
-}
+impl HasTokens for Part<'_> {
+    ghost tokens_of = { part_tokens };
 
-/// Appends parts.
-pub(crate) fn put_parts(
-    alloc: Global,
-    writer: &mut JsonWriter,
-    parts: &[Part<'_>],
-) -> Result<(), AllocError>
-    ensures { OnOk result (writer.new ≡ writer.old ++ flat_map part_tokens parts.now) }
-{
-    for part in parts {
-        put_part(alloc, writer, part)?;
+    fn put(&self, alloc: Global, writer: &mut JsonWriter) -> Result<(), AllocError> {
+        match *self {
+            Part::BeginObject => writer.begin_object(),
+            Part::EndObject => writer.end_object(),
+            Part::EndArray => writer.end_array(),
+            Part::Array(member) => writer.begin_array_of(member.name()),
+            Part::Flag(member, is) => writer.put_flag(member.name(), is),
+            Part::Text(member, words) => writer.put_text(member.name(), words),
+            Part::Number(member, number) => writer.put_number_if(alloc, member.name(), number),
+            Part::Name(section) => {
+                put_property(alloc, writer, Member::Name, b"ParameterName", section)
+            }
+            Part::Access(section) => {
+                put_property(alloc, writer, Member::Access, b"AccessType", section)
+            }
+            Part::Default(node, section) => {
+                put_value(
+                    alloc,
+                    writer,
+                    Member::Default,
+                    node,
+                    b"DefaultValue",
+                    section,
+                )
+            }
+            Part::Value(node, section) => {
+                put_value(
+                    alloc,
+                    writer,
+                    Member::Value,
+                    node,
+                    b"ParameterValue",
+                    section,
+                )
+            }
+            Part::Low(section) => put_limit(alloc, writer, Member::Low, b"LowLimit", section),
+            Part::High(section) => put_limit(alloc, writer, Member::High, b"HighLimit", section),
+            Part::Shown(member, node, content) => put_shown(alloc, writer, member, node, &content),
+            Part::Said(member, meaning, node, section) => {
+                put_said(alloc, writer, member, meaning, node, section)
+            }
+            Part::SaidAt(member, meaning, node, sections, key) => {
+                put_said_at(alloc, writer, member, meaning, node, sections, key)
+            }
+            Part::NameAt(sections, key) => put_name_at(alloc, writer, sections, key),
+        }
     }
-    Ok(())
 }

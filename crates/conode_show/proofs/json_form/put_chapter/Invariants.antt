@@ -1,9 +1,10 @@
-use Rattle.std.proofs.Common.{◌≡◌, ◌++◌, map, take}
+use Rattle.std.proofs.Common.{map, take}
 use Rattle.std.specs.List.{flat_map}
 use Rattle.co_sheet_text.specs.Views.{section_view}
+use Rattle.conode_text.specs.Appended.{Appended}
 use Rattle.conode_show.specs.JsonForm.{chapter_tokens}
 use Rattle.conode_show.proofs.json_form.put_chapter.Given as goal
 
 abbrev pub invariant-loop-section : goal.invariant-loop-section
 invariant-loop-section l =
-    l.writer ≡ l.initial.writer ++ flat_map (chapter_tokens l.chapter l.node (map section_view l.sections)) (map section_view (take l.section-index l.sections))
+    Appended l.initial.document (flat_map (chapter_tokens l.chapter l.node (map section_view l.sections)) (map section_view (take l.section-index l.sections))) l.document

@@ -1,0 +1,8 @@
+-- One part after another.
+use Rattle.conode_show.specs.JsonForm.{pdo_tokens}
+use Rattle.conode_text.proofs.Appending.{both}
+use Rattle.conode_show.proofs.json_pdos.put_pdo_tokens.Goals as goal
+
+pub returns : goal.returns
+unfolding pdo_tokens
+returns c = both (both c.put_pdo_begin.ensures c.put_mapping.ensures) c.put.ensures

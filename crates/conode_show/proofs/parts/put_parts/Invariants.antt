@@ -1,7 +1,0 @@
-use Rattle.std.proofs.Common.{◌≡◌, ◌++◌, take}
-use Rattle.std.specs.List.{flat_map}
-use Rattle.conode_show.specs.Parts.{part_tokens}
-use Rattle.conode_show.proofs.parts.put_parts.Given as goal
-
-abbrev pub invariant-loop-part : goal.invariant-loop-part
-invariant-loop-part l = l.writer ≡ l.fn.writer ++ flat_map part_tokens (take l.part-index l.parts)
