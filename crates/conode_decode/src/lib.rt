@@ -2,6 +2,16 @@
 //! (CiA 301); and a trace of such frames, decoded line by line.
 #![tactic(auto)]
 
+// As `?`, without a conversion of the error: a `match` is one step of a proof where `?` is three.
+macro_rules! attempt {
+    ($result:expr) => {
+        match $result {
+            Ok(value) => value,
+            Err(fault) => return Err(fault),
+        }
+    };
+}
+
 mod decode_file;
 mod decoded_trace;
 mod line;

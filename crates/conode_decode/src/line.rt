@@ -27,10 +27,10 @@ pub fn set_decoded_line(
         (string_bytes text.new ≡ decoded_line (names_view names.entry) number frame.now) }
 {
     text.clear();
-    push_decimal(text, number as u64)?;
-    push_words(text, " ")?;
-    push_frame(text, frame)?;
-    push_words(text, " ")?;
-    push_text(text, names, frame)?;
+    attempt!(push_decimal(text, number as u64));
+    attempt!(push_words(text, " "));
+    attempt!(push_frame(text, frame));
+    attempt!(push_words(text, " "));
+    attempt!(push_text(text, names, frame));
     push_words(text, "\n")
 }

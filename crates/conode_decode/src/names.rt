@@ -27,7 +27,7 @@ pub(crate) fn push_name(
     let Some(name) = names.name(node, key) else {
         return Ok(());
     };
-    push_words(text, " \"")?;
-    push_words(text, name)?;
+    attempt!(push_words(text, " \""));
+    attempt!(push_words(text, name));
     push_words(text, "\"")
 }

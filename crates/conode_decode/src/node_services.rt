@@ -47,22 +47,22 @@ fn nmt_service_text(service: NmtService) -> &'static str
 fn push_nmt(text: &mut String, command: NmtCommand) -> Result<(), AllocError>
     ensures { OnOk result (string_bytes text.new ≡ string_bytes text.old ++ nmt_text command) }
 {
-    push_words(text, "NMT ")?;
-    push_words(text, nmt_service_text(command.service))?;
-    push_words(text, " ")?;
-    push_decimal(text, u64::from(command.node))
+    attempt!(push_words(text, "NMT "));
+    attempt!(push_words(text, nmt_service_text(command.service)));
+    attempt!(push_words(text, " "));
+    push_decimal(text, command.node as u64)
 }
 
 #[tactic(auto, unfolding(crate::specs::Texts::sync_text))]
 fn push_sync(text: &mut String, sync: Sync) -> Result<(), AllocError>
     ensures { OnOk result (string_bytes text.new ≡ string_bytes text.old ++ sync_text sync) }
 {
-    push_words(text, "SYNC")?;
+    attempt!(push_words(text, "SYNC"));
     let Some(counter) = sync.counter else {
         return Ok(());
     };
-    push_words(text, " ")?;
-    push_decimal(text, u64::from(counter))
+    attempt!(push_words(text, " "));
+    push_decimal(text, counter as u64)
 }
 
 #[tactic(auto, unfolding(crate::specs::Texts::of_node))]
@@ -70,9 +70,9 @@ fn push_of_node(text: &mut String, service: &str, node: u8) -> Result<(), AllocE
     ensures { OnOk result
         (string_bytes text.new ≡ string_bytes text.old ++ of_node service.now node) }
 {
-    push_words(text, service)?;
-    push_words(text, " node ")?;
-    push_decimal(text, u64::from(node))
+    attempt!(push_words(text, service));
+    attempt!(push_words(text, " node "));
+    push_decimal(text, node as u64)
 }
 
 #[tactic(auto, unfolding(crate::specs::Texts::emergency_text))]
@@ -80,10 +80,10 @@ fn push_emergency(text: &mut String, node: u8, emergency: Emergency) -> Result<(
     ensures { OnOk result
         (string_bytes text.new ≡ string_bytes text.old ++ emergency_text node emergency) }
 {
-    push_of_node(text, "EMCY", node)?;
-    push_words(text, " code ")?;
-    push_u16(text, emergency.code)?;
-    push_words(text, " register ")?;
+    attempt!(push_of_node(text, "EMCY", node));
+    attempt!(push_words(text, " code "));
+    attempt!(push_u16(text, emergency.code));
+    attempt!(push_words(text, " register "));
     push_byte(text, emergency.register)
 }
 
@@ -92,10 +92,10 @@ fn push_pdo(text: &mut String, service: &str, number: u8, node: u8) -> Result<()
     ensures { OnOk result
         (string_bytes text.new ≡ string_bytes text.old ++ pdo_text service.now number node) }
 {
-    push_words(text, service)?;
-    push_decimal(text, u64::from(number))?;
-    push_words(text, " node ")?;
-    push_decimal(text, u64::from(node))
+    attempt!(push_words(text, service));
+    attempt!(push_decimal(text, number as u64));
+    attempt!(push_words(text, " node "));
+    push_decimal(text, node as u64)
 }
 
 fn push_heartbeat(text: &mut String, node: u8, heartbeat: Heartbeat) -> Result<(), AllocError>
@@ -108,7 +108,7 @@ fn push_heartbeat(text: &mut String, node: u8, heartbeat: Heartbeat) -> Result<(
         Heartbeat::Operational => ("heartbeat", " operational"),
         Heartbeat::PreOperational => ("heartbeat", " pre-operational"),
     };
-    push_of_node(text, service, node)?;
+    attempt!(push_of_node(text, service, node));
     push_words(text, state)
 }
 
@@ -131,7 +131,7 @@ fn push_named_request(
     let Some(request) = SdoRequest::read(frame) else {
         return push_unknown(text);
     };
-    push_request(text, &request)?;
+    attempt!(push_request(text, &request));
     push_name(text, names, node, request_key(&request))
 }
 
@@ -145,8 +145,8 @@ fn push_sdo_request(
     ensures { OnOk result (string_bytes text.new
         ≡ string_bytes text.old ++ sdo_request_text (names_view names.entry) node frame.now.bytes) }
 {
-    push_of_node(text, "SDO request", node)?;
-    push_words(text, " ")?;
+    attempt!(push_of_node(text, "SDO request", node));
+    attempt!(push_words(text, " "));
     push_named_request(text, names, node, frame)
 }
 
@@ -163,7 +163,7 @@ fn push_named_answer(
     let Some(answer) = SdoResponse::read(frame) else {
         return push_unknown(text);
     };
-    push_answer(text, &answer)?;
+    attempt!(push_answer(text, &answer));
     push_name(text, names, node, answer_key(&answer))
 }
 
@@ -177,8 +177,8 @@ fn push_sdo_answer(
     ensures { OnOk result (string_bytes text.new
         ≡ string_bytes text.old ++ sdo_answer_text (names_view names.entry) node frame.now.bytes) }
 {
-    push_of_node(text, "SDO answer", node)?;
-    push_words(text, " ")?;
+    attempt!(push_of_node(text, "SDO answer", node));
+    attempt!(push_words(text, " "));
     push_named_answer(text, names, node, frame)
 }
 

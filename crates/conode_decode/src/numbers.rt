@@ -42,6 +42,6 @@ pub(crate) fn push_size(text: &mut String, size: Option<u32>) -> Result<(), Allo
     let Some(size) = size else {
         return Ok(());
     };
-    push_words(text, " size ")?;
-    push_decimal(text, u64::from(size))
+    attempt!(push_words(text, " size "));
+    push_decimal(text, size as u64)
 }

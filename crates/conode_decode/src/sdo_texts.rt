@@ -43,9 +43,9 @@ fn push_expedited(
     ensures { OnOk result (string_bytes text.new
         ≡ string_bytes text.old ++ expedited_text service.now key part.now) }
 {
-    push_words(text, service)?;
-    push_key(text, key)?;
-    push_words(text, " expedited ")?;
+    attempt!(push_words(text, service));
+    attempt!(push_key(text, key));
+    attempt!(push_words(text, " expedited "));
     push_hex(text, expedited_part(part))
 }
 
@@ -59,8 +59,8 @@ fn push_initiate(
     ensures { OnOk result (string_bytes text.new
         ≡ string_bytes text.old ++ initiate_text service.now key size) }
 {
-    push_words(text, service)?;
-    push_key(text, key)?;
+    attempt!(push_words(text, service));
+    attempt!(push_key(text, key));
     push_size(text, size)
 }
 
@@ -73,14 +73,14 @@ fn push_block_initiate(
     ensures { OnOk result (string_bytes text.new
         ≡ string_bytes text.old ++ initiate_text service.now key (Some block_size)) }
 {
-    push_initiate(text, service, key, Some(u32::from(block_size)))
+    push_initiate(text, service, key, Some(block_size as u32))
 }
 
 fn push_with_key(text: &mut String, service: &str, key: Key) -> Result<(), AllocError>
     ensures { OnOk result
         (string_bytes text.new ≡ string_bytes text.old ++ (service.now ++ key_text key)) }
 {
-    push_words(text, service)?;
+    attempt!(push_words(text, service));
     push_key(text, key)
 }
 
@@ -88,7 +88,7 @@ fn push_with_toggle(text: &mut String, service: &str, toggle: bool) -> Result<()
     ensures { OnOk result
         (string_bytes text.new ≡ string_bytes text.old ++ (service.now ++ toggle_text toggle)) }
 {
-    push_words(text, service)?;
+    attempt!(push_words(text, service));
     push_toggle(text, toggle)
 }
 
@@ -97,10 +97,10 @@ fn push_segment(text: &mut String, toggle: bool, part: &[u8], last: bool) -> Res
     ensures { OnOk result (string_bytes text.new
         ≡ string_bytes text.old ++ segment_text toggle part.now last) }
 {
-    push_words(text, "segment ")?;
-    push_toggle(text, toggle)?;
-    push_words(text, " ")?;
-    push_hex(text, part)?;
+    attempt!(push_words(text, "segment "));
+    attempt!(push_toggle(text, toggle));
+    attempt!(push_words(text, " "));
+    attempt!(push_hex(text, part));
     push_words(text, if last { " last" } else { "" })
 }
 
@@ -108,9 +108,9 @@ fn push_segment(text: &mut String, toggle: bool, part: &[u8], last: bool) -> Res
 fn push_abort(text: &mut String, key: Key, code: AbortCode) -> Result<(), AllocError>
     ensures { OnOk result (string_bytes text.new ≡ string_bytes text.old ++ abort_text key code) }
 {
-    push_words(text, "abort ")?;
-    push_key(text, key)?;
-    push_words(text, " ")?;
+    attempt!(push_words(text, "abort "));
+    attempt!(push_key(text, key));
+    attempt!(push_words(text, " "));
     push_u32(text, code.0)
 }
 
@@ -119,10 +119,10 @@ fn push_acknowledge(text: &mut String, sequence: u8, block_size: u8) -> Result<(
     ensures { OnOk result (string_bytes text.new
         ≡ string_bytes text.old ++ acknowledge_text sequence block_size) }
 {
-    push_words(text, "block ack ")?;
-    push_decimal(text, u64::from(sequence))?;
-    push_words(text, " size ")?;
-    push_decimal(text, u64::from(block_size))
+    attempt!(push_words(text, "block ack "));
+    attempt!(push_decimal(text, sequence as u64));
+    attempt!(push_words(text, " size "));
+    push_decimal(text, block_size as u64)
 }
 
 #[tactic(auto, unfolding(crate::specs::SdoTexts::block_end_text))]
@@ -130,9 +130,9 @@ fn push_block_end(text: &mut String, service: &str, unused: u8) -> Result<(), Al
     ensures { OnOk result (string_bytes text.new
         ≡ string_bytes text.old ++ block_end_text service.now unused) }
 {
-    push_words(text, service)?;
-    push_words(text, "end unused ")?;
-    push_decimal(text, u64::from(unused))
+    attempt!(push_words(text, service));
+    attempt!(push_words(text, "end unused "));
+    push_decimal(text, unused as u64)
 }
 
 /// Appends the text of a request, without the name of the entry.
@@ -196,7 +196,7 @@ pub(crate) fn push_answer(text: &mut String, answer: &SdoResponse) -> Result<(),
 {
     match answer {
         SdoResponse::DownloadDone { key } => {
-            push_with_key(text, "download ", *key)?;
+            attempt!(push_with_key(text, "download ", *key));
             push_words(text, " done")
         }
         SdoResponse::DownloadSegmentDone { toggle } => {

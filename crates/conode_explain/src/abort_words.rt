@@ -49,7 +49,7 @@ pub(crate) fn push_abort_words(said: &mut String, frame: &Frame) -> Result<(), A
     if words.is_empty() {
         return Ok(());
     }
-    said.push_str(" (")?;
-    said.push_str(words)?;
+    attempt!(said.push_str(" ("));
+    attempt!(said.push_str(words));
     said.push_str(")")
 }

@@ -56,12 +56,14 @@ fn set_end_line(
     let stamps = form.stamps;
     match form.format {
         LineFormat::Text => {
-            set_own_line(line, text, stamps, times, shows, interface, words)?;
+            attempt!(set_own_line(line, text, stamps, times, shows, interface, words));
             put_tone(alloc, line, form.colours, tone)
         }
         LineFormat::Json => {
             let (kind, of) = (Kind::Sdo, Some(node));
-            *line = own_json_line(alloc, stamps, times, shows, interface, words, kind, of)?;
+            *line = attempt!(own_json_line(
+                alloc, stamps, times, shows, interface, words, kind, of
+            ));
             Ok(())
         }
     }
@@ -93,8 +95,9 @@ fn write_end<W: Write>(
         return Ok(());
     }
     let names = names_for(settings.sheets, interface, node);
-    set_ended_words(&mut room.said, names, node, ids, ended)?;
-    set_end_line(
+    let said = &mut room.said;
+    attempt_in_memory!(set_ended_words(said, names, node, ids, ended));
+    attempt_in_memory!(set_end_line(
         room.alloc,
         &mut room.line,
         &mut room.text,
@@ -105,7 +108,7 @@ fn write_end<W: Write>(
         node,
         ending_tone(ended.ending),
         room.said.as_bytes(),
-    )?;
+    ));
     hand_over(room.line.as_slice(), out)
 }
 
@@ -208,7 +211,7 @@ pub(crate) fn write_boot_up<W: Write>(
     }
     let (micros, name, node) = (frame.micros, frame.interface.bytes(), told.node);
     for channel in channels {
-        write_interrupted(room, seen, settings, micros, name, node, channel, out)?;
+        attempt!(write_interrupted(room, seen, settings, micros, name, node, channel, out));
     }
     Ok(())
 }
@@ -232,7 +235,7 @@ fn write_unfinished_further<W: Write>(
         let ended = channel.channel.unfinished(last);
         let (name, node) = (channel.interface.as_slice(), channel.node);
         let ids = Some(channel.ids);
-        write_end(room, seen, settings, last, name, node, ids, &ended, out)?;
+        attempt!(write_end(room, seen, settings, last, name, node, ids, &ended, out));
     }
     Ok(())
 }
@@ -254,7 +257,7 @@ fn write_unfinished_default<W: Write>(
     for track in progress.channels.tracks() {
         let ended = track.channel.unfinished(last);
         let (name, node) = (track.interface.as_slice(), track.node);
-        write_end(room, seen, settings, last, name, node, None, &ended, out)?;
+        attempt!(write_end(room, seen, settings, last, name, node, None, &ended, out));
     }
     Ok(())
 }
@@ -271,6 +274,6 @@ pub(crate) fn write_unfinished<W: Write>(
         (unfinished_lines settings.now.form (sheets_of settings.now) progress.now)) }
     ensures err { IfErr result (λ fault. (fault ≡ CmdFault.Write) ⊎ (fault ≡ CmdFault.Memory)) }
 {
-    write_unfinished_default(room, progress, settings, out)?;
+    attempt!(write_unfinished_default(room, progress, settings, out));
     write_unfinished_further(room, progress, settings, out)
 }

@@ -175,8 +175,8 @@ fn make_readable<E: Write>(
 
 // a data sheet, and its original data types
 fn sheet_in<'t>(alloc: Global, of: &'t SheetText<'_>) -> Result<ReadSheet<'t>, SheetFault> {
-    let sheet = read(alloc, of.text.as_slice())?;
-    let originals = originals_in(alloc, of.text.as_slice())?;
+    let sheet = attempt!(read(alloc, of.text.as_slice()));
+    let originals = attempt!(originals_in(alloc, of.text.as_slice()));
     Ok(ReadSheet {
         word: of.word,
         sheet,

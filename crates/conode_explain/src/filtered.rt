@@ -37,6 +37,7 @@ fn first_node(claims: &[Claim]) -> Option<u8>
 
 /// The kind and the node of a frame that is these PDOs; on an SDO channel other than a default one
 /// of its server.
+#[inline(always)]
 pub(crate) fn subject_by(place: Option<Place>, claims: &[Claim], frame: &Record<'_>) -> Subject
     requires { IsIdentifier frame.now.id }
     ensures { result ≡ subject_by place claims.now frame.now }
@@ -73,7 +74,7 @@ fn passes_channel(filter: &Filter, node: u8, id: u16, times: Times) -> bool
     let subject = Subject {
         id: Written {
             wide: false,
-            number: u32::from(id),
+            number: id as u32,
         },
         kind: Kind::Sdo,
         node: Some(node),

@@ -50,16 +50,16 @@ fn push_assumed_mark(said: &mut String, id: u16) -> Result<(), AllocError>
 fn push_plain_words(
     said: &mut String,
     names: Names<'_, '_>,
-    last: Last,
+    last: &Last,
     frame: &Frame,
 ) -> Result<(), AllocError>
     ensures { OnOk result (string_bytes said.new
-        ≡ string_bytes said.old ++ plain_words (names_view names.entry) last frame.now) }
+        ≡ string_bytes said.old ++ plain_words (names_view names.entry) last.now frame.now) }
 {
-    push_assumed_mark(said, frame.id())?;
-    push_text(said, names, frame)?;
-    push_abort_words(said, frame)?;
-    push_state(said, last, frame)
+    attempt!(push_assumed_mark(said, frame.id()));
+    attempt!(push_text(said, names, frame));
+    attempt!(push_abort_words(said, frame));
+    push_state(said, *last, frame)
 }
 
 // by its service, else by its text
@@ -67,13 +67,13 @@ fn push_plain_words(
 fn push_served_words(
     said: &mut String,
     names: Names<'_, '_>,
-    last: Last,
+    last: &Last,
     frame: &Frame,
 ) -> Result<(), AllocError>
     ensures { OnOk result (string_bytes said.new
-        ≡ string_bytes said.old ++ served_words (names_view names.entry) last frame.now) }
+        ≡ string_bytes said.old ++ served_words (names_view names.entry) last.now frame.now) }
 {
-    if push_service(said, last, frame)? {
+    if attempt!(push_service(said, *last, frame)) {
         return Ok(());
     }
     push_plain_words(said, names, last, frame)
@@ -85,11 +85,11 @@ fn push_other_words(
     said: &mut String,
     bus: Bus<'_, '_, '_, '_, '_>,
     claims: &[Claim],
-    last: Last,
+    last: &Last,
     frame: &Frame,
 ) -> Result<(), AllocError>
     ensures { OnOk result (string_bytes said.new
-        ≡ string_bytes said.old ++ other_words (bus_view bus.entry) claims.now last frame.now) }
+        ≡ string_bytes said.old ++ other_words (bus_view bus.entry) claims.now last.now frame.now) }
 {
     match claims {
         [] => push_served_words(said, bus.names((frame.id() % 128) as u8), last, frame),
@@ -97,16 +97,18 @@ fn push_other_words(
     }
 }
 
+// what a frame says; apart from the words of most frames, which need less room on the stack
+#[inline(never)]
 #[tactic(auto, unfolding(crate::specs::FrameWords::frame_words, crate::specs::Transfers::transfer_words))]
 fn push_frame_words(
     said: &mut String,
     bus: Bus<'_, '_, '_, '_, '_>,
     claims: &[Claim],
-    last: Last,
+    last: &Last,
     frame: &Frame,
 ) -> Result<(), AllocError>
     ensures { OnOk result (string_bytes said.new
-        ≡ string_bytes said.old ++ frame_words (bus_view bus.entry) claims.now last frame.now) }
+        ≡ string_bytes said.old ++ frame_words (bus_view bus.entry) claims.now last.now frame.now) }
 {
     if let Some(transfer) = transfer_in(frame) {
         let names = bus.names(transfer.node);
@@ -136,8 +138,8 @@ fn assumed_front(step: u16) -> &'static str
 fn push_assumed_words(said: &mut String, id: u16) -> Result<(), AllocError>
     ensures { OnOk result (string_bytes said.new ≡ string_bytes said.old ++ assumed_words id) }
 {
-    said.push_str(assumed_front(id / 128))?;
-    push_decimal(said, u64::from(id % 128))
+    attempt!(said.push_str(assumed_front(id / 128)));
+    push_decimal(said, (id % 128) as u64)
 }
 
 // what data with an identifier of 11 bits say
@@ -145,13 +147,13 @@ fn push_base_words(
     said: &mut String,
     bus: Bus<'_, '_, '_, '_, '_>,
     claims: &[Claim],
-    last: Last,
+    last: &Last,
     id: u16,
     bytes: &PackedBytes,
 ) -> Result<(), AllocError>
     requires { id < 2048 }
     ensures { OnOk result (string_bytes said.new ≡ string_bytes said.old
-        ++ frame_words (bus_view bus.entry) claims.now last
+        ++ frame_words (bus_view bus.entry) claims.now last.now
         (record { id = id; bytes = bytes.now })) }
 {
     match claims {
@@ -165,13 +167,13 @@ fn push_data_words(
     said: &mut String,
     bus: Bus<'_, '_, '_, '_, '_>,
     claims: &[Claim],
-    last: Last,
+    last: &Last,
     id: Identifier,
     bytes: &PackedBytes,
 ) -> Result<(), AllocError>
     requires { IsIdentifier id }
     ensures { OnOk result (string_bytes said.new
-        ≡ string_bytes said.old ++ data_words (bus_view bus.entry) claims.now last id bytes.now) }
+        ≡ string_bytes said.old ++ data_words (bus_view bus.entry) claims.now last.now id bytes.now) }
 {
     match id {
         Identifier::Base(id) => push_base_words(said, bus, claims, last, id, bytes),
@@ -197,13 +199,13 @@ pub(crate) fn set_words(
     said: &mut String,
     bus: Bus<'_, '_, '_, '_, '_>,
     claims: &[Claim],
-    last: Last,
+    last: &Last,
     id: Identifier,
     content: &Content<'_>,
 ) -> Result<(), AllocError>
     requires { IsIdentifier id }
     ensures { OnOk result (string_bytes said.new
-        ≡ words_of_content (bus_view bus.entry) claims.now last id content.now) }
+        ≡ words_of_content (bus_view bus.entry) claims.now last.now id content.now) }
 {
     said.clear();
     match content {

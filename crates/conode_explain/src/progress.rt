@@ -173,7 +173,7 @@ impl Progress {
         };
         let name = frame.interface.bytes();
         let packed = Frame::packed(id, bytes);
-        let told = self.channels.take(name, frame.micros, &packed)?;
+        let told = attempt!(self.channels.take(name, frame.micros, &packed));
         Ok(or_boot_up(&packed, told))
     }
 
@@ -259,7 +259,7 @@ impl Progress {
         ensures nodes { OnOk result (self.new.nodes ≡ nodes_with self.old.nodes frame.now) }
     {
         self.seen.add(frame);
-        note_node(&mut self.nodes, frame)?;
+        attempt!(note_node(&mut self.nodes, frame));
         let name = frame.interface.bytes();
         boot_further(&mut self.further, name, told);
         self.entries.take(name, told)

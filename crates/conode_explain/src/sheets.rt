@@ -70,7 +70,8 @@ fn with_kind<'s, 't>(
     let mut all = known;
     for sheet in sheets {
         if sheet.is_kind(node, interface) {
-            all.push(sheet.known(alloc)?)?;
+            let made = attempt!(sheet.known(alloc));
+            all.push(made)?;
         }
     }
     Ok(all)
@@ -86,8 +87,8 @@ pub(crate) fn known_sheets<'s, 't>(
     ensures { IfOk result (λ known.
         map known_view known.items ≡ in_order (map read_view sheets.now)) }
 {
-    let known = with_kind(alloc, Vec::new(alloc), sheets, true, true)?;
-    let known = with_kind(alloc, known, sheets, true, false)?;
-    let known = with_kind(alloc, known, sheets, false, true)?;
+    let known = attempt!(with_kind(alloc, Vec::new(alloc), sheets, true, true));
+    let known = attempt!(with_kind(alloc, known, sheets, true, false));
+    let known = attempt!(with_kind(alloc, known, sheets, false, true));
     with_kind(alloc, known, sheets, false, false)
 }

@@ -59,6 +59,7 @@ fn read_fault(fault: ReadFault) -> CmdFault {
 
 // Takes a line in the form of `candump -L`, and writes the line of its frame, if it has one.
 // Returns 1 for a bad line, which it names, else 0.
+#[inline(always)]
 fn explain_record<W: Write, E: Write>(
     room: &mut Room,
     claims: &mut Vec<Claim>,
@@ -81,7 +82,7 @@ fn explain_record<W: Write, E: Write>(
     match RecordLine::read(line) {
         Ok(RecordLine::Skipped) => Ok(0),
         Ok(RecordLine::Frame(frame)) => {
-            write_frame(room, claims, progress, settings, &frame, out)?;
+            attempt!(write_frame(room, claims, progress, settings, &frame, out));
             Ok(0)
         }
         Err(bad) => {
@@ -91,9 +92,53 @@ fn explain_record<W: Write, E: Write>(
     }
 }
 
+// Takes a line of a log of any form, and writes the line of its frame, if it has one. Returns 1 for a
+// bad line, which it names, else 0. Apart from `explain_line`, since a line of other forms is large.
+#[inline(never)]
+#[tactic(auto, unfolding(crate::specs::LogLines::line_at))]
+fn explain_any<W: Write, E: Write>(
+    room: &mut Room,
+    claims: &mut Vec<Claim>,
+    text: &mut Vec<u8>,
+    log: &mut Log,
+    progress: &mut Progress,
+    settings: &Settings<'_, '_, '_, '_>,
+    number: u64,
+    line: &[u8],
+    out: &mut W,
+    err: &mut E,
+) -> Result<u64, CmdFault>
+    ensures lines { OnOk result (WritesLines (W.contents out.old) (W.contents out.new)
+        (said_lines settings.now.form (sheets_of settings.now) progress.old
+        (line_at log.old line.now))) }
+    ensures log { OnOk result (log.new ≡ (says log.old line.now).0) }
+    ensures progress { OnOk result
+        (progress.new ≡ progress_after settings.now.form (sheets_of settings.now)
+        progress.old (line_at log.old line.now)) }
+    ensures bad { IfOk result (λ bad. bad ≡ faults_in (line_at log.old line.now)) }
+    ensures err { IfErr result (λ fault. (fault ≡ CmdFault.Write) ⊎ (fault ≡ CmdFault.Memory)) }
+{
+    match log.read(line) {
+        Ok(LogLine::Skipped) => Ok(0),
+        Ok(LogLine::AsItIs) => {
+            explain_record(room, claims, progress, settings, number, line, out, err)
+        }
+        Ok(LogLine::Frame(frame)) => {
+            text.clear();
+            attempt_in_memory!(add_frame(text, &frame));
+            let line = text.as_slice();
+            explain_record(room, claims, progress, settings, number, line, out, err)
+        }
+        Err(bad) => {
+            name_bad_line(number, bad.words(), err);
+            Ok(1)
+        }
+    }
+}
+
 // Takes a line of the log, and writes the line of its frame, if it has one. Returns 1 for a bad
 // line, which it names, else 0.
-#[tactic(auto, unfolding(crate::specs::LogLines::line_at), using(crate::proofs::LogLemmas::candump_line, crate::proofs::LogLemmas::candump_log))]
+#[tactic(auto, using(crate::proofs::LogLemmas::candump_line, crate::proofs::LogLemmas::candump_log))]
 fn explain_line<W: Write, E: Write>(
     room: &mut Room,
     claims: &mut Vec<Claim>,
@@ -119,22 +164,9 @@ fn explain_line<W: Write, E: Write>(
     if let Form::Candump = log.form {
         return explain_record(room, claims, progress, settings, number, line, out, err);
     }
-    match log.read(line) {
-        Ok(LogLine::Skipped) => Ok(0),
-        Ok(LogLine::AsItIs) => {
-            explain_record(room, claims, progress, settings, number, line, out, err)
-        }
-        Ok(LogLine::Frame(frame)) => {
-            text.clear();
-            add_frame(text, &frame)?;
-            let line = text.as_slice();
-            explain_record(room, claims, progress, settings, number, line, out, err)
-        }
-        Err(bad) => {
-            name_bad_line(number, bad.words(), err);
-            Ok(1)
-        }
-    }
+    explain_any(
+        room, claims, text, log, progress, settings, number, line, out, err,
+    )
 }
 
 impl Explaining {
@@ -159,7 +191,7 @@ impl Explaining {
         ensures text { Keeps (W.contents out.old) (W.contents out.new) }
     {
         if !self.lines.has_line() {
-            flush(out)?;
+            attempt!(flush(out));
         }
         Ok(())
     }

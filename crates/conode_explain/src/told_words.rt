@@ -56,7 +56,7 @@ fn set_part_front(
     said: &mut String,
     bus: Bus<'_, '_, '_, '_, '_>,
     claims: &[Claim],
-    last: Last,
+    last: &Last,
     id: Identifier,
     content: &Content<'_>,
     node: u8,
@@ -65,7 +65,7 @@ fn set_part_front(
 ) -> Result<(), AllocError>
     requires { IsIdentifier id }
     ensures { OnOk result (string_bytes said.new
-        ≡ part_front (bus_view bus.entry) claims.now last id content.now node side number) }
+        ≡ part_front (bus_view bus.entry) claims.now last.now id content.now node side number) }
 {
     let Some(number) = number else {
         return set_words(said, bus, claims, last, id, content);
@@ -79,7 +79,7 @@ fn set_part_words(
     said: &mut String,
     bus: Bus<'_, '_, '_, '_, '_>,
     claims: &[Claim],
-    last: Last,
+    last: &Last,
     id: Identifier,
     content: &Content<'_>,
     node: u8,
@@ -87,12 +87,12 @@ fn set_part_words(
 ) -> Result<(), AllocError>
     requires { IsIdentifier id }
     ensures { OnOk result (string_bytes said.new
-        ≡ part_words (bus_view bus.entry) claims.now last id content.now node part) }
+        ≡ part_words (bus_view bus.entry) claims.now last.now id content.now node part) }
 {
     let number = segment_number(part.what);
-    set_part_front(
+    attempt!(set_part_front(
         said, bus, claims, last, id, content, node, part.side, number,
-    )?;
+    ));
     push_after(
         said,
         part.what,
@@ -108,14 +108,14 @@ pub(crate) fn set_told_words(
     said: &mut String,
     bus: Bus<'_, '_, '_, '_, '_>,
     claims: &[Claim],
-    last: Last,
+    last: &Last,
     id: Identifier,
     content: &Content<'_>,
     told: &Option<Told>,
 ) -> Result<(), AllocError>
     requires { IsIdentifier id }
     ensures { OnOk result (string_bytes said.new
-        ≡ told_words (bus_view bus.entry) claims.now last id content.now told.now) }
+        ≡ told_words (bus_view bus.entry) claims.now last.now id content.now told.now) }
 {
     let Some(told) = told else {
         return set_words(said, bus, claims, last, id, content);
@@ -141,7 +141,7 @@ fn ending_words(ending: Ending) -> &'static str
 fn push_identifier(said: &mut String, id: u16) -> Result<(), AllocError>
     ensures { OnOk result (string_bytes said.new ≡ string_bytes said.old ++ digits_text 16 3 id) }
 {
-    push_digit(said, (id / 256 % 16) as u8)?;
+    attempt!(push_digit(said, (id / 256 % 16) as u8));
     push_byte(said, (id % 256) as u8)
 }
 
@@ -151,9 +151,9 @@ fn push_channel(said: &mut String, ids: Option<ChannelIds>) -> Result<(), AllocE
     let Some(ids) = ids else {
         return Ok(());
     };
-    said.push_str(" channel ")?;
-    push_identifier(said, ids.request)?;
-    said.push_str("/")?;
+    attempt!(said.push_str(" channel "));
+    attempt!(push_identifier(said, ids.request));
+    attempt!(said.push_str("/"));
     push_identifier(said, ids.answer)
 }
 
@@ -171,10 +171,10 @@ pub(crate) fn set_ended_words(
         ≡ ended_words (names_view names.entry) node ids ended.now) }
 {
     said.clear();
-    said.push_str("node ")?;
-    push_decimal(said, u64::from(node))?;
-    push_channel(said, ids)?;
-    said.push_str("  ")?;
+    attempt!(said.push_str("node "));
+    attempt!(push_decimal(said, node as u64));
+    attempt!(push_channel(said, ids));
+    attempt!(said.push_str("  "));
     push_end(
         said,
         ended,

@@ -81,10 +81,16 @@ pub(crate) fn transfer_in(frame: &Frame) -> Option<Transfer>
     ensures { result ≡ transfer_in frame.now }
 {
     if is_request(frame) {
-        return download_in((frame.id() - 0x600) as u8, SdoRequest::read(frame)?);
+        return match SdoRequest::read(frame) {
+            Some(request) => download_in((frame.id() - 0x600) as u8, request),
+            None => None,
+        };
     }
     if is_answer(frame) {
-        return upload_in((frame.id() - 0x580) as u8, SdoResponse::read(frame)?);
+        return match SdoResponse::read(frame) {
+            Some(answer) => upload_in((frame.id() - 0x580) as u8, answer),
+            None => None,
+        };
     }
     None
 }
@@ -107,8 +113,8 @@ fn push_service(text: &mut String, service: &str, node: u8, end: &str) -> Result
     ensures { OnOk result (string_bytes text.new
         ≡ string_bytes text.old ++ service_text service.now node end.now) }
 {
-    text.push_str(service)?;
-    push_decimal(text, u64::from(node))?;
+    attempt!(text.push_str(service));
+    attempt!(push_decimal(text, node as u64));
     text.push_str(end)
 }
 
@@ -138,7 +144,7 @@ pub(crate) fn push_transfer(
         ++ transfer_text (names_view names.entry) transfer.now (row_view row.now)) }
 {
     let bytes = value_bytes(row.data_type, &transfer.content);
-    push_front(text, transfer)?;
+    attempt!(push_front(text, transfer));
     let (node, key) = (transfer.node, transfer.key);
     push_known(text, names, node, key, row, 8 * bytes.len(), bytes)
 }

@@ -11,6 +11,7 @@ ghost use Rattle.conode_explain.specs.Explained.{
   frame_line,
   frame_lines,
   header_lines,
+  heard_at,
   lasts_after,
   lasts_with,
   lines_by,
@@ -19,6 +20,7 @@ ghost use Rattle.conode_explain.specs.Explained.{
   progress_with,
   shown_lines,
   shown_signals,
+  told_at,
   words_at,
 };
 ghost use Rattle.conode_explain.specs.Filtered.{lasts_told, subject_by};
@@ -94,7 +96,7 @@ fn set_claims(
 }
 
 // Sets `line` to the line of a frame that says these words.
-#[tactic(auto, unfolding(crate::specs::Explained::frame_line))]
+#[tactic(auto, unfolding(crate::specs::Explained::frame_line, conode_explain_forms::specs::Tones::toned))]
 fn set_frame_line(
     alloc: Global,
     line: &mut Vec<u8>,
@@ -112,12 +114,15 @@ fn set_frame_line(
     let stamps = form.stamps;
     match form.format {
         LineFormat::Text => {
-            set_line(line, text, stamps, seen, frame, words)?;
+            attempt!(set_line(line, text, stamps, seen, frame, words));
+            if !form.colours {
+                return Ok(());
+            }
             put_tone(alloc, line, form.colours, frame_tone(seen, subject, frame))
         }
         LineFormat::Json => {
             let (kind, node) = (subject.kind, subject.node);
-            *line = json_line(alloc, stamps, seen, frame, words, kind, node)?;
+            *line = attempt!(json_line(alloc, stamps, seen, frame, words, kind, node));
             Ok(())
         }
     }
@@ -135,7 +140,7 @@ fn write_news<W: Write>(
     bus: Bus<'_, '_, '_, '_, '_>,
     claims: &[Claim],
     place: Option<Place>,
-    last: Last,
+    last: &Last,
     subject: &Subject,
     frame: &Record<'_>,
     told: &Option<Told>,
@@ -144,18 +149,20 @@ fn write_news<W: Write>(
     requires { IsIdentifier frame.now.id }
     ensures lines { OnOk result (WritesLines (W.contents out.old) (W.contents out.new)
         (news_lines form.now seen.now lasts.old subject.now frame.now
-        (words_at (bus_view bus.entry) claims.now place last frame.now told.now))) }
+        (words_at (bus_view bus.entry) claims.now place last.now frame.now told.now))) }
     ensures lasts { OnOk result (lasts.new ≡ lasts_told form.now lasts.old subject.now
-        frame.now (words_at (bus_view bus.entry) claims.now place last frame.now told.now)) }
+        frame.now (words_at (bus_view bus.entry) claims.now place last.now frame.now told.now)) }
     ensures err { IfErr result (λ fault. (fault ≡ CmdFault.Write) ⊎ (fault ≡ CmdFault.Memory)) }
 {
     let id = read_as(place, frame.id);
-    set_told_words(&mut room.said, bus, claims, last, id, &frame.content, told)?;
+    let said = &mut room.said;
+    let content = &frame.content;
+    attempt_in_memory!(set_told_words(said, bus, claims, last, id, content, told));
     let words = room.said.as_bytes();
-    if !is_news(lasts, form, subject, frame, words)? {
+    if !attempt_in_memory!(is_news(lasts, form, subject, frame, words)) {
         return Ok(());
     }
-    set_frame_line(
+    attempt_in_memory!(set_frame_line(
         room.alloc,
         &mut room.line,
         &mut room.text,
@@ -164,7 +171,7 @@ fn write_news<W: Write>(
         subject,
         frame,
         words,
-    )?;
+    ));
     hand_over(room.line.as_slice(), out)
 }
 
@@ -179,7 +186,7 @@ fn write_shown<W: Write>(
     bus: Bus<'_, '_, '_, '_, '_>,
     claims: &[Claim],
     place: Option<Place>,
-    last: Last,
+    last: &Last,
     frame: &Record<'_>,
     told: &Option<Told>,
     out: &mut W,
@@ -187,10 +194,10 @@ fn write_shown<W: Write>(
     requires { IsIdentifier frame.now.id }
     ensures lines { OnOk result (WritesLines (W.contents out.old) (W.contents out.new)
         (shown_lines form.now seen.now lasts.old (subject_by place claims.now frame.now) frame.now
-        (words_at (bus_view bus.entry) claims.now place last frame.now told.now))) }
+        (words_at (bus_view bus.entry) claims.now place last.now frame.now told.now))) }
     ensures lasts { OnOk result (lasts.new ≡ lasts_after form.now seen.now lasts.old
         (subject_by place claims.now frame.now) frame.now
-        (words_at (bus_view bus.entry) claims.now place last frame.now told.now)) }
+        (words_at (bus_view bus.entry) claims.now place last.now frame.now told.now)) }
     ensures err { IfErr result (λ fault. (fault ≡ CmdFault.Write) ⊎ (fault ≡ CmdFault.Memory)) }
 {
     let subject = subject_by(place, claims, frame);
@@ -229,7 +236,9 @@ fn write_signals<W: Write>(
     let data = data_of(&frame.content);
     let bytes = data.as_slice();
     let (stamps, signals) = (form.stamps, form.signals);
-    if !set_signal_line(text, stamps, times, bus, claims, bytes, told, signals)? {
+    if !attempt_in_memory!(set_signal_line(
+        text, stamps, times, bus, claims, bytes, told, signals
+    )) {
         return Ok(());
     }
     hand_over(text.as_bytes(), out)
@@ -244,17 +253,17 @@ fn write_first<W: Write>(
     bus: Bus<'_, '_, '_, '_, '_>,
     claims: &[Claim],
     place: Option<Place>,
-    last: Last,
+    last: &Last,
     frame: &Record<'_>,
     told: &Option<Told>,
     out: &mut W,
 ) -> Result<(), CmdFault>
     requires { IsIdentifier frame.now.id }
     ensures lines { OnOk result (WritesLines (W.contents out.old) (W.contents out.new)
-        (first_lines form.now (bus_view bus.entry) claims.now place last seen.now lasts.old
+        (first_lines form.now (bus_view bus.entry) claims.now place last.now seen.now lasts.old
         frame.now told.now)) }
     ensures lasts { OnOk result (lasts.new
-        ≡ lasts_with form.now (bus_view bus.entry) claims.now place last seen.now lasts.old
+        ≡ lasts_with form.now (bus_view bus.entry) claims.now place last.now seen.now lasts.old
         frame.now told.now) }
     ensures err { IfErr result (λ fault. (fault ≡ CmdFault.Write) ⊎ (fault ≡ CmdFault.Memory)) }
 {
@@ -289,7 +298,7 @@ pub(crate) fn write_header<W: Write>(
     if settings.form.signals.is_empty() {
         return Ok(());
     }
-    let line = header(alloc, settings.sheets, settings.form.signals)?;
+    let line = attempt_in_memory!(header(alloc, settings.sheets, settings.form.signals));
     hand_over(line.as_slice(), out)
 }
 
@@ -317,8 +326,8 @@ fn write_by<W: Write>(
 {
     let last = progress.last(frame);
     let bus = bus_of(settings, &progress.entries, frame);
-    set_claims(claims, bus, read_as(place, frame.id))?;
-    write_first(
+    attempt_in_memory!(set_claims(claims, bus, read_as(place, frame.id)));
+    attempt!(write_first(
         room,
         &settings.form,
         &progress.seen,
@@ -326,17 +335,43 @@ fn write_by<W: Write>(
         bus,
         claims.as_slice(),
         place,
-        last,
+        &last,
         frame,
         told,
         out,
-    )?;
+    ));
     let seen = &progress.seen;
-    write_told_end(room, seen, settings, place, frame, told, out)?;
+    attempt!(write_told_end(room, seen, settings, place, frame, told, out));
     let channels = progress.further.channels();
-    write_boot_up(room, seen, settings, channels, frame, told, out)?;
-    progress.add(frame, told)?;
+    attempt!(write_boot_up(room, seen, settings, channels, frame, told, out));
+    attempt_in_memory!(progress.add(frame, told));
     Ok(())
+}
+
+// The same of a frame of an SDO channel, which takes it. Apart from other frames, since what a channel
+// says about a frame is large.
+#[inline(never)]
+fn write_heard<W: Write>(
+    room: &mut Room,
+    claims: &mut Vec<Claim>,
+    progress: &mut Progress,
+    settings: &Settings<'_, '_, '_, '_>,
+    place: Option<Place>,
+    frame: &Record<'_>,
+    out: &mut W,
+) -> Result<(), CmdFault>
+    requires { IsIdentifier frame.now.id }
+    ensures lines { OnOk result (WritesLines (W.contents out.old) (W.contents out.new)
+        (lines_by settings.now.form (sheets_of settings.now)
+        (heard_at progress.old frame.now place) place frame.now
+        (told_at progress.old frame.now place))) }
+    ensures progress { OnOk result (progress.new ≡ progress_by settings.now.form
+        (sheets_of settings.now) (heard_at progress.old frame.now place) place frame.now
+        (told_at progress.old frame.now place)) }
+    ensures err { IfErr result (λ fault. (fault ≡ CmdFault.Write) ⊎ (fault ≡ CmdFault.Memory)) }
+{
+    let told = attempt_in_memory!(progress.tell_at(frame, place));
+    write_by(room, claims, progress, settings, place, frame, &told, out)
 }
 
 /// Writes the lines of a frame, and adds it to what the recording showed; `claims` is scratch space
@@ -359,13 +394,10 @@ pub(crate) fn write_frame<W: Write>(
 {
     let bus = bus_of(settings, &progress.entries, frame);
     match place_of(bus, frame.id, &frame.content, settings.channels) {
-        // most frames are of no SDO channel, and what one says about a frame is large
+        // most frames are of no SDO channel
         None if !may_be_told(frame.id) => {
             write_by(room, claims, progress, settings, None, frame, &None, out)
         }
-        place => {
-            let told = progress.tell_at(frame, place)?;
-            write_by(room, claims, progress, settings, place, frame, &told, out)
-        }
+        place => write_heard(room, claims, progress, settings, place, frame, out),
     }
 }

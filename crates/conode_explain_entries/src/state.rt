@@ -123,8 +123,8 @@ impl PdoValues {
         match part {
             PdoPart::CobId => values.cob_id = value,
             PdoPart::Mapping { sub } => {
-                if usize::from(sub) < SUBS {
-                    values.mapping[usize::from(sub)] = value;
+                if (sub as usize) < SUBS {
+                    values.mapping[sub as usize] = value;
                 }
             }
         }

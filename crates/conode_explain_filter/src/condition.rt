@@ -52,7 +52,7 @@ fn hex_number(digits: &[u8]) -> Option<u32>
 {
     let mut number: u64 = 0;
     for byte in digits {
-        number = 16 * number + u64::from(hex_digit(*byte)?);
+        number = 16 * number + hex_digit(*byte)? as u64;
     }
     Some(number as u32)
 }

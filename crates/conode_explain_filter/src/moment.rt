@@ -46,7 +46,7 @@ fn fraction_in(word: &[u8]) -> Option<u64>
         return None;
     }
     match decimal_in(word, 0, 999_999) {
-        Some(number) => Some(u64::from(number) * scale_of(word.len())),
+        Some(number) => Some(number as u64 * scale_of(word.len())),
         None => None,
     }
 }
@@ -56,7 +56,7 @@ fn seconds_in(word: &[u8]) -> Option<u64>
     ensures small { IfSome result (λ micros. micros < 2 ^ 52) }
 {
     match decimal_in(word, 0, u32::MAX) {
-        Some(seconds) => Some(1_000_000 * u64::from(seconds)),
+        Some(seconds) => Some(1_000_000 * seconds as u64),
         None => None,
     }
 }

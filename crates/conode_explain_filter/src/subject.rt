@@ -33,7 +33,7 @@ fn written_of(id: Identifier) -> Written
     match id {
         Identifier::Base(id) => Written {
             wide: false,
-            number: u32::from(id),
+            number: id as u32,
         },
         Identifier::Extended(id) => Written {
             wide: true,
@@ -80,7 +80,7 @@ fn subject_at(pdo: Option<u8>, id: u16, content: &Content<'_>) -> Subject
 {
     let written = Written {
         wide: false,
-        number: u32::from(id),
+        number: id as u32,
     };
     match pdo {
         Some(node) => Subject {
@@ -128,7 +128,7 @@ impl Subject {
         Subject {
             id: Written {
                 wide: false,
-                number: u32::from(base) + u32::from(node),
+                number: base as u32 + node as u32,
             },
             kind: Kind::Sdo,
             node: Some(node),

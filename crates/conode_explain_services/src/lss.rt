@@ -207,7 +207,7 @@ fn push_outcome(text: &mut String, specifier: u8, error: u8, specific: u8) -> Re
     if error == 0 {
         return text.push_str("done");
     }
-    text.push_str("failed: ")?;
+    attempt!(text.push_str("failed: "));
     push_failure(text, specifier, error, specific)
 }
 
@@ -220,7 +220,7 @@ fn push_parameter(text: &mut String, parameter: Parameter, bytes: &[u8]) -> Resu
     if let Parameter::Nothing = parameter {
         return Ok(());
     }
-    text.push_str(" ")?;
+    attempt!(text.push_str(" "));
     match parameter {
         Parameter::Nothing => Ok(()),
         Parameter::Mode => push_or_number(text, mode_words(bytes[1]), "mode ", bytes[1]),
@@ -251,7 +251,7 @@ fn push_command(
     if words.is_empty() {
         return text.push_str("unknown");
     }
-    text.push_str(words)?;
+    attempt!(text.push_str(words));
     push_parameter(text, parameter, bytes)
 }
 
@@ -267,7 +267,7 @@ fn push_lss(
     ensures { OnOk result (string_bytes text.new
         ≡ string_bytes text.old ++ lss_text front.now words.now parameter bytes.now) }
 {
-    text.push_str(front)?;
+    attempt!(text.push_str(front));
     push_command(text, words, parameter, bytes)
 }
 

@@ -1,6 +1,7 @@
 //! The error register in words (CiA 301, 7.5.2.2, object 1001h).
 
 ghost use Rattle.std.specs.Prelude.{◌≡◌, ◌++◌, OnOk, string_bytes};
+ghost use Rattle.std.specs.List.{flat_map};
 ghost use Rattle.conode_explain_services.specs.Registers.{
   bit_word,
   bits_text,
@@ -56,13 +57,23 @@ impl HasText for Bit {
     }
 }
 
-#[tactic(auto, unfolding(crate::specs::Registers::bits_text))]
+fn push_each(text: &mut String, bits: &[Bit]) -> Result<(), AllocError>
+    ensures { OnOk result
+        (string_bytes text.new ≡ string_bytes text.old ++ flat_map text_of_bit bits.now) }
+{
+    for bit in bits {
+        attempt!(bit.push(text));
+    }
+    Ok(())
+}
+
+// (one text with eight places would be searched eight times, for one or two bits that are set)
+#[tactic(auto, unfolding(crate::specs::Registers::bits_text, conode_text::specs::Filled::filled))]
 fn push_bits(text: &mut String, register: u8) -> Result<(), AllocError>
     ensures { OnOk result (string_bytes text.new ≡ string_bytes text.old ++ bits_text register) }
 {
-    push_filled(
+    push_each(
         text,
-        "%%%%%%%%",
         &[
             Bit(register, 0x01),
             Bit(register, 0x02),
@@ -93,7 +104,7 @@ fn push_changed(text: &mut String, word: &str, bits: u8) -> Result<(), AllocErro
     if bits == 0 {
         return Ok(());
     }
-    text.push_str(word)?;
+    attempt!(text.push_str(word));
     push_bits(text, bits)
 }
 
@@ -104,7 +115,7 @@ fn push_changes(text: &mut String, last: Option<u8>, register: u8) -> Result<(),
     let Some(last) = last else {
         return Ok(());
     };
-    push_changed(text, "; came: ", register & (255 - last))?;
+    attempt!(push_changed(text, "; came: ", register & (255 - last)));
     push_changed(text, "; went: ", last & (255 - register))
 }
 
@@ -120,6 +131,6 @@ pub(crate) fn push_register(
     ensures { OnOk result
         (string_bytes text.new ≡ string_bytes text.old ++ register_text last register) }
 {
-    push_errors(text, register)?;
+    attempt!(push_errors(text, register));
     push_changes(text, last, register)
 }

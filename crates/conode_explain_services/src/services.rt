@@ -54,27 +54,27 @@ pub fn push_service(text: &mut String, last: Last, frame: &Frame) -> Result<bool
         let Some(emergency) = Emergency::read(frame) else {
             unreachable!()
         };
-        push_emergency(text, (frame.id() - 0x080) as u8, last.register, &emergency)?;
+        attempt!(push_emergency(text, (frame.id() - 0x080) as u8, last.register, &emergency));
         return Ok(true);
     }
     if is_guarding(last, frame) {
-        push_answer(text, (frame.id() - 0x700) as u8, last.guarding, bytes[0])?;
+        attempt!(push_answer(text, (frame.id() - 0x700) as u8, last.guarding, bytes[0]));
         return Ok(true);
     }
     if is_time(frame) {
-        push_time(text, bytes)?;
+        attempt!(push_time(text, bytes));
         return Ok(true);
     }
     if is_lss(LSS_REQUEST, frame) {
-        push_lss_request(text, bytes)?;
+        attempt!(push_lss_request(text, bytes));
         return Ok(true);
     }
     if is_lss(LSS_ANSWER, frame) {
-        push_lss_answer(text, bytes)?;
+        attempt!(push_lss_answer(text, bytes));
         return Ok(true);
     }
     if is_reserved(frame.id()) {
-        text.push_str(reserved_words())?;
+        attempt!(text.push_str(reserved_words()));
         return Ok(true);
     }
     Ok(false)

@@ -13,6 +13,6 @@ pub(crate) fn push_time(text: &mut String, bytes: &[u8]) -> Result<(), AllocErro
     ensures { OnOk result
         (string_bytes text.new ≡ string_bytes text.old ++ time_words bytes.now) }
 {
-    text.push_str("TIME ")?;
+    attempt!(text.push_str("TIME "));
     push_value(text, ValueType::TimeOfDay, 48, bytes)
 }

@@ -38,7 +38,7 @@ pub fn push_name(text: &mut String, name: &[u8]) -> Result<(), AllocError>
     ensures { OnOk result (string_bytes text.new ≡ string_bytes text.old ++ escaped_name name.now) }
 {
     for byte in name {
-        push_escaped(text, *byte)?;
+        attempt!(push_escaped(text, *byte));
     }
     Ok(())
 }
@@ -83,7 +83,7 @@ fn push_each(text: &mut String, bytes: &[u8]) -> Result<(), AllocError>
         (string_bytes text.new ≡ string_bytes text.old ++ flat_map blank_byte bytes.now) }
 {
     for byte in bytes {
-        text.push_str(blank_byte(*byte).as_str())?;
+        attempt!(text.push_str(blank_byte(*byte).as_str()));
     }
     Ok(())
 }
@@ -102,8 +102,8 @@ fn push_counted(text: &mut String, count: usize, bytes: &[u8]) -> Result<(), All
     ensures { OnOk result
         (string_bytes text.new ≡ string_bytes text.old ++ bytes_text count bytes.now) }
 {
-    push_length(text, count)?;
-    push_each(text, bytes)?;
+    attempt!(push_length(text, count));
+    attempt!(push_each(text, bytes));
     push_blanks(text, 24usize.saturating_sub(3 * bytes.len()))
 }
 
@@ -117,7 +117,7 @@ pub(crate) fn push_content(text: &mut String, content: &Content<'_>) -> Result<(
             let bytes = bytes.to_list();
             push_counted(text, bytes.len(), bytes.as_slice())
         }
-        Content::Remote(count) => push_counted(text, usize::from(*count), &[]),
+        Content::Remote(count) => push_counted(text, *count as usize, &[]),
         Content::Fd(_, data) => {
             let bytes = data.bytes();
             push_counted(text, bytes.len(), bytes.as_slice())

@@ -1,6 +1,16 @@
 //! The line of a frame of a recording, for people: its parts, and their text.
 #![tactic(auto)]
 
+// As `?`, without a conversion of the error: a `match` is one step of a proof where `?` is three.
+macro_rules! attempt {
+    ($result:expr) => {
+        match $result {
+            Ok(value) => value,
+            Err(fault) => return Err(fault),
+        }
+    };
+}
+
 mod columns;
 mod dates;
 mod line;

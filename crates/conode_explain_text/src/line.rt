@@ -22,7 +22,7 @@ ghost use Rattle.conode_explain_text.specs.Lines.{
 ghost use Rattle.conode_explain_text.specs.SoFar.{shows_interface, times_at};
 
 use crate::columns::{push_content, push_id, push_name};
-use crate::pieces::frame_piece;
+use crate::pieces::{eight_piece, frame_piece};
 use crate::said::add_shown;
 use crate::so_far::{Seen, Times};
 use crate::stamps::{StampForm, add_gap, add_stamp};
@@ -38,7 +38,7 @@ fn add_times(
     ensures { OnOk result (line.new.items
         ≡ line.old.items ++ part_text (stamp form times) ++ after_blanks (gap times)) }
 {
-    add_stamp(line, text, form, times)?;
+    attempt!(add_stamp(line, text, form, times));
     add_gap(line, text, times)
 }
 
@@ -56,8 +56,8 @@ pub(crate) fn add_interface(
         return Ok(());
     }
     text.clear();
-    text.push_str("  ")?;
-    push_name(text, name)?;
+    attempt!(text.push_str("  "));
+    attempt!(push_name(text, name));
     line.extend_from_slice(text.as_bytes())
 }
 
@@ -68,9 +68,9 @@ fn set_frame(text: &mut String, id: Identifier, has: &Content<'_>) -> Result<(),
         ≡ after_blanks (identifier id) ++ after_blanks (content has.now)) }
 {
     text.clear();
-    text.push_str("  ")?;
-    push_id(text, id)?;
-    text.push_str("  ")?;
+    attempt!(text.push_str("  "));
+    attempt!(push_id(text, id));
+    attempt!(text.push_str("  "));
     push_content(text, has)
 }
 
@@ -88,17 +88,20 @@ fn add_frame(
     if let Identifier::Base(id) = id {
         if let Content::Data(bytes) = has {
             let bytes = bytes.to_list();
+            if bytes.len() == 8 {
+                return line.extend_from_slice(eight_piece(id, bytes.as_slice()).as_slice());
+            }
             return line.extend_from_slice(frame_piece(id, bytes.as_slice()).as_slice());
         }
     }
-    set_frame(text, id, has)?;
+    attempt!(set_frame(text, id, has));
     line.extend_from_slice(text.as_bytes())
 }
 
 pub(crate) fn add_said(line: &mut Vec<u8>, words: &[u8]) -> Result<(), AllocError>
     ensures { OnOk result (line.new.items ≡ line.old.items ++ after_blanks (said words.now)) }
 {
-    line.extend_from_slice(b"  ")?;
+    attempt!(line.extend_from_slice(b"  "));
     add_shown(line, words)
 }
 
@@ -126,8 +129,8 @@ fn add_end(line: &mut Vec<u8>, times: Times) -> Result<(), AllocError>
         (line.new.items ≡ line.old.items ++ flat_map after_blanks (notes times) ++ 10 ∷ []) }
 {
     if let Some(words) = odd_words(times) {
-        line.extend_from_slice(b"  note: ")?;
-        line.extend_from_slice(words.as_bytes())?;
+        attempt!(line.extend_from_slice(b"  note: "));
+        attempt!(line.extend_from_slice(words.as_bytes()));
     }
     line.extend_from_slice(b"\n")
 }
@@ -146,8 +149,8 @@ fn add_front(
     ensures { OnOk result
         (line.new.items ≡ line.old.items ++ front_text form times shows frame.now) }
 {
-    add_times(line, text, form, times)?;
-    add_interface(line, text, shows, frame.interface.bytes())?;
+    attempt!(add_times(line, text, form, times));
+    attempt!(add_interface(line, text, shows, frame.interface.bytes()));
     add_frame(line, text, frame.id, &frame.content)
 }
 
@@ -169,8 +172,8 @@ fn write_line(
     let times = seen.times(frame.micros);
     let shows = seen.shows_interface(frame.interface.bytes());
     line.clear();
-    add_front(line, text, form, times, shows, frame)?;
-    add_said(line, words)?;
+    attempt!(add_front(line, text, form, times, shows, frame));
+    attempt!(add_said(line, words));
     add_end(line, times)
 }
 

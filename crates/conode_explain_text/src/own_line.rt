@@ -28,9 +28,9 @@ fn write_line(
         ≡ own_front form times shows name.now ++ after_blanks (said words.now) ++ 10 ∷ []) }
 {
     line.clear();
-    add_stamp(line, text, form, times)?;
-    add_interface(line, text, shows, name)?;
-    add_said(line, words)?;
+    attempt!(add_stamp(line, text, form, times));
+    attempt!(add_interface(line, text, shows, name));
+    attempt!(add_said(line, words));
     line.extend_from_slice(b"\n")
 }
 

@@ -118,7 +118,7 @@ pub(crate) fn gap_piece(micros: u32) -> Piece
 fn last_hex_digit(number: u16) -> u8
     ensures { result ≡ printed_digit (number % 16) }
 {
-    DIGITS[usize::from(number % 16)]
+    DIGITS[(number % 16) as usize]
 }
 
 #[inline(always)]
@@ -155,12 +155,12 @@ fn put_byte(piece: &mut Piece, byte: u8)
     ensures items { piece.new.items ≡ piece.old.items ++ blank_byte byte }
     ensures len { array_vec_len piece.new ≡ array_vec_len piece.old + 3 }
 {
-    let number = u16::from(byte);
+    let number = byte as u16;
     let digits = [b' ', last_hex_digit(number / 16), last_hex_digit(number)];
     put(piece, &digits);
 }
 
-// eight bytes, as most frames have: without a loop
+// eight bytes: without a loop
 #[inline(always)]
 fn put_eight(piece: &mut Piece, bytes: &[u8])
     requires room { array_vec_len piece.old + 24 ≤ 34 }
@@ -196,12 +196,19 @@ fn put_data(piece: &mut Piece, bytes: &[u8])
     ensures { piece.new.items ≡ piece.old.items ++ bytes_text (length bytes.now) bytes.now }
 {
     put_length(piece, bytes.len() as u8);
-    if bytes.len() == 8 {
-        put_eight(piece, bytes);
-    } else {
-        put_each(piece, bytes);
-        put(piece, &BLANKS[3 * bytes.len()..]);
-    }
+    put_each(piece, bytes);
+    put(piece, &BLANKS[3 * bytes.len()..]);
+}
+
+#[inline(always)]
+#[tactic(auto, unfolding(crate::specs::Columns::bytes_text))]
+fn put_eight_data(piece: &mut Piece, bytes: &[u8])
+    requires room { array_vec_len piece.old + 27 ≤ 34 }
+    requires eight { length bytes.now ≡ 8 }
+    ensures { piece.new.items ≡ piece.old.items ++ bytes_text (length bytes.now) bytes.now }
+{
+    put_length(piece, bytes.len() as u8);
+    put_eight(piece, bytes);
 }
 
 /// An identifier of 11 bits, a length and up to eight bytes, each part after two blanks.
@@ -215,5 +222,21 @@ pub(crate) fn frame_piece(id: u16, bytes: &[u8]) -> Piece
     put_id(&mut piece, id);
     put(&mut piece, b"  ");
     put_data(&mut piece, bytes);
+    piece
+}
+
+/// The same of eight bytes, as most frames have: its length is known where it is compiled, so it is
+/// written where it is appended.
+#[inline(always)]
+pub(crate) fn eight_piece(id: u16, bytes: &[u8]) -> Piece
+    requires { length bytes.now ≡ 8 }
+    ensures { result.items ≡ codes "  " ++ digits_text 16 3 id
+        ++ codes "  " ++ bytes_text (length bytes.now) bytes.now }
+{
+    let mut piece = Piece::new();
+    put(&mut piece, b"  ");
+    put_id(&mut piece, id);
+    put(&mut piece, b"  ");
+    put_eight_data(&mut piece, bytes);
     piece
 }

@@ -29,7 +29,7 @@ fn add_byte(line: &mut Vec<u8>, byte: u8) -> Result<(), AllocError>
     ensures { OnOk result (line.new.items ≡ line.old.items ++ shown_byte byte) }
 {
     if is_control(byte) {
-        line.extend_from_slice(b"\\x")?;
+        attempt!(line.extend_from_slice(b"\\x"));
         line.extend_from_slice(byte_digits(byte).as_str().as_bytes())
     } else {
         line.extend_from_slice(&[byte])
@@ -40,7 +40,7 @@ fn add_each(line: &mut Vec<u8>, said: &[u8]) -> Result<(), AllocError>
     ensures { OnOk result (line.new.items ≡ line.old.items ++ shown said.now) }
 {
     for byte in said {
-        add_byte(line, *byte)?;
+        attempt!(add_byte(line, *byte));
     }
     Ok(())
 }

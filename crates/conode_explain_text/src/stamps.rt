@@ -43,7 +43,7 @@ pub(crate) fn push_blanks(text: &mut String, count: usize) -> Result<(), AllocEr
     ensures { OnOk result (string_bytes text.new ≡ string_bytes text.old ++ replicate count 32) }
 {
     for _blank in 0..count {
-        text.push(' ')?;
+        attempt!(text.push(' '));
     }
     Ok(())
 }
@@ -53,7 +53,7 @@ fn push_padded(text: &mut String, number: u64, width: usize) -> Result<(), Alloc
 {
     let mut buffer = Buffer::new();
     let digits = buffer.format(number);
-    push_blanks(text, width.saturating_sub(digits.len()))?;
+    attempt!(push_blanks(text, width.saturating_sub(digits.len())));
     text.push_str(digits)
 }
 
@@ -95,8 +95,8 @@ fn push_time(text: &mut String, micros: u64, width: usize) -> Result<(), AllocEr
     ensures { OnOk result
         (string_bytes text.new ≡ string_bytes text.old ++ time_text width micros) }
 {
-    push_padded(text, micros / 1_000_000, width)?;
-    text.push('.')?;
+    attempt!(push_padded(text, micros / 1_000_000, width));
+    attempt!(text.push('.'));
     push_micros(text, (micros % 1_000_000) as u32)
 }
 
@@ -106,7 +106,7 @@ fn push_signed(text: &mut String, sign: char, width: usize, micros: u64) -> Resu
     ensures { OnOk result
         (string_bytes text.new ≡ string_bytes text.old ++ sign ∷ time_text width micros) }
 {
-    text.push(sign)?;
+    attempt!(text.push(sign));
     push_time(text, micros, width)
 }
 
@@ -193,9 +193,9 @@ pub fn push_moment(text: &mut String, micros: u64) -> Result<(), AllocError>
     ensures { OnOk result (string_bytes text.new ≡ string_bytes text.old ++ moment_text micros) }
 {
     let seconds = micros / 1_000_000;
-    push_day(text, seconds / 86_400)?;
-    text.push(' ')?;
-    push_time_of_day(text, seconds % 86_400)?;
+    attempt!(push_day(text, seconds / 86_400));
+    attempt!(text.push(' '));
+    attempt!(push_time_of_day(text, seconds % 86_400));
     let micros = micros_digits((micros % 1_000_000) as u32);
     push_filled(text, ".%", &[Value::Words(micros.as_str())])
 }
@@ -234,6 +234,7 @@ pub(crate) fn push_gap(text: &mut String, times: Times) -> Result<(), AllocError
 }
 
 /// Appends the stamp of a frame to a line; `text` is scratch space.
+#[inline(always)]
 #[tactic(auto, unfolding(crate::specs::Stamps::stamp_text, crate::specs::Stamps::difference_text))]
 pub(crate) fn add_stamp(
     line: &mut Vec<u8>,
@@ -251,7 +252,7 @@ pub(crate) fn add_stamp(
         }
     }
     text.clear();
-    push_stamp(text, form, times)?;
+    attempt!(push_stamp(text, form, times));
     line.extend_from_slice(text.as_bytes())
 }
 
@@ -266,7 +267,7 @@ pub(crate) fn add_gap(line: &mut Vec<u8>, text: &mut String, times: Times) -> Re
         return line.extend_from_slice(gap_piece(micros).as_slice());
     }
     text.clear();
-    text.push_str("  ")?;
-    push_gap(text, times)?;
+    attempt!(text.push_str("  "));
+    attempt!(push_gap(text, times));
     line.extend_from_slice(text.as_bytes())
 }

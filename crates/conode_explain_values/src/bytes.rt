@@ -41,9 +41,9 @@ pub(crate) fn push_visible(text: &mut String, bytes: &[u8]) -> Result<(), AllocE
     ensures { OnOk result
         (string_bytes text.new ≡ string_bytes text.old ++ visible_text bytes.now) }
 {
-    text.push_str("\"")?;
+    attempt!(text.push_str("\""));
     for byte in bytes {
-        push_visible_byte(text, *byte)?;
+        attempt!(push_visible_byte(text, *byte));
     }
     text.push_str("\"")
 }

@@ -16,8 +16,8 @@ pub fn push_named_key(text: &mut String, name: Option<&str>, key: Key) -> Result
         ≡ string_bytes text.old ++ named_key (option_copied name.entry) key) }
 {
     if let Some(letters) = name {
-        text.push_str(letters)?;
-        text.push_str(" ")?;
+        attempt!(text.push_str(letters));
+        attempt!(text.push_str(" "));
     }
     text.push_str(key.text().as_str())
 }
@@ -37,7 +37,7 @@ pub fn push_entry(
         ≡ string_bytes text.old
         ++ entry_text (option_copied name.entry) key value_type bits bytes.now) }
 {
-    push_named_key(text, name, key)?;
-    text.push_str(" = ")?;
+    attempt!(push_named_key(text, name, key));
+    attempt!(text.push_str(" = "));
     push_value(text, value_type, bits, bytes)
 }

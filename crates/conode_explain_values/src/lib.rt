@@ -1,6 +1,16 @@
 //! The text of a value, by its data type and its bits.
 #![tactic(auto)]
 
+// As `?`, without a conversion of the error: a `match` is one step of a proof where `?` is three.
+macro_rules! attempt {
+    ($result:expr) => {
+        match $result {
+            Ok(value) => value,
+            Err(fault) => return Err(fault),
+        }
+    };
+}
+
 mod bytes;
 mod entry;
 mod numbers;

@@ -30,10 +30,10 @@ fn push_signed(text: &mut String, bits: usize, number: u64) -> Result<(), AllocE
     if number < half {
         return push_decimal(text, number);
     }
-    text.push_str("-")?;
+    attempt!(text.push_str("-"));
     push_decimal(
         text,
-        (2 * u128::from(half)).saturating_sub(u128::from(number)) as u64,
+        (2 * half as u128).saturating_sub(number as u128) as u64,
     )
 }
 

@@ -29,7 +29,7 @@ fn push_last_digits(text: &mut String, count: u16, number: u64) -> Result<(), Al
     if count == 0 {
         return Ok(());
     }
-    push_last_digits(text, count - 1, number / 10)?;
+    attempt!(push_last_digits(text, count - 1, number / 10));
     push_digit(text, (number % 10) as u8)
 }
 
@@ -50,11 +50,11 @@ fn push_fixed(text: &mut String, number: u64, places: u16) -> Result<(), AllocEr
         (string_bytes text.new ≡ string_bytes text.old ++ fixed_text number places) }
 {
     let unit = small_power(places);
-    push_decimal(text, number / unit)?;
+    attempt!(push_decimal(text, number / unit));
     if places == 0 {
         return Ok(());
     }
-    text.push_str(".")?;
+    attempt!(text.push_str("."));
     push_last_digits(text, places, number % unit)
 }
 
@@ -64,9 +64,9 @@ fn push_exponent(text: &mut String, tens: u16) -> Result<(), AllocError>
         (string_bytes text.new ≡ string_bytes text.old ++ exponent_text tens) }
 {
     if tens >= ORIGIN {
-        return push_decimal(text, u64::from(tens - ORIGIN));
+        return push_decimal(text, (tens - ORIGIN) as u64);
     }
-    push_filled(text, "-%", &[Value::Number(u64::from(ORIGIN - tens))])
+    push_filled(text, "-%", &[Value::Number((ORIGIN - tens) as u64)])
 }
 
 fn later_digits(number: u64) -> u16
@@ -82,8 +82,8 @@ fn push_power(text: &mut String, number: u64, tens: u16) -> Result<(), AllocErro
         (string_bytes text.new ≡ string_bytes text.old ++ power_text number tens) }
 {
     let later = later_digits(number);
-    push_fixed(text, number, later)?;
-    text.push_str("e")?;
+    attempt!(push_fixed(text, number, later));
+    attempt!(text.push_str("e"));
     push_exponent(text, tens + later)
 }
 
@@ -91,7 +91,7 @@ fn is_fixed(number: u64, tens: u16) -> bool
     ensures { result ≡ is_fixed number tens }
 {
     tens < ORIGIN
-        && (ORIGIN - tens <= 18 && power_of_ten(ORIGIN - tens) <= 100_000 * u128::from(number))
+        && (ORIGIN - tens <= 18 && power_of_ten(ORIGIN - tens) <= 100_000 * number as u128)
 }
 
 fn is_short(number: u64, tens: u16) -> bool
@@ -99,8 +99,7 @@ fn is_short(number: u64, tens: u16) -> bool
     ensures { result ≡ is_short number tens }
 {
     tens >= ORIGIN
-        && (tens - ORIGIN <= 16
-            && u128::from(number) * power_of_ten(tens - ORIGIN) < power_of_ten(16))
+        && (tens - ORIGIN <= 16 && number as u128 * power_of_ten(tens - ORIGIN) < power_of_ten(16))
 }
 
 #[tactic(auto, unfolding(conode_text::specs::Filled::filled))]
@@ -110,7 +109,7 @@ fn push_short(text: &mut String, number: u64, tens: u16) -> Result<(), AllocErro
     ensures { OnOk result (string_bytes text.new ≡ string_bytes text.old
         ++ (decimal (number * 10 ^ (tens - 1100)) ++ codes ".0")) }
 {
-    let whole = u128::from(number) * power_of_ten(tens - ORIGIN);
+    let whole = number as u128 * power_of_ten(tens - ORIGIN);
     push_filled(text, "%.0", &[Value::Number(whole as u64)])
 }
 
@@ -152,7 +151,7 @@ fn push_rounded(
     ensures { OnOk result (string_bytes text.new
         ≡ string_bytes text.old ++ rounded_text is_negative number tens) }
 {
-    push_sign(text, is_negative)?;
+    attempt!(push_sign(text, is_negative));
     push_digits(text, number, tens)
 }
 
@@ -168,6 +167,6 @@ pub(crate) fn rounded_text(
     ensures { IfOk result (λ made. string_bytes made ≡ rounded_text is_negative number tens) }
 {
     let mut text = String::new(alloc);
-    push_rounded(&mut text, is_negative, number, tens)?;
+    attempt!(push_rounded(&mut text, is_negative, number, tens));
     Ok(text)
 }

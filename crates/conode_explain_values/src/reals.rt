@@ -37,7 +37,7 @@ fn text_of_digits(
     if number == 0 || number >= MANY_DIGITS {
         return Ok(None);
     }
-    let text = rounded_text(alloc, real.is_negative(bits), number as u64, tens)?;
+    let text = attempt!(rounded_text(alloc, real.is_negative(bits), number as u64, tens));
     if real.is_read_as(bits, text.as_bytes()) {
         Ok(Some(text))
     } else {
@@ -98,8 +98,8 @@ fn signed_word(alloc: Global, is_negative: bool, word: &str) -> Result<Option<St
         ≡ Some (sign_text is_negative ++ word.now)) }
 {
     let mut text = String::new(alloc);
-    push_sign(&mut text, is_negative)?;
-    text.push_str(word)?;
+    attempt!(push_sign(&mut text, is_negative));
+    attempt!(text.push_str(word));
     Ok(Some(text))
 }
 

@@ -24,7 +24,7 @@ pub(crate) fn power_of_ten(exponent: u16) -> u128
     ensures some { 1 ≤ result }
     ensures most { result ≤ 10 ^ 38 }
 {
-    10u128.pow(u32::from(exponent))
+    10u128.pow(exponent as u32)
 }
 
 impl Scaled {
@@ -109,7 +109,7 @@ impl Scaled {
         ensures room { result.digits < 5 * 2 ^ 125 }
     {
         let number = Scaled {
-            digits: u128::from(significand),
+            digits: significand as u128,
             tens: ORIGIN,
         };
         number

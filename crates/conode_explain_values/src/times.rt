@@ -59,7 +59,7 @@ fn three_digits(number: u16) -> ArrayString<3>
 fn push_ms(text: &mut String, ms: u64) -> Result<(), AllocError>
     ensures { OnOk result (string_bytes text.new ≡ string_bytes text.old ++ ms_text ms) }
 {
-    push_time_of_day(text, ms / 1000)?;
+    attempt!(push_time_of_day(text, ms / 1000));
     let rest = three_digits((ms % 1000) as u16);
     push_filled(text, ".%", &[Value::Words(rest.as_str())])
 }
@@ -71,8 +71,8 @@ pub(crate) fn push_moment(text: &mut String, bytes: &[u8]) -> Result<(), AllocEr
     ensures { OnOk result
         (string_bytes text.new ≡ string_bytes text.old ++ moment_text bytes.now) }
 {
-    push_day(text, days_in(bytes) + FIRST_DAY)?;
-    text.push_str(" ")?;
+    attempt!(push_day(text, days_in(bytes) + FIRST_DAY));
+    attempt!(text.push_str(" "));
     push_ms(text, ms_in(bytes))
 }
 
@@ -83,6 +83,6 @@ pub(crate) fn push_difference(text: &mut String, bytes: &[u8]) -> Result<(), All
     ensures { OnOk result
         (string_bytes text.new ≡ string_bytes text.old ++ difference_text bytes.now) }
 {
-    push_filled(text, "% d ", &[Value::Number(days_in(bytes))])?;
+    attempt!(push_filled(text, "% d ", &[Value::Number(days_in(bytes))]));
     push_ms(text, ms_in(bytes))
 }

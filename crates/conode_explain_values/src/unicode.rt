@@ -20,7 +20,7 @@ use std::alloc::AllocError;
 fn unit_of(low: u8, high: u8) -> u16
     ensures { result ≡ unit_of low high }
 {
-    u16::from(low) + 256 * u16::from(high)
+    low as u16 + 256 * high as u16
 }
 
 fn is_pair(first: u16, second: u16) -> bool
@@ -50,7 +50,7 @@ fn push_unit(text: &mut String, unit: u16) -> Result<(), AllocError>
     if is_escaped(unit) {
         return push_filled(text, "\\u%", &[Value::Short(unit)]);
     }
-    text.push(scalar(u32::from(unit)))
+    text.push(scalar(unit as u32))
 }
 
 fn push_pair(text: &mut String, first: u16, second: u16) -> Result<(), AllocError>
@@ -58,8 +58,8 @@ fn push_pair(text: &mut String, first: u16, second: u16) -> Result<(), AllocErro
     ensures { OnOk result
         (string_bytes text.new ≡ string_bytes text.old ++ pair_text first second) }
 {
-    let high = 0x400 * u32::from(first - 0xD800);
-    text.push(scalar(0x1_0000 + high + u32::from(second - 0xDC00)))
+    let high = 0x400 * (first - 0xD800) as u32;
+    text.push(scalar(0x1_0000 + high + (second - 0xDC00) as u32))
 }
 
 // appends the first character, and gives the bytes after it
@@ -75,11 +75,11 @@ fn push_character<'a>(text: &mut String, bytes: &'a [u8]) -> Result<&'a [u8], Al
     if let [low, high, later @ ..] = rest {
         let next = unit_of(*low, *high);
         if is_pair(unit, next) {
-            push_pair(text, unit, next)?;
+            attempt!(push_pair(text, unit, next));
             return Ok(later);
         }
     }
-    push_unit(text, unit)?;
+    attempt!(push_unit(text, unit));
     Ok(rest)
 }
 
@@ -90,7 +90,7 @@ fn push_characters(text: &mut String, bytes: &[u8]) -> Result<(), AllocError>
 {
     let mut rest = bytes;
     while rest.len() >= 2 {
-        rest = push_character(text, rest)?;
+        rest = attempt!(push_character(text, rest));
     }
     Ok(())
 }
@@ -100,7 +100,7 @@ pub(crate) fn push_unicode(text: &mut String, bytes: &[u8]) -> Result<(), AllocE
     ensures { OnOk result
         (string_bytes text.new ≡ string_bytes text.old ++ unicode_text bytes.now) }
 {
-    text.push_str("\"")?;
-    push_characters(text, bytes)?;
+    attempt!(text.push_str("\""));
+    attempt!(push_characters(text, bytes));
     text.push_str("\"")
 }

@@ -116,6 +116,6 @@ pub fn push_value(
     if value_type.is_whole(bits) {
         return push_whole(text, value_type, bits, bytes);
     }
-    push_raw(text, bytes)?;
+    attempt!(push_raw(text, bytes));
     push_count(text, value_type.bits(), bits)
 }

@@ -3,4 +3,4 @@ use Rattle.conode_explain_text.proofs.DigitTable.{looked_up}
 use Rattle.conode_explain_text.proofs.pieces.last_hex_digit.Goals as goal
 
 pub returns : goal.returns
-returns c = rw c.from.ensures (looked_up (c.args.number % 16) (omega arith))
+returns c = looked_up (c.args.number % 16) (omega arith)
