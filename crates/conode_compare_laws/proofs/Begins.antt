@@ -62,11 +62,11 @@ passes_by bad e es key false false is same none rest =
     let after : entry_at (e ∷ es) key ≡ entry_at es key = rw same refl in
     elim (rest (sym later ∙ none)) [ inl passes ↦ inl passes | inr absent ↦ inr (after ∙ absent) ]
 
-passes : (bad : Key → Bool) (es : List ListedEntry) (key : Key) → find bad (keys_in es) ≡ None → (bad key ≡ false) ⊎ (entry_at es key ≡ None)
+pub passes : (bad : Key → Bool) (es : List ListedEntry) (key : Key) → find bad (keys_in es) ≡ None → (bad key ≡ false) ⊎ (entry_at es key ≡ None)
 passes bad [] key none = inr refl
 passes bad (e ∷ es) key none = passes_by bad e es key (bad e.key) (same_key key e.key) refl refl none (passes bad es key)
 
-absent_is_0 : (plan : Plan) (key : Key) → entry_at (built plan) key ≡ None → number_at (built_contents plan) key ≡ 0
+pub absent_is_0 : (plan : Plan) (key : Key) → entry_at (built plan) key ≡ None → number_at (built_contents plan) key ≡ 0
 absent_is_0 plan key absent = ap (λ e. unsigned_of (unwrap_or (option_map (λ (e : ListedEntry). e.bytes) e) [])) absent
 
 -- ---- the words of EMCY and PDOs

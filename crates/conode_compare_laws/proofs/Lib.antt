@@ -50,6 +50,12 @@ pub mod TpdoParts
 pub mod TpdoKinds
 pub mod TpdoStates
 pub mod TpdoDue
+pub mod Fitting
+pub mod BuiltEntries
+pub mod KeptEntries
+pub mod AlwaysFitted
+pub mod WrittenBytes
+pub mod HeldBytes
 pub mod TpdoImages
 pub mod TpdoInputs
 pub mod TpdoLengths
@@ -63,5 +69,7 @@ pub mod TpdoWaits
 pub mod TpdoLates
 mod TpdoExamples
 pub mod TpdoKept
+pub mod SheetNumbers
+pub mod TpdoMapped
 pub mod TpdoSheets
 pub mod RoomsOfDevices

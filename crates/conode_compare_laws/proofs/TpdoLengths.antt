@@ -5,7 +5,6 @@ use Rattle.std.proofs.lemmas.Bool.{eq-eqb}
 use Rattle.co_frame.specs.FrameContent.{FrameContent}
 use Rattle.co_dict.specs.CobIds.{identifier_of}
 use Rattle.co_dict.specs.Rows.{number_at}
-use Rattle.co_dict.specs.Stores.{IsDictionary}
 use Rattle.co_dict.specs.declared.side.Side.TheVariants as side
 use Rattle.co_sheet.specs.Content.{Row}
 use Rattle.co_pdo.specs.Mappings.{mapping_of, total_of}
@@ -28,7 +27,9 @@ use Rattle.conode_compare_laws.specs.Identifiers.{AllSendAside, AreElsewhere, Ar
 use Rattle.conode_compare_laws.specs.Recordings.{Stamped, frame_of, recording}
 use Rattle.conode_compare_laws.specs.TpdoDifferences.{is_pdo_length, tpdo_differences}
 use Rattle.conode_compare_laws.specs.TpdoFrames.{AllSendBesideTpdos, AreNoTpdos}
-use Rattle.conode_compare_laws.specs.TpdoParameters.{AllAreFilled, AllKeepTpdos, AreTpdosOf, IsTpdoOf, KeepsTpdos}
+use Rattle.conode_compare_laws.specs.TpdoParameters.{AllKeepTpdos, AreTpdosOf, IsTpdoOf, KeepsTpdos}
+use Rattle.conode_compare_laws.proofs.AlwaysFitted.{AllAreFitted}
+use Rattle.conode_compare_laws.proofs.Fitting.{AreFitted}
 use Rattle.conode_compare_laws.proofs.Heard.{of_device}
 use Rattle.conode_compare_laws.proofs.Heartbeats.{NoSdo, after_those, before_these}
 use Rattle.conode_compare_laws.proofs.Runs.{AllRun, joined}
@@ -89,7 +90,7 @@ length_walk subject micros frame = record {
 
 -- ---- what a device sends
 
-one_has : (k : Constants) (m : Moment) (number : ℕ) (sheet : Tpdo) (n : ℕ) → IsTpdoOf k number sheet → KeepsTpdos k m → IsDictionary k.description m.contents → n < 512 → is_active m.contents n ≡ true
+one_has : (k : Constants) (m : Moment) (number : ℕ) (sheet : Tpdo) (n : ℕ) → IsTpdoOf k number sheet → KeepsTpdos k m → AreFitted k.description.rows m.contents → n < 512 → is_active m.contents n ≡ true
     → HasBytes sheet (tpdo_frame k.description m.contents n).id (length_of (tpdo_frame k.description m.contents n))
 one_has k m number sheet n of keeps filled less on here =
     let id : identifier_of (number_at m.contents (tpdo_key n 1)) ≡ identifier_of (number_at k.start (tpdo_key n 1)) = ap identifier_of (tpdo_number k m n 1 keeps less) in
@@ -103,7 +104,7 @@ one_has k m number sheet n of keeps filled less on here =
     by None h e = tt
     by (Some b) h e = e ∙ h
 
-all_have : (k : Constants) (m : Moment) (facts : Pdos) (n : ℕ) → AreTpdosOf k facts → KeepsTpdos k m → IsDictionary k.description m.contents → n < 512 → is_active m.contents n ≡ true
+all_have : (k : Constants) (m : Moment) (facts : Pdos) (n : ℕ) → AreTpdosOf k facts → KeepsTpdos k m → AreFitted k.description.rows m.contents → n < 512 → is_active m.contents n ≡ true
     → HaveBytes facts (tpdo_frame k.description m.contents n).id (length_of (tpdo_frame k.description m.contents n))
 all_have k m facts n of keeps filled less on = record {
   first = one_has k m 0 facts.first n of.first keeps filled less on;
@@ -117,7 +118,7 @@ all_have k m facts n of keeps filled less on = record {
 record IsMet (pdos : Pdos) (k : Constants) (before : Inputs) (s : Stamped) : Type 0 where
   clear : AreClear pdos k before s
   keeps : KeepsTpdos k (moment k (moments k before) s.input)
-  filled : IsDictionary k.description (moment k (moments k before) s.input).contents
+  filled : AreFitted k.description.rows (moment k (moments k before) s.input).contents
 
 input_runs : (k : Constants) (subject : Subject) (rows : List Row) (before : Inputs) (last : ℕ) (s : Stamped) (p : Progress) → AreTpdosOf k subject.facts.pdos → IsMet subject.facts.pdos k before s
     → Holds (Knows subject.facts.pdos) p → AllRun (tpdo_differences is_pdo_length) (of_device k subject) rows s.micros p (frame_of s.input ++ prescribed k before s.input) (Holds (Knows subject.facts.pdos))
@@ -145,12 +146,12 @@ input_runs k subject rows before last s p of met h =
 
 -- ---- all inputs
 
-all_met : (pdos : Pdos) (k : Constants) (inputs : List Stamped) (before : Inputs) (last : ℕ) → AllInputs (λ b l s. AreClear pdos k b s) before last inputs → AllKeepTpdos k before inputs → AllAreFilled k before inputs
+all_met : (pdos : Pdos) (k : Constants) (inputs : List Stamped) (before : Inputs) (last : ℕ) → AllInputs (λ b l s. AreClear pdos k b s) before last inputs → AllKeepTpdos k before inputs → AllAreFitted k before inputs
     → AllInputs (λ b l s. IsMet pdos k b s) before last inputs
 all_met pdos k [] before last clear keeps filled = tt
 all_met pdos k (s ∷ later) before last clear keeps filled = (record { clear = clear.0; keeps = keeps.0; filled = filled.0 }, all_met pdos k later (s.input ∷ before) s.micros clear.1 keeps.1 filled.1)
 
-pub no_pdo_length : (k : Constants) (subject : Subject) (rows : List Row) (inputs : List Stamped) → subject.node ≡ k.description.node → AreTpdosOf k subject.facts.pdos → AllKeepTpdos k [] inputs → AllAreFilled k [] inputs
+pub no_pdo_length : (k : Constants) (subject : Subject) (rows : List Row) (inputs : List Stamped) → subject.node ≡ k.description.node → AreTpdosOf k subject.facts.pdos → AllKeepTpdos k [] inputs → AllAreFitted k [] inputs
     → AreElsewhere (0x700 + k.description.node) inputs → AreNoTpdos subject.facts.pdos inputs → AllSendAside k [] inputs → AllSendBesideTpdos subject.facts.pdos k [] inputs
     → AreNoSdo k.description.node (recording k inputs) → differences_in (tpdo_differences is_pdo_length) subject rows (recording k inputs) ≡ []
 no_pdo_length k subject rows inputs is of keeps filled control foreign aside beside none =

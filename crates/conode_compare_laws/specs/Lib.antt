@@ -9,4 +9,5 @@ pub mod TpdoSheets
 pub mod AnswerFindings
 pub mod AnswerSenders
 pub mod AnswerEntries
+pub mod WrittenEntries
 pub mod GivenRooms

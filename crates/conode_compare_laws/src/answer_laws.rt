@@ -3,7 +3,9 @@
 ghost use Rattle.std.specs.Prelude.{◌≡◌, ◌+◌, List, []};
 ghost use Rattle.co_dict_build.specs.Built.{Plan};
 ghost use Rattle.co_sheet.specs.Content.{Row};
+ghost use Rattle.co_node.specs.declared.node.Node.{Node};
 ghost use Rattle.co_node.specs.Built.{IsBuilt};
+ghost use Rattle.co_node.specs.Nodes.{Stands};
 ghost use Rattle.co_node_laws.specs.Apart.{BeginsApart};
 ghost use Rattle.co_node_model.specs.Moments.{Constants};
 ghost use Rattle.conode_compare_rules.specs.declared.limits.Subject.{Subject};
@@ -24,11 +26,13 @@ ghost use Rattle.conode_compare_laws.specs.AnswerSenders.{
 ghost use Rattle.conode_compare_laws.specs.Differences.{differences_in};
 ghost use Rattle.conode_compare_laws.specs.Identifiers.{AreElsewhere, BeginsAside};
 ghost use Rattle.conode_compare_laws.specs.Recordings.{Stamped, recording};
+ghost use Rattle.conode_compare_laws.specs.WrittenEntries.{WriteBytes};
 
 use crate::aside::sends_aside;
 use crate::built_devices::begins_aside;
+use crate::entries::stays_dictionary;
 use co_dict::{invalid_pdo_law, own_rule_law};
-use co_node::begins_apart;
+use co_node::{begins_apart, stands_on_dictionary};
 use co_node_laws::stays_apart;
 use co_pdo::written_from_2000;
 use co_sdo::Bank;
@@ -164,6 +168,23 @@ pub fn built_no_data_differences()
     begins_aside();
     begins_other();
     no_data_differences();
+}
+
+/// So has the recording of each device that `Node::build` of `co_node` makes, without a condition
+/// on its entries: they are those of a dictionary (`stays_dictionary`). Conditions: `compare` has
+/// the device's node-ID; frames, and what the application writes, have bytes (`HaveBytes`,
+/// `WriteBytes`); and no other node sends on the identifier of the answers (`AreElsewhere`). This
+/// is a law: a call of it changes nothing.
+pub fn node_no_data_differences()
+    ensures { (plan : Plan) (k : Constants) (node : Node) (subject : Subject) (rows : List Row)
+        (inputs : List Stamped) → IsBuilt plan k → Stands k node [] →
+        subject.node ≡ k.description.node → HaveBytes inputs → WriteBytes inputs →
+        AreElsewhere (0x580 + k.description.node) inputs →
+        differences_in data_differences subject rows (recording k inputs) ≡ [] }
+{
+    stands_on_dictionary();
+    stays_dictionary();
+    built_no_data_differences();
 }
 
 /// The recording of a device, over whatever inputs with whatever stamps, has no `answer-toggle`: no

@@ -7,6 +7,7 @@ mod aside;
 mod built_devices;
 mod early_emergencies;
 mod emergencies;
+mod entries;
 mod late_heartbeats;
 mod rooms;
 mod states;
@@ -16,14 +17,16 @@ mod tpdo_laws;
 pub use answer_laws::{
     begins_other, built_no_answer_differences, built_no_data_differences,
     built_no_toggle_differences, built_no_transfer_differences, no_answer_differences,
-    no_data_differences, no_toggle_differences, no_transfer_differences, sends_other,
+    no_data_differences, no_toggle_differences, no_transfer_differences, node_no_data_differences,
+    sends_other,
 };
 pub use aside::sends_aside;
 pub use built_devices::{begins_aside, built_no_state_differences};
 pub use early_emergencies::no_early_emergencies;
 pub use emergencies::no_emergency_differences;
+pub use entries::stays_dictionary;
 pub use late_heartbeats::no_late_heartbeats;
 pub use rooms::rooms_of_device;
 pub use states::no_state_differences;
-pub use tpdo_built::{keeps_tpdos, tpdos_of_sheet};
+pub use tpdo_built::{built_no_pdo_length, keeps_tpdos, tpdos_of_sheet};
 pub use tpdo_laws::{no_pdo_inhibit, no_pdo_late, no_pdo_length, no_pdo_state, no_pdo_sync};
