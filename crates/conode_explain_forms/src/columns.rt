@@ -180,7 +180,7 @@ fn set_column_name(
     ensures { OnOk result (string_bytes text.new
         ≡ column_name (option_map row_view (option_copied row.entry)) signal) }
 {
-    let node = decimal_digits(u64::from(signal.node));
+    let node = decimal_digits(signal.node as u64);
     let key = signal.key.text();
     text.clear();
     attempt!(push_words(text, &["node ", node.as_str(), " ", key.as_str()]));

@@ -82,7 +82,7 @@ pub(crate) fn put_content(
         }
         Content::Remote(count) => {
             attempt!(writer.put_text("frame", "remote"));
-            put_data(alloc, writer, digits, usize::from(*count), &[])
+            put_data(alloc, writer, digits, *count as usize, &[])
         }
         Content::Fd(flags, data) => {
             attempt!(writer.put_text("frame", "fd"));

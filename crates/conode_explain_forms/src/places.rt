@@ -294,7 +294,7 @@ pub fn read_as(place: Option<Place>, id: Identifier) -> Identifier
         return id;
     };
     match place.side {
-        Side::Client => Identifier::Base(0x600 + u16::from(place.node)),
-        Side::Server => Identifier::Base(0x580 + u16::from(place.node)),
+        Side::Client => Identifier::Base(0x600 + place.node as u16),
+        Side::Server => Identifier::Base(0x580 + place.node as u16),
     }
 }

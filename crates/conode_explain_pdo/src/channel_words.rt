@@ -23,14 +23,14 @@ fn sheet_number(names: Names<'_, '_>, node: u8, key: Key) -> Option<u64>
     let Some(cob_id) = cob_id_of(row.default) else {
         return None;
     };
-    Some(cob_id.word_for(u64::from(node)))
+    Some(cob_id.word_for(node as u64))
 }
 
 fn shown_at(bus: Bus<'_, '_, '_, '_, '_>, node: u8, key: Key) -> Value
     ensures { result ≡ shown_in (state_at (bus_view bus.entry) node key.index) key.sub }
 {
     match bus.state(node, key.index) {
-        Some(state) => value_at(&state.now.mapping, usize::from(key.sub)),
+        Some(state) => value_at(&state.now.mapping, key.sub as usize),
         None => Value::Assumed,
     }
 }
@@ -43,8 +43,8 @@ pub fn channel_word(bus: Bus<'_, '_, '_, '_, '_>, node: u8, key: Key) -> Option<
 {
     match shown_at(bus, node, key) {
         Value::Assumed => sheet_number(bus.names(node), node, key),
-        Value::Seen { number } => Some(u64::from(number)),
-        Value::Saved { number } => Some(u64::from(number)),
+        Value::Seen { number } => Some(number as u64),
+        Value::Saved { number } => Some(number as u64),
         Value::Unknown => None,
     }
 }

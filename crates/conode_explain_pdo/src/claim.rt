@@ -159,8 +159,8 @@ fn shows(value: Value, id: u16) -> bool
     ensures { result ≡ shows value id }
 {
     match value {
-        Value::Seen { number } => has_identifier(u64::from(number), id),
-        Value::Saved { number } => has_identifier(u64::from(number), id),
+        Value::Seen { number } => has_identifier(number as u64, id),
+        Value::Saved { number } => has_identifier(number as u64, id),
         _ => false,
     }
 }

@@ -57,7 +57,7 @@ pub fn may_be_pdo(id: u16) -> bool
 pub fn has_identifier(word: u64, id: u16) -> bool
     ensures { result ≡ has_identifier word id }
 {
-    (word < 0x8000_0000 && word / 0x2000_0000 % 2 == 0) && word % 0x800 == u64::from(id)
+    (word < 0x8000_0000 && word / 0x2000_0000 % 2 == 0) && word % 0x800 == id as u64
 }
 
 fn is_node(node: u64) -> bool
@@ -72,9 +72,9 @@ impl SheetCobId {
         ensures few { result < 65536 }
     {
         match only {
-            Some(node) => u64::from(node),
-            None if self.with_node => u64::from(id).saturating_sub(u64::from(self.word) % 0x800),
-            None => u64::from(id) % 128,
+            Some(node) => node as u64,
+            None if self.with_node => (id as u64).saturating_sub(self.word as u64 % 0x800),
+            None => id as u64 % 128,
         }
     }
 
@@ -83,9 +83,9 @@ impl SheetCobId {
         ensures { result ≡ word_for self node }
     {
         if self.with_node {
-            u64::from(self.word) + node
+            self.word as u64 + node
         } else {
-            u64::from(self.word)
+            self.word as u64
         }
     }
 

@@ -93,7 +93,7 @@ fn entry_bits(mapping: &Mapping, key: Key, bytes: &[u8]) -> Option<EntryBits>
     ensures count { IfSome result (λ found. HasBits found.bits found.bytes.items) }
 {
     let words = mapping.words.as_slice();
-    let count = usize::from(word_count(mapping.count));
+    let count = word_count(mapping.count) as usize;
     bits_by(&words[..count.min(words.len())], key, bytes)
 }
 

@@ -126,7 +126,7 @@ fn sheet_count(sheet: Option<&Mapping>) -> Option<u32>
     ensures { result ≡ option_map (λ mapping. mapping.count) (option_copied sheet.entry) }
 {
     match sheet {
-        Some(mapping) => Some(u32::from(mapping.count)),
+        Some(mapping) => Some(mapping.count as u32),
         None => None,
     }
 }
@@ -141,7 +141,7 @@ fn sheet_word(sheet: Option<&Mapping>, place: u8) -> Option<u32>
     ensures { result ≡ sheet_word (option_copied sheet.entry) place }
 {
     match sheet {
-        Some(mapping) => if_there(word_at(mapping.words.as_slice(), usize::from(place))),
+        Some(mapping) => if_there(word_at(mapping.words.as_slice(), place as usize)),
         None => None,
     }
 }
@@ -171,7 +171,7 @@ fn word_in_force(values: &[Value], sheet: Option<&Mapping>, place: u8) -> Option
 {
     number_by(
         sheet_word(sheet, place),
-        value_at(values, usize::from(place) + 1),
+        value_at(values, place as usize + 1),
     )
 }
 
@@ -313,7 +313,7 @@ fn push_known(
     ensures { OnOk result (string_bytes text.new ≡ string_bytes text.old
         ++ known_text (names_view names.entry) node bytes.now values.now mapping.now) }
 {
-    let count = usize::from(word_count(mapping.count));
+    let count = word_count(mapping.count) as usize;
     attempt!(text.push_str(origin_words(first_values(values, count + 1))));
     push_data(text, names, node, mapping, bytes)
 }

@@ -284,7 +284,7 @@ fn push_multiplexed(text: &mut String, bytes: &[u8]) -> Result<(), AllocError>
         "% node % % ",
         &[
             Value::Words(addressing_word(bytes[0])),
-            Value::Number(u64::from(bytes[0] % 128)),
+            Value::Number((bytes[0] % 128) as u64),
             Value::Key(multiplexed_key(bytes)),
         ],
     ));
@@ -321,7 +321,7 @@ pub fn push_data(
     ensures { OnOk result (string_bytes text.new ≡ string_bytes text.old
         ++ data_text (names_view names.entry) node mapping.now bytes.now) }
 {
-    let count = usize::from(mapping.count);
+    let count = mapping.count as usize;
     if count == 0 || (count > 64 && count < 0xFE) {
         return Ok(());
     }

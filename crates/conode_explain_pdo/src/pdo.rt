@@ -24,13 +24,13 @@ fn push_front(text: &mut String, index: u16, node: u8) -> Result<(), AllocError>
         (string_bytes text.new ≡ string_bytes text.old ++ pdo_front index node) }
 {
     if index < 0x1800 {
-        let number = u64::from(index.saturating_sub(0x13FF));
+        let number = index.saturating_sub(0x13FF) as u64;
         attempt!(push_numbered(text, "RPDO", number));
     } else {
-        let number = u64::from(index.saturating_sub(0x17FF));
+        let number = index.saturating_sub(0x17FF) as u64;
         attempt!(push_numbered(text, "TPDO", number));
     }
-    push_numbered(text, " node ", u64::from(node))
+    push_numbered(text, " node ", node as u64)
 }
 
 #[tactic(auto, unfolding(crate::specs::Pdos::pdo_text))]

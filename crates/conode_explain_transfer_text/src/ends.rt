@@ -44,8 +44,8 @@ fn push_quoted(text: &mut String, name: &str) -> Result<(), AllocError>
     if name.is_empty() {
         return Ok(());
     }
-    push_words(text, " \"")?;
-    push_words(text, name)?;
+    attempt!(push_words(text, " \""));
+    attempt!(push_words(text, name));
     text.push('"')
 }
 
@@ -55,7 +55,7 @@ pub(crate) fn push_entry(text: &mut String, key: Key, name: &str) -> Result<(), 
     ensures { OnOk result
         (string_bytes text.new ≡ string_bytes text.old ++ entry_text key name.now) }
 {
-    push_words(text, key.text().as_str())?;
+    attempt!(push_words(text, key.text().as_str()));
     push_quoted(text, name)
 }
 
@@ -63,10 +63,10 @@ pub(crate) fn push_entry(text: &mut String, key: Key, name: &str) -> Result<(), 
 fn push_counts(text: &mut String, ended: &Ended) -> Result<(), AllocError>
     ensures { OnOk result (string_bytes text.new ≡ string_bytes text.old ++ counts_text ended.now) }
 {
-    push_counted(text, ended.bytes, "byte")?;
-    push_words(text, " in ")?;
-    push_counted(text, ended.frames, "frame")?;
-    push_words(text, ", ")?;
+    attempt!(push_counted(text, ended.bytes, "byte"));
+    attempt!(push_words(text, " in "));
+    attempt!(push_counted(text, ended.frames, "frame"));
+    attempt!(push_words(text, ", "));
     push_seconds(text, ended.begun, ended.end)
 }
 
@@ -93,8 +93,8 @@ fn push_in_brackets(text: &mut String, words: &str) -> Result<(), AllocError>
     if words.is_empty() {
         return Ok(());
     }
-    push_words(text, " (")?;
-    push_words(text, words)?;
+    attempt!(push_words(text, " ("));
+    attempt!(push_words(text, words));
     text.push(')')
 }
 
@@ -103,10 +103,10 @@ fn push_aborted(text: &mut String, by: Side, code: u32, words: &str) -> Result<(
     ensures { OnOk result (string_bytes text.new
         ≡ string_bytes text.old ++ aborted_text by code words.now) }
 {
-    push_words(text, "aborted by the ")?;
-    push_words(text, side_text(by))?;
-    push_words(text, " with ")?;
-    push_code(text, code)?;
+    attempt!(push_words(text, "aborted by the "));
+    attempt!(push_words(text, side_text(by)));
+    attempt!(push_words(text, " with "));
+    attempt!(push_code(text, code));
     push_in_brackets(text, words)
 }
 
@@ -115,8 +115,8 @@ fn push_waited(text: &mut String, front: &str, ended: &Ended, last: &str) -> Res
     ensures { OnOk result (string_bytes text.new
         ≡ string_bytes text.old ++ waited_text front.now ended.now last.now) }
 {
-    push_words(text, front)?;
-    push_seconds(text, ended.newest, ended.end)?;
+    attempt!(push_words(text, front));
+    attempt!(push_seconds(text, ended.newest, ended.end));
     push_words(text, last)
 }
 
@@ -152,10 +152,10 @@ fn push_sizes(
     ensures { OnOk result (string_bytes text.new
         ≡ string_bytes text.old ++ sizes_text front.now indicated middle.now came last.now) }
 {
-    push_words(text, front)?;
-    push_grouped(text, u64::from(indicated))?;
-    push_words(text, middle)?;
-    push_grouped(text, came)?;
+    attempt!(push_words(text, front));
+    attempt!(push_grouped(text, indicated as u64));
+    attempt!(push_words(text, middle));
+    attempt!(push_grouped(text, came));
     push_words(text, last)
 }
 
@@ -170,9 +170,9 @@ fn push_crcs(
     ensures { OnOk result (string_bytes text.new
         ≡ string_bytes text.old ++ crcs_text front.now came middle.now computed) }
 {
-    push_words(text, front)?;
-    push_crc(text, came)?;
-    push_words(text, middle)?;
+    attempt!(push_words(text, front));
+    attempt!(push_crc(text, came));
+    attempt!(push_words(text, middle));
     push_crc(text, computed)
 }
 
@@ -231,12 +231,12 @@ pub fn push_end(text: &mut String, ended: &Ended, name: &str, words: &str) -> Re
     ensures { OnOk result (string_bytes text.new
         ≡ string_bytes text.old ++ end_text ended.now name.now words.now) }
 {
-    push_words(text, "SDO ")?;
-    push_words(text, direction_text(ended.direction))?;
-    push_words(text, " ")?;
-    push_entry(text, ended.key, name)?;
-    push_words(text, " ")?;
-    push_counts(text, ended)?;
-    push_words(text, ": ")?;
+    attempt!(push_words(text, "SDO "));
+    attempt!(push_words(text, direction_text(ended.direction)));
+    attempt!(push_words(text, " "));
+    attempt!(push_entry(text, ended.key, name));
+    attempt!(push_words(text, " "));
+    attempt!(push_counts(text, ended));
+    attempt!(push_words(text, ": "));
     push_ending(text, ended, ended.ending, words)
 }

@@ -53,10 +53,10 @@ fn push_numbers(
     ensures { OnOk result (string_bytes text.new
         ≡ string_bytes text.old ++ numbers_text front.now first middle.now second) }
 {
-    push_words(text, front)?;
-    push_decimal(text, u64::from(first))?;
-    push_words(text, middle)?;
-    push_decimal(text, u64::from(second))
+    attempt!(push_words(text, front));
+    attempt!(push_decimal(text, first as u64));
+    attempt!(push_words(text, middle));
+    push_decimal(text, second as u64)
 }
 
 /// Appends the text of a segment of a sub-block, whose bytes alone don't show what it is: `SDO
@@ -75,7 +75,7 @@ fn push_of(text: &mut String, of: Option<Key>, name: &str) -> Result<(), AllocEr
     let Some(key) = of else {
         return Ok(());
     };
-    push_words(text, " of ")?;
+    attempt!(push_words(text, " of "));
     push_entry(text, key, name)
 }
 
@@ -98,8 +98,8 @@ fn push_between(text: &mut String, front: &str, number: u8, last: &str) -> Resul
     ensures { OnOk result (string_bytes text.new
         ≡ string_bytes text.old ++ between front.now number last.now) }
 {
-    push_words(text, front)?;
-    push_decimal(text, u64::from(number))?;
+    attempt!(push_words(text, front));
+    attempt!(push_decimal(text, number as u64));
     push_words(text, last)
 }
 
@@ -127,6 +127,6 @@ pub fn push_after(
     ensures { OnOk result (string_bytes text.new
         ≡ string_bytes text.old ++ after_text what of name.now) }
 {
-    push_of(text, of, name)?;
+    attempt!(push_of(text, of, name));
     push_remark(text, what)
 }

@@ -26,8 +26,8 @@ pub(crate) fn push_words(text: &mut String, words: &str) -> Result<(), AllocErro
 fn push_three_digits(text: &mut String, number: u64) -> Result<(), AllocError>
     ensures { OnOk result (string_bytes text.new ≡ string_bytes text.old ++ three_digits number) }
 {
-    push_digit(text, (number / 10 / 10 % 10) as u8)?;
-    push_digit(text, (number / 10 % 10) as u8)?;
+    attempt!(push_digit(text, (number / 10 / 10 % 10) as u8));
+    attempt!(push_digit(text, (number / 10 % 10) as u8));
     push_digit(text, (number % 10) as u8)
 }
 
@@ -38,8 +38,8 @@ fn push_millions(text: &mut String, number: u64) -> Result<(), AllocError>
     if number < 1000 {
         return push_decimal(text, number);
     }
-    push_decimal(text, number / 1000)?;
-    text.push(',')?;
+    attempt!(push_decimal(text, number / 1000));
+    attempt!(text.push(','));
     push_three_digits(text, number % 1000)
 }
 
@@ -50,8 +50,8 @@ fn push_thousands(text: &mut String, number: u64) -> Result<(), AllocError>
     if number < 1000 {
         return push_decimal(text, number);
     }
-    push_millions(text, number / 1000)?;
-    text.push(',')?;
+    attempt!(push_millions(text, number / 1000));
+    attempt!(text.push(','));
     push_three_digits(text, number % 1000)
 }
 
@@ -63,8 +63,8 @@ pub(crate) fn push_grouped(text: &mut String, number: u64) -> Result<(), AllocEr
     if number < 1000 {
         return push_decimal(text, number);
     }
-    push_thousands(text, number / 1000)?;
-    text.push(',')?;
+    attempt!(push_thousands(text, number / 1000));
+    attempt!(text.push(','));
     push_three_digits(text, number % 1000)
 }
 
@@ -74,11 +74,11 @@ pub(crate) fn push_counted(text: &mut String, number: u64, thing: &str) -> Resul
     ensures { OnOk result (string_bytes text.new
         ≡ string_bytes text.old ++ counted_text number thing.now) }
 {
-    push_grouped(text, number)?;
-    text.push(' ')?;
-    text.push_str(thing)?;
+    attempt!(push_grouped(text, number));
+    attempt!(text.push(' '));
+    attempt!(text.push_str(thing));
     if number != 1 {
-        text.push('s')?;
+        attempt!(text.push('s'));
     }
     Ok(())
 }
@@ -90,9 +90,9 @@ pub(crate) fn push_seconds(text: &mut String, from: u64, to: u64) -> Result<(), 
     ensures { OnOk result (string_bytes text.new ≡ string_bytes text.old ++ seconds_text from to) }
 {
     let millis = to.saturating_sub(from) / 1000;
-    push_decimal(text, millis / 1000)?;
-    text.push('.')?;
-    push_three_digits(text, millis % 1000)?;
+    attempt!(push_decimal(text, millis / 1000));
+    attempt!(text.push('.'));
+    attempt!(push_three_digits(text, millis % 1000));
     text.push_str(" s")
 }
 
