@@ -1,25 +1,7 @@
--- What is handed over of a document, and a member's parts in one.
-use Rattle.std.proofs.Common.{◌≡◌, ◌∙◌, List, [], ◌++◌, Option, Some, None, refl, Result, Ok, Err, ap, append_assoc, sym, subst}
-use Rattle.std.specs.Prelude.{option_map}
-use Rattle.std.specs.Result.{IfOk}
+-- A member's parts in one.
+use Rattle.std.proofs.Common.{◌∙◌, List, ◌++◌, Option, ap, append_assoc, subst}
 use Rattle.conode_json.specs.Appended.{Appended}
 use Rattle.conode_json.proofs.Appending.{both}
-
-module _ {X Y : Type 0} (form : List X → Y) (part : List X) (given : Y) where
-  formed : (begin end : Option (List X)) → begin ≡ Some [] → Appended begin part end → (all : Option (List X)) → end ≡ all → option_map form all ≡ Some given → given ≡ form part
-  formed begin end e f None g h = cc
-  formed begin end e f (Some all) g h =
-      let i : option_map (λ text. text ++ part) begin ≡ Some all = f.whole all g in
-      let j : option_map (λ text. text ++ part) begin ≡ Some part = ap (option_map (λ text. text ++ part)) e in
-      let k : Some (form all) ≡ Some given = h in
-      let l : all ≡ part = cc in
-      cc
-
--- what is handed over of a document that began with nothing is the form of what was appended
-pub ended_as : {X Y A E : Type 0} (r : Result A E) (form : List X → Y) (text_of : A → Y) {part : List X} {begin end : Option (List X)} → begin ≡ Some []
-    → Appended begin part end → IfOk r (λ text. option_map form end ≡ Some (text_of text)) → IfOk r (λ text. text_of text ≡ form part)
-ended_as (Ok text) form text_of {part = part} {begin = begin} {end = end} e f g = formed form part (text_of text) begin end e f end refl g
-ended_as (Err fault) form text_of e f g = tt
 
 -- where the first part ends with the begin of the second
 pub regrouped : {X : Type 0} (a b : List X) {t u v w : Option (List X)} {c d : List X} → Appended t (a ++ b) u → Appended u c v → Appended v d w → Appended t (a ++ (b ++ c ++ d)) w

@@ -6,7 +6,7 @@ use Rattle.conode_json.proofs.Appending.{both}
 use Rattle.conode_compare_report.specs.Abouts.{about_view}
 use Rattle.conode_compare_report.specs.Views.{Kept}
 use Rattle.conode_compare_documents.specs.JsonDocument.{document_tokens, json_document}
-use Rattle.conode_compare_documents.proofs.Ended.{ended_as}
+use Rattle.conode_json.proofs.DocumentLaws.{ended_as}
 use Rattle.conode_compare_documents.proofs.json_text.json_document.Goals as goal
 
 pub returns : goal.returns
