@@ -1,5 +1,6 @@
 -- Of an entry no fault is at the line of its name, and at its section line only what checks find there.
 use Rattle.std.proofs.Common.{◌≡◌, ℕ, Bool, true, false, not, ◌&&◌, List, [], ◌∷◌, ◌++◌, Option, Some, None, refl, sym, ap, ◌∙◌, subst, map, ◌⊎◌, inl, inr, arith}
+use Rattle.co_sheet_rows.specs.declared.fault.FaultKind.TheVariants.{MissingSub0}
 use Rattle.co_sheet_rows.specs.declared.fault.SheetFault.{SheetFault}
 use Rattle.co_sheet_text.specs.declared.fault.TextFaultKind.{TextFaultKind}
 use Rattle.co_sheet_text.specs.declared.section_kind.SectionKind.{SectionKind}
@@ -13,7 +14,7 @@ use Rattle.co_sheet_faults.specs.AllFaults.{found_by, faults_in}
 use Rattle.co_sheet_faults.specs.FaultLaws.{AreNumbered}
 use Rattle.co_sheet_faults.specs.LinesAtFault.{fault_of_line, line_faults}
 use Rattle.co_sheet_mend.proofs.ElementLemmas.{In, in-apart, one-of-number, rises-in}
-use Rattle.co_sheet_mend.proofs.FaultPlaceLemmas.{IsBegun, IsGiven, IsPlaced, both-true, placed, read}
+use Rattle.co_sheet_mend.proofs.FaultPlaceLemmas.{IsBegun, IsGiven, IsPlaced, LacksSub0, both-true, placed, read}
 use Rattle.co_sheet_mend.specs.NameLaws.{is_entry, is_name, is_of_property, is_of_section, may_be_at}
 
 -- ---- lines that are at fault by themselves
@@ -55,22 +56,22 @@ numbers-read before (l ∷ ls) =
     ap (λ n. n ∷ map number_of (lines_read next ls)) (read-number (own_fault before l) l)
     ∙ ap (λ ns. l.number ∷ ns) (numbers-read next ls)
 
-abbrev emptied_name : LineForm → List ℕ
+abbrev pub emptied_name : LineForm → List ℕ
 emptied_name (section_line name) = name
 emptied_name form = []
 
-abbrev is_value : LineForm → Bool
+abbrev pub is_value : LineForm → Bool
 is_value (name_value name value) = true
 is_value form = false
 
-emptied-value : (form : LineForm) → is_value (form_of (trim (emptied_form form))) ≡ false
+pub emptied-value : (form : LineForm) → is_value (form_of (trim (emptied_form form))) ≡ false
 emptied-value skipped = refl
 emptied-value (section_line name) = refl
 emptied-value unclosed = refl
 emptied-value (name_value name value) = refl
 emptied-value malformed = refl
 
-emptied-section : (form : LineForm) → emptied_name (form_of (trim (emptied_form form))) ≡ []
+pub emptied-section : (form : LineForm) → emptied_name (form_of (trim (emptied_form form))) ≡ []
 emptied-section skipped = refl
 emptied-section (section_line name) = refl
 emptied-section unclosed = refl
@@ -92,6 +93,23 @@ module _ (lines : List Line) (numbered : AreNumbered lines) where
 
   one_line : (l m : Line) → In l rs → In m rs → l.number ≡ m.number → l ≡ m
   one_line l m i j same = one-of-number number_of 1 rs l m rises i j same
+
+  -- at a line as it is read a fault of the line by itself, for which it is emptied, or one that a check finds
+  pub fault_at_read : (m : Line) → In m rs → (f : SheetFault) → In f (faults_in lines) → f.line ≡ m.number
+      → ((l : Line) × (emptied l ≡ m)) ⊎ ((may_be_at f.kind (line_form m) ≡ true) × (f.kind ≡ MissingSub0 → LacksSub0 rs m))
+  fault_at_read m i f h at = by_cases (in-apart (line_faults [] lines) (found_by all_checks (sections_of rs)) f h)
+    where
+      by_place : IsPlaced rs f → ((l : Line) × (emptied l ≡ m)) ⊎ ((may_be_at f.kind (line_form m) ≡ true) × (f.kind ≡ MissingSub0 → LacksSub0 rs m))
+      by_place (inl zeroth) =
+          let first = rises-in number_of 1 rs m rises i in
+          absurd (omega (arith, zeroth, at, first))
+      by_place (inr place) =
+          let same = one_line place.line m place.among i (place.number ∙ at) in
+          inr (ap (λ (l : Line). may_be_at f.kind (line_form l)) (sym same) ∙ place.suits, λ of. subst (LacksSub0 rs) same (place.lacks of))
+
+      by_cases : In f (line_faults [] lines) ⊎ In f (found_by all_checks (sections_of rs)) → ((l : Line) × (emptied l ≡ m)) ⊎ ((may_be_at f.kind (line_form m) ≡ true) × (f.kind ≡ MissingSub0 → LacksSub0 rs m))
+      by_cases (inl c) = let own_line = own [] lines f c in inl (own_line.line, one_line (emptied own_line.line) m own_line.read i (own_line.number ∙ at))
+      by_cases (inr c) = by_place (placed rs f c)
 
   -- a fault of a line by itself, or one that a check finds
   pub no_fault : (s : TextSection) (k : Property) → In s (sections_of rs) → In k s.properties → is_name k.name ≡ true → (f : SheetFault) → In f (faults_in lines) → f.line ≡ k.line → ⊥

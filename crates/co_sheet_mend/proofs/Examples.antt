@@ -5,10 +5,14 @@ use Rattle.std.specs.Prelude.{codes, false}
 use Rattle.co_sheet_rows.specs.declared.fault.FaultKind.{FaultKind}
 use Rattle.co_sheet_rows.specs.declared.fault.FaultKind.TheVariants.{BadNumber, BadType, BadAccess, BadDefault, BadList, MissingKey, MissingMandatory, MissingSection, MissingSub0, TooLarge, Memory}
 use Rattle.co_sheet_rows.specs.declared.fault.SheetFault.{SheetFault}
+use Rattle.co_sheet_text.specs.declared.section_kind.SectionKind.{SectionKind}
+use Rattle.co_sheet_text.specs.declared.section_kind.SectionKind.TheVariants.{Object, SubIndex}
 use Rattle.co_sheet_text.specs.Text.{Line}
 use Rattle.co_sheet_changes.specs.Pieces.{assigned}
 use Rattle.co_sheet_faults.specs.AllFaults.{faults_of}
 use Rattle.co_sheet_mend.specs.declared.repair.Repair.TheVariants.{Emptied, Typed, ReadWrite, Completed, Counted, Numbered}
+use Rattle.co_sheet_mend.specs.NameLaws.{name_read}
+use Rattle.co_sheet_mend.specs.ReadableTexts.{mended_in}
 use Rattle.co_sheet_mend.specs.Repairs.{counted_text, line_as, mandatory_sections, mended_by, mended_lines, objects_named, repair_at, repair_for, sub0_text, type_code}
 
 abbrev line : ℕ → List ℕ → Line
@@ -48,6 +52,11 @@ first_of_two = refl
 as_it_is : line_as None None (line 1 (codes "LowLimit=5")) [] ≡ codes "LowLimit=5\n"
 unfolding line_as
 as_it_is = refl
+
+-- a CR at the end of a line, before that of its end
+return_stays : line_as None None (line 1 (codes "ParameterName=A\r")) [] ≡ codes "ParameterName=A\r\r\n"
+unfolding line_as
+return_stays = refl
 
 emptied_value : line_as (Some Emptied) None (line 1 (codes "DefaultValue=0x6G")) [] ≡ codes "\n"
 unfolding line_as
@@ -190,3 +199,41 @@ list_begun = refl
 no_list : mended_by (repair_at (fault 0 MissingSection ∷ [])) (line 1 (codes "[FileInfo]") ∷ []) ≡ codes "[FileInfo]\n"
 unfolding repair_at repair_for line_as
 no_list = refl
+
+-- ---- two rounds
+
+-- a data type that is none, and a default that the type in its place doesn't have
+abbrev two_faults : List (List ℕ)
+two_faults = codes "[MandatoryObjects]" ∷ codes "SupportedObjects=3" ∷ codes "1=0x1000" ∷ codes "2=0x1001" ∷ codes "3=0x1018"
+    ∷ codes "[1000]" ∷ codes "ParameterName=A" ∷ codes "DataType=7" ∷ codes "AccessType=ro"
+    ∷ codes "[1001]" ∷ codes "ParameterName=B" ∷ codes "DataType=0x99" ∷ codes "AccessType=ro" ∷ codes "DefaultValue=300"
+    ∷ codes "[1018]" ∷ codes "ParameterName=C" ∷ codes "ObjectType=9" ∷ codes "[1018sub0]" ∷ codes "DataType=5" ∷ codes "AccessType=ro" ∷ []
+
+abbrev without_faults : List (List ℕ)
+without_faults = codes "[MandatoryObjects]" ∷ codes "SupportedObjects=3" ∷ codes "1=0x1000" ∷ codes "2=0x1001" ∷ codes "3=0x1018"
+    ∷ codes "[1000]" ∷ codes "ParameterName=A" ∷ codes "DataType=7" ∷ codes "AccessType=ro"
+    ∷ codes "[1001]" ∷ codes "ParameterName=B" ∷ codes "DataType=5" ∷ codes "AccessType=ro" ∷ codes ""
+    ∷ codes "[1018]" ∷ codes "ParameterName=C" ∷ codes "ObjectType=9" ∷ codes "[1018sub0]" ∷ codes "DataType=5" ∷ codes "AccessType=ro" ∷ []
+
+one_round : mended_in 1 (joined two_faults) ≡ None
+unfolding mended_in repair_at repair_for line_as type_code assigned digits
+one_round = refl
+
+two_rounds : mended_in 2 (joined two_faults) ≡ Some (joined without_faults)
+unfolding mended_in repair_at repair_for line_as type_code assigned digits
+two_rounds = refl
+
+-- objects with a name, a sub-index without one, and an object without a section
+abbrev some_entries : List SectionKind
+some_entries = Object 0x1000 ∷ Object 0x1001 ∷ Object 0x1018 ∷ SubIndex (record { index = 0x1018; sub = 0 }) ∷ Object 0x1017 ∷ []
+
+names_before : map (λ kind. name_read kind (joined two_faults)) some_entries ≡ Some (codes "A") ∷ Some (codes "B") ∷ Some (codes "C") ∷ None ∷ None ∷ []
+names_before = refl
+
+names_after : map (λ kind. name_read kind (joined without_faults)) some_entries ≡ Some (codes "A") ∷ Some (codes "B") ∷ Some (codes "C") ∷ None ∷ None ∷ []
+names_after = refl
+
+-- of two sections of an object the first, and of two names in it the first: here its first has none
+names_twice : name_read (Object 0x2000) (joined (codes "[2000]" ∷ codes "ParameterName=" ∷ codes "ParameterName=A" ∷ codes "ParameterName=B" ∷ codes "[02000]" ∷ codes "ParameterName=C"
+    ∷ codes "[2000]" ∷ codes "ParameterName=D" ∷ [])) ≡ Some (codes "A")
+names_twice = refl

@@ -1,7 +1,7 @@
 -- Where the checks find faults: at no ParameterName, and at a section line only what adds lines.
-use Rattle.std.proofs.Common.{◌≡◌, ℕ, Bool, true, false, cond, not, ◌&&◌, ◌==◌, List, [], ◌∷◌, ◌++◌, Option, Some, None, refl, sym, ap, ◌∙◌, subst, eqb-true, ◌⊎◌, inl, inr, arith, Result, Ok, Err}
-use Rattle.std.specs.Prelude.{flat_map, filter, filter_map, option_map, codes, nat_le}
-use Rattle.std.specs.List.{list_all}
+use Rattle.std.proofs.Common.{◌≡◌, ℕ, Bool, true, false, cond, not, ◌&&◌, ◌||◌, ◌==◌, List, [], ◌∷◌, ◌++◌, Option, Some, None, refl, sym, ap, ◌∙◌, subst, eqb-true, ◌⊎◌, inl, inr, arith, Result, Ok, Err}
+use Rattle.std.specs.Prelude.{flat_map, filter, filter_map, is_some, option_map, codes, nat_le}
+use Rattle.std.specs.List.{cons_option, list_all, list_any}
 use Rattle.std.specs.Option.{option_map_or}
 use Rattle.std.specs.Char.{is_digit, to_ascii_lowercase}
 use Rattle.std.proofs.lemmas.Bool.Decides.{nat_tests}
@@ -106,11 +106,20 @@ read (l ∷ ls) s h = read-cases l ls s (in-apart (section_begun (line_form l) l
 
 -- ---- places
 
+-- a section line of an object whose sub-index 0 has no section
+pub record LacksSub0 (ls : List Line) (l : Line) : Type 0 where
+  pub name : List ℕ
+  pub form : line_form l ≡ section_line name
+  pub index : ℕ
+  pub object : kind_of name ≡ Object index
+  pub none : section_at (SubIndex (record { index = index; sub = 0 })) (sections_of ls) ≡ None
+
 pub record IsAt (ls : List Line) (f : SheetFault) : Type 0 where
   pub line : Line
   pub among : In line ls
   pub number : line.number ≡ f.line
   pub suits : may_be_at f.kind (line_form line) ≡ true
+  pub lacks : f.kind ≡ MissingSub0 → LacksSub0 ls line
 
 abbrev pub IsPlaced : List Line → SheetFault → Type 0
 IsPlaced ls f = (f.line ≡ 0) ⊎ IsAt ls f
@@ -177,6 +186,44 @@ listing-line : (k : Property) (o : Option ℕ) (l : Listing) → option_map (λ 
 listing-line k None l h = absurd (cc)
 listing-line k (Some n) l h = let made : Listing = record { index = n; line = k.line } in ap (λ (x : Listing). x.line) (same-some made l h)
 
+-- ---- sub-index 0
+
+one-object : (kind : SectionKind) (index : ℕ) → same_kind kind (Object index) ≡ true → kind ≡ Object index
+one-object (Object i) index h = ap (λ n. Object n) (eqb-true i index h)
+one-object kind index h = absurd (cc)
+
+not-any : (b : Bool) → not b ≡ true → b ≡ false
+not-any true h = absurd (cc)
+not-any false h = refl
+
+abbrev is_sub0 : Entry → Bool
+is_sub0 e = e.key.sub == 0
+
+sub0-part : (b : Bool) (e : Entry) (es : List Entry) (s : TextSection) (o : Option TextSection) → list_any is_sub0 es ≡ is_some o → list_any is_sub0 (cons_option (cond b (Some e) None) es) ≡ is_some (cond (b && is_sub0 e) (Some s) o)
+sub0-part false e es s o h = h
+sub0-part true e es s o h = by_sub (is_sub0 e)
+  where
+    by_sub : (c : Bool) → (c || list_any is_sub0 es) ≡ is_some (cond c (Some s) o)
+    by_sub true = refl
+    by_sub false = h
+
+sub0-kind : (index : ℕ) (s : TextSection) (kind : SectionKind) (es : List Entry) (o : Option TextSection) → list_any is_sub0 es ≡ is_some o
+    → list_any is_sub0 (cons_option (sub_index_in index s kind) es) ≡ is_some (cond (same_kind kind (SubIndex (record { index = index; sub = 0 }))) (Some s) o)
+sub0-kind index s (SubIndex key) es o h = sub0-part (key.index == index) (record { key = key; section = s }) es s o h
+sub0-kind index s (Object i) es o h = h
+sub0-kind index s kind es o h = h
+
+sub0-there : (index : ℕ) (ss : List TextSection) → list_any is_sub0 (sub_indices ss index) ≡ is_some (section_at (SubIndex (record { index = index; sub = 0 })) ss)
+sub0-there index [] = refl
+sub0-there index (s ∷ ss) = sub0-kind index s s.kind (sub_indices ss index) (section_at (SubIndex (record { index = index; sub = 0 })) ss) (sub0-there index ss)
+
+no-section : (o : Option TextSection) → is_some o ≡ false → o ≡ None
+no-section None h = refl
+no-section (Some s) h = absurd (cc)
+
+no-sub0 : (index : ℕ) (ss : List TextSection) → list_any is_sub0 (sub_indices ss index) ≡ false → section_at (SubIndex (record { index = index; sub = 0 })) ss ≡ None
+no-sub0 index ss h = no-section _ (sym (sub0-there index ss) ∙ h)
+
 module _ (ls : List Line) where
   abbrev ss : List TextSection
   ss = sections_of ls
@@ -229,17 +276,26 @@ module _ (ls : List Line) where
         among = given.among;
         number = given.number;
         suits = ap (may_be_at kind) given.form ∙ ap (λ b. b && not (is_name k.name)) is ∙ ap not other;
+        lacks = λ same. let of : is_of_property MissingSub0 ≡ true = ap is_of_property (sym same) ∙ is in absurd (cc);
       })
 
-  at_section : (s : TextSection) → In s ss → (kind : FaultKind) → is_of_section s.kind kind ≡ true → IsPlaced ls (fault kind s.line)
-  at_section s i kind is =
+  at_section_of : (s : TextSection) → (i : In s ss) → (kind : FaultKind) → is_of_section s.kind kind ≡ true → (kind ≡ MissingSub0 → LacksSub0 ls (read ls s i).begun.line) → IsPlaced ls (fault kind s.line)
+  at_section_of s i kind is lacks =
       let begun = (read ls s i).begun in
       inr (record {
         line = begun.line;
         among = begun.among;
         number = begun.number;
         suits = ap (may_be_at kind) begun.form ∙ ap (λ (of : SectionKind). is_of_section of kind) (sym begun.kind) ∙ is;
+        lacks = lacks;
       })
+
+  abbrev is_missing_sub0 : FaultKind → Bool
+  is_missing_sub0 MissingSub0 = true
+  is_missing_sub0 kind = false
+
+  at_section : (s : TextSection) → In s ss → (kind : FaultKind) → is_of_section s.kind kind ≡ true → is_missing_sub0 kind ≡ false → IsPlaced ls (fault kind s.line)
+  at_section s i kind is other = at_section_of s i kind is (λ same. let of : is_missing_sub0 MissingSub0 ≡ false = ap is_missing_sub0 (sym same) ∙ other in absurd (cc))
 
   -- what is found at a key of another name
   key : (found : Property → List SheetFault) (name : List ℕ) (s : TextSection) → In s ss → same_name name (codes "ParameterName") ≡ false
@@ -272,7 +328,7 @@ module _ (ls : List Line) where
       flat (λ (s : TextSection). unless (is_unread_at (codes "SupportedObjects") s) (bad_list s)) (object_lists ss)
       (λ s i.
       let inside = kept-by (λ (t : TextSection). is_list t.kind) ss s i in
-      less (is_unread_at (codes "SupportedObjects") s) (bad_list s) (if_found _ BadList s.line (at_section s inside.among BadList inside.passes)))
+      less (is_unread_at (codes "SupportedObjects") s) (bad_list s) (if_found _ BadList s.line (at_section s inside.among BadList inside.passes refl)))
 
   listing_places : (list : TextSection) (n : Option ℕ) (l : Listing) → In list ss → is_list list.kind ≡ true
       → In l (filter_map (λ (k : Property). option_map (λ n. record { index = n; line = k.line }) (property_number k)) (option_map_or (keys_to list) n []))
@@ -365,8 +421,38 @@ module _ (ls : List Line) where
       (λ s is. key compact_form (codes "CompactPDO") s (found-by (λ (t : TextSection). same_kind t.kind DeviceInfo) ss s is).among refl form))
       (flat _ (sound_objects ss) (λ o i. key compact_form (codes "CompactSubObj") o.section (object o i) refl form))
 
-  sub_0 : (o : ListedObject) → In o.section ss → ArePlaced ls (sub_index_0_found ss o)
-  sub_0 o i = less (is_compact o.section) (missing_sub_index_0 ss o) (if_found _ MissingSub0 o.section.line (at_section o.section i MissingSub0 refl))
+  if_so_found : (test : Bool) (kind : FaultKind) (line : ℕ) → (test ≡ true → IsPlaced ls (fault kind line)) → ArePlaced ls (fault_if test kind line)
+  if_so_found true kind line is = one (fault kind line) (is refl)
+  if_so_found false kind line is = none
+
+  object_kind_in : (index : ℕ) (s : Option TextSection) (o : ListedObject) → section_at (Object index) ss ≡ s → option_map (λ t. record { index = index; section = t }) s ≡ Some o → same_kind o.section.kind (Object o.index) ≡ true
+  object_kind_in index None o is h = absurd (cc)
+  object_kind_in index (Some s) o is h =
+      let made : ListedObject = record { index = index; section = s } in
+      subst (λ (x : ListedObject). same_kind x.section.kind (Object x.index) ≡ true) (same-some made o h) (found-by (λ (t : TextSection). same_kind t.kind (Object index)) ss s is).passes
+
+  object_kind : (o : ListedObject) → In o (sound_objects ss) → same_kind o.section.kind (Object o.index) ≡ true
+  object_kind o h =
+      let made = made-by (λ (l : Listing). object_at l.index ss) (sound_listings ss) o h in
+      object_kind_in made.item.index (section_at (Object made.item.index) ss) o refl made.gives
+
+  sub_0 : (o : ListedObject) → In o.section ss → same_kind o.section.kind (Object o.index) ≡ true → ArePlaced ls (sub_index_0_found ss o)
+  sub_0 o i object =
+      let begun = (read ls o.section i).begun in
+      less (is_compact o.section) (missing_sub_index_0 ss o)
+      (if_so_found _ MissingSub0 o.section.line
+      (λ found.
+      at_section_of o.section i MissingSub0 refl
+      (λ same. record {
+        name = o.section.name;
+        form = begun.form;
+        index = o.index;
+        object = sym begun.kind ∙ one-object o.section.kind o.index object;
+        none = no-sub0 o.index ss (not-any _ (both-true _ _ found).1);
+      })))
+
+  all_sub_0 : ArePlaced ls (of_sound_objects sub_index_0_found ss)
+  all_sub_0 = flat (sub_index_0_found ss) (sound_objects ss) (λ o i. sub_0 o (object o i) (object_kind o i))
 
   -- ---- entries
 
@@ -386,7 +472,7 @@ module _ (ls : List Line) where
   of_entries check each = flat check (sound_entries ss) (λ e i. each e (entry e i))
 
   key_missing : (e : Entry) → In e.section ss → ArePlaced ls (key_found e)
-  key_missing e i = less (is_object_type_at_fault e) (missing_key e) (if_found _ MissingKey e.section.line (at_section e.section i MissingKey refl))
+  key_missing e i = less (is_object_type_at_fault e) (missing_key e) (if_found _ MissingKey e.section.line (at_section e.section i MissingKey refl refl))
 
   entry_numbers : (e : Entry) → In e.section ss → ArePlaced ls (unread_entry_numbers e)
   entry_numbers e i =
@@ -394,7 +480,7 @@ module _ (ls : List Line) where
 
   -- at the DataType, or at the section line where there is none
   type_place : (s : TextSection) → In s ss → (o : Option Property) → property_at (codes "DataType") s ≡ o → IsPlaced ls (fault BadType (option_map_or (λ (k : Property). k.line) o s.line))
-  type_place s i None is = at_section s i BadType refl
+  type_place s i None is = at_section s i BadType refl refl
   type_place s i (Some k) is =
       let there = found-by (λ j. same_name j.name (codes "DataType")) s.properties k is in
       at_property s k i there.among (same-as k.name (codes "DataType") (codes "ParameterName") there.passes) BadType refl
@@ -460,7 +546,7 @@ module _ (ls : List Line) where
       (append _ _ (of_objects unread_object_numbers object_numbers)
       (append _ _ (of_objects object_types_found types_found)
       (append _ _ forms
-      (append _ _ (of_objects sub_index_0_found sub_0)
+      (append _ _ all_sub_0
       (append _ _ (of_entries key_found key_missing)
       (append _ _ (of_entries unread_entry_numbers entry_numbers)
       (append _ _ (of_entries bad_type types)

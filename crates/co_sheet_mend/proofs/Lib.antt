@@ -6,3 +6,14 @@ pub mod ListLineLemmas
 pub mod NameLemmas
 pub mod RepairLemmas
 pub mod RoundLemmas
+pub mod TextLineLemmas
+pub mod LookLemmas
+pub mod NameReadLemmas
+pub mod SubZeroLemmas
+pub mod PieceLemmas
+pub mod RepairPlaceLemmas
+pub mod SectionFormLemmas
+pub mod LinePieceLemmas
+pub mod RoundNameLemmas
+pub mod FirstLineLemmas
+pub mod ReadableNameLemmas

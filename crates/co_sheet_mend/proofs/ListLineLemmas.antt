@@ -76,16 +76,16 @@ counted-asked false false false false false false h = absurd (cc)
 
 -- ---- the line of a text that a line was read from
 
-record IsReadFrom (ls : List Line) (m : Line) : Type 0 where
-  line : Line
-  among : In line ls
-  read : (m ≡ line) ⊎ (m ≡ emptied line)
+pub record IsReadFrom (ls : List Line) (m : Line) : Type 0 where
+  pub line : Line
+  pub among : In line ls
+  pub read : (m ≡ line) ⊎ (m ≡ emptied line)
 
 from-here : (o : Option TextFaultKind) (l m : Line) (ls : List Line) → read_as o l ≡ m → IsReadFrom (l ∷ ls) m
 from-here None l m ls same = record { line = l; among = inl refl; read = inl (sym same) }
 from-here (Some kind) l m ls same = record { line = l; among = inl refl; read = inr (sym same) }
 
-read-from : (before ls : List Line) (m : Line) → In m (lines_read before ls) → IsReadFrom ls m
+pub read-from : (before ls : List Line) (m : Line) → In m (lines_read before ls) → IsReadFrom ls m
 read-from before [] m h = absurd h
 read-from before (l ∷ ls) m (inl same) = from-here (own_fault before l) l m ls same
 read-from before (l ∷ ls) m (inr h) = let more = read-from (before ++ next_read before l ∷ []) ls m h in record { line = more.line; among = inr more.among; read = more.read }
@@ -102,7 +102,7 @@ list-read : (m line : Line) → (m ≡ line) ⊎ (m ≡ emptied line) → is_lis
 list-read m line (inl same) is = ap (λ (l : Line). is_list_line (line_form l)) (sym same) ∙ is
 list-read m line (inr same) is = clash (is_list_line (line_form m)) is (ap (λ (l : Line). is_list_line (line_form l)) same ∙ emptied-list (line_form line))
 
-same-number : (m line : Line) → (m ≡ line) ⊎ (m ≡ emptied line) → m.number ≡ line.number
+pub same-number : (m line : Line) → (m ≡ line) ⊎ (m ≡ emptied line) → m.number ≡ line.number
 same-number m line (inl same) = ap number_of same
 same-number m line (inr same) = ap number_of same
 
@@ -146,7 +146,7 @@ module _ (lines : List Line) (numbered : AreNumbered lines) where
       by_cases (inl c) = clash (asks Counted (repair_for f.kind)) asked (own-asks [] lines f c)
       by_cases (inr c) = by_place (placed (lines_read [] lines) f c)
 
-  counted-line : (line : Line) → In line lines → repair_at (faults_in lines) line.number ≡ Some Counted → begins_list line ≡ true
+  pub counted-line : (line : Line) → In line lines → repair_at (faults_in lines) line.number ≡ Some Counted → begins_list line ≡ true
   unfolding repair_at
   counted-line line i h =
       let found = any-found (asks_for Counted line.number) (faults_in lines) (counted-asked _ _ _ _ _ _ h) in
@@ -154,7 +154,7 @@ module _ (lines : List Line) (numbered : AreNumbered lines) where
       let here = asked-here Counted line.number f (f.line == line.number) refl found.passes in
       list-line line i f found.among here.0 here.1
 
-in-middle : (before after : List Line) (line : Line) → In line (before ++ line ∷ after)
+pub in-middle : (before after : List Line) (line : Line) → In line (before ++ line ∷ after)
 in-middle [] after line = inl refl
 in-middle (l ∷ before) after line = inr (in-middle before after line)
 

@@ -44,7 +44,7 @@ clash true is fails = absurd (cc)
 clash false is fails = absurd (cc)
 
 -- no fault at a line asks for a repair
-not-asked : (faults : List SheetFault) (line : ℕ) (repair : Repair) → ((f : SheetFault) → In f faults → f.line ≡ line → asks repair (repair_for f.kind) ≡ false) → has_repair faults line repair ≡ false
+pub not-asked : (faults : List SheetFault) (line : ℕ) (repair : Repair) → ((f : SheetFault) → In f faults → f.line ≡ line → asks repair (repair_for f.kind) ≡ false) → has_repair faults line repair ≡ false
 not-asked faults line repair none =
     not-true (has_repair faults line repair)
     (λ is.
@@ -116,11 +116,11 @@ bracket-cases : (b : ℕ) (bs name : List ℕ) (comment bracket : Bool)
 bracket-cases b bs name comment true h = ap (λ t. cond t None (property_of (b ∷ bs) (trim (before_first is_equals (b ∷ bs))))) (or-true comment)
 bracket-cases b bs name comment false h = absurd (cc)
 
-no-property : (text : List ℕ) (name : List ℕ) → section_at_text text ≡ Some name → property_at_text text ≡ None
+pub no-property : (text : List ℕ) (name : List ℕ) → section_at_text text ≡ Some name → property_at_text text ≡ None
 no-property [] name h = absurd (cc)
 no-property (b ∷ bs) name h = bracket-cases b bs name (b == 59) (b == 91) h
 
-gives-none : (name : List ℕ) (given : Option Given) → given ≡ None → option_map_or (λ g. same_name g.name name) given false ≡ false
+pub gives-none : (name : List ℕ) (given : Option Given) → given ≡ None → option_map_or (λ g. same_name g.name name) given false ≡ false
 gives-none name None h = refl
 gives-none name (Some g) h = absurd (cc)
 

@@ -1,6 +1,7 @@
 -- What a round of mending leaves of the entries of a text: their section lines and their names
 -- (CiA 306, object description).
-use Rattle.std.specs.Prelude.{◌≡◌, ℕ, ◌≤◌, Bool, true, false, not, ◌&&◌, List, ◌++◌, codes, length, Option, Some, None}
+use Rattle.std.specs.Prelude.{◌≡◌, ℕ, ◌≤◌, Bool, true, false, not, ◌&&◌, List, ◌++◌, codes, length, Option, Some, None, option_and_then}
+use Rattle.co_sheet.specs.Entries.{name_of}
 use Rattle.co_sheet_rows.specs.declared.fault.FaultKind.{FaultKind}
 use Rattle.co_sheet_rows.specs.declared.fault.FaultKind.TheVariants as kind
 use Rattle.co_sheet_text.specs.declared.section_kind.SectionKind.{SectionKind}
@@ -67,3 +68,14 @@ pub record IsWithin (part whole : List ℕ) : Type 0 where
   pub front : List ℕ
   pub after : List ℕ
   pub cut : whole ≡ front ++ part ++ after
+
+-- ---- all rounds
+
+-- the name that sections give an object or a sub-index: that of its first section; none where it has
+-- no section, and where that has no ParameterName
+abbrev pub name_in : SectionKind → List TextSection → Option (List ℕ)
+name_in kind sections = option_and_then name_of (section_at kind sections)
+
+-- and that a text gives it, as it is read in spite of its faults
+abbrev pub name_read : SectionKind → List ℕ → Option (List ℕ)
+name_read kind text = name_in kind (sections_read (lines_of text))

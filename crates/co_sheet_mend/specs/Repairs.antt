@@ -1,5 +1,5 @@
 -- What comes in place of the lines at fault of a data sheet's text (CiA 306).
-use Rattle.std.specs.Prelude.{ℕ, suc, ◌==◌, nat_le, nat_lt, Bool, true, false, not, ◌&&◌, if◌then◌else◌, List, [], ◌∷◌, ◌++◌, codes, decimal, length, Option, Some, None, is_some, option_and_then, unwrap_or}
+use Rattle.std.specs.Prelude.{ℕ, suc, ◌-◌, ◌==◌, nat_le, nat_lt, Bool, true, false, not, ◌&&◌, if◌then◌else◌, List, [], ◌∷◌, ◌++◌, codes, decimal, length, Option, Some, None, is_some, option_and_then, unwrap_or, slice_index}
 use Rattle.std.specs.List.{filter_map, list_any}
 use Rattle.std.specs.Option.{option_map_or}
 use Rattle.std.specs.Result.{result_ok}
@@ -100,8 +100,17 @@ gives name line = option_map_or (λ given. same_name given.name name) (property_
 abbrev pub gives_any : List ℕ → List Line → Bool
 gives_any name lines = list_any (gives name) (before_sections lines)
 
+-- a carriage return is the last byte of a line
+abbrev pub ends_in_return : List ℕ → Bool
+ends_in_return bytes = slice_index bytes (length bytes - 1) == 13
+
+-- LF ends a line; after a CR it is CR and LF, since one CR before LF is part of the end
+abbrev pub line_end : Bool → List ℕ
+line_end return = if return then 13 ∷ 10 ∷ [] else 10 ∷ []
+
+-- a line that is written so that it is read as it is
 abbrev pub ended : List ℕ → List ℕ
-ended bytes = bytes ++ 10 ∷ []
+ended bytes = bytes ++ line_end (ends_in_return bytes)
 
 -- a property that the lines of a section lack
 abbrev pub lacking : List ℕ → List ℕ → List Line → List ℕ

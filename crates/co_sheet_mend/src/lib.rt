@@ -9,6 +9,6 @@ mod repair;
 mod repairs;
 mod rewriting;
 
-pub use laws::names_stay;
+pub use laws::{names_stay, rounds_keep_names};
 pub use repair::Repair;
 pub use rewriting::{Rewritten, readable};

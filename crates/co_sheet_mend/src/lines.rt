@@ -11,6 +11,7 @@ ghost use Rattle.co_sheet_mend.specs.Repairs.{
   completed,
   counted_text,
   ended,
+  ends_in_return,
   gives,
   gives_any,
   key_at,
@@ -90,11 +91,24 @@ fn push_assigned(made: &mut Vec<u8>, name: &[u8], value: &[u8]) -> Result<(), Al
     made.extend_from_slice(b"\n")
 }
 
+// whether a carriage return is the last byte of a line
+fn ends_in_return(bytes: &[u8]) -> bool
+    ensures { result ≡ ends_in_return bytes.now }
+{
+    match bytes.last() {
+        Some(byte) => *byte == b'\r',
+        None => false,
+    }
+}
+
 /// Appends a line. `Err`: out of memory.
 pub(crate) fn push_ended(made: &mut Vec<u8>, bytes: &[u8]) -> Result<(), AllocError>
     ensures { OnOk result (made.new.items ≡ made.old.items ++ ended bytes.now) }
 {
     made.extend_from_slice(bytes)?;
+    if ends_in_return(bytes) {
+        return made.extend_from_slice(b"\r\n");
+    }
     made.extend_from_slice(b"\n")
 }
 
@@ -159,7 +173,8 @@ fn push_place(
 {
     push_number(alloc, made, number)?;
     made.extend_from_slice(b"=")?;
-    push_ended(made, value)
+    made.extend_from_slice(value)?;
+    made.extend_from_slice(b"\n")
 }
 
 fn push_numbered(alloc: Global, made: &mut Vec<u8>, values: &[&[u8]]) -> Result<(), AllocError>
