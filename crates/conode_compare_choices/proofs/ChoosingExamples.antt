@@ -82,7 +82,7 @@ abbrev pdos : Pdos
 pdos = record unknown_pdos { sync = Some 0x80; first = tpdo }
 
 abbrev facts : Facts
-facts = record { before = entries; booted = entries; pdos = pdos; starts_itself = false; modular = false; stores = false }
+facts = record { before = entries; booted = entries; pdos = pdos; starts_itself = false; modular = false; stores = false; as_sheet = true }
 
 abbrev subject : Subject
 subject = record {

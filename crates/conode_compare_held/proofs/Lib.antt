@@ -1,2 +1,4 @@
 mod Examples
+mod RpdoExamples
+pub mod Objects
 pub mod Readings

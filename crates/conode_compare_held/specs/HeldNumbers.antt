@@ -1,5 +1,6 @@
 -- What was written to the entries that are held, and where an upload shows another number.
 use Rattle.std.specs.Prelude.{ℕ, ◌+◌, ◌==◌, nat_le, Bool, true, false, ◌&&◌, ◌||◌, if◌then◌else◌, List, [], ◌∷◌, length, replicate, slice_index_or, slice_set, Option, Some, None, is_some, option_and_then}
+use Rattle.std.specs.Option.{option_map_or}
 use Rattle.co_value.specs.declared.key.Key.{Key}
 use Rattle.conode_explain_transfers.specs.declared.ended.Ended.{Ended}
 use Rattle.conode_explain_transfers.specs.declared.ended.Ending.{Ending}
@@ -128,6 +129,13 @@ unmapped_from place (entry ∷ more) written =
 
 abbrev pub unmapped : List HeldEntry → Written → Written
 unmapped entries written = unmapped_from 0 entries written
+
+-- what an entry has is unknown, if a PDO may have it
+abbrev pub is_mappable : List HeldEntry → Key → Bool
+is_mappable entries key = option_map_or (λ entry. entry.mappable) (entry_of entries key) false
+
+abbrev pub unmapped_at : List HeldEntry → Written → Key → Written
+unmapped_at entries written key = if is_mappable entries key then with_number written (place_of entries key) None else written
 
 -- A data frame came that is none of the device. An RPDO writes what is mapped into it; with a SYNC an
 -- earlier one may take effect.

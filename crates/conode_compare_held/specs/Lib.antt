@@ -1,2 +1,3 @@
 pub mod HeldNumbers
 pub mod HeldWords
+pub mod RpdoWrites

@@ -14,6 +14,7 @@ ghost use Rattle.conode_compare_held.specs.HeldNumbers.{
   number_at,
   number_written,
   unmapped,
+  unmapped_at,
   upload_mismatch,
   uploaded,
   with_number,
@@ -88,8 +89,8 @@ fn uploaded(held: &HeldEntries, certain: bool, ended: &Ended) -> Option<u64>
     shown_number(entry.width, ended.first.as_slice())
 }
 
-// whether CiA 301 restricts a CAN-ID (7.3.5): neither a PDO nor a SYNC has one of these
-fn is_restricted(id: u16) -> bool
+/// Whether CiA 301 restricts a CAN-ID (7.3.5): neither a PDO nor a SYNC has one of these.
+pub fn is_restricted(id: u16) -> bool
     ensures { result ≡ is_restricted id }
 {
     id <= 0x7F
@@ -125,7 +126,7 @@ impl Written {
     }
 
     // the number of the entry at a place
-    fn number_at(&self, place: Option<usize>) -> Option<u64>
+    pub(crate) fn number_at(&self, place: Option<usize>) -> Option<u64>
         ensures { result ≡ number_at self.now place }
     {
         match place {
@@ -135,7 +136,7 @@ impl Written {
     }
 
     // the entry at a place has this number
-    fn set(&mut self, place: Option<usize>, number: Option<u64>)
+    pub(crate) fn set(&mut self, place: Option<usize>, number: Option<u64>)
         ensures { self.new ≡ with_number self.old place number }
     {
         match place {
@@ -227,6 +228,16 @@ impl Written {
             if entry.mappable {
                 self.set(Some(place), None);
             }
+        }
+    }
+
+    /// What is known of an entry is unknown, if a PDO may have it.
+    pub fn forget_mapped_at(&mut self, held: &HeldEntries, key: Key)
+        ensures { self.new ≡ unmapped_at held.now.entries.items self.old key }
+    {
+        match held.entry(key) {
+            Some(entry) if entry.mappable => self.set(held.place(key), None),
+            _ => {}
         }
     }
 

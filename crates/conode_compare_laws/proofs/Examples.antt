@@ -56,7 +56,7 @@ abbrev subject : Subject
 subject = record {
   node = 5;
   limits = record { tolerance = 10; drift = 1; answer = 1000; boot = 10000; time = None };
-  facts = record { before = sheet; booted = sheet; pdos = unknown_pdos; starts_itself = false; modular = false; stores = false };
+  facts = record { before = sheet; booted = sheet; pdos = unknown_pdos; starts_itself = false; modular = false; stores = false; as_sheet = true };
   held = record { entries = record { items = [] } };
   rooms = record { strings = None; domains = None };
 }

@@ -39,7 +39,7 @@ abbrev with_pdos : Pdos → Subject
 with_pdos pdos = record {
   node = 5;
   limits = record { tolerance = 10; drift = 1; answer = 1000; boot = 10000; time = None };
-  facts = record { before = sheet; booted = sheet; pdos = pdos; starts_itself = false; modular = false; stores = false };
+  facts = record { before = sheet; booted = sheet; pdos = pdos; starts_itself = false; modular = false; stores = false; as_sheet = true };
   held = record { entries = record { items = [] } };
   rooms = record { strings = None; domains = None };
 }

@@ -4,3 +4,4 @@ pub mod PdoParameters
 pub mod Tpdos
 pub mod Deviations
 pub mod Followed
+pub mod Rpdos

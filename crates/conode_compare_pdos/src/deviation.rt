@@ -60,7 +60,7 @@ fn micros_of(millis: u32) -> u64
     ensures value { result ≡ micros_of millis }
     ensures small { result < 2 ^ 42 }
 {
-    u64::from(millis) * 1000
+    millis as u64 * 1000
 }
 
 // by how many microseconds the clocks may differ after so many ms
@@ -68,7 +68,7 @@ fn drift_of(moment: &Moment, millis: u16) -> u64
     ensures value { result ≡ drift_of moment.now millis }
     ensures small { result < 2 ^ 32 }
 {
-    u64::from(u32::from(millis) * u32::from(moment.drift)) * 10
+    (millis as u32 * moment.drift as u32) as u64 * 10
 }
 
 // whether the tolerance is over since a parameter was written or read
@@ -90,7 +90,7 @@ fn is_synchronous(kind: Option<u8>) -> bool
     }
 }
 
-fn is_event_driven(kind: Option<u8>) -> bool
+pub(crate) fn is_event_driven(kind: Option<u8>) -> bool
     ensures { result ≡ is_event_driven kind }
 {
     match kind {
@@ -132,7 +132,7 @@ fn state_deviation(moment: &Moment) -> Option<Deviation>
 fn least_gap(moment: &Moment, inhibit: u16) -> u64
     ensures { result ≡ least_gap moment.now inhibit }
 {
-    (u64::from(inhibit) * 100)
+    (inhibit as u64 * 100)
         .saturating_sub(micros_of(moment.tolerance))
         .saturating_sub(drift_of(moment, inhibit / 10))
 }
@@ -141,8 +141,8 @@ fn least_gap(moment: &Moment, inhibit: u16) -> u64
 fn greatest_gap(moment: &Moment, inhibit: u16, timer: u16) -> u64
     ensures { result ≡ greatest_gap moment.now inhibit timer }
 {
-    micros_of(u32::from(timer))
-        + u64::from(inhibit) * 100
+    micros_of(timer as u32)
+        + inhibit as u64 * 100
         + micros_of(moment.tolerance)
         + drift_of(moment, timer)
         + drift_of(moment, inhibit / 10)

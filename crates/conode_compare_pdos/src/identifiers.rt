@@ -28,7 +28,7 @@ fn is_cob_id(key: Key) -> bool
 }
 
 // whether a COB-ID, where it is known, has this identifier
-fn may_be(id: u16, number: Option<u64>) -> bool
+pub(crate) fn may_be(id: u16, number: Option<u64>) -> bool
     ensures { result ≡ may_be id number }
 {
     match number {

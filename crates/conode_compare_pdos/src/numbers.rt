@@ -27,7 +27,7 @@ pub fn number_of(node: u8, default: Preset<'_>) -> Option<u64>
 {
     match default {
         Preset::Number(number) if 0 <= number && number < i128::from(BOUND) => Some(number as u64),
-        Preset::NodeId(number) if number < BOUND => Some(number + u64::from(node)),
+        Preset::NodeId(number) if number < BOUND => Some(number + node as u64),
         _ => None,
     }
 }
@@ -80,7 +80,7 @@ pub fn first_word(bytes: &[u8]) -> Option<u16>
     ensures { result ≡ first_word bytes.now }
 {
     match bytes {
-        [low, high] | [low, high, _, _] => Some(u16::from(*low) + u16::from(*high) * 256),
+        [low, high] | [low, high, _, _] => Some(*low as u16 + *high as u16 * 256),
         _ => None,
     }
 }

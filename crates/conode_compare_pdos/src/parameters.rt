@@ -47,17 +47,17 @@ pub struct Parameters {
 pub(crate) fn communication(number: u8) -> u16
     ensures { result ≡ communication number }
 {
-    0x1800 + u16::from(number)
+    0x1800 + number as u16
 }
 
 /// The index of its mapping parameter.
 pub(crate) fn mapping(number: u8) -> u16
     ensures { result ≡ mapping number }
 {
-    0x1A00 + u16::from(number)
+    0x1A00 + number as u16
 }
 
-fn key_of(index: u16, sub: u8) -> Key
+pub(crate) fn key_of(index: u16, sub: u8) -> Key
     ensures { result ≡ key_of index sub }
 {
     Key { index, sub }
@@ -75,7 +75,7 @@ pub fn identifier_of(number: u64) -> Option<u16>
 }
 
 // the bytes of a mapped object, by the entry of the mapping
-fn mapped_bytes(word: u64) -> Option<u8>
+pub(crate) fn mapped_bytes(word: u64) -> Option<u8>
     ensures { result ≡ mapped_bytes word }
 {
     let bits = word % 256;
@@ -87,13 +87,11 @@ fn mapped_bytes(word: u64) -> Option<u8>
 }
 
 // the bytes of both; a PDO has at most eight
-fn summed(first: Option<u8>, second: Option<u8>) -> Option<u8>
+pub(crate) fn summed(first: Option<u8>, second: Option<u8>) -> Option<u8>
     ensures { result ≡ summed first second }
 {
     match (first, second) {
-        (Some(first), Some(second)) if u16::from(first) + u16::from(second) <= 8 => {
-            Some(first + second)
-        }
+        (Some(first), Some(second)) if first as u16 + second as u16 <= 8 => { Some(first + second) }
         _ => None,
     }
 }
@@ -110,7 +108,7 @@ fn with_object(
     requires { AllPairs (λ e f. is_key_before e.key f.key ≡ true) rows.now }
     ensures { result ≡ with_object (map row_view rows.now) node index count sub bytes }
 {
-    if u64::from(sub) > count {
+    if sub as u64 > count {
         return bytes;
     }
     match preset_at(rows, node, key_of(index, sub)) {
@@ -154,16 +152,13 @@ fn shown_identifier(bytes: &[u8]) -> Option<u16>
 {
     match bytes {
         [a, b, c, d] => identifier_of(
-            u64::from(*a)
-                + u64::from(*b) * 0x100
-                + u64::from(*c) * 0x1_0000
-                + u64::from(*d) * 0x100_0000,
+            *a as u64 + *b as u64 * 0x100 + *c as u64 * 0x1_0000 + *d as u64 * 0x100_0000,
         ),
         _ => None,
     }
 }
 
-fn first_byte(bytes: &[u8]) -> Option<u8>
+pub(crate) fn first_byte(bytes: &[u8]) -> Option<u8>
     ensures { result ≡ first_byte bytes.now }
 {
     match bytes {

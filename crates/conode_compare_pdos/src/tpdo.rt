@@ -58,7 +58,7 @@ pub fn is_id(own: Option<u16>, id: u16) -> bool
 }
 
 // whether a transfer that ended shows the bytes of its entry
-fn shows_bytes(ended: &Ended) -> bool
+pub(crate) fn shows_bytes(ended: &Ended) -> bool
     ensures { result ≡ shows_bytes ended.now.protocol ended.now.ending }
 {
     matches!(

@@ -484,6 +484,7 @@ plain_sheet : facts_of rows 5 false ≡ record {
   starts_itself = false;
   modular = false;
   stores = false;
+  as_sheet = true;
 }
 unfolding facts_of initial_entries sheet_entries
 plain_sheet = refl

@@ -86,6 +86,7 @@ facts_of rows node configured =
       starts_itself = has_object rows nmt_startup;
       modular = has_object rows module_list;
       stores = has_object rows store_parameters && not configured;
+      as_sheet = not (has_object rows store_parameters || configured);
     }
 
 -- ---- a recording

@@ -28,7 +28,7 @@ fn has_register(code: u16, register: u8) -> bool
 fn least_gap(limits: &Limits, inhibit: u16) -> u64
     ensures { result ≡ least_gap limits.now inhibit }
 {
-    (u64::from(inhibit) * 100)
+    (inhibit as u64 * 100)
         .saturating_sub(micros_of(limits.tolerance))
         .saturating_sub(drift_of(limits, inhibit / 10))
 }

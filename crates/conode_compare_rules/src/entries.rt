@@ -66,6 +66,9 @@ pub struct Facts {
     /// Whether it can store parameters (1010h), and the sheet has the values of all devices of its
     /// kind: it is no configuration.
     pub stores: bool,
+    /// Whether its entries have the sheet's values after each boot-up: it can't store others, and
+    /// the sheet is no configuration.
+    pub as_sheet: bool,
 }
 
 // NMT startup (CiA 302-2)
@@ -108,8 +111,8 @@ fn sheet_entries(rows: &[EntryRow<'_>], node: u8) -> Entries
     requires { AllPairs (λ e f. is_key_before e.key f.key ≡ true) rows.now }
     ensures { result ≡ sheet_entries (map row_view rows.now) node }
 {
-    let id = 0x80 + u16::from(node);
-    let has_default = preset_at(rows, node, EMERGENCY_COB_ID) == Some(u64::from(id));
+    let id = 0x80 + node as u16;
+    let has_default = preset_at(rows, node, EMERGENCY_COB_ID) == Some(id as u64);
     Entries {
         period: small(preset_at(rows, node, PRODUCER_HEARTBEAT)),
         emergencies: has_default && !may_have(rows, node, id),
@@ -156,6 +159,7 @@ pub fn facts_of(rows: &[EntryRow<'_>], node: u8, configured: bool) -> Facts
         modular: has_object(rows, MODULES),
         starts_itself: has_object(rows, NMT_STARTUP),
         stores: stores && !configured,
+        as_sheet: !stores && !configured,
     }
 }
 
@@ -217,7 +221,7 @@ pub(crate) fn shares_id(node: u8, side: Side, frame: &Frame) -> bool
 {
     match side {
         Side::Client if asks_to_write(frame) => {
-            may_get(0x80 + u16::from(node), key_in(frame), word_written(frame))
+            may_get(0x80 + node as u16, key_in(frame), word_written(frame))
         }
         _ => false,
     }

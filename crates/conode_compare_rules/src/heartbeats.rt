@@ -36,7 +36,7 @@ pub(crate) struct Heartbeats {
 fn allowance(limits: &Limits, period: u16) -> u64
     ensures { result ≡ allowance limits.now period }
 {
-    micros_of(u32::from(period)) + micros_of(limits.tolerance) + drift_of(limits, period)
+    micros_of(period as u32) + micros_of(limits.tolerance) + drift_of(limits, period)
 }
 
 /// Whether nothing at all was recorded for longer than three periods; where none is known, or no
@@ -46,7 +46,7 @@ pub(crate) fn is_gap(limits: &Limits, period: Option<u16>, newest: u64, micros: 
 {
     match period {
         Some(period) if period > 0 => {
-            micros.saturating_sub(newest) > 3 * micros_of(u32::from(period))
+            micros.saturating_sub(newest) > 3 * micros_of(period as u32)
         }
         _ => is_past(newest, limits.answer, micros),
     }
@@ -118,7 +118,7 @@ impl Heartbeats {
         let period = entries.period?;
         let sent = self.sent?;
         let passed = micros.saturating_sub(sent);
-        let least = micros_of(u32::from(period))
+        let least = micros_of(period as u32)
             .saturating_sub(micros_of(limits.tolerance))
             .saturating_sub(drift_of(limits, period));
         if self.guarded || is_guarded_state(byte) || passed >= least {

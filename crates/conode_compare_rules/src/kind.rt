@@ -87,7 +87,7 @@ fn data_kind(node: u8, frame: Frame) -> FrameKind
     ensures { result ≡ data_kind node frame }
 {
     let id = frame.id();
-    let node_id = u16::from(node);
+    let node_id = node as u16;
     if id == 0 {
         return command_kind(node, &frame);
     }
@@ -116,7 +116,7 @@ pub fn kind_of(node: u8, id: Identifier, content: &Content<'_>) -> FrameKind
         Identifier::Extended(_) => FrameKind::Other,
         Identifier::Base(id) => match content {
             Content::Data(bytes) => data_kind(node, Frame::packed(id, bytes)),
-            Content::Remote(_) if id == 0x700 + u16::from(node) => FrameKind::Guarding,
+            Content::Remote(_) if id == 0x700 + node as u16 => FrameKind::Guarding,
             Content::Remote(_) => FrameKind::Polled(id),
             _ => FrameKind::Other,
         },

@@ -13,6 +13,7 @@ mod limits;
 mod nmt;
 mod process;
 mod progress;
+mod receptions;
 mod verdict;
 
 pub use entries::{Entries, Facts, facts_of};
@@ -21,4 +22,5 @@ pub use kind::{FrameKind, kind_of};
 pub use limits::{Limits, Subject};
 pub use nmt::is_reset;
 pub use progress::Progress;
+pub use receptions::Receptions;
 pub use verdict::{Findings, Verdict};

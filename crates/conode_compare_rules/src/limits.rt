@@ -42,5 +42,5 @@ pub struct Subject {
 pub(crate) fn drift_of(limits: &Limits, millis: u16) -> u64
     ensures { result ≡ drift_of limits.now millis }
 {
-    u64::from(u32::from(millis) * u32::from(limits.drift)) * 10
+    (millis as u32 * limits.drift as u32) as u64 * 10
 }

@@ -51,7 +51,7 @@ pub fn key_in(frame: &Frame) -> Key
     ensures { result ≡ key_in frame.now }
 {
     Key {
-        index: u16::from(byte_at(frame, 1)) + u16::from(byte_at(frame, 2)) * 256,
+        index: byte_at(frame, 1) as u16 + byte_at(frame, 2) as u16 * 256,
         sub: byte_at(frame, 3),
     }
 }
@@ -73,7 +73,7 @@ fn abort_breach(named: Key, key: Key, code: AbortCode) -> Option<Breach>
 fn is_padded(frame: &Frame, ended: &Ended, indicated: u32) -> bool
     ensures { result ≡ is_padded frame.now ended.now indicated }
 {
-    let indicated = u64::from(indicated);
+    let indicated = indicated as u64;
     matches!(ended.protocol, Protocol::Segmented)
         && (byte_at(frame, 0) / 2 % 8 == 0
             && (indicated <= ended.bytes && ended.bytes <= indicated + 6))

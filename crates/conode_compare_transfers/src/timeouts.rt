@@ -23,14 +23,14 @@ use conode_explain_transfers::{Ending, Heard, Side, What};
 fn drift_of(drift: u8, millis: u16) -> u64
     ensures { result ≡ drift_of drift millis }
 {
-    u64::from(u32::from(millis) * u32::from(drift)) * 10
+    (millis as u32 * drift as u32) as u64 * 10
 }
 
 // whether the server, which times out after so many ms, or with 0 never, awaited the client for less
 fn is_early(tolerance: u32, drift: u8, time: u16, waited: u64) -> bool
     ensures { result ≡ is_early tolerance drift time waited }
 {
-    let least = micros_of(u32::from(time))
+    let least = micros_of(time as u32)
         .saturating_sub(micros_of(tolerance))
         .saturating_sub(drift_of(drift, time));
     time == 0 || waited < least
@@ -74,7 +74,7 @@ pub fn early_abort(
 pub fn is_late(tolerance: u32, drift: u8, time: u16, waited: u64) -> bool
     ensures { result ≡ is_late tolerance drift time waited }
 {
-    let most = micros_of(u32::from(time)) + micros_of(tolerance) + drift_of(drift, time);
+    let most = micros_of(time as u32) + micros_of(tolerance) + drift_of(drift, time);
     time > 0 && waited > most
 }
 

@@ -7,7 +7,7 @@ ghost use Rattle.conode_compare_transfers.specs.Times.{is_past, micros_of};
 pub fn micros_of(millis: u32) -> u64
     ensures { result ≡ micros_of millis }
 {
-    u64::from(millis) * 1000
+    millis as u64 * 1000
 }
 
 /// Whether a stamp is more than so many ms after another one.

@@ -194,6 +194,12 @@ abbrev pub beyond_mismatch : Row → List ℕ → Option Mismatch
 beyond_mismatch row bytes =
     if has_limits row && is_number row bytes then limit_mismatch row (numbers.number_of row.data_type bytes) else None
 
+-- a number that isn't beyond the limits of its entry, whether they can be meant or not
+abbrev pub is_within : Row → List ℕ → Bool
+is_within row bytes =
+    is_number row bytes
+    && not (is_above row.high (numbers.number_of row.data_type bytes) || is_below row.low (numbers.number_of row.data_type bytes))
+
 -- `access-write`: the data sheet has the entry as read only
 abbrev pub written_mismatch : Row → List ℕ → Option Mismatch
 written_mismatch row bytes = if is_read_only row.access then Some (Written row.key) else beyond_mismatch row bytes

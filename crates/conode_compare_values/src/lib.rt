@@ -10,5 +10,6 @@ mod values;
 pub use mismatch::Mismatch;
 pub use rooms::Rooms;
 pub use values::{
-    beyond_mismatch, has_limits, is_held, is_read_only, is_readable, mismatch_at, shown_number,
+    beyond_mismatch, has_limits, is_held, is_read_only, is_readable, is_within, mismatch_at,
+    shown_number,
 };

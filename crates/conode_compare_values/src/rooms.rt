@@ -61,7 +61,7 @@ fn string_room(default: usize, room: Option<u16>) -> Option<u64>
     ensures { result ≡ option_map (max default) room }
 {
     match room {
-        Some(room) => Some((default as u64).max(u64::from(room))),
+        Some(room) => Some((default as u64).max(room as u64)),
         None => None,
     }
 }
@@ -70,7 +70,7 @@ fn domain_room(room: Option<u16>) -> Option<u64>
     ensures { result ≡ room }
 {
     match room {
-        Some(room) => Some(u64::from(room)),
+        Some(room) => Some(room as u64),
         None => None,
     }
 }

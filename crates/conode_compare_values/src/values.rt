@@ -29,6 +29,7 @@ ghost use Rattle.conode_compare_values.specs.SheetValues.{
   is_read_only,
   is_version,
   is_visible,
+  is_within,
   limit_mismatch,
   long_mismatch,
   mismatch_at,
@@ -360,6 +361,17 @@ pub fn beyond_mismatch(row: &EntryRow<'_>, bytes: &[u8]) -> Option<Mismatch>
     match from_bytes(row.data_type, bytes) {
         Ok(value) => limit_mismatch(row, value),
         Err(_) => None,
+    }
+}
+
+/// Whether bytes are a number that isn't beyond the limits of its entry, whether these can be meant
+/// or not.
+pub fn is_within(row: &EntryRow<'_>, bytes: &[u8]) -> bool
+    ensures { result ≡ is_within (row_view row.now) bytes.now }
+{
+    match from_bytes(row.data_type, bytes) {
+        Ok(value) => !is_above(row.high, value) && !is_below(row.low, value),
+        Err(_) => false,
     }
 }
 

@@ -1,0 +1,265 @@
+-- What RPDOs write to the entries that are held, and what leaves a doubt, on both sides of each edge, computed from the definitions.
+use Rattle.std.proofs.Common.{◌≡◌, ℕ, Bool, true, false, List, [], ◌∷◌, map, Option, Some, None, refl}
+use Rattle.std.specs.Prelude.{pos, slice_index_or}
+use Rattle.co_frame.specs.FrameContent.{FrameContent}
+use Rattle.co_frame.specs.declared.nmt.NmtService.TheVariants.{Start, ResetNode}
+use Rattle.co_profile.specs.declared.access.Access.TheVariants.{Rw}
+use Rattle.co_sheet.specs.Content.{Row}
+use Rattle.co_sheet.specs.Limits.{absent, number}
+use Rattle.co_value.specs.declared.data_type.DataType.TheVariants.{Unsigned8, Unsigned16, Unsigned32}
+use Rattle.conode_explain_transfers.specs.declared.ended.Ended.{Ended}
+use Rattle.conode_explain_transfers.specs.declared.ended.Ending.TheVariants.{Done}
+use Rattle.conode_explain_transfers.specs.declared.kinds.Direction.{Direction}
+use Rattle.conode_explain_transfers.specs.declared.kinds.Direction.TheVariants.{Download, Upload}
+use Rattle.conode_explain_transfers.specs.declared.kinds.Protocol.TheVariants.{Expedited}
+use Rattle.conode_explain_transfers.specs.declared.kinds.Side.{Side}
+use Rattle.conode_explain_transfers.specs.declared.kinds.Side.TheVariants.{Client, Server}
+use Rattle.conode_explain_transfers.specs.declared.kinds.What.{What}
+use Rattle.conode_explain_transfers.specs.declared.kinds.What.TheVariants.{Initiate, Part}
+use Rattle.conode_record.specs.declared.content.Content.TheVariants.{Data}
+use Rattle.conode_record.specs.declared.fields.Identifier.{Identifier}
+use Rattle.conode_record.specs.declared.fields.Identifier.TheVariants.{Base, Extended}
+use Rattle.conode_compare_pdos.specs.declared.rpdo.Rpdo.{Rpdo}
+use Rattle.conode_compare_pdos.specs.Followed.{unknown_pdos}
+use Rattle.conode_compare_pdos.specs.PdoParameters.{nothing_known}
+use Rattle.conode_compare_pdos.specs.Rpdos.{has_few_rpdos, mapped_from, rpdo_of}
+use Rattle.conode_compare_pdos.specs.Tpdos.{booted_tpdo}
+use Rattle.conode_compare_transfers.specs.declared.dialogue.Exchange.{Exchange}
+use Rattle.conode_compare_held.specs.declared.rpdo_writes.RpdoValue.{RpdoValue}
+use Rattle.conode_compare_held.specs.HeldNumbers.{nothing_written, number_at, unmapped_from, with_number}
+use Rattle.conode_compare_held.specs.RpdoWrites.{brought_from, fits_from, no_writes, settled_from, taken_from}
+use Rattle.conode_compare_rules.specs.declared.finding.NmtState.{NmtState}
+use Rattle.conode_compare_rules.specs.declared.finding.NmtState.TheVariants.{Operational, PreOperational, Unknown}
+use Rattle.conode_compare_rules.specs.declared.kind.FrameKind.{FrameKind}
+use Rattle.conode_compare_rules.specs.declared.kind.FrameKind.TheVariants.{Command, Control, Emergency, OddControl, Other, Polled, Process}
+use Rattle.conode_compare_rules.specs.declared.limits.Subject.{Subject}
+use Rattle.conode_compare_rules.specs.declared.nmt.Nmt.{Nmt}
+use Rattle.conode_compare_rules.specs.declared.progress.Progress.{Progress}
+use Rattle.conode_compare_rules.specs.declared.receptions.Receptions.{Receptions}
+use Rattle.conode_compare_rules.specs.EntriesInForce.{facts_of, initial_entries, sheet_entries}
+use Rattle.conode_compare_rules.specs.Progresses.{before_recording}
+use Rattle.conode_compare_rules.specs.Receptions.{booted_receptions, exchanged_by, is_sure, no_receptions, process_received, receptions_with, with_receptions, with_written}
+use Rattle.conode_compare_rules.specs.States.{is_settled}
+use Rattle.conode_compare_rules.proofs.Examples.{limits, key, row}
+
+-- ---- a device with an RPDO of type 255 for 2000:00, on 205h
+
+abbrev rows : List Row
+rows = row 0x1400 1 Unsigned32 Rw (number (pos 0x205)) ∷ row 0x1400 2 Unsigned8 Rw (number (pos 255)) ∷ row 0x1600 0 Unsigned8 Rw (number (pos 1))
+    ∷ row 0x1600 1 Unsigned32 Rw (number (pos 0x20000010)) ∷ record (row 0x2000 0 Unsigned16 Rw absent) { mappable = true } ∷ []
+
+abbrev subject : Subject
+subject = record {
+  node = 5;
+  limits = limits;
+  facts = facts_of rows 5 false;
+  held = record { entries = record { items = record { key = key 0x2000 0; width = 2; mappable = true } ∷ [] } };
+  rooms = record { strings = None; domains = None };
+}
+
+abbrev nmt_in : NmtState → Nmt
+nmt_in state = record { state = state; commanded = None; reset = None; several = false; booted = None }
+
+abbrev shows : NmtState → ℕ → Progress
+shows state micros = record (before_recording subject) { newest = Some micros; free = micros; nmt = nmt_in state }
+
+-- 20 ms after the begin of the recording; 5 was written to 2000:00
+abbrev operational : Progress
+operational = shows Operational 20000
+
+abbrev booted : Receptions
+booted = with_written (booted_receptions subject rows) (with_number nothing_written (Some 0) (Some 5))
+
+abbrev number_in : Receptions → Option ℕ
+number_in r = number_at r.writes.written (Some 0)
+
+abbrev value_in : Receptions → Option RpdoValue
+value_in r = slice_index_or r.writes.values 0 None
+
+abbrev rpdo : List ℕ → FrameContent
+rpdo bytes = record { id = 0x205; bytes = bytes }
+
+abbrev after : Receptions → Progress → FrameContent → Receptions
+after r progress frame = process_received subject rows r progress 20000 frame
+
+-- ---- which frames are followed
+
+abbrev followed_by : Subject → List Row → Bool
+followed_by device all = (booted_receptions device all).followed
+
+follows : (followed_by subject rows ≡ true) × (followed_by subject [] ≡ false)
+    × (followed_by (record subject { facts = record (facts_of rows 5 false) { starts_itself = true } }) rows ≡ false)
+unfolding booted_receptions has_few_rpdos facts_of
+follows = (refl, refl, refl)
+
+takes : map (λ bytes. number_in (after booted operational (rpdo bytes))) ((2 ∷ 1 ∷ []) ∷ (5 ∷ 0 ∷ []) ∷ (5 ∷ []) ∷ []) ≡ None ∷ Some 5 ∷ Some 5 ∷ []
+unfolding booted_receptions has_few_rpdos facts_of rpdo_of mapped_from fits_from brought_from taken_from no_writes nothing_written process_received is_sure is_settled
+takes = refl
+
+-- one byte is too few, of three the first two count
+brings : map (λ bytes. value_in (after booted operational (rpdo bytes))) ((2 ∷ 1 ∷ []) ∷ (2 ∷ 1 ∷ 9 ∷ []) ∷ (2 ∷ []) ∷ (5 ∷ 0 ∷ []) ∷ [])
+    ≡ Some (record { number = 0x102; since = 20000 }) ∷ Some (record { number = 0x102; since = 20000 }) ∷ None ∷ None ∷ []
+unfolding booted_receptions has_few_rpdos facts_of rpdo_of mapped_from fits_from brought_from taken_from no_writes nothing_written process_received is_sure is_settled
+brings = refl
+
+-- the PDO of another node, a heartbeat; where RPDOs aren't followed the first may be one, and a TPDO of the device is none
+others : map (λ id. number_in (after booted operational (record { id = id; bytes = [] }))) (0x206 ∷ 0x701 ∷ []) ≡ Some 5 ∷ Some 5 ∷ []
+unfolding booted_receptions has_few_rpdos facts_of rpdo_of no_writes nothing_written process_received
+others = refl
+
+not_followed : map (λ id. (after (record booted { followed = false }) (record operational { pdos = record unknown_pdos { third = booted_tpdo (record nothing_known { id = Some 0x185 }) } }) (record { id = id; bytes = [] })).touched)
+    (0x206 ∷ 0x701 ∷ 0x185 ∷ []) ≡ Some 20000 ∷ None ∷ None ∷ []
+unfolding booted_receptions has_few_rpdos facts_of rpdo_of no_writes nothing_written process_received
+not_followed = refl
+
+-- then what is known is what the recording shows
+as_before : map (λ written. number_in (after (record booted { followed = false }) (record operational { written = written }) (record { id = 0x206; bytes = [] }))) (nothing_written ∷ booted.writes.written ∷ []) ≡ None ∷ Some 5 ∷ []
+unfolding booted_receptions has_few_rpdos facts_of rpdo_of no_writes nothing_written process_received
+as_before = refl
+
+-- ---- doubts
+
+abbrev first : Rpdo → Receptions
+first r = record booted { rpdos = record booted.rpdos { first = r } }
+
+abbrev own : Rpdo
+own = booted.rpdos.first
+
+abbrev doubts : Receptions → Progress → (Option ℕ × Option RpdoValue × Bool)
+doubts r progress = let next = after r (record progress { written = r.writes.written }) (rpdo (2 ∷ 1 ∷ [])) in (number_in next, value_in next, next.followed)
+
+-- a download is open; the COB-ID, or the mapping, isn't known; two have this identifier
+in_doubt : map (λ r. doubts r operational)
+    (record booted { writing = true } ∷ first (record own { cob_id = None }) ∷ first (record own { count = None }) ∷ record booted { rpdos = record booted.rpdos { second = own } } ∷ [])
+    ≡ (None, None, true) ∷ (None, None, true) ∷ (None, None, true) ∷ (None, None, true) ∷ []
+unfolding booted_receptions has_few_rpdos facts_of rpdo_of mapped_from fits_from brought_from taken_from no_writes nothing_written process_received is_sure is_settled unmapped_from
+in_doubt = refl
+
+-- of another type, or with an inhibit time, it may take effect later: RPDOs aren't followed any more
+waits : map (λ r. doubts r operational) (first (record own { kind = Some 1 }) ∷ first (record own { kind = None }) ∷ first (record own { inhibit = Some 1 }) ∷ [])
+    ≡ (None, None, false) ∷ (None, None, false) ∷ (None, None, false) ∷ []
+unfolding booted_receptions has_few_rpdos facts_of rpdo_of mapped_from fits_from brought_from taken_from no_writes nothing_written process_received is_sure is_settled unmapped_from
+waits = refl
+
+-- for the tolerance after one of its parameters was written or read, and after a command; in another state
+unsettled : map (λ changed. value_in (after (first (record own { changed = Some changed })) operational (rpdo (2 ∷ 1 ∷ [])))) (10000 ∷ 9999 ∷ [])
+    ≡ None ∷ Some (record { number = 0x102; since = 20000 }) ∷ []
+unfolding booted_receptions has_few_rpdos facts_of rpdo_of mapped_from fits_from brought_from taken_from no_writes nothing_written process_received is_sure is_settled unmapped_from
+unsettled = refl
+
+commanded_just_now : map (λ micros. value_in (after booted (record operational { nmt = record (nmt_in Operational) { commanded = Some (record { service = Start; micros = micros }) } }) (rpdo (2 ∷ 1 ∷ [])))) (10000 ∷ 9999 ∷ [])
+    ≡ None ∷ Some (record { number = 0x102; since = 20000 }) ∷ []
+unfolding booted_receptions has_few_rpdos facts_of rpdo_of mapped_from fits_from brought_from taken_from no_writes nothing_written process_received is_sure is_settled unmapped_from
+commanded_just_now = refl
+
+other_states : map (λ state. doubts booted (shows state 20000)) (PreOperational ∷ Unknown ∷ []) ≡ (None, None, true) ∷ (None, None, true) ∷ []
+unfolding booted_receptions has_few_rpdos facts_of rpdo_of mapped_from fits_from brought_from taken_from no_writes nothing_written process_received is_sure is_settled unmapped_from
+other_states = refl
+
+-- no PDO may have the entry, by the sheet
+unfit : (number_in (process_received subject (row 0x2000 0 Unsigned16 Rw absent ∷ []) booted (record operational { written = booted.writes.written }) 20000 (rpdo (2 ∷ 1 ∷ [])))) ≡ None
+unfolding booted_receptions has_few_rpdos facts_of rpdo_of mapped_from fits_from brought_from taken_from no_writes nothing_written process_received is_sure is_settled unmapped_from
+unfit = refl
+
+-- a TPDO of the device has its identifier
+own_tpdo : doubts booted (record operational { pdos = record unknown_pdos { third = booted_tpdo (record nothing_known { id = Some 0x205 }) } }) ≡ (None, None, true)
+unfolding booted_receptions has_few_rpdos facts_of rpdo_of mapped_from fits_from brought_from taken_from no_writes nothing_written process_received is_sure is_settled unmapped_from
+own_tpdo = refl
+
+-- SYNC has its identifier
+own_sync : doubts booted (record operational { pdos = record unknown_pdos { sync = Some 0x205 } }) ≡ (None, None, true)
+unfolding booted_receptions has_few_rpdos facts_of rpdo_of mapped_from fits_from brought_from taken_from no_writes nothing_written process_received is_sure is_settled unmapped_from
+own_sync = refl
+
+-- ---- heartbeats, commands and requests
+
+abbrev taken : Receptions
+taken = after booted operational (rpdo (2 ∷ 1 ∷ []))
+
+abbrev with : Receptions → ℕ → FrameKind → Receptions
+with r micros kind = receptions_with subject rows r (shows Operational micros) micros kind (Base 0x705) (Data [])
+
+abbrev exchange_of : What → Option Ended → Exchange
+exchange_of what ended = record { heard = record { what = what; of = None; ended = ended }; asked = None; owed = true; certain = true; breach = None; awaited = None }
+
+abbrev asks_for : ℕ → ℕ → ℕ → FrameContent
+asks_for command low high = record { id = 0x605; bytes = command ∷ low ∷ high ∷ 0 ∷ 0 ∷ 0 ∷ 0 ∷ 0 ∷ [] }
+
+abbrev requested : Receptions → FrameContent → Receptions
+requested r frame = exchanged_by subject r (shows Operational 50000) 50000 Client frame (exchange_of Initiate None)
+
+-- the heartbeat is to come later than the tolerance after the RPDO
+confirmed : map (λ micros. number_in (requested (with taken micros (Control 5)) (asks_for 0x40 0 0x20))) (30000 ∷ 30001 ∷ []) ≡ None ∷ Some 0x102 ∷ []
+unfolding booted_receptions has_few_rpdos facts_of rpdo_of mapped_from fits_from brought_from taken_from no_writes nothing_written process_received is_sure is_settled unmapped_from receptions_with exchanged_by settled_from initial_entries sheet_entries
+confirmed = refl
+
+-- another state, error control of two bytes, a command
+unconfirmed : map (λ kind. number_in (requested (with (with taken 30001 kind) 30002 (Control 5)) (asks_for 0x40 0 0x20))) (Control 127 ∷ OddControl 2 ∷ Command Start ∷ Polled 0x205 ∷ []) ≡ None ∷ None ∷ None ∷ Some 0x102 ∷ []
+unfolding booted_receptions has_few_rpdos facts_of rpdo_of mapped_from fits_from brought_from taken_from no_writes nothing_written process_received is_sure is_settled unmapped_from receptions_with exchanged_by settled_from initial_entries sheet_entries
+unconfirmed = refl
+
+-- a request to write the entry, another one, one of the communication profile
+written_since : map (λ at. number_in (requested (with taken 30001 (Control 5)) at)) (asks_for 0x2B 0 0x20 ∷ asks_for 0x2B 1 0x20 ∷ asks_for 0x2B 0 0x14 ∷ []) ≡ None ∷ Some 0x102 ∷ None ∷ []
+unfolding booted_receptions has_few_rpdos facts_of rpdo_of mapped_from fits_from brought_from taken_from no_writes nothing_written process_received is_sure is_settled unmapped_from receptions_with exchanged_by settled_from initial_entries sheet_entries
+written_since = refl
+
+-- a reset, a boot-up
+resets : map (λ kind. (with taken 30001 kind).followed) (Command ResetNode ∷ Control 0 ∷ []) ≡ false ∷ true ∷ []
+unfolding booted_receptions has_few_rpdos facts_of no_receptions receptions_with initial_entries sheet_entries rpdo_of mapped_from fits_from brought_from taken_from no_writes nothing_written process_received is_sure is_settled
+resets = refl
+
+-- ---- downloads
+
+abbrev ended : Direction → ℕ → Option Ended
+ended direction begun = Some (record {
+  key = key 0x2000 0;
+  direction = direction;
+  protocol = Expedited;
+  bytes = 2;
+  first = record { items = 5 ∷ 0 ∷ [] };
+  frames = 2;
+  begun = begun;
+  newest = begun;
+  end = 50000;
+  ending = Done false;
+})
+
+abbrev answered : Receptions → Direction → ℕ → Receptions
+answered r direction begun =
+    exchanged_by subject r (record (shows Operational 50000) { written = booted.writes.written }) 50000 Server (asks_for 0x60 0 0x20) (exchange_of Part (ended direction begun))
+
+-- an RPDO came at 20 ms: within the tolerance before the request of the download
+later : map (λ begun. number_in (answered taken Download begun)) (30000 ∷ 30001 ∷ []) ≡ None ∷ Some 5 ∷ []
+unfolding booted_receptions has_few_rpdos facts_of rpdo_of mapped_from fits_from brought_from taken_from no_writes nothing_written process_received is_sure is_settled exchanged_by
+later = refl
+
+uploads : number_in (answered taken Upload 30000) ≡ Some 5
+unfolding booted_receptions has_few_rpdos facts_of rpdo_of mapped_from fits_from brought_from taken_from no_writes nothing_written process_received is_sure is_settled exchanged_by
+uploads = refl
+
+-- a download is open until the device ends it
+opens : map (λ r. r.writing) (requested booted (asks_for 0x2B 1 0x20) ∷ requested booted (asks_for 0x40 1 0x20) ∷ answered (record booted { writing = true }) Download 30001 ∷ answered (record booted { writing = true }) Upload 30001 ∷ [])
+    ≡ true ∷ false ∷ false ∷ true ∷ []
+unfolding booted_receptions has_few_rpdos facts_of no_writes nothing_written exchanged_by settled_from rpdo_of
+opens = refl
+
+-- ---- other frames
+
+abbrev seen : FrameKind → Identifier → Receptions
+seen kind id = receptions_with subject rows booted (record (shows Operational 20000) { written = nothing_written }) 20000 kind id (Data (2 ∷ 1 ∷ []))
+
+-- EMCY may have the identifier of an RPDO; a command to another node writes nothing
+shared : map number_in (seen (Emergency 0 0) (Base 0x85) ∷ seen (Process 0x206 2) (Base 0x206) ∷ seen Other (Base 0) ∷ seen Other (Extended 0x205) ∷ []) ≡ Some 5 ∷ Some 5 ∷ Some 5 ∷ None ∷ []
+unfolding booted_receptions has_few_rpdos facts_of rpdo_of no_writes nothing_written receptions_with process_received initial_entries sheet_entries
+shared = refl
+
+extended : (seen Other (Extended 0x205)).followed ≡ false
+unfolding booted_receptions has_few_rpdos facts_of rpdo_of no_writes nothing_written receptions_with process_received initial_entries sheet_entries
+extended = refl
+
+-- where the recording begins anew, nothing is known; where no entry is held, nothing changes
+begins : (number_in (receptions_with subject rows booted (record (shows Operational 20000) { started = 20000 }) 20000 (Polled 0x205) (Base 0x205) (Data [])) ≡ None)
+    × ((with_receptions (record subject { held = record { entries = record { items = [] } } }) operational booted).written ≡ nothing_written)
+    × (number_at (with_receptions subject operational booted).written (Some 0) ≡ Some 5)
+unfolding booted_receptions no_receptions no_writes nothing_written receptions_with with_receptions facts_of initial_entries sheet_entries
+begins = (refl, refl, refl)
