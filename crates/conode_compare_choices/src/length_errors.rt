@@ -136,7 +136,7 @@ fn rpdo_id(rows: &[EntryRow<'_>], node: u8, number: u8) -> Option<u16>
     requires { AllPairs (λ e f. is_key_before e.key f.key ≡ true) rows.now }
     ensures { result ≡ rpdo_id (map row_view rows.now) node number }
 {
-    let index = 0x1400 + u16::from(number);
+    let index = 0x1400 + number as u16;
     let kind = Key {
         index,
         sub: TRANSMISSION_TYPE,
@@ -224,7 +224,7 @@ fn is_missing(limits: &Limits, inhibit: Option<u16>, micros: u64, awaited: Await
     match inhibit {
         Some(time) => {
             is_past(awaited.micros, limits.answer, micros)
-                && is_past(awaited.micros, u32::from(time / 5), micros)
+                && is_past(awaited.micros, (time / 5) as u32, micros)
         }
         None => false,
     }
@@ -304,7 +304,7 @@ impl Rpdo {
     {
         Rpdo {
             id: rpdo_id(rows, node, number),
-            length: length_of(rows, node, 0x1600 + u16::from(number)),
+            length: length_of(rows, node, 0x1600 + number as u16),
         }
     }
 

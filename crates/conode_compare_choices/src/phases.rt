@@ -94,7 +94,7 @@ fn start_key(number: u8) -> Key
     ensures { result ≡ start_key number }
 {
     Key {
-        index: 0x1800 + u16::from(number),
+        index: 0x1800 + number as u16,
         sub: SYNC_START_VALUE,
     }
 }

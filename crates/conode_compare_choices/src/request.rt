@@ -169,7 +169,7 @@ impl Request {
         if self.first % 2 == 0 {
             None
         } else if self.first / 2 % 2 == 1 {
-            Some(u64::from(4 - self.first / 4 % 4))
+            Some((4 - self.first / 4 % 4) as u64)
         } else {
             Some(unsigned_of(&self.rest))
         }

@@ -38,7 +38,7 @@ const MODULUS: u64 = 4_294_967_291;
 fn mixed(sum: u32, byte: u8) -> u32
     ensures { result ≡ mixed sum byte }
 {
-    ((u64::from(sum) * 257 + u64::from(byte)) % MODULUS) as u32
+    ((sum as u64 * 257 + byte as u64) % MODULUS) as u32
 }
 
 fn checksum_from(sum: u32, bytes: &[u8]) -> u32
