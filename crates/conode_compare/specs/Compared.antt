@@ -30,8 +30,10 @@ use Rattle.conode_compare_notes.specs.declared.warning.Warning.{Warning}
 use Rattle.conode_compare_notes.specs.declared.warning.Warning.TheVariants.{Restarted, Stored, Changed, ChangedBytes, SteppedBack, OtherRevision, OtherText, OddCode, OtherError}
 use Rattle.conode_compare_rules.specs.declared.kind.FrameKind.{FrameKind}
 use Rattle.conode_compare_rules.specs.declared.progress.Progress.{Progress}
+use Rattle.conode_compare_rules.specs.declared.receptions.Receptions.{Receptions}
 use Rattle.conode_compare_rules.specs.FrameKinds.{kind_of}
 use Rattle.conode_compare_rules.specs.Progresses.{before_recording, findings_at, is_number_kept, progress_with}
+use Rattle.conode_compare_rules.specs.Receptions.{no_receptions, receptions_with, with_receptions}
 use Rattle.conode_compare_text.specs.FindingTexts.{finding_line}
 use Rattle.conode_compare_text.specs.Tallies.{no_frames, tally_with}
 use Rattle.conode_compare_text.specs.WarningTexts.{warning_line}
@@ -132,6 +134,7 @@ kind_noted c progress micros kind kept =
 abbrev pub nothing_compared : Subject → Option Kept → Comparing
 nothing_compared subject report = record {
   progress = before_recording subject;
+  receptions = no_receptions;
   tally = no_frames;
   first = record { items = [] };
   several = false;
@@ -153,6 +156,11 @@ found_at c so_far frame kind = findings_at c.subject c.rows so_far.progress fram
 
 abbrev pub progress_at : Comparison → Comparing → Record → FrameKind → Progress
 progress_at c so_far frame kind = progress_with c.subject so_far.progress frame.micros kind
+
+-- what RPDOs write to the entries that are held
+abbrev pub receptions_at : Comparison → Comparing → Record → FrameKind → Receptions
+receptions_at c so_far frame kind =
+    receptions_with c.subject c.rows so_far.receptions (progress_at c so_far frame kind) frame.micros kind frame.id frame.content
 
 abbrev pub noted_with : Comparison → Comparing → Record → FrameKind → Noted
 noted_with c so_far frame kind = noted_at c.choices c.subject c.rows so_far.notes kind (progress_at c so_far frame kind)
@@ -178,7 +186,8 @@ first_with first name = if is_first first.items then record { items = name } els
 
 unfoldable pub frame_taken : Comparison → Comparing → Record → FrameKind → Comparing
 frame_taken c so_far frame kind = record {
-  progress = progress_at c so_far frame kind;
+  progress = with_receptions c.subject (progress_at c so_far frame kind) (receptions_at c so_far frame kind);
+  receptions = receptions_at c so_far frame kind;
   tally = tally_with so_far.tally (found_at c so_far frame kind).verdict;
   first = first_with so_far.first frame.interface;
   several = so_far.several;

@@ -29,7 +29,7 @@ use crate::notes::{Noted, Notes};
 use crate::writes::{Settings, write_shown};
 use arrayvec::ArrayVec;
 use conode_compare_report::{Kind, Report};
-use conode_compare_rules::{Findings, FrameKind, Progress, Subject, kind_of};
+use conode_compare_rules::{Findings, FrameKind, Progress, Receptions, Subject, kind_of};
 use conode_compare_text::Tally;
 use conode_io::CmdFault;
 use conode_record::Record;
@@ -40,6 +40,8 @@ use std::io::Write;
 #[derive(Drop)]
 pub struct Comparing {
     pub(crate) progress: Progress,
+    /// What RPDOs write to the entries that are held.
+    pub(crate) receptions: Receptions,
     pub(crate) tally: Tally,
     /// The name of the first interface; empty before the first frame.
     pub(crate) first: ArrayVec<u8, 15>,
@@ -103,6 +105,7 @@ impl Comparing {
     {
         Comparing {
             progress: Progress::new(subject),
+            receptions: Receptions::none(),
             tally: Tally::new(),
             first: ArrayVec::new(),
             several: false,
@@ -189,7 +192,8 @@ impl Comparing {
         frame: &Record<'_>,
         kind: &FrameKind,
     ) -> Result<(Findings, Noted), AllocError>
-        requires { AllPairs (λ e f. is_key_before e.key f.key ≡ true) settings.now.rows.now }
+        requires rows { AllPairs (λ e f. is_key_before e.key f.key ≡ true) settings.now.rows.now }
+        requires id { IsIdentifier frame.now.id }
         ensures found { IfOk result (λ shown. shown.0
             ≡ found_at (comparison_view settings.now) self.old frame.now kind.now) }
         ensures noted { IfOk result (λ shown. shown.1
@@ -208,6 +212,15 @@ impl Comparing {
         self.note_first(frame.interface.bytes());
         self.nodes.note(frame);
         let noted = self.notes.take(settings, kind, &self.progress)?;
+        self.receptions.take(
+            &settings.subject,
+            settings.rows,
+            &mut self.progress,
+            frame.micros,
+            kind,
+            frame.id,
+            &frame.content,
+        );
         Ok((found, noted))
     }
 

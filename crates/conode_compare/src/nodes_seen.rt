@@ -40,7 +40,7 @@ impl NodesSeen {
         ensures { self.new ≡ nodes_with self.old frame.now }
     {
         if let Some(node) = node_of(frame.id, &frame.content) {
-            self.nodes[usize::from(node)] = true;
+            self.nodes[node as usize] = true;
         }
     }
 
