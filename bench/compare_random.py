@@ -18,13 +18,16 @@ PROGRAM = sys.argv[3].split() if len(sys.argv) > 3 else ["bin/conode"]
 # with what each device keeps of what is written
 SHEETS = [("examples/temperature-sensor.eds", 5, "1017:00,2000:00,2010:00")]
 SHEETS += [("examples/io-module.eds", 8, "1014:00,1015:00,1017:00,1800:01,1800:02,1A00:00,2001:00")]
+# and with what RPDOs write
+SHEETS += [("examples/io-module.eds", 8, "1017:00,1400:01,1400:02,1600:00,1600:01,6200:01,6200:02,6411:01")]
 KEYS = [(0x1000, 0), (0x1001, 0), (0x1003, 0), (0x1008, 0), (0x1014, 0), (0x1015, 0), (0x1017, 0), (0x1018, 0), (0x1018, 1)]
 KEYS += [(0x1800, 1), (0x1800, 2), (0x1A00, 0), (0x2000, 0), (0x2001, 1), (0x1234, 0)]
+RPDO_KEYS = [(0x1017, 0), (0x1400, 1), (0x1400, 2), (0x1600, 0), (0x1600, 1), (0x6200, 1), (0x6200, 2), (0x6411, 1)]
 
 
-def data_of(it, node):
+def data_of(it, node, keys):
     """The identifier and the data of a random frame."""
-    index, sub = it.choice(KEYS)
+    index, sub = it.choice(keys)
     key = index.to_bytes(2, "little") + bytes([sub])
     kind = it.random()
     if kind < 0.4:
@@ -66,17 +69,29 @@ def stamp_of(text):
     return float(text[1 : text.index(")")])
 
 
-def recording(it, sheet, node, folder):
+def rpdo_of(it, node):
+    """A frame of an RPDO: mostly the first one, whose objects are outputs."""
+    return it.choice([0x200, 0x200, 0x200, 0x300]) + node, bytes(it.randrange(256) for _ in range(it.choice([1, 2, 2, 2, 3])))
+
+
+def recording(it, sheet, node, folder, keys):
     """The lines of a session, with what the device sends."""
     stamp, inputs = 1000.0, []
+    if keys is RPDO_KEYS:
+        # a heartbeat each 100 ms, and operational
+        inputs.append(line(stamp, 0x600 + node, b"\x2b\x17\x10\x00\x64" + bytes(3)))
+        inputs.append(line(stamp + 0.1, 0, b"\x01\x00"))
+        stamp += 0.2
     for _ in range(it.randrange(5, 120)):
         stamp += it.choice([0.001, 0.003, 0.01, 0.1, 0.5, 1.0, 1.5, 3.0])
         if it.random() < 0.1:
             for frame in text_of(it, node):
                 inputs.append(line(stamp, *frame))
                 stamp += 0.001
+        elif keys is RPDO_KEYS and it.random() < 0.3:
+            inputs.append(line(stamp, *rpdo_of(it, node)))
         else:
-            inputs.append(line(stamp, *data_of(it, node)))
+            inputs.append(line(stamp, *data_of(it, node, keys)))
     with open(f"{folder}/inputs.log", "w", encoding="ascii") as file:
         file.write("\n".join(inputs) + "\n")
     words = [*PROGRAM, "replay", sheet, f"{folder}/inputs.log", "--node", str(node)]
@@ -100,7 +115,7 @@ def main():
             sheet, node, held = it.choice(SHEETS)
             file = f"{folder}/session.log"
             with open(file, "w", encoding="ascii") as recorded:
-                recorded.write("\n".join(recording(it, sheet, node, folder)) + "\n")
+                recorded.write("\n".join(recording(it, sheet, node, folder, RPDO_KEYS if "6200" in held else KEYS)) + "\n")
             # with the room that the device has
             words = [*PROGRAM, "compare", sheet, file, "--node", str(node), "--held", held, "--strings", "16", "--domains", "889"]
             ran = subprocess.run(words, capture_output=True, text=True, check=False)

@@ -2,8 +2,8 @@
 """mend_random.py [COUNT] [SEED] [PROGRAM]: data sheets with random damage, by which `conode explain` names an entry.
 
 The sheets are those of examples/ and examples/vendor/: their lists of mandatory objects are damaged, sections of 1000h, 1001h and 1018h are
-taken out, or up to 29 lines are emptied or get another value. A sheet counts as read if the status is 0. Status 1 where one is refused: each
-has an object list, and is less than 1 MiB long.
+taken out, or up to 29 lines are emptied or get another value. A sheet counts as read if the status is 0. Status 1 where one is refused that
+has an object list; each is less than 1 MiB long.
 """
 import collections
 import glob
@@ -55,6 +55,8 @@ def main():
             words = [*PROGRAM, "explain", "-", "--log", "candump", "--sheet", f"5={sheet}"]
             run = subprocess.run(words, input=b"(1.000000) can0 605#4017100000000000\n", capture_output=True, check=False)
             how = "refused" if run.returncode else "mended" if b"what is at fault" in run.stderr else "read"
+            if not any(re.match(rb"\[(Mandatory|Optional|Manufacturer)Objects\]", it, re.I) for it in lines):
+                how = f"without a list {how}"
             seen[kind, how] += 1
             if how == "refused":
                 refused += 1
