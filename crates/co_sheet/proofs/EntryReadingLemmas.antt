@@ -9,7 +9,6 @@ use Rattle.co_value.specs.Types.{code_of, least_of, greatest_of}
 use Rattle.co_sheet.specs.declared.checks.entries.Limit.{Limit}
 use Rattle.co_sheet.specs.declared.checks.entries.Stated.{Stated}
 use Rattle.co_sheet.specs.declared.checks.entries.Values.{Values}
-use Rattle.co_sheet_rows.specs.declared.fault.FaultKind.{FaultKind}
 use Rattle.co_sheet_rows.specs.declared.fault.FaultKind.TheVariants.{MissingKey, LeftOutType, BadLimits, BadDefault}
 use Rattle.co_sheet_rows.specs.declared.fault.SheetFault.{SheetFault}
 use Rattle.co_sheet.specs.declared.checks.findings.Finding.{Finding}
@@ -231,6 +230,22 @@ numeric-values t e values is numeric low high default parameter =
       defaults = bad-read t e values is low_same high_same default_stated parameter_stated;
     }
 
+-- what is read of a string or a domain
+pub text-values : (t : DataType) (e : Entry) (default parameter : Option Stated) → data_type_of e ≡ Some t → is_numeric t ≡ false
+    → IsStatedAt t (property_at (codes "DefaultValue") e.section) default → IsStatedAt t (property_at (codes "ParameterValue") e.section) parameter
+    → AreValues t e (record { low = None; high = None; default = default; parameter = parameter })
+text-values t e default parameter is other of_default of_parameter =
+    let values : Values = record { low = None; high = None; default = default; parameter = parameter } in
+    let low : low_limit t e ≡ None = rw other refl in
+    let high : high_limit t e ≡ None = rw other refl in
+    record {
+      low = low;
+      high = high;
+      default = default-read t (property_at (codes "DefaultValue") e.section) (property_at (codes "ParameterValue") e.section) default parameter of_default of_parameter;
+      limits = ap (λ o. option_map_or (λ u. cond (is_numeric u) (bad_limits u e) []) o []) is ∙ ap (λ b. cond b (bad_limits t e) []) other;
+      defaults = bad-read t e values is low high of_default of_parameter;
+    }
+
 -- ---- results
 
 pub at_ok : {X E : Type 0} (P : X → Type 0) (r : Result X E) (x : X) → r ≡ Ok x → IfOk r P → P x
@@ -243,13 +258,3 @@ checked-ok check (Err f) x h = absurd (cc)
 pub checked-err : {X : Type 0} (check : ℕ) (r : Result X SheetFault) (g : Finding) → Err g ≡ checked check r → Some g ≡ option_map (found_by check) (result_err r)
 checked-err check (Ok y) g h = absurd (cc)
 checked-err check (Err f) g h = let same : g ≡ found_by check f = cc in ap Some same
-
--- ---- a check that finds nothing
-
-pub passed : (check : ℕ) (o : Option SheetFault) → None ≡ option_map (found_by check) o → o ≡ None
-passed check None h = refl
-passed check (Some f) h = absurd (cc)
-
-pub no_fault-test : (test : Bool) (kind : FaultKind) (line : ℕ) → least_fault (fault_if test kind line) ≡ None → test ≡ false
-no_fault-test true kind line h = absurd (cc)
-no_fault-test false kind line h = refl

@@ -1,15 +1,22 @@
 -- The sub-index sections of an index, in a list that is sorted by index.
-use Rattle.std.proofs.Common.{◌≡◌, ℕ, ◌+◌, ◌<◌, suc, Bool, true, false, cond, List, [], ◌∷◌, ◌++◌, refl, sym, ap, ◌∙◌, arith, length, get_or, map, take, drop, ltb, leb, eqb}
+use Rattle.std.proofs.Common.{◌≡◌, ℕ, ◌+◌, ◌<◌, suc, Bool, true, false, cond, List, [], ◌∷◌, ◌++◌, Some, None, refl, sym, ap, ◌∙◌, arith, length, get_or, map, take, drop, ltb, leb, eqb}
 use Rattle.std.proofs.lemmas.Bool.Decides.{nat_tests}
 use Rattle.std.proofs.lemmas.List.{append-nil, take-append-drop, length-take, length-drop, get_or-take, get_or-drop}
 use Rattle.std.proofs.lemmas.List.Elements.{filter-append}
 use Rattle.std.specs.List.{filter}
 use Rattle.std.specs.List.Sorted.{IsPartitionPoint}
 use Rattle.std.specs.Ordering.{nat_cmp, is_lt}
+use Rattle.co_value.specs.declared.key.Key.{Key}
+use Rattle.co_sheet_text.specs.declared.section_kind.SectionKind.{SectionKind}
+use Rattle.co_sheet_text.specs.declared.section_kind.SectionKind.TheVariants.{SubIndex}
+use Rattle.co_sheet_text.specs.Sections.{TextSection}
+use Rattle.co_sheet_text.specs.Views.{section_view}
 use Rattle.co_sheet.specs.declared.tables.EntrySection.{EntrySection}
 use Rattle.co_sheet.specs.Content.{in_order}
-use Rattle.co_sheet.specs.Entries.{Entry}
+use Rattle.co_sheet.specs.Entries.{Entry, sub_index_in}
 use Rattle.co_sheet.specs.SectionViews.{entry_view, parts_at}
+use Rattle.co_sheet.specs.private.ListReadings.{listed}
+use Rattle.co_sheet.proofs.ListLemmas.{map-push}
 use Rattle.co_sheet.proofs.OrderLemmas.{in_order-filter, is_lt-number}
 
 -- a filter that all pass, or none
@@ -75,3 +82,19 @@ parts-sorted i xs ys sorted =
     ∙ ap (λ l. map entry_view (filter (has_index i) l)) sorted
     ∙ ap (map entry_view) (in_order-filter is_before (has_index i) (λ x y before h k. apart i y.key.index x.key.index (sym (is_lt-number y.key.index x.key.index) ∙ before) h k) xs)
     ∙ parts-filter i xs
+
+-- a section more, which is a sub-index's, or isn't
+part_cases : (b : Bool) (e : Entry) → cond b (e ∷ []) [] ≡ listed (cond b (Some e) None)
+part_cases true e = refl
+part_cases false e = refl
+
+pub part-pushed : (i : ℕ) (xs : List EntrySection) (e : EntrySection) (kind : SectionKind) → kind ≡ SubIndex e.key → parts_at (xs ++ e ∷ []) i ≡ parts_at xs i ++ listed (sub_index_in i (section_view e.section.now) kind)
+part-pushed i xs e kind is =
+    ap (filter (λ (f : Entry). eqb f.key.index i)) (map-push entry_view xs e)
+    ∙ filter-append (λ (f : Entry). eqb f.key.index i) (map entry_view xs) (entry_view e ∷ [])
+    ∙ ap (λ es. parts_at xs i ++ es) (part_cases (eqb e.key.index i) (entry_view e))
+    ∙ ap (λ k. parts_at xs i ++ listed (sub_index_in i (section_view e.section.now) k)) (sym is)
+
+pub no-part : (i : ℕ) (s : TextSection) (kind : SectionKind) → ((key : Key) → kind ≡ SubIndex key → ⊥) → sub_index_in i s kind ≡ None
+no-part i s (SubIndex key) other = absurd (other key refl)
+no-part i s kind other = refl

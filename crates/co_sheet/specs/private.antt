@@ -4,3 +4,4 @@ pub mod LeastFaults
 pub mod EntryReadings
 pub mod ListReadings
 pub mod ObjectReadings
+pub mod SheetReadings

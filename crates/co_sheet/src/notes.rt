@@ -1,6 +1,6 @@
 //! What is odd in a text.
 
-ghost use Rattle.std.specs.Prelude.{◌≡◌, ◌++◌, ℕ, nat_eq, length, IfOk, OnOk};
+ghost use Rattle.std.specs.Prelude.{◌≡◌, ◌++◌, ℕ, nat_eq, length, OnOk};
 ghost use Rattle.indexmap.specs.IndexSet.{contains};
 ghost use Rattle.co_sheet.specs.ObjectLists.{is_listed};
 ghost use Rattle.co_sheet.specs.Entries.{sub_indices};
@@ -12,7 +12,7 @@ use crate::tables::Tables;
 use co_sheet_rows::{Note, NoteKind};
 use co_sheet_text::{SectionKind, TextSection};
 use indexmap::IndexSet;
-use std::alloc::{AllocError, Global};
+use std::alloc::AllocError;
 
 // an object section from 1000h on that no list names
 fn add_unlisted(
@@ -77,7 +77,7 @@ fn parts_len(tables: &Tables, index: u16) -> usize
     tables.parts(index).len()
 }
 
-fn add_notes(
+fn add_notes_at(
     notes: &mut Vec<Note>,
     tables: &Tables,
     indices: &IndexSet<u64>,
@@ -98,18 +98,17 @@ fn add_notes(
     }
 }
 
-/// What is odd in a text, in the order of its sections.
-pub(crate) fn notes(
-    alloc: Global,
+/// Adds what is odd in a text, in the order of its sections.
+pub(crate) fn add_notes(
+    notes: &mut Vec<Note>,
     tables: &Tables,
     indices: &IndexSet<u64>,
-) -> Result<Vec<Note>, AllocError>
+) -> Result<(), AllocError>
     requires { (i : ℕ) → contains nat_eq indices.now i ≡ is_listed tables.now i }
-    ensures { IfOk result (λ notes. notes.items ≡ notes_of tables.now) }
+    ensures { OnOk result (notes.new.items ≡ notes.old.items ++ notes_of tables.now) }
 {
-    let mut notes = Vec::new(alloc);
     for section in tables.sections() {
-        add_notes(&mut notes, tables, indices, section)?;
+        add_notes_at(notes, tables, indices, section)?;
     }
-    Ok(notes)
+    Ok(())
 }

@@ -1,6 +1,6 @@
 //! The rows of a text: its objects, its entries, its sections, its dummies.
 
-ghost use Rattle.std.specs.Prelude.{◌≡◌, ◌∷◌, [], map, IfOk, OnOk};
+ghost use Rattle.std.specs.Prelude.{◌≡◌, ◌∷◌, ◌++◌, [], map, OnOk};
 ghost use Rattle.std.specs.Option.{option_copied};
 ghost use Rattle.co_sheet_text.specs.Properties.{number_at};
 ghost use Rattle.co_sheet.specs.ObjectLists.{is_one_of};
@@ -12,7 +12,7 @@ ghost use Rattle.co_sheet.specs.SheetViews.{row_view, object_row_view, section_n
 use crate::sections::section_at;
 use co_sheet_rows::{EntryRow, Object, Section};
 use co_sheet_text::{SectionKind, TextSection};
-use std::alloc::{AllocError, Global};
+use std::alloc::AllocError;
 
 // ParameterName
 pub(crate) fn name_of<'a>(section: &TextSection<'_, 'a>) -> Option<&'a [u8]>
@@ -22,61 +22,40 @@ pub(crate) fn name_of<'a>(section: &TextSection<'_, 'a>) -> Option<&'a [u8]>
     Some(given.value)
 }
 
-fn sort_rows(alloc: Global, rows: &mut [EntryRow]) -> Result<(), AllocError>
-    ensures { OnOk result (map row_view rows.new ≡ rows_in_order (map row_view rows.old)) }
-{
-    rows.sort_by_key(alloc, |row| (row.key.index, row.key.sub))?;
-    Ok(())
-}
-
-// rows in increasing key
-pub(crate) fn ordered_rows<'a>(
-    alloc: Global,
-    mut rows: Vec<EntryRow<'a>>,
-) -> Result<Vec<EntryRow<'a>>, AllocError>
-    ensures { IfOk result
-        (λ ordered. map row_view ordered.items ≡ rows_in_order (map row_view rows.entry.items)) }
-{
-    sort_rows(alloc, rows.as_mut_slice())?;
-    Ok(rows)
-}
-
-fn sort_objects(alloc: Global, objects: &mut [Object]) -> Result<(), AllocError>
+// puts rows in increasing key
+pub(crate) fn sort_rows(rows: &mut Vec<EntryRow>) -> Result<(), AllocError>
     ensures { OnOk result
-        (map object_row_view objects.new ≡ objects_in_order (map object_row_view objects.old)) }
+        (map row_view rows.new.items ≡ rows_in_order (map row_view rows.old.items)) }
 {
-    objects.sort_by_key(alloc, |object| object.index)?;
+    rows.sort_by_key(|row| (row.key.index, row.key.sub))?;
     Ok(())
 }
 
-// objects in increasing index
-pub(crate) fn ordered_objects<'a>(
-    alloc: Global,
-    mut objects: Vec<Object<'a>>,
-) -> Result<Vec<Object<'a>>, AllocError>
-    ensures { IfOk result (λ ordered. map object_row_view ordered.items
-        ≡ objects_in_order (map object_row_view objects.entry.items)) }
+// puts objects in increasing index
+pub(crate) fn sort_objects(objects: &mut Vec<Object>) -> Result<(), AllocError>
+    ensures { OnOk result (map object_row_view objects.new.items
+        ≡ objects_in_order (map object_row_view objects.old.items)) }
 {
-    sort_objects(alloc, objects.as_mut_slice())?;
-    Ok(objects)
+    objects.sort_by_key(|object| object.index)?;
+    Ok(())
 }
 
-// the section lines
-pub(crate) fn section_names<'a>(
-    alloc: Global,
+// adds the section lines
+pub(crate) fn add_section_names<'a>(
+    names: &mut Vec<Section<'a>>,
     sections: &[TextSection<'_, 'a>],
-) -> Result<Vec<Section<'a>>, AllocError>
-    ensures { IfOk result (λ names. map section_name_view names.items
-        ≡ section_names_in (map section_view sections.now)) }
+) -> Result<(), AllocError>
+    ensures { OnOk result (map section_name_view names.new.items
+        ≡ map section_name_view names.old.items
+        ++ section_names_in (map section_view sections.now)) }
 {
-    let mut names = Vec::new(alloc);
     for section in sections {
         names.push(Section {
             name: section.name,
             line: section.line,
         })?;
     }
-    Ok(names)
+    Ok(())
 }
 
 // whether a section has 1 at a key

@@ -4,69 +4,69 @@ ghost use Rattle.std.specs.Prelude.{
   ◌≡◌,
   ◌<◌,
   ◌≤◌,
-  ℕ,
-  nat_eq,
+  [],
   map,
-  filter_map,
   true,
   All,
   AllPairs,
   IfOk,
   IfErr,
   IfSome,
-  None,
+  OnOk,
 };
-ghost use Rattle.indexmap.specs.IndexSet.{contains};
-ghost use Rattle.co_sheet.specs.ObjectLists.{is_listed};
-ghost use Rattle.co_sheet.specs.Entries.{listed_objects, entries_of};
 ghost use Rattle.co_sheet.specs.Checks.{checks};
 ghost use Rattle.co_sheet.specs.Accepted.{first_found, IsAnswered};
 ghost use Rattle.co_sheet_text.specs.Views.{section_view};
 ghost use Rattle.co_sheet_text.specs.SectionLaws.{IsParsed};
 ghost use Rattle.co_value.specs.Keys.{is_key_before};
-ghost use Rattle.co_sheet.specs.Content.{row_of, object_row_of, is_dummy, content_of};
+ghost use Rattle.co_sheet.specs.Content.{is_dummy};
 ghost use Rattle.co_sheet.specs.SheetViews.{row_view, object_row_view, section_name_view};
-ghost use Rattle.co_sheet.specs.SheetLaws.{IsSheetRow, IsSheetContent, KeepsEntries};
+ghost use Rattle.co_sheet.specs.SheetLaws.{IsSheetRow, IsSheetContent};
+ghost use Rattle.co_sheet.specs.private.SheetReadings.{AreEmpty, AreListsOf, IsReadOf};
 
 use crate::checks::entries::read_entries;
-use crate::checks::lists::{listed_indices, missing_mandatory, read_lists};
+use crate::checks::lists::{Listing, collect_indices, missing_mandatory, read_lists};
 use crate::checks::objects::read_objects;
 use crate::commissioning::node_id;
-use crate::notes::notes;
-use crate::rows::{dummies, ordered_objects, ordered_rows, section_names};
-use crate::tables::Tables;
+use crate::notes::add_notes;
+use crate::rows::{add_section_names, dummies, sort_objects, sort_rows};
+use crate::tables::{EntrySection, Tables};
 use co_sheet_rows::{EntryRow, Note, Object, Section, SheetFault};
 use co_sheet_text::TextSection;
 use indexmap::IndexSet;
-use std::alloc::{AllocError, Global};
+use std::alloc::Global;
 use std::marker::Model;
 
-/// The contents of a data sheet (CiA 306).
-pub struct Sheet<'a> {
+/// The lists of a data sheet.
+pub(crate) struct Lists<'a> {
     pub(crate) objects: Vec<Object<'a>>,
     pub(crate) entries: Vec<EntryRow<'a>>,
     pub(crate) sections: Vec<Section<'a>>,
     pub(crate) notes: Vec<Note>,
-    pub(crate) dummies: [bool; 6],
-    pub(crate) node_id: Option<u8>,
 }
 
 // Not derived: else each function that drops a sheet would contain the drop of each of its lists.
-impl<'a> Drop for Sheet<'a> {
+impl<'a> Drop for Lists<'a> {
     fn drop(self) {
-        let Sheet {
+        let Lists {
             objects,
             entries,
             sections,
             notes,
-            dummies: _,
-            node_id: _,
         } = self;
         drop(objects);
         drop(entries);
         drop(sections);
         drop(notes);
     }
+}
+
+/// The contents of a data sheet (CiA 306).
+#[derive(Drop)]
+pub struct Sheet<'a> {
+    pub(crate) lists: Lists<'a>,
+    pub(crate) dummies: [bool; 6],
+    pub(crate) node_id: Option<u8>,
 }
 
 impl<'a> Model for Sheet<'a> {
@@ -76,11 +76,11 @@ impl<'a> Model for Sheet<'a> {
 
     ghost Value = { SheetContent };
 
-    ghost view = { λ s. content_view s.objects.items s.entries.items s.sections.items
-        s.notes.items s.dummies s.node_id };
+    ghost view = { λ s. content_view s.lists.objects.items s.lists.entries.items
+        s.lists.sections.items s.lists.notes.items s.dummies s.node_id };
 
-    ghost invariant = { λ s. IsSheetContent (content_view s.objects.items s.entries.items
-        s.sections.items s.notes.items s.dummies s.node_id) };
+    ghost invariant = { λ s. IsSheetContent (content_view s.lists.objects.items
+        s.lists.entries.items s.lists.sections.items s.lists.notes.items s.dummies s.node_id) };
 }
 
 impl<'a> Sheet<'a> {
@@ -91,7 +91,7 @@ impl<'a> Sheet<'a> {
         // What the sheet keeps as a whole.
         ensures sheet { IsSheetContent self.now }
     {
-        self.objects.as_slice()
+        self.lists.objects.as_slice()
     }
 
     /// The entries of these objects, in increasing key. Limits are numbers of the entry's type, in
@@ -105,21 +105,21 @@ impl<'a> Sheet<'a> {
         // What the sheet keeps as a whole.
         ensures sheet { IsSheetContent self.now }
     {
-        self.entries.as_slice()
+        self.lists.entries.as_slice()
     }
 
     /// The section lines of the text in its order, those that are passed over too.
     pub fn sections(&self) -> &[Section<'a>]
         ensures { map section_name_view result.now ≡ self.now.sections }
     {
-        self.sections.as_slice()
+        self.lists.sections.as_slice()
     }
 
     /// What is odd in the text, in its order.
     pub fn notes(&self) -> &[Note]
         ensures { result.now ≡ self.now.notes }
     {
-        self.notes.as_slice()
+        self.lists.notes.as_slice()
     }
 
     /// Whether a dummy entry, 0002h to 0007h, may be mapped: DummyUsage has 1 for it (CiA 306,
@@ -145,35 +145,71 @@ impl<'a> Sheet<'a> {
     }
 }
 
-// what the sheet of accepted sections holds
-fn contents<'a>(
-    alloc: Global,
-    tables: &Tables<'_, 'a>,
-    indices: &IndexSet<u64>,
-    objects: Vec<Object<'a>>,
-    rows: Vec<EntryRow<'a>>,
-) -> Result<Sheet<'a>, AllocError>
-    requires laws { IsSheetContent (content_of tables.now) }
-    requires indices { (i : ℕ) → contains nat_eq indices.now i ≡ is_listed tables.now i }
-    requires objects { filter_map object_row_of (listed_objects tables.now)
-        ≡ map object_row_view objects.items }
-    requires rows { filter_map row_of (entries_of tables.now) ≡ map row_view rows.items }
-    ensures { IfOk result (λ sheet. sheet ≡ content_of tables.now) }
+impl<'a> Lists<'a> {
+    // reads each list, what the steps need on the way into the lists that the caller has
+    fn read_by_steps<'s>(
+        &mut self,
+        tables: &Tables<'s, 'a>,
+        named: &mut Vec<Listing>,
+        indices: &mut IndexSet<u64>,
+        entries: &mut Vec<EntrySection<'s, 'a>>,
+    ) -> Result<(), SheetFault>
+        requires parsed { IsParsed tables.now }
+        requires new { AreEmpty self.old }
+        requires named { named.old.items ≡ [] }
+        requires indices { indices.old.keys ≡ [] }
+        requires entries { entries.old.items ≡ [] }
+        ensures read { OnOk result (AreListsOf tables.now self.new) }
+        ensures err { IfErr result (IsAnswered (first_found checks tables.now)) }
+    {
+        let sections = tables.sections();
+        read_lists(named, sections)?;
+        let listings = named.as_slice();
+        collect_indices(indices, listings)?;
+        read_objects(&mut self.objects, entries, tables, listings)?;
+        read_entries(&mut self.entries, entries.as_slice())?;
+        if let Some(fault) = missing_mandatory(indices) {
+            return Err(fault);
+        }
+        sort_objects(&mut self.objects)?;
+        sort_rows(&mut self.entries)?;
+        add_section_names(&mut self.sections, sections)?;
+        Ok(add_notes(&mut self.notes, tables, indices)?)
+    }
+
+    // reads each list
+    fn read(&mut self, alloc: Global, tables: &Tables<'_, 'a>) -> Result<(), SheetFault>
+        requires parsed { IsParsed tables.now }
+        requires new { AreEmpty self.old }
+        ensures read { OnOk result (AreListsOf tables.now self.new) }
+        ensures err { IfErr result (IsAnswered (first_found checks tables.now)) }
+    {
+        // dropped here alone: else each way out of the steps would contain these drops
+        let mut named = Vec::new(alloc);
+        let mut indices = IndexSet::new(alloc);
+        let mut entries = Vec::new(alloc);
+        self.read_by_steps(tables, &mut named, &mut indices, &mut entries)
+    }
+}
+
+// the sheet of the sections in these tables
+fn sheet_in<'a>(alloc: Global, tables: &Tables<'_, 'a>) -> Result<Sheet<'a>, SheetFault>
+    requires { IsParsed tables.now }
+    ensures read { IfOk result (IsReadOf tables.now) }
+    ensures err { IfErr result (IsAnswered (first_found checks tables.now)) }
 {
-    let objects = ordered_objects(alloc, objects)?;
-    let rows = ordered_rows(alloc, rows)?;
+    let mut lists = Lists {
+        objects: Vec::new(alloc),
+        entries: Vec::new(alloc),
+        sections: Vec::new(alloc),
+        notes: Vec::new(alloc),
+    };
+    lists.read(alloc, tables)?;
     let sections = tables.sections();
-    let names = section_names(alloc, sections)?;
-    let notes = notes(alloc, tables, indices)?;
-    let usable = dummies(sections);
-    let node_id = node_id(sections);
     Ok(Sheet {
-        objects,
-        entries: rows,
-        sections: names,
-        notes,
-        dummies: usable,
-        node_id,
+        lists,
+        dummies: dummies(sections),
+        node_id: node_id(sections),
     })
 }
 
@@ -184,20 +220,9 @@ pub(crate) fn sheet_of<'a>(
     sections: &[TextSection<'_, 'a>],
 ) -> Result<Sheet<'a>, SheetFault>
     requires { IsParsed (map section_view sections.now) }
-    ensures accepted { IfOk result
-        (λ _. first_found checks (map section_view sections.now) ≡ None) }
-    ensures kept { IfOk result (λ _. KeepsEntries (map section_view sections.now)) }
-    ensures content { IfOk result (λ sheet. sheet ≡ content_of (map section_view sections.now)) }
+    ensures read { IfOk result (IsReadOf (map section_view sections.now)) }
     ensures err { IfErr result (IsAnswered (first_found checks (map section_view sections.now))) }
 {
     let tables = Tables::new(alloc, sections)?;
-    let named = read_lists(alloc, sections)?;
-    let listings = named.as_slice();
-    let indices = listed_indices(alloc, listings)?;
-    let listed = read_objects(alloc, &tables, listings)?;
-    let rows = read_entries(alloc, listed.entries.as_slice())?;
-    if let Some(fault) = missing_mandatory(&indices) {
-        return Err(fault);
-    }
-    Ok(contents(alloc, &tables, &indices, listed.objects, rows)?)
+    sheet_in(alloc, &tables)
 }

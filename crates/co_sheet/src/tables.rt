@@ -1,11 +1,19 @@
 //! Where a text has the sections of an object.
 
-ghost use Rattle.std.specs.Prelude.{◌≡◌, ℕ, map, option_map, IfOk, OnOk};
+ghost use Rattle.std.specs.Prelude.{◌≡◌, ◌++◌, ℕ, [], map, option_map, None, IfOk, OnOk};
 ghost use Rattle.std.specs.Ordering.{nat_cmp};
 ghost use Rattle.std.specs.BTreeMap.{get};
+ghost use Rattle.std.specs.Option.{option_or};
 ghost use Rattle.co_sheet.specs.Entries.{sub_indices};
 ghost use Rattle.co_sheet_text.specs.Views.{section_view};
-ghost use Rattle.co_sheet.specs.SectionViews.{object_view, entry_view, object_at, parts_at, AreByIndex};
+ghost use Rattle.co_sheet.specs.SectionViews.{
+  object_view,
+  entry_view,
+  object_at,
+  parts_at,
+  AreByIndex,
+  IsIndexed,
+};
 
 use co_sheet_text::{SectionKind, TextSection};
 use co_value::Key;
@@ -27,15 +35,15 @@ pub struct EntrySection<'s, 'a> {
     pub section: &'s TextSection<'s, 'a>,
 }
 
-// the first section of each object
-fn objects_by_index<'s, 'a>(
-    alloc: Global,
+// adds the first section of each object
+fn index_objects<'s, 'a>(
+    objects: &mut BTreeMap<u64, ListedSection<'s, 'a>>,
     sections: &'s [TextSection<'s, 'a>],
-) -> Result<BTreeMap<u64, ListedSection<'s, 'a>>, AllocError>
-    ensures { IfOk result (λ m. (i : ℕ) → option_map object_view (get nat_cmp m i)
-        ≡ object_at i (map section_view sections.now)) }
+) -> Result<(), AllocError>
+    ensures { OnOk result ((i : ℕ) → option_map object_view (get nat_cmp objects.new i)
+        ≡ option_or (option_map object_view (get nat_cmp objects.old i))
+        (object_at i (map section_view sections.now))) }
 {
-    let mut objects = BTreeMap::new(alloc);
     for section in sections {
         if let SectionKind::Object(index) = section.kind {
             if !objects.contains_key(&u64::from(index)) {
@@ -43,24 +51,23 @@ fn objects_by_index<'s, 'a>(
             }
         }
     }
-    Ok(objects)
+    Ok(())
 }
 
-// the sub-index sections, in the order of the text
-fn sub_index_sections<'s, 'a>(
-    alloc: Global,
+// adds the sub-index sections, in the order of the text
+fn add_sub_index_sections<'s, 'a>(
+    parts: &mut Vec<EntrySection<'s, 'a>>,
     sections: &'s [TextSection<'s, 'a>],
-) -> Result<Vec<EntrySection<'s, 'a>>, AllocError>
-    ensures { IfOk result (λ parts. (i : ℕ) →
-        parts_at parts.items i ≡ sub_indices (map section_view sections.now) i) }
+) -> Result<(), AllocError>
+    ensures { OnOk result ((i : ℕ) → parts_at parts.new.items i
+        ≡ parts_at parts.old.items i ++ sub_indices (map section_view sections.now) i) }
 {
-    let mut parts = Vec::new(alloc);
     for section in sections {
         if let SectionKind::SubIndex(key) = section.kind {
             parts.push(EntrySection { key, section })?;
         }
     }
-    Ok(parts)
+    Ok(())
 }
 
 // those of an index stay in the order of the text
@@ -70,6 +77,21 @@ fn sort_by_index(parts: &mut Vec<EntrySection>) -> Result<(), AllocError>
 {
     parts.sort_by_key(|part| part.key.index)?;
     Ok(())
+}
+
+// indexes the sections of objects and of sub-indices
+fn index_sections<'s, 'a>(
+    objects: &mut BTreeMap<u64, ListedSection<'s, 'a>>,
+    parts: &mut Vec<EntrySection<'s, 'a>>,
+    sections: &'s [TextSection<'s, 'a>],
+) -> Result<(), AllocError>
+    requires objects { (i : ℕ) → get nat_cmp objects.old i ≡ None }
+    requires parts { parts.old.items ≡ [] }
+    ensures { OnOk result (IsIndexed (map section_view sections.now) objects.new parts.new.items) }
+{
+    index_objects(objects, sections)?;
+    add_sub_index_sections(parts, sections)?;
+    sort_by_index(parts)
 }
 
 fn parts_with_index<'t, 's, 'a>(
@@ -115,9 +137,9 @@ impl<'s, 'a> Tables<'s, 'a> {
     ) -> Result<Tables<'s, 'a>, AllocError>
         ensures { IfOk result (λ tables. tables ≡ map section_view sections.now) }
     {
-        let objects = objects_by_index(alloc, sections)?;
-        let mut parts = sub_index_sections(alloc, sections)?;
-        sort_by_index(&mut parts)?;
+        let mut objects = BTreeMap::new(alloc);
+        let mut parts = Vec::new(alloc);
+        index_sections(&mut objects, &mut parts, sections)?;
         Ok(Tables {
             sections,
             objects,

@@ -117,6 +117,28 @@ on_all text rest sections faults h empty none =
           ∙ after-read [] (lines_of text);
     }
 
+more-faults : (here : Option TextFault) (faults rest : List TextFault) → (faults ++ cons_option here []) ++ rest ≡ faults ++ cons_option here rest
+more-faults None faults rest = ap (λ (fs : List TextFault). fs ++ rest) (append-nil faults)
+more-faults (Some f) faults rest = append_assoc faults (f ∷ []) rest
+
+-- one line more, with its fault if it has one
+pub on_next : (text rest tail bytes : List ℕ) (number : ℕ) (sections next : List TextSection) (faults more : List TextFault) → ReadsOn text sections faults number rest → lines rest ≡ bytes ∷ lines tail
+    → next ≡ with_line_read sections (record { number = number; bytes = bytes })
+    → more ≡ faults ++ cons_option (option_map (fault_at number) (fault_by_form sections (record { number = number; bytes = bytes }))) []
+    → ReadsOn text next more (number + 1) tail
+on_next text rest tail bytes number sections next faults more reads first taken added =
+    let line : Line = record { number = number; bytes = bytes } in
+    let here : Option TextFault = option_map (fault_at number) (fault_by_form sections line) in
+    let left : List Line = numbered (number + 1) (lines tail) in
+    record {
+      found = ap (λ (fs : List TextFault). fs ++ faults_after next left) added
+          ∙ ap (λ (ss : List TextSection). (faults ++ cons_option here []) ++ faults_after ss left) taken
+          ∙ more-faults here faults (faults_after (with_line_read sections line) left)
+          ∙ sym (ap (λ (ls : List (List ℕ)). faults ++ faults_after sections (numbered number ls)) first) ∙ reads.found;
+      whole = ap (λ (ss : List TextSection). read_after ss left) taken
+          ∙ sym (ap (λ (ls : List (List ℕ)). read_after sections (numbered number ls)) first) ∙ reads.whole;
+    }
+
 -- no line is left
 pub on_end : (text rest : List ℕ) (number : ℕ) (sections : List TextSection) (faults : List TextFault) → ReadsOn text sections faults number rest → lines rest ≡ []
     → (faults ≡ own_faults [] (lines_of text)) × (sections ≡ sections_read (lines_of text))

@@ -42,7 +42,6 @@ use std::alloc::{AllocError, Global};
 ///
 /// Thousands of its names may be numbers, so these are in a set too; of others it has at most
 /// eleven.
-#[derive(Drop)]
 pub(crate) struct OpenSection<'a> {
     kind: SectionKind,
     name: &'a [u8],
@@ -53,6 +52,22 @@ pub(crate) struct OpenSection<'a> {
     ghost within: { first ≤ length properties.items },
     ghost indexed: { map (λ n. n.now) numbers.keys
         ≡ filter all_digits (map (λ k. k.name.now) (drop first properties.items)) },
+}
+
+// Not derived: else each function that drops a section would contain the drop of each part.
+impl<'a> Drop for OpenSection<'a> {
+    fn drop(self) {
+        let OpenSection {
+            kind: _,
+            name: _,
+            line: _,
+            properties,
+            first: _,
+            numbers,
+        } = self;
+        drop(properties);
+        drop(numbers);
+    }
 }
 
 impl<'a> OpenSection<'a> {
@@ -122,7 +137,16 @@ impl<'a> OpenSection<'a> {
         ensures { result.items
             ≡ earlier_properties self.entry ++ own_properties self.entry }
     {
-        self.properties
+        let OpenSection {
+            kind: _,
+            name: _,
+            line: _,
+            properties,
+            first: _,
+            numbers,
+        } = self;
+        drop(numbers);
+        properties
     }
 
     // the properties of the section

@@ -53,12 +53,12 @@ fn cut<'s, 'a>(
     let mut first = 0;
     for header in headers {
         let end = first + header.count;
-        sections.push(TextSection {
+        sections.push_reserved(TextSection {
             kind: header.kind,
             name: header.name,
             line: header.line,
             properties: &properties[first..end],
-        })?;
+        });
         first = end;
     }
     Ok(sections)

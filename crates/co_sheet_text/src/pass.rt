@@ -8,6 +8,7 @@ ghost use Rattle.co_sheet_text.specs.Sections.{sections_of, first_line_fault, Ha
 ghost use Rattle.co_sheet_text.specs.LinesAtFault.{sections_read, own_faults};
 ghost use Rattle.co_sheet_text.specs.OutOfMemory.{out_of_memory};
 ghost use Rattle.co_sheet_text.specs.SectionLaws.{IsParsed};
+ghost use Rattle.co_sheet_text.specs.SectionsSoFar.{sections_so_far};
 
 use crate::fault::TextFault;
 use crate::parsed_text::ParsedText;
@@ -15,6 +16,29 @@ use crate::sections_read::SectionsRead;
 use crate::text::without_mark;
 use co_text::split_line;
 use std::alloc::{AllocError, Global};
+
+// takes the lines of a text, up to the first that has a fault
+fn take_lines<'a>(
+    sections: &mut SectionsRead<'a>,
+    alloc: Global,
+    text: &'a [u8],
+) -> Result<(), TextFault>
+    requires new { sections_so_far sections.old ≡ [] }
+    requires size { length text.now ≤ 1048576 }
+    ensures none { OnOk result (first_line_fault [] (lines_of text.now) ≡ None) }
+    ensures all { OnOk result (sections_so_far sections.new ≡ sections_of (lines_of text.now)) }
+    ensures err { IfErr result (λ fault. (fault ≡ out_of_memory)
+        ⊎ (first_line_fault [] (lines_of text.now) ≡ Some fault)) }
+{
+    let mut rest = without_mark(text);
+    let mut number = 1;
+    while let Some((line, others)) = split_line(rest) {
+        sections.take_line(alloc, line, number)?;
+        rest = others;
+        number += 1;
+    }
+    Ok(())
+}
 
 /// The sections of a text, in their order, each with its properties, or the fault of the first line
 /// that has one (CiA 306, structure of an EDS).
@@ -34,13 +58,7 @@ pub fn sections_in(alloc: Global, text: &[u8]) -> Result<ParsedText<'_>, TextFau
         ⊎ IsFirstAtFault (lines_of text.now) fault) }
 {
     let mut sections = SectionsRead::new(alloc);
-    let mut rest = without_mark(text);
-    let mut number = 1;
-    while let Some((line, others)) = split_line(rest) {
-        sections.take_line(alloc, line, number)?;
-        rest = others;
-        number += 1;
-    }
+    take_lines(&mut sections, alloc, text)?;
     Ok(sections.into_text(alloc)?)
 }
 
@@ -50,6 +68,31 @@ fn add_fault(faults: &mut Vec<TextFault>, fault: Option<TextFault>) -> Result<()
 {
     if let Some(fault) = fault {
         faults.push(fault)?;
+    }
+    Ok(())
+}
+
+// takes the lines of a text in spite of their faults, and adds these
+fn take_lines_in_spite<'a>(
+    sections: &mut SectionsRead<'a>,
+    faults: &mut Vec<TextFault>,
+    alloc: Global,
+    text: &'a [u8],
+) -> Result<(), AllocError>
+    requires new { sections_so_far sections.old ≡ [] }
+    requires none { faults.old.items ≡ [] }
+    requires size { length text.now ≤ 1048576 }
+    ensures sections { OnOk result
+        (sections_so_far sections.new ≡ sections_read (lines_of text.now)) }
+    ensures faults { OnOk result (faults.new.items ≡ own_faults [] (lines_of text.now)) }
+{
+    let mut rest = without_mark(text);
+    let mut number = 1;
+    while let Some((line, others)) = split_line(rest) {
+        let fault = sections.take_in_spite(alloc, line, number)?;
+        add_fault(faults, fault)?;
+        rest = others;
+        number += 1;
     }
     Ok(())
 }
@@ -71,13 +114,6 @@ pub fn all_sections_in(
 {
     let mut sections = SectionsRead::new(alloc);
     let mut faults = Vec::new(alloc);
-    let mut rest = without_mark(text);
-    let mut number = 1;
-    while let Some((line, others)) = split_line(rest) {
-        let fault = sections.take_in_spite(alloc, line, number)?;
-        add_fault(&mut faults, fault)?;
-        rest = others;
-        number += 1;
-    }
+    take_lines_in_spite(&mut sections, &mut faults, alloc, text)?;
     Ok((sections.into_text(alloc)?, faults))
 }

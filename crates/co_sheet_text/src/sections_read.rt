@@ -45,7 +45,6 @@ fn emptied(line: &[u8]) -> &'static [u8]
 
 /// The sections of the lines that are read so far: the finished ones by their section lines, and
 /// the one that is being read, which holds the properties of all.
-#[derive(Drop)]
 pub(crate) struct SectionsRead<'a> {
     closed: Vec<Header<'a>>,
     current: Option<OpenSection<'a>>,
@@ -54,6 +53,20 @@ pub(crate) struct SectionsRead<'a> {
         ≡ is_some (section_at k (sections_kept closed.items current)) },
     ghost begun: { ForNone current (closed.items ≡ []) },
     ghost counted: { ForSome current (λ s. property_count closed.items ≡ s.first) },
+}
+
+// Not derived: else each function that drops the sections would contain the drop of each part.
+impl<'a> Drop for SectionsRead<'a> {
+    fn drop(self) {
+        let SectionsRead {
+            closed,
+            current,
+            kinds,
+        } = self;
+        drop(closed);
+        drop(current);
+        drop(kinds);
+    }
 }
 
 impl<'a> SectionsRead<'a> {
@@ -216,8 +229,9 @@ impl<'a> SectionsRead<'a> {
         let SectionsRead {
             mut closed,
             current,
-            kinds: _,
+            kinds,
         } = self;
+        drop(kinds);
         let Some(section) = current else {
             return Ok(ParsedText {
                 headers: closed,

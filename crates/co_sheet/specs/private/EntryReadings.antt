@@ -14,7 +14,7 @@ use Rattle.co_sheet_text.specs.Sections.{Property, property_at}
 use Rattle.co_sheet_text.specs.Views.{property_view}
 use Rattle.co_sheet_rows.specs.declared.entry.EntryRow.{EntryRow}
 use Rattle.co_sheet.specs.Accepted.{least_fault}
-use Rattle.co_sheet.specs.Content.{row_of}
+use Rattle.co_sheet.specs.Content.{Row, row_of}
 use Rattle.co_sheet.specs.SheetViews.{row_view}
 use Rattle.co_sheet_text.specs.Numerals.{unsigned_number}
 use Rattle.co_sheet.specs.Entries.{Entry}
@@ -49,9 +49,13 @@ IsGiven name given e = option_map property_view given ≡ property_at name e.sec
 abbrev pub fault_in : (Property → List SheetFault) → Option CodeProperty → Option SheetFault
 fault_in found given = least_fault (option_map_or found (option_map property_view given) [])
 
+-- what rows say, each as that of an entry
+abbrev pub entry_rows : List EntryRow → List (Option Row)
+entry_rows rows = map (λ r. Some (row_view r)) rows
+
 -- each entry has its row
 abbrev pub HaveRows : List Entry → List EntryRow → Type 0
-HaveRows entries rows = map row_of entries ≡ map (λ r. Some (row_view r)) rows
+HaveRows entries rows = map row_of entries ≡ entry_rows rows
 
 -- what is read at a key, where it is given
 abbrev pub IsReadAt : {X : Type 0} → (Property → X → Type 0) → Option Property → Option X → Type 0

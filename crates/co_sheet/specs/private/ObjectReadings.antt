@@ -6,7 +6,6 @@ use Rattle.std.specs.Option.{option_map_or}
 use Rattle.co_sheet_text.specs.declared.section_kind.SectionKind.TheVariants.{DeviceInfo}
 use Rattle.co_sheet_text.specs.Sections.{TextSection, section_at}
 use Rattle.co_sheet.specs.Accepted.{least_fault}
-use Rattle.co_sheet.specs.declared.checks.objects.Listed.{Listed}
 use Rattle.co_sheet_rows.specs.declared.fault.FaultKind.TheVariants.{MissingSub0}
 use Rattle.co_sheet_rows.specs.declared.object.ObjectType.TheVariants.{Domain, Var}
 use Rattle.co_sheet.specs.declared.checks.findings.Finding.{Finding}
@@ -17,7 +16,7 @@ use Rattle.co_sheet.specs.ObjectLists.{Listing, listings}
 use Rattle.co_sheet.specs.Entries.{single_codes, compound_codes, object_code, object_type_with, ListedObject, Entry, entries_in}
 use Rattle.co_sheet.specs.Checks.{fault_if, at_key, unread_number, missing_section, unread_object_numbers, other_object_type, bad_object_types, compact_form, missing_sub_index_0}
 use Rattle.co_sheet.specs.Content.{ObjectRow, object_row_of}
-use Rattle.co_sheet.specs.SectionViews.{object_at, entry_view}
+use Rattle.co_sheet.specs.SectionViews.{object_at}
 use Rattle.co_sheet.specs.SheetViews.{object_row_view}
 use Rattle.co_sheet.specs.private.Findings.{found_by, first_finding, sooner, soonest}
 
@@ -98,12 +97,8 @@ abbrev pub entries_at : List TextSection → Listing → List Entry
 entries_at sections l = of_object sections (entries_in sections) l
 
 -- the rows of the objects that are read so far
-abbrev pub rows_so_far : Listed → List (Option ObjectRow)
-rows_so_far listed = map (λ r. Some (object_row_view r)) listed.objects.items
-
--- and the sections of their entries
-abbrev pub entries_so_far : Listed → List Entry
-entries_so_far listed = map entry_view listed.entries.items
+abbrev pub rows_so_far : List Object → List (Option ObjectRow)
+rows_so_far objects = map (λ r. Some (object_row_view r)) objects
 
 -- each listing has its object's row
 abbrev pub HaveObjects : List TextSection → List Object → Type 0

@@ -38,7 +38,7 @@ ghost use Rattle.co_sheet.specs.Accepted.{least_fault, IsAnswered};
 ghost use Rattle.co_sheet.specs.private.EntryReadings.{
   IsGiven,
   fault_in,
-  HaveRows,
+  entry_rows,
   entry_finding,
   first_in,
   type_finding,
@@ -65,7 +65,7 @@ ghost use Rattle.co_sheet.specs.SheetViews.{row_view};
 ghost use Rattle.co_sheet.specs.Views.{default_view};
 
 use crate::checks::faults::{both, earlier, fault_if, unread};
-use crate::checks::findings::{Finding, checked, found, sooner};
+use crate::checks::findings::{Finding, checked, sooner};
 use crate::data_type::{data_type_with, is_left_out};
 use crate::entry::{access_with, is_pairs, numeric_default};
 use crate::rows::name_of;
@@ -74,7 +74,6 @@ use co_profile::{Access, fixed_type};
 use co_sheet_rows::{EntryRow, FaultKind, Preset, SheetFault};
 use co_sheet_text::{Property, signed_numeral, unsigned_number};
 use co_value::DataType;
-use std::alloc::Global;
 
 /// A limit of a numeric entry, and the line that states it.
 #[derive(Clone, Copy)]
@@ -346,8 +345,13 @@ impl<'s, 'a> EntrySection<'s, 'a> {
         ensures finding { result_err result ≡ type_finding (entry_view self.now) }
         ensures read { IfOk result (λ t. data_type_of (entry_view self.now) ≡ Some t) }
     {
-        let is_bad = self.is_bad_type(domain, code);
-        found(12, fault_if(is_bad, FaultKind::BadType, line))?;
+        if self.is_bad_type(domain, code) {
+            let kind = FaultKind::BadType;
+            return Err(Finding {
+                check: 12,
+                fault: SheetFault { kind, line },
+            });
+        }
         data_type_with(code).ok_or(Finding {
             check: 13,
             fault: SheetFault {
@@ -456,9 +460,13 @@ impl<'s, 'a> EntrySection<'s, 'a> {
         ensures values { IfOk result (AreValues data_type (entry_view self.now)) }
     {
         let values = checked(15, self.stated(data_type))?;
-        found(16, values.limits_fault(data_type))?;
-        found(17, values.defaults_fault(data_type))?;
-        Ok(values)
+        if let Some(fault) = values.limits_fault(data_type) {
+            return Err(Finding { check: 16, fault });
+        }
+        match values.defaults_fault(data_type) {
+            Some(fault) => Err(Finding { check: 17, fault }),
+            None => Ok(values),
+        }
     }
 
     /// The row of the entry, or what the first of its checks that finds anything finds (CiA 306,
@@ -471,7 +479,9 @@ impl<'s, 'a> EntrySection<'s, 'a> {
         let is_domain = self.is_domain();
         let type_given = section.property(b"DataType");
         let access_given = section.property(b"AccessType");
-        found(10, self.missing_key(is_domain, type_given, access_given))?;
+        if let Some(fault) = self.missing_key(is_domain, type_given, access_given) {
+            return Err(Finding { check: 10, fault });
+        }
         let (code, mappable) = checked(11, self.numbers(type_given))?;
         let data_type = self.data_type(is_domain, code, self.type_line(type_given))?;
         let access = checked(14, self.access(access_given))?;
@@ -490,17 +500,17 @@ impl<'s, 'a> EntrySection<'s, 'a> {
     }
 }
 
-/// The row of each entry, or the fault that is found first in any of them; out of memory has no
-/// line.
+/// Adds the row of each entry. `Err`: the fault that is found first in any of them; out of memory
+/// has no line.
 pub(crate) fn read_entries<'a>(
-    alloc: Global,
+    rows: &mut Vec<EntryRow<'a>>,
     entries: &[EntrySection<'_, 'a>],
-) -> Result<Vec<EntryRow<'a>>, SheetFault>
-    ensures rows { IfOk result (λ rows. HaveRows (map entry_view entries.now) rows.items) }
+) -> Result<(), SheetFault>
+    ensures rows { OnOk result (entry_rows rows.new.items
+        ≡ entry_rows rows.old.items ++ map row_of (map entry_view entries.now)) }
     ensures none { OnOk result (first_in (map entry_view entries.now) ≡ None) }
     ensures err { IfErr result (IsAnswered (first_in (map entry_view entries.now))) }
 {
-    let mut rows = Vec::new(alloc);
     let mut first = None;
     for entry in entries {
         match entry.read() {
@@ -510,6 +520,6 @@ pub(crate) fn read_entries<'a>(
     }
     match first {
         Some(found) => Err(found.fault),
-        None => Ok(rows),
+        None => Ok(()),
     }
 }

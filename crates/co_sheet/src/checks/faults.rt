@@ -1,11 +1,9 @@
 //! The fault that a check finds: of several, the one with the smallest line.
 
-ghost use Rattle.std.specs.Prelude.{◌≡◌, List, flat_map, IfOk};
-ghost use Rattle.std.specs.Fn.{FnReturnsAt};
+ghost use Rattle.std.specs.Prelude.{◌≡◌, IfOk};
 ghost use Rattle.std.specs.Result.{result_ok, result_err};
 ghost use Rattle.co_sheet_text.specs.Properties.{property_number};
 ghost use Rattle.co_sheet_text.specs.Views.{property_view};
-ghost use Rattle.co_sheet_rows.specs.declared.fault.SheetFault.{SheetFault as Fault};
 ghost use Rattle.co_sheet.specs.Faults.{fault_at};
 ghost use Rattle.co_sheet.specs.Checks.{fault_if, numeral_fault, unread_number};
 ghost use Rattle.co_sheet.specs.Accepted.{least_fault};
@@ -73,21 +71,4 @@ pub(crate) fn both<T: Drop, U: Drop>(
         (Err(fault), Ok(_)) => Err(fault),
         (Err(f), Err(g)) => Err(if f.line <= g.line { f } else { g }),
     }
-}
-
-// the fault with the smallest line of all the items, by that of each
-pub(crate) fn least_over<T, F: Fn(&T) -> Option<SheetFault>>(
-    items: &[T],
-    check: F,
-) -> Option<SheetFault>
-    requires { F.IsAlwaysCallable check }
-    ensures { (faults : T → List Fault)
-        → ((x : T) (r : _) → FnReturnsAt F.Fn check x r → r ≡ least_fault (faults x))
-        → result ≡ least_fault (flat_map faults items.now) }
-{
-    let mut least = None;
-    for item in items {
-        least = earlier(least, check(item));
-    }
-    least
 }

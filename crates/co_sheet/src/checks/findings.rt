@@ -1,8 +1,8 @@
 //! What numbered checks find first.
 
-ghost use Rattle.std.specs.Prelude.{◌≡◌, option_map, IfOk};
+ghost use Rattle.std.specs.Prelude.{◌≡◌, IfOk};
 ghost use Rattle.std.specs.Result.{result_err};
-ghost use Rattle.co_sheet.specs.private.Findings.{found_by, is_before, sooner, checked};
+ghost use Rattle.co_sheet.specs.private.Findings.{is_before, sooner, checked};
 
 use co_sheet_rows::SheetFault;
 
@@ -61,15 +61,5 @@ pub(crate) fn unless<T: Drop>(
         } else {
             first
         }),
-    }
-}
-
-// a fault, where there is one, as the finding of a check
-pub(crate) fn found(check: u8, fault: Option<SheetFault>) -> Result<(), Finding>
-    ensures { result_err result ≡ option_map (found_by check) fault }
-{
-    match fault {
-        Some(fault) => Err(Finding { check, fault }),
-        None => Ok(()),
     }
 }

@@ -13,6 +13,7 @@ ghost use Rattle.std.specs.Prelude.{
   IfErr,
   OnOk,
   None,
+  [],
 };
 ghost use Rattle.indexmap.specs.IndexSet.{contains};
 ghost use Rattle.co_sheet_text.specs.Views.{property_view, section_view};
@@ -34,13 +35,13 @@ ghost use Rattle.co_sheet.specs.private.ListReadings.{
   unlisted_mandatory,
 };
 
-use crate::checks::faults::{fault_if, least_over, number_of};
-use crate::checks::findings::{Finding, found, sooner};
+use crate::checks::faults::{earlier, fault_if, number_of};
+use crate::checks::findings::{Finding, sooner};
 use crate::sections::section_at;
 use co_sheet_rows::{FaultKind, SheetFault};
 use co_sheet_text::{Property, SectionKind, TextSection, number_in};
 use indexmap::IndexSet;
-use std::alloc::{AllocError, Global};
+use std::alloc::AllocError;
 
 /// An index that an object list names, and the line where it does.
 #[derive(Clone, Copy, Debug, PartialEq, Eq)]
@@ -141,7 +142,11 @@ pub fn has_numbers(kind: SectionKind) -> bool
 fn unread_numbers(section: &TextSection) -> Option<SheetFault>
     ensures { result ≡ least_fault (flat_map unread_number (section_view section.now).properties) }
 {
-    least_over(section.properties, |given| number_of(given).err())
+    let mut least = None;
+    for given in section.properties {
+        least = earlier(least, number_of(given).err());
+    }
+    least
 }
 
 // what is found first in a section on its own; adds what the section names
@@ -163,17 +168,27 @@ fn read_section(
         return Ok(None);
     }
     let is_bad = read_list(listings, section)?;
-    Ok(found(3, fault_if(is_bad, FaultKind::BadList, section.line)).err())
+    if !is_bad {
+        return Ok(None);
+    }
+    Ok(Some(Finding {
+        check: 3,
+        fault: SheetFault {
+            kind: FaultKind::BadList,
+            line: section.line,
+        },
+    }))
 }
 
-/// What the object lists name from 1000h on, in the order of the text (CiA 306, object lists), or
-/// the first fault of the lists, DummyUsage, DeviceInfo and the device commissioning on their own.
+/// Adds what the object lists name from 1000h on, in the order of the text (CiA 306, object lists).
+/// `Err`: the first fault of the lists, DummyUsage, DeviceInfo and the device commissioning on
+/// their own.
 pub(crate) fn read_lists(
-    alloc: Global,
+    named: &mut Vec<Listing>,
     sections: &[TextSection],
-) -> Result<Vec<Listing>, SheetFault>
-    ensures listings { IfOk result (λ all. map listing_view all.items
-        ≡ listings (map section_view sections.now)) }
+) -> Result<(), SheetFault>
+    ensures listings { OnOk result (map listing_view named.new.items
+        ≡ map listing_view named.old.items ++ listings (map section_view sections.now)) }
     ensures none { OnOk result (first_found own_checks (map section_view sections.now) ≡ None) }
     ensures err { IfErr result
         (IsAnswered (first_found own_checks (map section_view sections.now))) }
@@ -184,30 +199,30 @@ pub(crate) fn read_lists(
             line: 0,
         });
     }
-    let mut listings = Vec::new(alloc);
     let mut first = None;
     for section in sections {
-        first = sooner(first, read_section(&mut listings, section)?);
+        first = sooner(first, read_section(named, section)?);
     }
     match first {
         Some(found) => Err(found.fault),
-        None => Ok(listings),
+        None => Ok(()),
     }
 }
 
-/// The indices that the lists name, or the fault of the first line that names one again.
-pub(crate) fn listed_indices(
-    alloc: Global,
+/// Collects the indices that the lists name. `Err`: the fault of the first line that names one
+/// again.
+pub(crate) fn collect_indices(
+    indices: &mut IndexSet<u64>,
     listings: &[Listing],
-) -> Result<IndexSet<u64>, SheetFault>
-    requires { LinesRise (map listing_view listings.now) }
-    ensures listed { IfOk result (λ indices. (i : ℕ) → contains nat_eq indices i
+) -> Result<(), SheetFault>
+    requires empty { indices.old.keys ≡ [] }
+    requires rise { LinesRise (map listing_view listings.now) }
+    ensures listed { OnOk result ((i : ℕ) → contains nat_eq indices.new i
         ≡ is_listed_at i (map listing_view listings.now)) }
     ensures none { OnOk result (least_fault (twice_in (map listing_view listings.now)) ≡ None) }
     ensures err { IfErr result
         (IsAnswered (least_fault (twice_in (map listing_view listings.now)))) }
 {
-    let mut indices: IndexSet<u64> = IndexSet::new(alloc);
     for listing in listings {
         let is_new = indices.insert(listing.index)?;
         if !is_new {
@@ -217,7 +232,7 @@ pub(crate) fn listed_indices(
             });
         }
     }
-    Ok(indices)
+    Ok(())
 }
 
 /// The fault if 1000h, 1001h or 1018h is in no list.

@@ -1,6 +1,6 @@
 //! The listed objects: their rows, their entries, and what is checked of them.
 
-ghost use Rattle.std.specs.Prelude.{◌≡◌, ◌==◌, ◌++◌, ◌∷◌, [], map, Some, None, IfOk, IfErr, OnOk};
+ghost use Rattle.std.specs.Prelude.{◌≡◌, ◌==◌, ◌++◌, ◌∷◌, [], map, option_map, Some, None, IfOk, IfErr, OnOk};
 ghost use Rattle.std.specs.List.{list_any};
 ghost use Rattle.std.specs.Result.{result_ok, result_err};
 ghost use Rattle.co_sheet_text.specs.Views.{section_view};
@@ -11,7 +11,7 @@ ghost use Rattle.co_sheet.specs.Accepted.{least_fault, first_found, IsAnswered};
 ghost use Rattle.co_sheet.specs.Content.{object_row_of};
 ghost use Rattle.co_sheet.specs.SectionViews.{object_view, entry_view};
 ghost use Rattle.co_sheet.specs.SheetViews.{object_row_view};
-ghost use Rattle.co_sheet.specs.private.Findings.{soonest};
+ghost use Rattle.co_sheet.specs.private.Findings.{found_by, soonest};
 ghost use Rattle.co_sheet.specs.private.ListReadings.{listing_view};
 ghost use Rattle.co_sheet.specs.private.ObjectReadings.{
   type_of,
@@ -25,14 +25,12 @@ ghost use Rattle.co_sheet.specs.private.ObjectReadings.{
   object_finding,
   listing_finding,
   rows_so_far,
-  entries_so_far,
   row_at,
   entries_at,
-  HaveObjects,
 };
 
-use crate::checks::faults::{fault_if, number_of};
-use crate::checks::findings::{Finding, checked, found, sooner, unless};
+use crate::checks::faults::number_of;
+use crate::checks::findings::{Finding, checked, sooner, unless};
 use crate::checks::lists::Listing;
 use crate::object_type::object_type_with;
 use crate::rows::name_of;
@@ -41,14 +39,7 @@ use crate::tables::{EntrySection, ListedSection, Tables};
 use co_sheet_rows::{FaultKind, Object, ObjectType, SheetFault};
 use co_sheet_text::{SectionKind, TextSection};
 use co_value::Key;
-use std::alloc::{AllocError, Global};
-
-/// The objects that the lists name, and the sections of their entries.
-#[derive(Drop)]
-pub(crate) struct Listed<'s, 'a> {
-    pub(crate) objects: Vec<Object<'a>>,
-    pub(crate) entries: Vec<EntrySection<'s, 'a>>,
-}
+use std::alloc::AllocError;
 
 impl<'s, 'a> EntrySection<'s, 'a> {
     // an ObjectType of a sub-index that is no number, or another than VAR's or DOMAIN's
@@ -57,11 +48,14 @@ impl<'s, 'a> EntrySection<'s, 'a> {
     {
         let given = self.section.property(b"ObjectType")?;
         match number_of(&given) {
-            Ok(code) => found(
-                7,
-                fault_if(!matches!(code, 2 | 7), FaultKind::BadType, given.line),
-            )
-            .err(),
+            Ok(2 | 7) => None,
+            Ok(_) => Some(Finding {
+                check: 7,
+                fault: SheetFault {
+                    kind: FaultKind::BadType,
+                    line: given.line,
+                },
+            }),
             Err(fault) => Some(Finding { check: 6, fault }),
         }
     }
@@ -87,8 +81,16 @@ fn has_sub_index_0(parts: &[EntrySection]) -> bool
 fn missing_sub_index_0(parts: &[EntrySection], line: usize) -> Option<Finding>
     ensures { result ≡ sub_0_finding line (map entry_view parts.now) }
 {
-    let is_missing = !has_sub_index_0(parts);
-    found(9, fault_if(is_missing, FaultKind::MissingSub0, line)).err()
+    if has_sub_index_0(parts) {
+        return None;
+    }
+    Some(Finding {
+        check: 9,
+        fault: SheetFault {
+            kind: FaultKind::MissingSub0,
+            line,
+        },
+    })
 }
 
 impl<'s, 'a> ListedSection<'s, 'a> {
@@ -117,7 +119,14 @@ impl<'s, 'a> ListedSection<'s, 'a> {
     {
         let given = self.section.property(b"CompactSubObj")?;
         match number_of(&given) {
-            Ok(number) => found(8, fault_if(number != 0, FaultKind::CompactForm, given.line)).err(),
+            Ok(0) => None,
+            Ok(_) => Some(Finding {
+                check: 8,
+                fault: SheetFault {
+                    kind: FaultKind::CompactForm,
+                    line: given.line,
+                },
+            }),
             Err(fault) => Some(Finding { check: 6, fault }),
         }
     }
@@ -173,104 +182,109 @@ fn add_parts<'s, 'a>(
     Ok(())
 }
 
-impl<'s, 'a> Listed<'s, 'a> {
-    // the entries of an object: a VAR's or a DOMAIN's is its own section, an ARRAY's or a RECORD's
-    // are its sub-index sections
-    fn add_entries(
-        &mut self,
-        tables: &Tables<'s, 'a>,
-        object: &ListedSection<'s, 'a>,
-        object_type: ObjectType,
-    ) -> Result<(), AllocError>
-        requires { type_of (section_view object.now.section.now) ≡ Some object_type }
-        ensures objects { self.new.objects ≡ self.old.objects }
-        ensures entries { OnOk result (entries_so_far self.new
-            ≡ entries_so_far self.old ++ entries_in tables.now (object_view object.now)) }
-    {
-        match object_type {
-            ObjectType::Var | ObjectType::Domain => {
-                let key = Key {
-                    index: object.index,
-                    sub: 0,
-                };
-                self.entries.push(EntrySection {
-                    key,
-                    section: object.section,
-                })?;
-            }
-            ObjectType::Array | ObjectType::Record => {
-                add_parts(&mut self.entries, tables.parts(object.index))?;
-            }
+// adds the entries of an object: a VAR's or a DOMAIN's is its own section, an ARRAY's or a RECORD's
+// are its sub-index sections
+fn add_entries<'s, 'a>(
+    entries: &mut Vec<EntrySection<'s, 'a>>,
+    tables: &Tables<'s, 'a>,
+    object: &ListedSection<'s, 'a>,
+    object_type: ObjectType,
+) -> Result<(), AllocError>
+    requires { type_of (section_view object.now.section.now) ≡ Some object_type }
+    ensures { OnOk result (map entry_view entries.new.items
+        ≡ map entry_view entries.old.items ++ entries_in tables.now (object_view object.now)) }
+{
+    match object_type {
+        ObjectType::Var | ObjectType::Domain => {
+            let key = Key {
+                index: object.index,
+                sub: 0,
+            };
+            entries.push(EntrySection {
+                key,
+                section: object.section,
+            })?;
         }
-        Ok(())
+        ObjectType::Array | ObjectType::Record => {
+            add_parts(entries, tables.parts(object.index))?;
+        }
     }
+    Ok(())
+}
 
-    // the object of a listing, with its entries, or what is found first in it
-    fn take(
-        &mut self,
-        tables: &Tables<'s, 'a>,
-        listing: &Listing,
-    ) -> Result<Option<Finding>, AllocError>
-        ensures finding { IfOk result
-            (λ found. found ≡ listing_finding tables.now (listing_view listing.now)) }
-        ensures objects { IfOk result (λ found. found ≡ None → rows_so_far self.new
-            ≡ rows_so_far self.old ++ row_at tables.now (listing_view listing.now) ∷ []) }
-        ensures entries { IfOk result (λ found. found ≡ None → entries_so_far self.new
-            ≡ entries_so_far self.old ++ entries_at tables.now (listing_view listing.now)) }
-    {
-        let Some(object) = tables.object(listing.index) else {
-            return Ok(Some(Finding {
-                check: 5,
-                fault: SheetFault {
-                    kind: FaultKind::MissingSection,
-                    line: listing.line,
-                },
-            }));
-        };
-        match object.read(tables) {
-            Ok(row) => {
-                self.add_entries(tables, &object, row.object_type)?;
-                self.objects.push(row)?;
-                Ok(None)
-            }
-            Err(found) => Ok(Some(found)),
+// adds the object of a listing and its entries, or returns what is found first in it
+fn take<'s, 'a>(
+    objects: &mut Vec<Object<'a>>,
+    entries: &mut Vec<EntrySection<'s, 'a>>,
+    tables: &Tables<'s, 'a>,
+    listing: &Listing,
+) -> Result<Option<Finding>, AllocError>
+    ensures finding { IfOk result
+        (λ found. found ≡ listing_finding tables.now (listing_view listing.now)) }
+    ensures objects { IfOk result (λ found. found ≡ None → rows_so_far objects.new.items
+        ≡ rows_so_far objects.old.items ++ row_at tables.now (listing_view listing.now) ∷ []) }
+    ensures entries { IfOk result (λ found. found ≡ None → map entry_view entries.new.items
+        ≡ map entry_view entries.old.items ++ entries_at tables.now (listing_view listing.now)) }
+{
+    let Some(object) = tables.object(listing.index) else {
+        return Ok(Some(Finding {
+            check: 5,
+            fault: SheetFault {
+                kind: FaultKind::MissingSection,
+                line: listing.line,
+            },
+        }));
+    };
+    match object.read(tables) {
+        Ok(row) => {
+            add_entries(entries, tables, &object, row.object_type)?;
+            objects.push(row)?;
+            Ok(None)
         }
+        Err(found) => Ok(Some(found)),
     }
 }
 
 // a compact form of PDOs
-fn compact_pdo(sections: &[TextSection]) -> Option<SheetFault>
-    ensures { result ≡ least_fault (compact_pdo (map section_view sections.now)) }
+fn compact_pdo(sections: &[TextSection]) -> Option<Finding>
+    ensures { result
+        ≡ option_map (found_by 8) (least_fault (compact_pdo (map section_view sections.now))) }
 {
     let given = section_at(sections, SectionKind::DeviceInfo)?.property(b"CompactPDO")?;
-    let is_compact = given.number().is_some_and(|number| number != 0);
-    fault_if(is_compact, FaultKind::CompactForm, given.line)
+    match given.number() {
+        None | Some(0) => None,
+        Some(_) => Some(Finding {
+            check: 8,
+            fault: SheetFault {
+                kind: FaultKind::CompactForm,
+                line: given.line,
+            },
+        }),
+    }
 }
 
-/// The objects of these listings with their entries, or the fault that is found first in them; out
-/// of memory has no line.
+/// Adds the objects of these listings and the sections of their entries. `Err`: the fault that is
+/// found first in them; out of memory has no line.
 pub(crate) fn read_objects<'s, 'a>(
-    alloc: Global,
+    objects: &mut Vec<Object<'a>>,
+    entries: &mut Vec<EntrySection<'s, 'a>>,
     tables: &Tables<'s, 'a>,
     named: &[Listing],
-) -> Result<Listed<'s, 'a>, SheetFault>
+) -> Result<(), SheetFault>
     requires { map listing_view named.now ≡ listings tables.now }
-    ensures objects { IfOk result (λ listed. HaveObjects tables.now listed.objects.items) }
-    ensures entries { IfOk result
-        (λ listed. map entry_view listed.entries.items ≡ entries_of tables.now) }
+    ensures objects { OnOk result (rows_so_far objects.new.items
+        ≡ rows_so_far objects.old.items ++ map (row_at tables.now) (listings tables.now)) }
+    ensures entries { OnOk result (map entry_view entries.new.items
+        ≡ map entry_view entries.old.items ++ entries_of tables.now) }
     ensures none { OnOk result (first_found object_checks tables.now ≡ None) }
     ensures err { IfErr result (IsAnswered (first_found object_checks tables.now)) }
 {
-    let mut listed = Listed {
-        objects: Vec::new(alloc),
-        entries: Vec::new(alloc),
-    };
-    let mut first = found(8, compact_pdo(tables.sections())).err();
+    let mut first = compact_pdo(tables.sections());
     for listing in named {
-        first = sooner(first, listed.take(tables, listing)?);
+        first = sooner(first, take(objects, entries, tables, listing)?);
     }
     match first {
         Some(found) => Err(found.fault),
-        None => Ok(listed),
+        None => Ok(()),
     }
 }

@@ -15,5 +15,5 @@ returns c =
     let before = λ (o p : Object). is_lt (nat_cmp o.index p.index) in
     let sorted = c.in_ok-sort_by_key.ensures.sorted key (always_returns_same _ _ _ (λ a r f' k. search rules)) in
     let stable = c.in_ok-sort_by_key.ensures.stable key (always_returns_same _ _ _ (λ a r f' k. search rules)) in
-    ap (map object_row_view) (sorted-in_order before (ranks_by nat_cmp_total key) c.args.objects.now c.sort_by_key.new.self sorted stable)
-    ∙ in_order-map object_row_view before (λ o p. nat_lt o.index p.index) (λ a b. is_lt-number a.index b.index) c.args.objects.now
+    ap (map object_row_view) (sorted-in_order before (ranks_by nat_cmp_total key) c.args.objects.now.items c.sort_by_key.new.self.items sorted stable)
+    ∙ in_order-map object_row_view before (λ o p. nat_lt o.index p.index) (λ a b. is_lt-number a.index b.index) c.args.objects.now.items

@@ -1,10 +1,11 @@
-use Rattle.std.proofs.Common.{◌++◌, Bool, [], sym, ap, ◌∙◌, arith, map, get_or}
+use Rattle.std.proofs.Common.{◌++◌, Bool, [], refl, sym, ap, ◌∙◌, arith, map, get_or}
+use Rattle.std.specs.List.{filter_map}
 use Rattle.co_sheet_text.specs.declared.text_section.Property.{Property as CodeProperty}
 use Rattle.co_sheet_text.specs.Sections.{Property}
 use Rattle.co_sheet_text.specs.Properties.{property_number}
 use Rattle.co_sheet_text.specs.Views.{property_view, section_view}
 use Rattle.co_sheet.specs.private.ListReadings.{listing_view, listed, listing_at, is_key_to, is_large}
-use Rattle.co_sheet.proofs.ListLemmas.{append-none, collect-turn}
+use Rattle.co_sheet.proofs.ListLemmas.{append-none, pieces-end, collect-turn}
 use Rattle.co_sheet.proofs.ListReadingLemmas.{count-turn, count-end, any-turn, any-end, counts-one, counts-none, tests-one, tests-none, names-one, names-none, bad-counts, good-counts}
 use Rattle.co_sheet.proofs.checks.lists.add_listings.Goals as goal
 use Rattle.co_sheet.proofs.checks.lists.add_listings.Goals.{then-is_key_to+in_ok-add_listing, else-is_key_to}
@@ -71,3 +72,11 @@ returns-clause-bad c =
     (count-end (is_key_to count) items i c.loop-given.places _ past c.loop-given.invariant.sum)
     (omega arith, omega arith)
     (any-end (is_key_to count) large_at items i c.loop-given.has_large _ past c.loop-given.invariant.large)
+
+pub returns-then-count-gt65535-clause-named : goal.returns-then-count-gt65535-clause-named
+returns-then-count-gt65535-clause-named c =
+    pieces-end (λ l. filter_map (listing_at c.args.count) (map property_view l)) refl c.args.section.now.properties.now c.loop-given.given-index (map listing_view c.loop-given.listings.items) _ c.loop-given-test.false c.loop-given.invariant.named
+
+pub returns-clause-named : goal.returns-clause-named
+returns-clause-named c =
+    pieces-end (λ l. filter_map (listing_at c.args.count) (map property_view l)) refl c.args.section.now.properties.now c.loop-given.given-index (map listing_view c.loop-given.listings.items) _ c.loop-given-test.false c.loop-given.invariant.named

@@ -1,4 +1,4 @@
-use Rattle.std.proofs.Common.{sym, ap, ◌∙◌, map, inr}
+use Rattle.std.proofs.Common.{◌++◌, sym, ap, ◌∙◌, map, inr}
 use Rattle.std.specs.Prelude.{is_none, not, option_map}
 use Rattle.co_sheet.specs.declared.checks.findings.Finding.{Finding}
 use Rattle.co_sheet_text.specs.Views.{section_view}
@@ -20,7 +20,7 @@ loop-section-preserved c =
           (c.sooner-first.ensures ∙ ap (sooner first) c.in_ok-read_section.ensures.finding) c.loop-section.invariant.found;
       named = λ none.
           let both = sooner-neither first c.in_ok-read_section.field-0 (sym c.sooner-first.ensures ∙ none) in
-          flat-turn section_view named_by items i _ (map listing_view c.loop-section.listings.items) (map listing_view c.read_section.new.listings.items) _ c.loop-section-test.true
+          flat-turn section_view named_by items i _ (map listing_view c.loop-section.named.items) (map listing_view c.read_section.new.listings.items) _ c.loop-section-test.true
           (c.in_ok-read_section.ensures.named both.1) (c.loop-section.invariant.named both.0);
     }
 
@@ -42,5 +42,5 @@ returns-in-None-clause-none c =
 
 pub returns-in-None-clause-listings : goal.returns-in-None-clause-listings
 returns-in-None-clause-listings c =
-    flat-end section_view named_by c.args.sections.now c.loop-section.section-index (map listing_view c.loop-section.listings.items) _ c.loop-section-test.false (c.loop-section.invariant.named c.in-None.is)
-    ∙ sym (named-all (map section_view c.args.sections.now))
+    flat-end section_view named_by c.args.sections.now c.loop-section.section-index (map listing_view c.loop-section.named.items) _ c.loop-section-test.false (c.loop-section.invariant.named c.in-None.is)
+    ∙ ap (λ ns. map listing_view c.args.named.now.items ++ ns) (sym (named-all (map section_view c.args.sections.now)))

@@ -10,5 +10,5 @@ use Rattle.co_sheet.proofs.checks.lists.read_lists.Given as goal
 abbrev pub invariant-loop-section : goal.invariant-loop-section
 invariant-loop-section l = record {
   found : sooner l.first (soonest list_finding (map section_view (drop l.section-index l.sections))) ≡ soonest list_finding (map section_view l.sections);
-  named : l.first ≡ None → map listing_view l.listings.items ++ flat_map named_by (map section_view (drop l.section-index l.sections)) ≡ flat_map named_by (map section_view l.sections);
+  named : l.first ≡ None → map listing_view l.named.items ++ flat_map named_by (map section_view (drop l.section-index l.sections)) ≡ map listing_view l.initial.named.items ++ flat_map named_by (map section_view l.sections);
 }

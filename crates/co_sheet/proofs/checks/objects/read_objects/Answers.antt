@@ -1,9 +1,7 @@
-use Rattle.std.proofs.Common.{◌≡◌, List, ◌∷◌, [], Option, refl, sym, ap, ◌∙◌, map, inr}
+use Rattle.std.proofs.Common.{◌∷◌, ◌++◌, [], refl, sym, ap, ◌∙◌, map, inr}
 use Rattle.std.specs.Prelude.{option_map, flat_map}
 use Rattle.co_sheet.specs.declared.checks.findings.Finding.{Finding}
-use Rattle.co_sheet_rows.specs.declared.fault.SheetFault.{SheetFault}
 use Rattle.co_sheet.specs.declared.checks.lists.Listing.{Listing}
-use Rattle.co_sheet_text.specs.Sections.{TextSection}
 use Rattle.co_sheet.specs.SectionViews.{entry_view}
 use Rattle.co_sheet.specs.Accepted.{least_fault}
 use Rattle.co_sheet.specs.private.Findings.{found_by, sooner}
@@ -26,34 +24,31 @@ loop-listing-preserved c =
           (c.sooner-first.ensures ∙ ap (sooner first) c.in_ok-take.ensures.finding) c.loop-listing.invariant.found;
       rows = λ none.
           let both = sooner-neither first c.in_ok-take.field-0 (sym c.sooner-first.ensures ∙ none) in
-          pieces-turn (λ l. map (row_at tables) (map listing_view l)) (λ x. row_at tables (listing_view x) ∷ []) (λ x l. refl) items i d (rows_so_far c.loop-listing.listed) (rows_so_far c.take.new.self) _ c.loop-listing-test.true
+          pieces-turn (λ l. map (row_at tables) (map listing_view l)) (λ x. row_at tables (listing_view x) ∷ []) (λ x l. refl) items i d (rows_so_far c.loop-listing.objects.items) (rows_so_far c.take.new.objects.items) _ c.loop-listing-test.true
           (c.in_ok-take.ensures.objects both.1) (c.loop-listing.invariant.rows both.0);
       entries = λ none.
           let both = sooner-neither first c.in_ok-take.field-0 (sym c.sooner-first.ensures ∙ none) in
-          flat-turn listing_view (entries_at tables) items i d (map entry_view c.loop-listing.listed.entries.items) (map entry_view c.take.new.self.entries.items) _ c.loop-listing-test.true
+          flat-turn listing_view (entries_at tables) items i d (map entry_view c.loop-listing.entries.items) (map entry_view c.take.new.entries.items) _ c.loop-listing-test.true
           (c.in_ok-take.ensures.entries both.1) (c.loop-listing.invariant.entries both.0);
     }
-
--- what the compact form of the PDOs gives
-of_pdo : (o : Option SheetFault) (sections tables : List TextSection) → o ≡ least_fault (compact_pdo sections) → sections ≡ tables → option_map (found_by 8) o ≡ option_map (found_by 8) (least_fault (compact_pdo tables))
-of_pdo o sections tables is same = ap (option_map (found_by 8)) (is ∙ ap (λ s. least_fault (compact_pdo s)) same)
 
 pub returns-in-Some-clause-err : goal.returns-in-Some-clause-err
 returns-in-Some-clause-err c =
     let first = soonest-end listing_view (listing_finding c.args.tables.now) c.args.named.now c.loop-listing.listing-index c.loop-listing.first c.loop-listing-test.false c.loop-listing.invariant.found in
     inr
-    (objects-answer c.args.tables.now (map listing_view c.args.named.now) c.err-first.result c.loop-listing.first c.requires
-    (c.err-first.ensures.value ∙ c.found.ensures ∙ of_pdo c.compact_pdo.result _ c.args.tables.now c.compact_pdo.ensures c.sections.ensures) first
+    (objects-answer c.args.tables.now (map listing_view c.args.named.now) c.compact_pdo-first.result c.loop-listing.first c.requires
+    (c.compact_pdo-first.ensures ∙ ap (λ s. option_map (found_by 8) (least_fault (compact_pdo s))) c.sections.ensures) first
     ∙ ap (option_map (λ (f : Finding). f.fault)) c.in-Some.is)
 
-pub returns-clause-none : goal.returns-clause-none
-returns-clause-none c =
+pub returns-in-None-clause-none : goal.returns-in-None-clause-none
+returns-in-None-clause-none c =
     let first = soonest-end listing_view (listing_finding c.args.tables.now) c.args.named.now c.loop-listing.listing-index c.loop-listing.first c.loop-listing-test.false c.loop-listing.invariant.found in
-    objects-answer c.args.tables.now (map listing_view c.args.named.now) c.err-first.result c.loop-listing.first c.requires
-    (c.err-first.ensures.value ∙ c.found.ensures ∙ of_pdo c.compact_pdo.result _ c.args.tables.now c.compact_pdo.ensures c.sections.ensures) first
+    objects-answer c.args.tables.now (map listing_view c.args.named.now) c.compact_pdo-first.result c.loop-listing.first c.requires
+    (c.compact_pdo-first.ensures ∙ ap (λ s. option_map (found_by 8) (least_fault (compact_pdo s))) c.sections.ensures) first
     ∙ ap (option_map (λ (f : Finding). f.fault)) c.in-None.is
 
-pub returns-clause-entries : goal.returns-clause-entries
-returns-clause-entries c =
-    flat-end listing_view (entries_at c.args.tables.now) c.args.named.now c.loop-listing.listing-index (map entry_view c.loop-listing.listed.entries.items) _ c.loop-listing-test.false (c.loop-listing.invariant.entries c.in-None.is)
-    ∙ ap (flat_map (entries_at c.args.tables.now)) c.requires ∙ entries-over c.args.tables.now
+pub returns-in-None-clause-entries : goal.returns-in-None-clause-entries
+returns-in-None-clause-entries c =
+    flat-end listing_view (entries_at c.args.tables.now) c.args.named.now c.loop-listing.listing-index (map entry_view c.loop-listing.entries.items) _ c.loop-listing-test.false (c.loop-listing.invariant.entries c.in-None.is)
+    ∙ ap (λ ls. map entry_view c.args.entries.now.items ++ flat_map (entries_at c.args.tables.now) ls) c.requires
+    ∙ ap (λ es. map entry_view c.args.entries.now.items ++ es) (entries-over c.args.tables.now)

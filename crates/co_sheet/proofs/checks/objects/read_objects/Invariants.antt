@@ -11,6 +11,6 @@ use Rattle.co_sheet.proofs.checks.objects.read_objects.Given as goal
 abbrev pub invariant-loop-listing : goal.invariant-loop-listing
 invariant-loop-listing l = record {
   found : sooner l.first (soonest (listing_finding l.tables) (map listing_view (drop l.listing-index l.named))) ≡ sooner l.initial.first (soonest (listing_finding l.tables) (map listing_view l.named));
-  rows : l.first ≡ None → rows_so_far l.listed ++ map (row_at l.tables) (map listing_view (drop l.listing-index l.named)) ≡ map (row_at l.tables) (map listing_view l.named);
-  entries : l.first ≡ None → map entry_view l.listed.entries.items ++ flat_map (entries_at l.tables) (map listing_view (drop l.listing-index l.named)) ≡ flat_map (entries_at l.tables) (map listing_view l.named);
+  rows : l.first ≡ None → rows_so_far l.objects.items ++ map (row_at l.tables) (map listing_view (drop l.listing-index l.named)) ≡ rows_so_far l.initial.objects.items ++ map (row_at l.tables) (map listing_view l.named);
+  entries : l.first ≡ None → map entry_view l.entries.items ++ flat_map (entries_at l.tables) (map listing_view (drop l.listing-index l.named)) ≡ map entry_view l.initial.entries.items ++ flat_map (entries_at l.tables) (map listing_view l.named);
 }

@@ -6,8 +6,8 @@ use Rattle.co_sheet.proofs.sheet.Sheet.entries.Goals as goal
 
 pub returns-clause-each : goal.returns-clause-each
 returns-clause-each c =
-    all-viewed row_view IsSheetRow c.as_slice.result.now (map row_view c.self.inside.entries.items) (ap (map row_view) c.as_slice.ensures.value) c.self.invariant.each_row
+    all-viewed row_view IsSheetRow c.as_slice.result.now (map row_view c.self.inside.lists.entries.items) (ap (map row_view) c.as_slice.ensures.value) c.self.invariant.each_row
 
 pub returns-clause-increase : goal.returns-clause-increase
 returns-clause-increase c =
-    pairs-viewed row_view IsRowBefore c.as_slice.result.now (map row_view c.self.inside.entries.items) (ap (map row_view) c.as_slice.ensures.value) c.self.invariant.keys_increase
+    pairs-viewed row_view IsRowBefore c.as_slice.result.now (map row_view c.self.inside.lists.entries.items) (ap (map row_view) c.as_slice.ensures.value) c.self.invariant.keys_increase

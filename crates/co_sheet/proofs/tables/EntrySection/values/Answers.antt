@@ -6,7 +6,7 @@ use Rattle.co_sheet.specs.Checks.{in_numeric, bad_limits, bad_default}
 use Rattle.co_sheet.specs.private.Findings.{found_by}
 use Rattle.co_sheet.specs.private.EntryReadings.{AreValues}
 use Rattle.co_sheet.specs.SectionViews.{entry_view}
-use Rattle.co_sheet.proofs.EntryReadingLemmas.{at_ok, checked-ok, checked-err, passed, stops, value-steps}
+use Rattle.co_sheet.proofs.EntryReadingLemmas.{at_ok, checked-ok, checked-err, stops, value-steps}
 use Rattle.co_sheet.proofs.tables.EntrySection.values.Goals as goal
 
 pub returns-in_err-values-clause-finding : goal.returns-in_err-values-clause-finding
@@ -17,37 +17,33 @@ returns-in_err-values-clause-finding c =
     failed ∙ stops g (option_map (found_by 15) (result_err c.stated.result)) _ (checked-err 15 c.stated.result g c.in_err-values.ensures)
     ∙ value-steps e (result_err c.stated.result) (least_fault (in_numeric bad_limits e)) (least_fault (bad_default e)) c.stated.ensures.fault refl refl
 
-pub returns-in_err-found-clause-finding : goal.returns-in_err-found-clause-finding
-returns-in_err-found-clause-finding c =
+pub returns-in-Some-clause-finding : goal.returns-in-Some-clause-finding
+returns-in-Some-clause-finding c =
     let t = c.args.data_type in
     let e = entry_view c.args.self.now in
-    let g = c.in_err-found.field-0.0 in
     let is = checked-ok 15 c.stated.result c.in_ok-values.values c.in_ok-values.ensures in
     let are = at_ok (AreValues t e) c.stated.result c.in_ok-values.values is c.stated.ensures.values in
-    let failed : result_err c.from_residual-in_err-found.result ≡ Some g = search rules in
-    failed ∙ stops g (option_map (found_by 16) c.limits_fault.result) _ c.in_err-found.ensures
+    stops (found_by 16 c.in-Some.fault) (option_map (found_by 16) c.limits_fault.result) _ (ap (option_map (found_by 16)) (sym c.in-Some.is))
     ∙ value-steps e None c.limits_fault.result (least_fault (bad_default e)) (sym (ap result_err is) ∙ c.stated.ensures.fault) (c.limits_fault.ensures ∙ ap least_fault (sym are.limits)) refl
 
-pub returns-in_err-found-2-clause-finding : goal.returns-in_err-found-2-clause-finding
-returns-in_err-found-2-clause-finding c =
+pub returns-in-Some-defaults_fault-clause-finding : goal.returns-in-Some-defaults_fault-clause-finding
+returns-in-Some-defaults_fault-clause-finding c =
     let t = c.args.data_type in
     let e = entry_view c.args.self.now in
     let values = c.in_ok-values.values in
-    let g = c.in_err-found-2.field-0.0 in
     let is = checked-ok 15 c.stated.result values c.in_ok-values.ensures in
     let are = at_ok (AreValues t e) c.stated.result values is c.stated.ensures.values in
-    let limits = sym (passed 16 c.limits_fault.result c.in_ok-found.ensures) ∙ c.limits_fault.ensures ∙ ap least_fault (sym are.limits) in
-    let failed : result_err c.from_residual-in_err-found-2.result ≡ Some g = search rules in
-    failed ∙ stops g (option_map (found_by 17) c.defaults_fault.result) None c.in_err-found-2.ensures
+    let limits = sym c.in_default.is ∙ c.limits_fault.ensures ∙ ap least_fault (sym are.limits) in
+    stops (found_by 17 c.in-Some-defaults_fault.fault) (option_map (found_by 17) c.defaults_fault.result) None (ap (option_map (found_by 17)) (sym c.in-Some-defaults_fault.is))
     ∙ value-steps e None None c.defaults_fault.result (sym (ap result_err is) ∙ c.stated.ensures.fault) limits (c.defaults_fault.ensures ∙ ap least_fault (sym are.defaults))
 
-pub returns-clause-finding : goal.returns-clause-finding
-returns-clause-finding c =
+pub returns-in-None-clause-finding : goal.returns-in-None-clause-finding
+returns-in-None-clause-finding c =
     let t = c.args.data_type in
     let e = entry_view c.args.self.now in
     let values = c.in_ok-values.values in
     let is = checked-ok 15 c.stated.result values c.in_ok-values.ensures in
     let are = at_ok (AreValues t e) c.stated.result values is c.stated.ensures.values in
-    let limits = sym (passed 16 c.limits_fault.result c.in_ok-found.ensures) ∙ c.limits_fault.ensures ∙ ap least_fault (sym are.limits) in
-    let defaults = sym (passed 17 c.defaults_fault.result c.in_ok-found-2.ensures) ∙ c.defaults_fault.ensures ∙ ap least_fault (sym are.defaults) in
+    let limits = sym c.in_default.is ∙ c.limits_fault.ensures ∙ ap least_fault (sym are.limits) in
+    let defaults = sym c.in-None.is ∙ c.defaults_fault.ensures ∙ ap least_fault (sym are.defaults) in
     value-steps e None None None (sym (ap result_err is) ∙ c.stated.ensures.fault) limits defaults

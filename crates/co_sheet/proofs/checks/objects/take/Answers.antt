@@ -10,7 +10,7 @@ use Rattle.co_sheet.specs.private.ListReadings.{listing_view}
 use Rattle.co_sheet.specs.private.ObjectReadings.{rows_so_far}
 use Rattle.co_sheet.proofs.ListLemmas.{map-push}
 use Rattle.co_sheet.proofs.ObjectReadingLemmas.{listing-found, listing-missing, row-type}
-use Rattle.co_sheet.proofs.checks.objects.Listed.take.Goals as goal
+use Rattle.co_sheet.proofs.checks.objects.take.Goals as goal
 
 pub add_entries-requires : goal.add_entries-requires
 add_entries-requires c = row-type (object_view c.in-Some.object) (object_row_view c.in-Ok.row) c.in-Ok.ensures.row
@@ -30,11 +30,10 @@ pub returns-in_ok-push-in-Ok-clause-objects : goal.returns-in_ok-push-in-Ok-clau
 returns-in_ok-push-in-Ok-clause-objects c = λ none.
     let view = λ (r : Object). Some (object_row_view r) in
     ap (map view) c.in_ok-push-in-Ok.ensures.items
-    ∙ map-push view c.add_entries.new.self.objects.items c.in-Ok.row
-    ∙ ap (λ v. map view v.items ++ Some (object_row_view c.in-Ok.row) ∷ []) c.add_entries.ensures.objects
-    ∙ ap (λ o. rows_so_far c.args.self.now ++ o ∷ []) (sym c.in-Ok.ensures.row ∙ ap (option_and_then object_row_of) c.in-Some.ensures)
+    ∙ map-push view c.args.objects.now.items c.in-Ok.row
+    ∙ ap (λ o. rows_so_far c.args.objects.now.items ++ o ∷ []) (sym c.in-Ok.ensures.row ∙ ap (option_and_then object_row_of) c.in-Some.ensures)
 
 pub returns-in_ok-push-in-Ok-clause-entries : goal.returns-in_ok-push-in-Ok-clause-entries
 returns-in_ok-push-in-Ok-clause-entries c = λ none.
-    c.in_ok-add_entries-in-Ok.ensures.entries
-    ∙ ap (λ o. map entry_view c.args.self.now.entries.items ++ option_map_or (entries_in c.args.tables.now) o []) c.in-Some.ensures
+    c.in_ok-add_entries-in-Ok.ensures
+    ∙ ap (λ o. map entry_view c.args.entries.now.items ++ option_map_or (entries_in c.args.tables.now) o []) c.in-Some.ensures

@@ -2,7 +2,7 @@ use Rattle.std.proofs.Common.{◌≡◌, ℕ, ◌||◌, [], drop, map, eqb}
 use Rattle.std.specs.List.{list_any}
 use Rattle.co_sheet.specs.private.ListReadings.{listing_view, is_listed_at}
 use Rattle.co_sheet.proofs.TwiceLemmas.{first_twice}
-use Rattle.co_sheet.proofs.checks.lists.listed_indices.Given as goal
+use Rattle.co_sheet.proofs.checks.lists.collect_indices.Given as goal
 
 -- what the rest names again is what all name again; an index is listed so far, or by the rest
 abbrev pub invariant-loop-listing : goal.invariant-loop-listing

@@ -2,7 +2,7 @@ use Rattle.std.proofs.Common.{◌≡◌, Bool, true, false, not, refl, sym, ◌�
 use Rattle.co_sheet.specs.declared.checks.lists.Listing.{Listing}
 use Rattle.co_sheet.specs.private.ListReadings.{listing_view}
 use Rattle.co_sheet.proofs.TwiceLemmas.{twice-turn, twice-here, twice-end, listed-turn, listed-end, twice-least}
-use Rattle.co_sheet.proofs.checks.lists.listed_indices.Goals as goal
+use Rattle.co_sheet.proofs.checks.lists.collect_indices.Goals as goal
 
 unlike : (a b : Bool) → a ≡ not b → a ≡ true → b ≡ false
 unlike a true h k = absurd (cc)
@@ -28,12 +28,12 @@ pub returns-then-not-is_new-clause-err : goal.returns-then-not-is_new-clause-err
 returns-then-not-is_new-clause-err c =
     let again = alike c.in_ok-is_new.is_new _ c.in_ok-is_new.ensures.added c.if-not-is_new.true in
     inr
-    (sym (twice-least (map listing_view c.args.listings.now) c.requires)
+    (sym (twice-least (map listing_view c.args.listings.now) c.requires.rise)
     ∙ twice-here c.args.listings.now c.loop-listing.listing-index (record { index = 0; line = 0 }) c.loop-listing.indices.keys _ c.loop-listing-test.true again c.loop-listing.invariant.found)
 
 pub returns-clause-none : goal.returns-clause-none
 returns-clause-none c =
-    sym (twice-least (map listing_view c.args.listings.now) c.requires)
+    sym (twice-least (map listing_view c.args.listings.now) c.requires.rise)
     ∙ twice-end c.args.listings.now c.loop-listing.listing-index c.loop-listing.indices.keys _ c.loop-listing-test.false c.loop-listing.invariant.found
 
 pub returns-clause-listed : goal.returns-clause-listed

@@ -1,7 +1,7 @@
 use Rattle.std.proofs.Common.{◌≤◌, ◌+◌, length}
 use Rattle.co_sheet_text.specs.SectionsKept.{sections_kept}
 use Rattle.co_sheet_text.proofs.ReadLemmas.{ReadsOn}
-use Rattle.co_sheet_text.proofs.pass.all_sections_in.Given as goal
+use Rattle.co_sheet_text.proofs.pass.take_lines_in_spite.Given as goal
 
 -- what is read so far and what the rest gives is what the whole gives
 abbrev pub invariant-loop-line : goal.invariant-loop-line

@@ -1,7 +1,7 @@
 use Rattle.std.proofs.Common.{◌≤◌, ◌+◌, length}
 use Rattle.co_sheet_text.specs.SectionsKept.{sections_kept}
 use Rattle.co_sheet_text.proofs.PassLemmas.{Reads}
-use Rattle.co_sheet_text.proofs.pass.sections_in.Given as goal
+use Rattle.co_sheet_text.proofs.pass.take_lines.Given as goal
 
 -- what is read so far and what the rest gives is what the whole gives
 abbrev pub invariant-loop-line : goal.invariant-loop-line
