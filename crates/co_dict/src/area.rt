@@ -7,7 +7,7 @@ use co_profile::IndexRange;
 use co_value::Key;
 
 /// The entries that a reset restores to their initial bytes (CiA 301, 7.3.2.2.1).
-#[derive(Clone, Copy, Debug, PartialEq, Eq)]
+#[derive(Clone, Copy)]
 pub enum Area {
     /// Those of the communication profile, 1000h to 1FFFh: reset communication.
     Communication,

@@ -13,7 +13,7 @@ ghost use Rattle.co_dict.specs.CobIds.{
 
 /// A COB-ID word: bit 31 set means that the PDO, the emergency or the SDO channel does not exist,
 /// bits 10 to 0 are the identifier (CiA 301, 7.5.2).
-#[derive(Clone, Copy, Debug, PartialEq, Eq)]
+#[derive(Clone, Copy)]
 pub struct CobId(pub u32);
 
 impl CobId {

@@ -21,7 +21,7 @@ use co_value::Key;
 
 /// An entry of 1016h: a node-ID in bits 23 to 16, the time in ms in bits 15 to 0
 /// (CiA 301, 7.5.2.19).
-#[derive(Clone, Copy, Debug, PartialEq, Eq)]
+#[derive(Clone, Copy)]
 pub struct HeartbeatConsumer(pub u32);
 
 impl HeartbeatConsumer {

@@ -27,7 +27,7 @@ use co_value::Key;
 
 /// A mapping word of a PDO: the index in bits 31 to 16, the sub-index in bits 15 to 8, the length
 /// in bits in bits 7 to 0 (CiA 301, 7.5.2.36, 7.5.2.38).
-#[derive(Clone, Copy, Debug, PartialEq, Eq)]
+#[derive(Clone, Copy)]
 pub struct MappingWord(pub u32);
 
 impl MappingWord {

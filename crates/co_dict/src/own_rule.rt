@@ -21,7 +21,7 @@ fn is_communication(index: u16) -> bool
 }
 
 /// What a write of an entry has to keep besides its rights, length and limits.
-#[derive(Clone, Copy, PartialEq, Eq)]
+#[derive(Clone, Copy)]
 pub(crate) enum OwnRule {
     /// 1003:00, the number of errors.
     ErrorCount,

@@ -4,7 +4,7 @@ use co_profile::Access;
 use co_value::DataType;
 
 /// An entry of the object dictionary, without its key and its bytes (CiA 301, 7.4).
-#[derive(Clone, Copy, Debug, PartialEq, Eq)]
+#[derive(Clone, Copy)]
 pub struct Row {
     pub data_type: DataType,
     pub access: Access,

@@ -10,7 +10,7 @@ use co_profile::IndexRange;
 use co_value::Key;
 
 /// The identifiers of an SDO channel (CiA 301, 7.5.2.33).
-#[derive(Clone, Copy, Debug, PartialEq, Eq)]
+#[derive(Clone, Copy)]
 pub struct SdoChannel {
     /// The identifier of requests, from client to server.
     pub request: u16,

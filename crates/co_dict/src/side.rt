@@ -1,7 +1,7 @@
 //! The two directions of process data.
 
 /// Whether a PDO is received by the device or transmitted by it (CiA 301, 7.2.2).
-#[derive(Clone, Copy, Debug, PartialEq, Eq)]
+#[derive(Clone, Copy, PartialEq, Eq)]
 pub enum Side {
     /// 1400h to 15FFh with the mapping of 1600h to 17FFh.
     Rpdo,

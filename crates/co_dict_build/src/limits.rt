@@ -3,7 +3,7 @@
 use co_value::Key;
 
 /// The room of the entries whose values have no fixed length, in bytes, 0 to 65,535.
-#[derive(Clone, Copy, Debug, PartialEq, Eq)]
+#[derive(Clone, Copy)]
 pub struct Limits<'a> {
     /// Of each string that may be written. A longer default makes more room; one that is read only
     /// has its default's length.

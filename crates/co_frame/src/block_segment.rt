@@ -11,7 +11,7 @@ ghost use Rattle.co_frame.specs.BlockSegments.{
 use crate::frame::Frame;
 
 /// A segment of an SDO block transfer, in either direction (CiA 301, 7.2.4.3.10 and 7.2.4.3.14).
-#[derive(Clone, Copy, Debug, PartialEq, Eq)]
+#[derive(Clone, Copy)]
 pub struct BlockSegment {
     /// Whether it is the last segment of the transfer, c.
     pub last: bool,

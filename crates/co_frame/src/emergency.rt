@@ -7,7 +7,7 @@ use crate::frame::Frame;
 use byteorder::{ByteOrder, LittleEndian};
 
 /// An EMCY message: a node reports an error, or that errors have ended (CiA 301, 7.2.7).
-#[derive(Clone, Copy, Debug, PartialEq, Eq)]
+#[derive(Clone, Copy)]
 pub struct Emergency {
     /// The emergency error code; 0000h for errors that have ended.
     pub code: u16,

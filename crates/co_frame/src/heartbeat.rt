@@ -7,7 +7,7 @@ use crate::frame::Frame;
 
 /// An error control message of a node: boot-up, or a heartbeat with the node's state
 /// (CiA 301, 7.2.8.3.2 and 7.2.8.3.3).
-#[derive(Clone, Copy, Debug, PartialEq, Eq)]
+#[derive(Clone, Copy, PartialEq, Eq)]
 pub enum Heartbeat {
     /// Boot-up, 0: the node has booted and is pre-operational.
     BootUp = 0,

@@ -1,7 +1,7 @@
 //! The identifiers of an SDO channel.
 
 /// The identifiers of an SDO channel, each 0 to 7FFh (CiA 301, 7.5.2.33).
-#[derive(Clone, Copy, Debug, PartialEq, Eq)]
+#[derive(Clone, Copy, PartialEq, Eq)]
 pub struct Ids {
     /// That of the client's requests.
     pub request: u16,

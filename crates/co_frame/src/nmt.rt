@@ -13,7 +13,7 @@ ghost use Rattle.co_frame.specs.Nmt.{
 use crate::frame::Frame;
 
 /// An NMT service of node control, with its command specifier cs (CiA 301, 7.2.8.3.1).
-#[derive(Clone, Copy, Debug, PartialEq, Eq)]
+#[derive(Clone, Copy, PartialEq, Eq)]
 pub enum NmtService {
     /// Start remote node, cs = 1.
     Start = 1,
@@ -49,7 +49,7 @@ impl NmtService {
 }
 
 /// A command to one node or to all of them (CiA 301, 7.2.8.3.1).
-#[derive(Clone, Copy, Debug, PartialEq, Eq)]
+#[derive(Clone, Copy, PartialEq, Eq)]
 pub struct NmtCommand {
     /// What the node is to do.
     pub service: NmtService,

@@ -30,7 +30,7 @@ use arrayvec::ArrayVec;
 use co_value::Key;
 
 /// The data of an expedited transfer (CiA 301, 7.2.4.3.3 and 7.2.4.3.6).
-#[derive(Clone, Debug, PartialEq, Eq, Drop)]
+#[derive(Drop)]
 pub enum ExpeditedData {
     /// The number of bytes is indicated (s = 1): 1 to 4 bytes.
     Indicated(ArrayVec<u8, 4>),
@@ -51,7 +51,7 @@ impl ExpeditedData {
 }
 
 /// A request of an SDO client (CiA 301, 7.2.4.3).
-#[derive(Clone, Debug, PartialEq, Eq, Drop)]
+#[derive(Drop)]
 pub enum SdoRequest {
     /// Initiate SDO download, ccs = 1, e = 1: a whole download of 1 to 4 bytes
     /// (CiA 301, 7.2.4.3.3).

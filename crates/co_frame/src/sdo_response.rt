@@ -30,7 +30,7 @@ use arrayvec::ArrayVec;
 use co_value::Key;
 
 /// A response of an SDO server (CiA 301, 7.2.4.3).
-#[derive(Clone, Debug, PartialEq, Eq, Drop)]
+#[derive(Drop)]
 pub enum SdoResponse {
     /// Initiate SDO download, scs = 3: a segmented download may go on, or an expedited one is done
     /// (CiA 301, 7.2.4.3.3).

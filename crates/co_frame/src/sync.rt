@@ -6,7 +6,7 @@ ghost use Rattle.co_frame.specs.Syncs.{SpellsSync, sync_bytes, sync_in};
 use crate::frame::Frame;
 
 /// A SYNC (CiA 301, 7.2.5).
-#[derive(Clone, Copy, Debug, PartialEq, Eq)]
+#[derive(Clone, Copy)]
 pub struct Sync {
     /// The counter, where the SYNC has one.
     pub counter: Option<u8>,

@@ -7,7 +7,7 @@ use co_frame::NmtService;
 use co_node_model::Mark;
 
 /// What an application may want to know of an input, as the device received it.
-#[derive(Clone, Copy, Debug, PartialEq, Eq)]
+#[derive(Clone, Copy)]
 pub enum Seen {
     /// None of the others.
     Nothing,

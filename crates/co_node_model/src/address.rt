@@ -4,7 +4,7 @@ use co_pdo::PdoNumber;
 
 /// The addressee of a received frame: the first whose identifier the frame has, in this order
 /// (CiA 301, 7.3.5).
-#[derive(Clone, Copy, Debug, PartialEq, Eq)]
+#[derive(Clone, Copy)]
 pub enum Address {
     /// NMT, identifier 0.
     Nmt,

@@ -3,7 +3,7 @@
 use co_frame::AbortCode;
 
 /// The answer to an application event.
-#[derive(Clone, Copy, Debug, PartialEq, Eq)]
+#[derive(Clone, Copy, PartialEq, Eq)]
 pub enum AppAnswer {
     /// The last input was no application event.
     None,

@@ -2,7 +2,7 @@
 
 /// An error that the device raises (CiA 301, 7.2.7.1): its bits are set in the error register
 /// 1001h, its code goes to the pre-defined error field 1003h, and an emergency is queued.
-#[derive(Clone, Copy, Debug, PartialEq, Eq)]
+#[derive(Clone, Copy)]
 pub struct DeviceError {
     /// The emergency error code.
     pub code: u16,

@@ -4,7 +4,7 @@ use co_frame::Frame;
 use co_value::Key;
 
 /// An event of the device's application.
-#[derive(Clone, Copy, Debug)]
+#[derive(Clone, Copy)]
 pub enum AppEvent<'a> {
     /// It writes these bytes into an entry, even if SDO clients may only read it.
     Write(Key, &'a [u8]),
@@ -20,7 +20,7 @@ pub enum AppEvent<'a> {
 }
 
 /// One input of a device.
-#[derive(Clone, Copy, Debug)]
+#[derive(Clone, Copy)]
 pub enum Input<'a> {
     /// A CAN frame was received.
     Frame(Frame),

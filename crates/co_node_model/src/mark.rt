@@ -20,7 +20,7 @@ use co_node_parts::KeptFrame;
 use co_value::Key;
 
 /// An application event of TPDOs.
-#[derive(Clone, Copy, Debug, PartialEq, Eq)]
+#[derive(Clone, Copy)]
 pub enum Asked {
     /// Of the TPDO with this number.
     Event(u16),
@@ -29,7 +29,7 @@ pub enum Asked {
 }
 
 /// What an input was, as the device received it.
-#[derive(Clone, Copy, Debug, PartialEq, Eq)]
+#[derive(Clone, Copy)]
 pub enum Mark {
     /// Nothing that concerns a service.
     Quiet,

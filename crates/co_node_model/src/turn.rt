@@ -4,7 +4,7 @@ use crate::mark::Asked;
 use co_pdo::{Part, PdoNumber};
 
 /// What an input is to the schedule of TPDOs (CiA 301, 7.2.2.2 to 7.2.2.4).
-#[derive(Clone, Copy, Debug, PartialEq, Eq)]
+#[derive(Clone, Copy)]
 pub enum Turn {
     /// Nothing: it doesn't concern TPDOs, or the NMT state isn't operational.
     Quiet,

@@ -20,7 +20,7 @@ use std::marker::Model;
 const ROOM: usize = 8;
 
 /// An event of the queue of emergencies.
-#[derive(Clone, Copy, Debug, PartialEq, Eq)]
+#[derive(Clone, Copy)]
 pub enum EmergencyEvent {
     /// An emergency is queued. If eight wait, it overwrites the oldest.
     Queue(Emergency),

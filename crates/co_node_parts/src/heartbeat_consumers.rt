@@ -29,7 +29,7 @@ const ENTRIES: usize = 127;
 pub type LostHeartbeats = ArrayVec<u8, 127>;
 
 /// An event of the heartbeat consumers.
-#[derive(Clone, Copy, Debug, PartialEq, Eq)]
+#[derive(Clone, Copy)]
 pub enum ConsumersEvent {
     /// The entry with this sub-index, 1 to 127, begins with this word: at each accepted write, also
     /// of the same word. Any other sub-index has no entry, and nothing begins.

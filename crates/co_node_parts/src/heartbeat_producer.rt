@@ -11,7 +11,7 @@ ghost use Rattle.co_node_parts.specs.Producers.{
 use std::marker::Model;
 
 /// An event of the heartbeat producer.
-#[derive(Clone, Copy, Debug, PartialEq, Eq)]
+#[derive(Clone, Copy)]
 pub enum ProducerEvent {
     /// It begins with the producer heartbeat time of 1017h in ms; 0 disables it: when the device is
     /// built, at each reset, and at each accepted write of 1017h, also of the same time.

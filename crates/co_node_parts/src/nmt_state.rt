@@ -40,7 +40,7 @@ impl NodeState {
 
 /// The reaction of the device to the loss of another node's heartbeat: error behaviour object
 /// 1029h, sub-index 1, communication error (CiA 301, 7.5.2.32).
-#[derive(Clone, Copy, Debug, PartialEq, Eq)]
+#[derive(Clone, Copy)]
 pub enum LossReaction {
     /// 0: operational becomes pre-operational; the other states stay.
     LeaveOperational,
@@ -64,7 +64,7 @@ impl LossReaction {
 }
 
 /// An event of the NMT state.
-#[derive(Clone, Copy, Debug, PartialEq, Eq)]
+#[derive(Clone, Copy)]
 pub enum StateEvent {
     /// An NMT command for this node or for all nodes.
     Command(NmtService),
@@ -75,7 +75,7 @@ pub enum StateEvent {
 }
 
 /// The states before and after an event.
-#[derive(Clone, Copy, Debug, PartialEq, Eq)]
+#[derive(Clone, Copy)]
 pub struct Transition {
     /// The state before it.
     pub before: NodeState,

@@ -11,7 +11,7 @@ use std::boxed::BoxedSlice;
 use std::marker::Model;
 
 /// A frame of an RPDO.
-#[derive(Clone, Copy, Debug, PartialEq, Eq)]
+#[derive(Clone, Copy)]
 pub struct KeptFrame {
     /// k of 1400h + k.
     pub number: u16,
@@ -20,7 +20,7 @@ pub struct KeptFrame {
 }
 
 /// An event of the frames that wait.
-#[derive(Clone, Copy, Debug, PartialEq, Eq)]
+#[derive(Clone, Copy)]
 pub enum SlotEvent {
     /// A frame of the RPDO with this number was received, which takes effect at the next SYNC. It
     /// replaces the one that waits.

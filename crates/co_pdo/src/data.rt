@@ -22,7 +22,7 @@ use arrayvec::ArrayVec;
 use co_dict::{ObjectStore, store_laws};
 
 /// A fault of the data of an RPDO (CiA 301, 7.2.2 and 7.5.2.36).
-#[derive(Clone, Copy, Debug, PartialEq, Eq)]
+#[derive(Clone, Copy)]
 pub enum PdoFault {
     /// There are fewer bytes than are mapped: nothing is written.
     Short,

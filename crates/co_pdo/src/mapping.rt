@@ -14,7 +14,7 @@ use co_value::Key;
 use std::marker::Model;
 
 /// An object mapped into a PDO, with its width in bytes, 1 to 8.
-#[derive(Clone, Copy, Debug, PartialEq, Eq)]
+#[derive(Clone, Copy)]
 pub enum Mapped {
     /// An entry.
     Entry(Key, u8),

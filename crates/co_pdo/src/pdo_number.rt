@@ -6,7 +6,7 @@ use std::marker::Model;
 
 /// The number of a PDO of either side, 0 to 511: k of 1400h + k and of 1800h + k (CiA 301, 7.5.2.35
 /// and 7.5.2.37). Contracts see the number. The default is 0.
-#[derive(Clone, Copy, Debug, PartialEq, Eq)]
+#[derive(Clone, Copy)]
 pub struct PdoNumber {
     number: u16,
 }

@@ -22,7 +22,7 @@ use co_value::{Key, read_u8, read_u16, read_u32};
 
 /// The places of the entries that decide when a TPDO is due; `None` for a missing entry. No call of
 /// a dictionary changes a place, so they are looked up once.
-#[derive(Clone, Copy, Debug)]
+#[derive(Clone, Copy)]
 pub struct Places {
     /// Of 1800h + k, sub-index 1.
     pub cob_id: Option<u32>,

@@ -6,7 +6,7 @@ ghost use Rattle.co_pdo.specs.Due.{waits_for_none, begins_count};
 use co_profile::TransmissionType;
 
 /// The settings of one TPDO in the dictionary (CiA 301, 7.5.2.37).
-#[derive(Clone, Copy, Debug)]
+#[derive(Clone, Copy)]
 pub struct Settings {
     /// Its COB-ID word is valid, something is mapped, and its transmission type is supported.
     pub is_active: bool,

@@ -16,7 +16,7 @@ use co_dict::ObjectStore;
 use co_profile::TransmissionType;
 
 /// An occasion at which a TPDO may be due.
-#[derive(Clone, Copy, Debug)]
+#[derive(Clone, Copy)]
 pub enum Occasion {
     /// A SYNC: the synchronous counter overflow value then, 0 for none, and the counter of the
     /// SYNC, if it has one.
@@ -28,7 +28,7 @@ pub enum Occasion {
 }
 
 /// Which part of a TPDO is started.
-#[derive(Clone, Copy, Debug, PartialEq, Eq)]
+#[derive(Clone, Copy)]
 pub enum Part {
     /// The whole TPDO: the count of SYNCs is 0, no event waits, the inhibit time is over, and the
     /// event timer begins.
@@ -39,7 +39,7 @@ pub enum Part {
 
 /// The countdowns of one TPDO, in 16 bytes. A tick reads nothing else of a TPDO, unless its
 /// countdowns make it due.
-#[derive(Clone, Copy, Debug)]
+#[derive(Clone, Copy)]
 pub struct Tpdo {
     /// k of 1800h + k.
     pub number: PdoNumber,

@@ -4,7 +4,7 @@ use co_value::Key;
 
 /// Progress of an open transfer (CiA 301, 7.2.4.3). A size is the one indicated at initiate, if
 /// any.
-#[derive(Clone, Copy, PartialEq, Eq)]
+#[derive(Clone, Copy)]
 pub(crate) enum Stage {
     /// A segmented download, with the toggle of the next segment.
     Download {
@@ -39,7 +39,7 @@ pub(crate) enum Stage {
 }
 
 /// An open transfer without its bytes.
-#[derive(Clone, Copy, PartialEq, Eq)]
+#[derive(Clone, Copy)]
 pub(crate) struct Ongoing {
     pub(crate) key: Key,
     pub(crate) stage: Stage,

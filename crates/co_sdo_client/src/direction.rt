@@ -1,7 +1,7 @@
 //! Which way the bytes go.
 
 /// Which way the bytes go.
-#[derive(Clone, Copy, PartialEq, Eq)]
+#[derive(Clone, Copy)]
 pub(crate) enum Direction {
     /// To the server; their number is indicated at initiate if `tell_size`.
     Download { tell_size: bool },

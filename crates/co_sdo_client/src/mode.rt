@@ -1,7 +1,7 @@
 //! The mode of a client.
 
 /// By which of the SDO protocols a client transfers (CiA 301, 7.2.4.2).
-#[derive(Clone, Copy, Debug, PartialEq, Eq)]
+#[derive(Clone, Copy)]
 pub enum Mode {
     /// A download of 1 to 4 bytes is expedited; else as `Segmented`.
     Plain,

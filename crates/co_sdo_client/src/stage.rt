@@ -1,7 +1,7 @@
 //! Progress of a transfer at its client.
 
 /// Progress of a transfer at its client, while it waits (CiA 301, 7.2.4.3).
-#[derive(Clone, Copy, PartialEq, Eq)]
+#[derive(Clone, Copy)]
 pub(crate) enum Stage {
     /// Initiate was sent: its confirmation is awaited.
     Begun,

@@ -3,7 +3,7 @@
 use co_frame::AbortCode;
 
 /// The state of a client's transfer.
-#[derive(Clone, Copy, Debug, PartialEq, Eq)]
+#[derive(Clone, Copy, PartialEq, Eq)]
 pub enum ClientState {
     /// Not begun, or waiting for an answer.
     Waiting,

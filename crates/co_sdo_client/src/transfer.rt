@@ -1,7 +1,7 @@
 //! The protocols of a transfer.
 
 /// The protocol that carries the bytes.
-#[derive(Clone, Copy, PartialEq, Eq)]
+#[derive(Clone, Copy)]
 pub(crate) enum Transfer {
     /// Initiate SDO download with e = 1 (CiA 301, 7.2.4.3.3).
     ExpeditedDownload,

@@ -22,14 +22,14 @@ use std::collections::BTreeMap;
 use std::marker::Model;
 
 /// An object, and its section.
-#[derive(Clone, Copy, Debug)]
+#[derive(Clone, Copy)]
 pub struct ListedSection<'s, 'a> {
     pub index: u16,
     pub section: &'s TextSection<'s, 'a>,
 }
 
 /// An entry, and the section that describes it.
-#[derive(Clone, Copy, Debug)]
+#[derive(Clone, Copy)]
 pub struct EntrySection<'s, 'a> {
     pub key: Key,
     pub section: &'s TextSection<'s, 'a>,

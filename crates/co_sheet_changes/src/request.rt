@@ -1,7 +1,7 @@
 //! What is requested.
 
 /// How a number with a leading zero is to be read.
-#[derive(Clone, Copy, Debug, PartialEq, Eq)]
+#[derive(Clone, Copy)]
 pub enum LeadingZeros {
     Octal,
     Decimal,

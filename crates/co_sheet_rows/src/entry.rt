@@ -5,7 +5,7 @@ use co_value::{DataType, Key};
 
 /// The value that an entry begins with, by its ParameterValue, or where there is none by its
 /// DefaultValue (CiA 306, object description, device configuration file).
-#[derive(Clone, Copy, Debug, PartialEq, Eq)]
+#[derive(Clone, Copy)]
 pub enum Preset<'a> {
     /// There is neither, or the entry is a DOMAIN.
     Absent,
@@ -20,7 +20,7 @@ pub enum Preset<'a> {
 }
 
 /// What a data sheet says of one entry (CiA 306, object description).
-#[derive(Clone, Copy, Debug, PartialEq, Eq)]
+#[derive(Clone, Copy)]
 pub struct EntryRow<'a> {
     pub key: Key,
     pub data_type: DataType,

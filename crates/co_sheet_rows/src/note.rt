@@ -5,7 +5,7 @@ use co_text::decimal_digits;
 use std::fmt;
 
 /// What is odd.
-#[derive(Clone, Copy, Debug, PartialEq, Eq)]
+#[derive(Clone, Copy)]
 pub enum NoteKind {
     /// SubNumber isn't the number of the object's sub-index sections.
     SubNumber,
@@ -45,7 +45,7 @@ impl fmt::Display for NoteKind {
 }
 
 /// What is odd, and where.
-#[derive(Clone, Copy, Debug, PartialEq, Eq)]
+#[derive(Clone, Copy)]
 pub struct Note {
     pub kind: NoteKind,
     /// From 1.

@@ -1,7 +1,7 @@
 //! The objects of a data sheet.
 
 /// What an object is made of (CiA 301, object codes; CiA 306, object description).
-#[derive(Clone, Copy, Debug, PartialEq, Eq)]
+#[derive(Clone, Copy)]
 pub enum ObjectType {
     /// One entry of any length.
     Domain = 2,
@@ -14,7 +14,7 @@ pub enum ObjectType {
 }
 
 /// An object that the object lists name, from 1000h on.
-#[derive(Clone, Copy, Debug, PartialEq, Eq)]
+#[derive(Clone, Copy)]
 pub struct Object<'a> {
     pub index: u16,
     pub object_type: ObjectType,

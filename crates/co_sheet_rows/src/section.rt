@@ -1,7 +1,7 @@
 //! The section lines of a data sheet.
 
 /// A section line of a data sheet.
-#[derive(Clone, Copy, Debug, PartialEq, Eq)]
+#[derive(Clone, Copy, PartialEq, Eq)]
 pub struct Section<'a> {
     /// What is between `[` and the first `]`, without blanks at its ends.
     pub name: &'a [u8],

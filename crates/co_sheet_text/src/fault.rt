@@ -1,7 +1,7 @@
 //! Why the sections of a text can't be read.
 
 /// What is wrong with a line (CiA 306, structure of an EDS).
-#[derive(Clone, Copy, Debug, PartialEq, Eq)]
+#[derive(Clone, Copy)]
 pub enum TextFaultKind {
     /// More than 512 bytes in a line.
     TooLarge,
@@ -31,7 +31,7 @@ impl TextFaultKind {
 }
 
 /// The first fault of a text's lines, and its line.
-#[derive(Clone, Copy, Debug, PartialEq, Eq)]
+#[derive(Clone, Copy)]
 pub struct TextFault {
     pub kind: TextFaultKind,
     /// From 1, or 0 where memory ran out.

@@ -10,7 +10,7 @@ use crate::text::trim;
 use co_text::split_at_first;
 
 /// What a line is, by its bytes alone.
-#[derive(Clone, Copy, PartialEq, Eq)]
+#[derive(Clone, Copy)]
 pub(crate) enum LineForm<'a> {
     /// Empty, or a comment.
     Skipped,

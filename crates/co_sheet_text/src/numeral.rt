@@ -19,7 +19,7 @@ use crate::text::same_name;
 use co_value::DataType;
 
 /// A number as it is written, of a magnitude below 2^64 (CiA 306, numerals).
-#[derive(Clone, Copy, Debug, PartialEq, Eq)]
+#[derive(Clone, Copy)]
 pub enum Numeral {
     /// Decimal digits, perhaps after `-`.
     Decimal(i128),
@@ -28,7 +28,7 @@ pub enum Numeral {
 }
 
 /// Why a text is no number.
-#[derive(Clone, Copy, Debug, PartialEq, Eq)]
+#[derive(Clone, Copy)]
 pub enum NumeralFault {
     /// It has another form, a sign where none is allowed, or a magnitude of 2^64 or more.
     Malformed,

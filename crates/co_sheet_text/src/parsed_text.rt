@@ -11,7 +11,7 @@ use std::marker::Model;
 
 /// The sections of a text. The properties of all of them are in one list, so that no section has
 /// memory of its own. Contracts see the sections.
-#[derive(Debug, Drop)]
+#[derive(Drop)]
 pub struct ParsedText<'a> {
     pub(crate) headers: Vec<Header<'a>>,
     pub(crate) properties: Vec<Property<'a>>,

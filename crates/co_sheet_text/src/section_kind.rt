@@ -22,7 +22,7 @@ use crate::text::same_name;
 use co_value::Key;
 
 /// What a section is about, by its name.
-#[derive(Clone, Copy, Debug, PartialEq, Eq, Hash)]
+#[derive(Clone, Copy, PartialEq, Eq, Hash)]
 pub enum SectionKind {
     MandatoryObjects,
     OptionalObjects,

@@ -10,7 +10,7 @@ use crate::section_kind::SectionKind;
 use crate::text::same_name;
 
 /// A property of a section: a name with a value, and its line (CiA 306, structure of an EDS).
-#[derive(Clone, Copy, Debug, PartialEq, Eq)]
+#[derive(Clone, Copy)]
 pub struct Property<'a> {
     pub name: &'a [u8],
     pub value: &'a [u8],
@@ -28,7 +28,7 @@ impl Property<'_> {
 }
 
 /// A section of a text, with the properties that are read in it in the order of their lines.
-#[derive(Clone, Copy, Debug)]
+#[derive(Clone, Copy)]
 pub struct TextSection<'s, 'a> {
     pub kind: SectionKind,
     /// What is between `[` and the first `]`, without blanks at its ends.

@@ -5,7 +5,7 @@ ghost use Rattle.co_words.specs.declared.abort_reason.AbortReason.{AbortReason};
 ghost use Rattle.co_words.specs.AbortReasons.{code_of, text_of};
 
 /// What an SDO abort code means (CiA 301, 7.2.4.3.17, table 22).
-#[derive(Clone, Copy, Debug, PartialEq, Eq)]
+#[derive(Clone, Copy)]
 pub enum AbortReason {
     /// 05030000h: the toggle bit of a segment isn't the awaited one.
     ToggleNotAlternated,

@@ -15,7 +15,7 @@ use conode_text::push_filled;
 use std::alloc::AllocError;
 
 /// How many frames of the device have which verdict, up to 2^64 - 1.
-#[derive(Clone, Copy, Debug, PartialEq, Eq)]
+#[derive(Clone, Copy)]
 pub struct Tally {
     /// As prescribed.
     pub prescribed: u64,

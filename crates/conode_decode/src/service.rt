@@ -4,7 +4,7 @@ ghost use Rattle.std.specs.Prelude.{◌≡◌};
 ghost use Rattle.conode_decode.specs.Services.{service_at};
 
 /// A service of a node (CiA 301, 7.3.3, pre-defined connection set).
-#[derive(Clone, Copy, PartialEq, Eq)]
+#[derive(Clone, Copy)]
 pub(crate) enum Service {
     /// EMCY write, 81h to FFh.
     Emergency,

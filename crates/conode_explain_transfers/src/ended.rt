@@ -10,7 +10,7 @@ use co_frame::AbortCode;
 use co_value::Key;
 
 /// How a transfer ended.
-#[derive(Clone, Copy, Debug, PartialEq, Eq)]
+#[derive(Clone, Copy)]
 pub enum Ending {
     /// It was confirmed. No frame is missing, and the number of bytes is the indicated one, if
     /// there is one; `crc`: both ends support the CRC, and it is right.

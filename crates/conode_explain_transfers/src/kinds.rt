@@ -1,7 +1,7 @@
 //! The ends and ways of a transfer, and what a frame is in it.
 
 /// An end of a channel.
-#[derive(Clone, Copy, Debug, PartialEq, Eq)]
+#[derive(Clone, Copy)]
 pub enum Side {
     /// The client, which sends requests.
     Client,
@@ -10,7 +10,7 @@ pub enum Side {
 }
 
 /// Which way the data goes.
-#[derive(Clone, Copy, Debug, PartialEq, Eq)]
+#[derive(Clone, Copy)]
 pub enum Direction {
     /// To the server: an entry is written.
     Download,
@@ -19,7 +19,7 @@ pub enum Direction {
 }
 
 /// By which protocol the data goes (CiA 301, 7.2.4.2).
-#[derive(Clone, Copy, Debug, PartialEq, Eq)]
+#[derive(Clone, Copy)]
 pub enum Protocol {
     /// An upload whose answer decides: expedited or segmented.
     Undecided,
@@ -32,7 +32,7 @@ pub enum Protocol {
 }
 
 /// What a frame is.
-#[derive(Clone, Copy, Debug, PartialEq, Eq)]
+#[derive(Clone, Copy)]
 pub enum What {
     /// An initiate request: a transfer begins.
     Initiate,

@@ -8,7 +8,7 @@ use crate::fault::CmdFault;
 use std::process::ExitCode;
 
 /// How a command ended, and whether it said why.
-#[derive(Clone, Copy, Debug, PartialEq, Eq)]
+#[derive(Clone, Copy)]
 pub enum Ending {
     /// It came to its end, and all that it wrote has gone out.
     Whole,

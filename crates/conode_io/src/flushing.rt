@@ -10,7 +10,7 @@ use crate::fault::CmdFault;
 use std::io::Write;
 
 /// Evidence that a writer was flushed without a failure.
-#[derive(Clone, Copy, Debug, PartialEq, Eq)]
+#[derive(Clone, Copy)]
 pub struct Flushed {
     succeeded: (),
 }

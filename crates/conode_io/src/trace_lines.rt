@@ -33,7 +33,7 @@ pub fn line_fault(fault: LineFault, progress: &TraceProgress) -> CmdFault
 }
 
 /// Whether what was written had to be flushed before the next line.
-#[derive(Clone, Copy, Debug, PartialEq, Eq)]
+#[derive(Clone, Copy)]
 pub enum LetOut {
     /// The next line can be read without a wait.
     NotNeeded,

@@ -26,7 +26,7 @@ use co_value::PackedBytes;
 use std::marker::Model;
 
 /// Whether a frame was received or sent, where the recording says so (`candump -x`).
-#[derive(Clone, Copy, Debug, PartialEq, Eq)]
+#[derive(Clone, Copy)]
 pub enum Direction {
     /// `R`
     Received,

@@ -19,7 +19,7 @@ use crate::interface::Interface;
 use co_text::{hex_digit, is_blank, is_digit};
 
 /// The identifier of a frame.
-#[derive(Clone, Copy, Debug, PartialEq, Eq)]
+#[derive(Clone, Copy)]
 pub enum Identifier {
     /// One of 11 bits, in three digits.
     Base(u16),

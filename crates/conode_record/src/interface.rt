@@ -5,7 +5,7 @@ ghost use Rattle.std.specs.Prelude.{◌≡◌, ◌≤◌, length};
 use std::marker::Model;
 
 /// The name of a CAN interface, as `can0`: 1 to 15 bytes without a blank. Contracts see its bytes.
-#[derive(Debug, Drop)]
+#[derive(Drop)]
 pub struct Interface<'a> {
     name: &'a [u8],
 }

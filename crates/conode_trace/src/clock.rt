@@ -13,7 +13,7 @@ const GREATEST_STEP: u32 = 86_400_000;
 ///
 /// A stamp is below 2^64 ms, and a line moves the clock by at most a day: so the time stays far
 /// below 2^128 whatever the number of lines.
-#[derive(Clone, Copy, Debug)]
+#[derive(Clone, Copy)]
 pub(crate) struct Clock {
     ms: u128,
     started: bool,

@@ -8,7 +8,7 @@ use co_text::{HexPairs, byte_in, decimal_in, five_bytes_in, split_at_first, word
 use co_value::Key;
 
 /// What an application does to a device.
-#[derive(Debug, Drop)]
+#[derive(Drop)]
 pub enum AppLine<'a> {
     /// `!write KEY HEX`: these bytes, 256 at most, are written to the entry.
     Write(Key, HexPairs<'a>),
@@ -24,7 +24,7 @@ pub enum AppLine<'a> {
 }
 
 /// An event line.
-#[derive(Debug, Drop)]
+#[derive(Drop)]
 pub enum EventLine<'a> {
     /// `!tick N`: 1 to 86,400,000 ticks of 1 ms.
     Ticks(u32),

@@ -24,7 +24,7 @@ use co_text::{hex_digit, is_blank, is_digit, pair_at};
 use co_value::PackedBytes;
 
 /// The identifier of a frame line.
-#[derive(Clone, Copy, PartialEq, Eq)]
+#[derive(Clone, Copy)]
 pub(crate) enum Identifier {
     /// Three digits, at most 7FF.
     Base(u16),

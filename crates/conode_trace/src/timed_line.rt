@@ -10,7 +10,7 @@ use crate::event_line::EventLine;
 use crate::trace_line::TraceLine;
 
 /// A line of a trace, with the ticks before its own input, and the times of both.
-#[derive(Debug, Drop)]
+#[derive(Drop)]
 pub struct TimedLine<'a> {
     /// The number of the line, from 1.
     pub number: usize,

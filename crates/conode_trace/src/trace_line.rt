@@ -23,7 +23,7 @@ use co_frame::Frame;
 const LONGEST: usize = 512;
 
 /// What a line of a trace says: a frame as `candump -L` writes it, or an event.
-#[derive(Debug, Drop)]
+#[derive(Drop)]
 pub enum TraceLine<'a> {
     /// An empty line, or a comment.
     Skipped,

@@ -15,7 +15,7 @@ pub struct BadLine(pub usize);
 
 /// Progress through a trace: the number of lines read, and the clock after them. It takes one line
 /// at a time, from any source. Contracts see both.
-#[derive(Debug, Drop)]
+#[derive(Drop)]
 pub struct TraceProgress {
     number: usize,
     clock: Clock,

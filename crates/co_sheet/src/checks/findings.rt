@@ -7,7 +7,7 @@ ghost use Rattle.co_sheet.specs.private.Findings.{is_before, sooner, checked};
 use co_sheet_rows::SheetFault;
 
 /// What the first check that finds anything finds.
-#[derive(Clone, Copy, PartialEq, Eq)]
+#[derive(Clone, Copy)]
 pub(crate) struct Finding {
     /// The number of the check, from 1.
     pub(crate) check: u8,

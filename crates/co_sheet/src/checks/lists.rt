@@ -44,7 +44,7 @@ use indexmap::IndexSet;
 use std::alloc::AllocError;
 
 /// An index that an object list names, and the line where it does.
-#[derive(Clone, Copy, Debug, PartialEq, Eq)]
+#[derive(Clone, Copy)]
 pub struct Listing {
     pub index: u64,
     /// From 1.
