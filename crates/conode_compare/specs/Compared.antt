@@ -30,10 +30,10 @@ use Rattle.conode_compare_notes.specs.declared.warning.Warning.{Warning}
 use Rattle.conode_compare_notes.specs.declared.warning.Warning.TheVariants.{Restarted, Stored, Changed, ChangedBytes, SteppedBack, OtherRevision, OtherText, OddCode, OtherError}
 use Rattle.conode_compare_rules.specs.declared.kind.FrameKind.{FrameKind}
 use Rattle.conode_compare_rules.specs.declared.progress.Progress.{Progress}
-use Rattle.conode_compare_rules.specs.declared.receptions.Receptions.{Receptions}
+use Rattle.conode_compare_receptions.specs.declared.receptions.Receptions.{Receptions}
 use Rattle.conode_compare_rules.specs.FrameKinds.{kind_of}
 use Rattle.conode_compare_rules.specs.Progresses.{before_recording, findings_at, is_number_kept, progress_with}
-use Rattle.conode_compare_rules.specs.Receptions.{no_receptions, receptions_with, with_receptions}
+use Rattle.conode_compare_receptions.specs.Receptions.{no_receptions, receptions_with, with_receptions}
 use Rattle.conode_compare_text.specs.FindingTexts.{finding_line}
 use Rattle.conode_compare_text.specs.Tallies.{no_frames, tally_with}
 use Rattle.conode_compare_text.specs.WarningTexts.{warning_line}

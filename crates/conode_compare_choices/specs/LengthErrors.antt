@@ -25,6 +25,7 @@ use Rattle.conode_compare_rules.specs.declared.kind.FrameKind.TheVariants.{Comma
 use Rattle.conode_compare_rules.specs.declared.limits.Limits.{Limits}
 use Rattle.conode_compare_rules.specs.declared.limits.Subject.{Subject}
 use Rattle.conode_compare_rules.specs.declared.progress.Progress.{Progress}
+use Rattle.conode_compare_rules.specs.States.{is_operational}
 use Rattle.conode_compare_choices.specs.declared.choice.Choice.{Choice}
 use Rattle.conode_compare_choices.specs.declared.choice.Choice.TheVariants.{NoEmergency, OtherEmergency}
 use Rattle.conode_compare_choices.specs.declared.length_error.LengthError.{LengthError}
@@ -32,7 +33,7 @@ use Rattle.conode_compare_choices.specs.declared.length_error.LengthError.TheVar
 use Rattle.conode_compare_choices.specs.declared.length_errors.Awaited.{Awaited}
 use Rattle.conode_compare_choices.specs.declared.length_errors.LengthErrors.{LengthErrors}
 use Rattle.conode_compare_choices.specs.declared.length_errors.Rpdo.{Rpdo}
-use Rattle.conode_compare_choices.specs.Phases.{has_presets, is_operational}
+use Rattle.conode_compare_choices.specs.Phases.{has_presets}
 
 -- the code of its EMCY
 abbrev pub code_of : LengthError → ℕ

@@ -22,11 +22,12 @@ use Rattle.conode_compare_transfers.specs.declared.dialogue.Exchange.{Exchange}
 use Rattle.conode_compare_transfers.specs.Breaches.{key_in}
 use Rattle.conode_compare_transfers.specs.Dialogues.{asks_to_write, is_timed}
 use Rattle.conode_compare_rules.specs.declared.finding.NmtState.{NmtState}
-use Rattle.conode_compare_rules.specs.declared.finding.NmtState.TheVariants.{Operational, PreOperational, Stopped}
+use Rattle.conode_compare_rules.specs.declared.finding.NmtState.TheVariants.{PreOperational, Stopped}
 use Rattle.conode_compare_rules.specs.declared.kind.FrameKind.{FrameKind}
 use Rattle.conode_compare_rules.specs.declared.kind.FrameKind.TheVariants.{Command, CommandToAll, Control, Polled, Process, Sdo}
 use Rattle.conode_compare_rules.specs.declared.limits.Subject.{Subject}
 use Rattle.conode_compare_rules.specs.declared.progress.Progress.{Progress}
+use Rattle.conode_compare_rules.specs.States.{is_operational}
 use Rattle.conode_compare_choices.specs.declared.choice.Choice.{Choice}
 use Rattle.conode_compare_choices.specs.declared.choice.Choice.TheVariants.{Phase as PhaseChoice}
 use Rattle.conode_compare_choices.specs.declared.phases.Phase.{Phase}
@@ -117,10 +118,6 @@ abbrev pub after_data : Pdos → ℕ → Phases → Phases
 after_data pdos id phases = if is_id pdos.sync id then synced phases else framed pdos id phases
 
 -- ---- every frame
-
-abbrev pub is_operational : NmtState → Bool
-is_operational Operational = true
-is_operational state = false
 
 abbrev pub is_idle : NmtState → Bool
 is_idle PreOperational = true

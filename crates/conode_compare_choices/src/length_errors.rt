@@ -43,7 +43,7 @@ ghost use Rattle.conode_compare_choices.specs.LengthErrors.{
 
 use crate::choice::Choice;
 use crate::length_error::LengthError;
-use crate::phases::{has_presets, is_operational};
+use crate::phases::has_presets;
 use co_frame::Frame;
 use co_profile::keys::SYNC_COUNTER_OVERFLOW;
 use co_profile::{PDO_COB_ID, TRANSMISSION_TYPE};
@@ -396,7 +396,7 @@ impl LengthErrors {
     {
         if is_id(progress.pdos().sync, id) {
             sync_error(length, self.sync?)
-        } else if is_operational(progress.state()) {
+        } else if progress.state().is_operational() {
             self.rpdos_error(id, length)
         } else {
             None

@@ -18,7 +18,6 @@ ghost use Rattle.conode_compare_choices.specs.Phases.{
   has_presets,
   is_idle,
   is_open,
-  is_operational,
   left,
   no_phase,
   no_phases,
@@ -74,13 +73,6 @@ pub(crate) fn has_presets(subject: &Subject) -> bool
     ensures { result ≡ has_presets subject.now }
 {
     subject.facts.pdos.first.parameters.timer.is_some()
-}
-
-/// Whether the state is operational.
-pub(crate) fn is_operational(state: NmtState) -> bool
-    ensures { result ≡ is_operational state }
-{
-    matches!(state, NmtState::Operational)
 }
 
 /// Whether the state is pre-operational or stopped.
@@ -297,7 +289,7 @@ impl Phases {
     {
         if matches!(service, NmtService::Start)
             && self.idle
-            && is_operational(state)
+            && state.is_operational()
             && !subject.facts.starts_itself
         {
             self.start();
@@ -357,7 +349,7 @@ impl Phases {
     {
         self.take_kind(subject, rows, kind, progress);
         let state = progress.state();
-        if !is_operational(state) {
+        if !state.is_operational() {
             self.leave();
         }
         self.idle = is_idle(state);

@@ -1,4 +1,3 @@
 mod AnswerExamples
 mod Examples
-mod ReceptionExamples
 mod SilenceExamples

@@ -1,6 +1,5 @@
 pub mod Answers
 pub mod Progresses
-pub mod Receptions
 pub mod EmergencyRules
 pub mod EntriesInForce
 pub mod Heartbeats

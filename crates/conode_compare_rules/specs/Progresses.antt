@@ -35,7 +35,7 @@ use Rattle.conode_compare_rules.specs.EmergencyRules.{emergency_finding, length_
 use Rattle.conode_compare_rules.specs.EntriesInForce.{asked_to_write, ended_entries, reset_entries, shares_id, with_sharing}
 use Rattle.conode_compare_rules.specs.Heartbeats.{after_byte, after_transfer, early_remark, follows_closely, late_finding, no_heartbeat, is_gap}
 use Rattle.conode_compare_rules.specs.States as states
-use Rattle.conode_compare_rules.specs.States.{boot_finding, control_finding, is_reset, is_settled, nothing_commanded, restart_remark}
+use Rattle.conode_compare_rules.specs.States.{boot_finding, control_finding, is_operational, is_reset, is_settled, nothing_commanded, restart_remark}
 use Rattle.conode_compare_transfers.specs.Times.{is_past}
 use Rattle.conode_compare_rules.specs.Verdicts.{found, nothing_found}
 
@@ -404,3 +404,8 @@ is_number_kept subject after = option_map_or (kept_in subject after.written) aft
 -- the recording begins with the newest frame, or begins anew; or that is an error frame
 abbrev pub is_begun : Progress → Bool
 is_begun progress = option_map_or (λ newest. newest == progress.started) progress.newest false
+
+-- the device was operational when the bus was free last before the frame, as far as commands and
+-- heartbeats show
+abbrev pub takes_rpdos : Subject → Progress → Bool
+takes_rpdos subject progress = is_operational progress.nmt.state && settled_when_free subject progress

@@ -161,6 +161,10 @@ is_wrong starts_itself Stopped Operational = true
 is_wrong starts_itself Stopped PreOperational = true
 is_wrong starts_itself state shown = false
 
+abbrev pub is_operational : NmtState → Bool
+is_operational Operational = true
+is_operational other = false
+
 abbrev pub is_initialising : NmtState → Bool
 is_initialising Initialising = true
 is_initialising other = false

@@ -1,5 +1,8 @@
 //! The kinds of differences.
 
+ghost use Rattle.std.specs.Prelude.{◌≡◌};
+ghost use Rattle.conode_compare_rules.specs.States.{is_operational};
+
 use co_value::Key;
 use conode_compare_held::HeldMismatch;
 use conode_compare_pdos::Deviation;
@@ -16,6 +19,15 @@ pub enum NmtState {
     PreOperational,
     Operational,
     Stopped,
+}
+
+impl NmtState {
+    /// Whether it is operational.
+    pub fn is_operational(self) -> bool
+        ensures { result ≡ is_operational self }
+    {
+        matches!(self, NmtState::Operational)
+    }
 }
 
 /// A difference between what a device did and what CiA 301 prescribes for its data sheet.

@@ -1,10 +1,11 @@
 //! What a recording shows of a device so far, for a report.
 
 ghost use Rattle.std.specs.Prelude.{◌≡◌};
-ghost use Rattle.conode_compare_rules.specs.Progresses.{is_begun};
+ghost use Rattle.conode_compare_rules.specs.Progresses.{is_begun, takes_rpdos};
 
 use crate::entries::Entries;
 use crate::finding::NmtState;
+use crate::limits::Subject;
 use crate::progress::Progress;
 use conode_compare_pdos::Pdos;
 
@@ -28,6 +29,17 @@ impl Progress {
         ensures { result.now ≡ self.now.pdos }
     {
         &self.pdos
+    }
+
+    /// Whether it takes RPDOs: it is operational, as commands and heartbeats show it, and the tolerance
+    /// was over since the newest command when the bus was free last.
+    pub fn takes_rpdos(&self, subject: &Subject) -> bool
+        ensures { result ≡ takes_rpdos subject.now self.now }
+    {
+        self.nmt.state.is_operational()
+            && self
+                .nmt
+                .is_settled(&subject.limits, self.started, self.free)
     }
 
     /// Whether the recording begins with the newest frame, or begins anew; or that is an error

@@ -13,7 +13,6 @@ mod limits;
 mod nmt;
 mod process;
 mod progress;
-mod receptions;
 mod verdict;
 
 pub use entries::{Entries, Facts, facts_of};
@@ -22,5 +21,4 @@ pub use kind::{FrameKind, kind_of};
 pub use limits::{Limits, Subject};
 pub use nmt::is_reset;
 pub use progress::Progress;
-pub use receptions::Receptions;
 pub use verdict::{Findings, Verdict};

@@ -70,7 +70,7 @@ pub struct Progress {
     pub started: u64,
     /// When the bus was free last: the stamp of the first of the frames that follow one another
     /// closely.
-    pub(crate) free: u64,
+    pub free: u64,
     pub(crate) nmt: Nmt,
     pub(crate) heartbeats: Heartbeats,
     pub(crate) entries: Entries,
@@ -79,7 +79,7 @@ pub struct Progress {
     pub(crate) dialogue: Dialogue,
     pub(crate) pdos: Pdos,
     /// What was written to the entries that are held.
-    pub(crate) written: Written,
+    pub written: Written,
     /// What the newest frame is on its SDO channel, if it is of that.
     pub exchange: Option<Exchange>,
     /// What else the newest frame shows.

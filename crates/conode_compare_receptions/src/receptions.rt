@@ -5,7 +5,7 @@ ghost use Rattle.std.specs.List.{AllPairs};
 ghost use Rattle.co_sheet.specs.SheetViews.{row_view};
 ghost use Rattle.co_value.specs.Keys.{is_key_before};
 ghost use Rattle.conode_record.specs.Grammar.{IsIdentifier};
-ghost use Rattle.conode_compare_rules.specs.Receptions.{
+ghost use Rattle.conode_compare_receptions.specs.Receptions.{
   asks,
   booted_receptions,
   brought,
@@ -34,7 +34,6 @@ ghost use Rattle.conode_compare_rules.specs.Receptions.{
   rpdos_ended,
   shared_received,
   taken,
-  takes_rpdos,
   with_any,
   with_asked,
   with_beat,
@@ -47,16 +46,12 @@ ghost use Rattle.conode_compare_rules.specs.Receptions.{
   written_ended,
 };
 
-use crate::finding::NmtState;
-use crate::kind::FrameKind;
-use crate::limits::Subject;
-use crate::nmt::is_reset;
-use crate::progress::Progress;
 use co_frame::{Frame, NmtService};
 use co_sheet::EntryRow;
 use co_value::Key;
 use conode_compare_held::{RpdoWrites, Written, all_fit, is_restricted};
 use conode_compare_pdos::{Pdos, Rpdo, Rpdos, has_few_rpdos, is_id};
+use conode_compare_rules::{FrameKind, Progress, Subject, is_reset};
 use conode_compare_transfers::{Exchange, asks_to_write, is_past, is_timed, key_in};
 use conode_explain_transfers::{Direction, Ended, Side, What};
 use conode_record::{Content, Identifier};
@@ -184,16 +179,6 @@ fn is_tpdo(pdos: &Pdos, id: u16) -> bool
         || is_id(pdos.second.parameters.id, id)
         || is_id(pdos.third.parameters.id, id)
         || is_id(pdos.fourth.parameters.id, id)
-}
-
-// whether the device was operational before the frame
-fn takes_rpdos(subject: &Subject, progress: &Progress) -> bool
-    ensures { result ≡ takes_rpdos subject.now progress.now }
-{
-    matches!(progress.nmt.state, NmtState::Operational)
-        && progress
-            .nmt
-            .is_settled(&subject.limits, progress.started, progress.free)
 }
 
 // whether the tolerance is over since one of its parameters was written or read
@@ -388,8 +373,8 @@ impl Receptions {
             && rpdo.cob_id.is_some()
             && rpdo.is_immediate()
             && is_rpdo_settled(subject.limits.tolerance, rpdo.changed, progress.free)
-            && takes_rpdos(subject, progress)
-            && !is_used(&progress.pdos, id)
+            && progress.takes_rpdos(subject)
+            && !is_used(progress.pdos(), id)
     }
 
     // A frame came that may be an RPDO.
@@ -476,7 +461,7 @@ impl Receptions {
         ensures { self.new ≡ with_any self.old progress.now micros id }
     {
         self.writes.written = progress.written;
-        if !is_restricted(id) && !is_tpdo(&progress.pdos, id) {
+        if !is_restricted(id) && !is_tpdo(progress.pdos(), id) {
             self.touched = Some(micros);
         }
     }

@@ -29,14 +29,12 @@ use Rattle.conode_compare_held.specs.declared.rpdo_writes.RpdoWrites.{RpdoWrites
 use Rattle.conode_compare_held.specs.declared.written.Written.{Written}
 use Rattle.conode_compare_held.specs.HeldNumbers.{is_restricted, unmapped, unmapped_at}
 use Rattle.conode_compare_held.specs.RpdoWrites.{all_fit, forgotten, no_writes, received, settled, without_values}
-use Rattle.conode_compare_rules.specs.declared.finding.NmtState.{NmtState}
-use Rattle.conode_compare_rules.specs.declared.finding.NmtState.TheVariants.{Operational}
 use Rattle.conode_compare_rules.specs.declared.kind.FrameKind.{FrameKind}
 use Rattle.conode_compare_rules.specs.declared.kind.FrameKind.TheVariants.{Command, CommandToAll, Guarding, Control, OddControl, Emergency, OddEmergency, Sdo, Process, Polled, Fault, Other}
 use Rattle.conode_compare_rules.specs.declared.limits.Subject.{Subject}
 use Rattle.conode_compare_rules.specs.declared.progress.Progress.{Progress}
-use Rattle.conode_compare_rules.specs.declared.receptions.Receptions.{Receptions}
-use Rattle.conode_compare_rules.specs.Progresses.{is_begun, settled_when_free}
+use Rattle.conode_compare_receptions.specs.declared.receptions.Receptions.{Receptions}
+use Rattle.conode_compare_rules.specs.Progresses.{is_begun, takes_rpdos}
 use Rattle.conode_compare_rules.specs.States.{is_reset}
 
 -- ---- boot-ups, commands and heartbeats
@@ -159,15 +157,6 @@ is_tpdo pdos id =
 -- SYNC has it, or one of these
 abbrev pub is_used : Pdos → ℕ → Bool
 is_used pdos id = is_id pdos.sync id || is_tpdo pdos id
-
-abbrev pub is_operational : NmtState → Bool
-is_operational Operational = true
-is_operational other = false
-
--- the device was operational when the bus was free last before the frame, as far as commands and
--- heartbeats show
-abbrev pub takes_rpdos : Subject → Progress → Bool
-takes_rpdos subject progress = is_operational progress.nmt.state && settled_when_free subject progress
 
 -- the tolerance is over since one of its parameters was written or read
 abbrev pub is_rpdo_settled : ℕ → Option ℕ → ℕ → Bool

@@ -3,10 +3,13 @@ use Rattle.std.proofs.Common.{◌≡◌, ℕ, Bool, true, false, List, [], ◌�
 use Rattle.std.specs.Prelude.{pos, slice_index_or}
 use Rattle.co_frame.specs.FrameContent.{FrameContent}
 use Rattle.co_frame.specs.declared.nmt.NmtService.TheVariants.{Start, ResetNode}
+use Rattle.co_profile.specs.declared.access.Access.{Access}
 use Rattle.co_profile.specs.declared.access.Access.TheVariants.{Rw}
 use Rattle.co_sheet.specs.Content.{Row}
-use Rattle.co_sheet.specs.Limits.{absent, number}
+use Rattle.co_sheet.specs.Limits.{Default, absent, number}
+use Rattle.co_value.specs.declared.data_type.DataType.{DataType}
 use Rattle.co_value.specs.declared.data_type.DataType.TheVariants.{Unsigned8, Unsigned16, Unsigned32}
+use Rattle.co_value.specs.declared.key.Key.{Key}
 use Rattle.conode_explain_transfers.specs.declared.ended.Ended.{Ended}
 use Rattle.conode_explain_transfers.specs.declared.ended.Ending.TheVariants.{Done}
 use Rattle.conode_explain_transfers.specs.declared.kinds.Direction.{Direction}
@@ -32,15 +35,35 @@ use Rattle.conode_compare_rules.specs.declared.finding.NmtState.{NmtState}
 use Rattle.conode_compare_rules.specs.declared.finding.NmtState.TheVariants.{Operational, PreOperational, Unknown}
 use Rattle.conode_compare_rules.specs.declared.kind.FrameKind.{FrameKind}
 use Rattle.conode_compare_rules.specs.declared.kind.FrameKind.TheVariants.{Command, Control, Emergency, OddControl, Other, Polled, Process}
+use Rattle.conode_compare_rules.specs.declared.limits.Limits.{Limits}
 use Rattle.conode_compare_rules.specs.declared.limits.Subject.{Subject}
 use Rattle.conode_compare_rules.specs.declared.nmt.Nmt.{Nmt}
 use Rattle.conode_compare_rules.specs.declared.progress.Progress.{Progress}
-use Rattle.conode_compare_rules.specs.declared.receptions.Receptions.{Receptions}
+use Rattle.conode_compare_receptions.specs.declared.receptions.Receptions.{Receptions}
 use Rattle.conode_compare_rules.specs.EntriesInForce.{facts_of, initial_entries, sheet_entries}
 use Rattle.conode_compare_rules.specs.Progresses.{before_recording}
-use Rattle.conode_compare_rules.specs.Receptions.{booted_receptions, exchanged_by, is_sure, no_receptions, process_received, receptions_with, with_receptions, with_written}
 use Rattle.conode_compare_rules.specs.States.{is_settled}
-use Rattle.conode_compare_rules.proofs.Examples.{limits, key, row}
+use Rattle.conode_compare_receptions.specs.Receptions.{booted_receptions, exchanged_by, is_sure, no_receptions, process_received, receptions_with, with_receptions, with_written}
+
+-- 10 ms, 1 %, 1 s and 10 s
+abbrev limits : Limits
+limits = record { tolerance = 10; drift = 1; answer = 1000; boot = 10000; time = None }
+
+abbrev key : ℕ → ℕ → Key
+key index sub = record { index = index; sub = sub }
+
+abbrev row : ℕ → ℕ → DataType → Access → Default → Row
+row index sub data_type access default = record {
+  key = key index sub;
+  data_type = data_type;
+  access = access;
+  low = None;
+  high = None;
+  default = default;
+  mappable = false;
+  name = None;
+  line = 1;
+}
 
 -- ---- a device with an RPDO of type 255 for 2000:00, on 205h
 

@@ -1,0 +1,7 @@
+//! What RPDOs write to the entries that are held to what was written, frame by frame of a recording
+//! (CiA 301, 7.2.2 and 7.3.2.2.4).
+#![tactic(auto)]
+
+mod receptions;
+
+pub use receptions::Receptions;
