@@ -1,12 +1,13 @@
 -- What RPDOs write to the entries that are held changes no difference other than `value-held`: of what compare knows it changes `written`
 -- alone, on which no other difference rests, nor anything else that compare knows.
-use Rattle.std.proofs.Common.{◌≡◌, ℕ, Bool, true, false, List, [], ◌∷◌, ◌++◌, Option, Some, None, refl, sym, ap, ◌∙◌}
+use Rattle.std.proofs.Common.{◌≡◌, ℕ, Bool, true, false, List, [], ◌∷◌, ◌++◌, map, Option, Some, None, refl, sym, ap, ◌∙◌}
 use Rattle.std.specs.Prelude.{if◌then◌else◌, ◌==◌, option_map}
 use Rattle.std.specs.Option.{option_or, option_to_list}
 use Rattle.co_frame.specs.FrameContent.{FrameContent}
 use Rattle.co_frame.specs.declared.nmt.NmtService.{NmtService}
 use Rattle.co_sheet.specs.Content.{Row}
 use Rattle.conode_explain_transfers.specs.declared.kinds.Side.TheVariants.{Client, Server}
+use Rattle.conode_record.specs.declared.line.Record.{Record}
 use Rattle.conode_compare_transfers.specs.declared.dialogue.Exchange.{Exchange}
 use Rattle.conode_compare_held.specs.declared.written.HeldMismatch.{HeldMismatch}
 use Rattle.conode_compare_held.specs.HeldNumbers.{held_mismatch, nothing_written}
@@ -60,12 +61,15 @@ use Rattle.conode_compare_laws.specs.RpdoDifferences.{
   LawsPickNoHeld,
   PicksNoHeld,
   all_besides_held,
+  as_read,
   besides_held,
-  differences_with_rpdos_from,
-  differences_with_rpdos_in,
+  findings_from,
+  findings_over,
+  kind_at,
+  program_from,
+  program_over,
   progress_after,
   receptions_after,
-  shown_with,
   without_held,
 }
 
@@ -219,18 +223,26 @@ module _ (these : FrameKind → Findings → List Finding) (picks : PicksNoHeld 
 
   -- ---- all frames
 
-  all_same : (subject : Subject) (rows : List Row) (recorded : List Recorded) (p q : Progress) (r : Receptions) → unwritten p ≡ unwritten q
-      → differences_with_rpdos_from these subject rows p r recorded ≡ differences_from these subject rows q recorded
+  all_same : (subject : Subject) (rows : List Row) (frames : List Record) (p q : Progress) (r : Receptions) → unwritten p ≡ unwritten q → program_from these subject rows p r frames ≡ findings_from these subject rows q frames
   all_same subject rows [] p q r e = refl
   all_same subject rows (x ∷ later) p q r e =
-      ap (λ (l : List Finding). l ++ differences_with_rpdos_from these subject rows (progress_after subject rows p r x) (receptions_after subject rows p r x) later)
-      (found_same subject rows x.micros (kind_in subject x) p q e)
-      ∙ ap (λ (l : List Finding). these (kind_in subject x) (findings_at subject rows q x.micros (kind_in subject x)) ++ l)
-      (all_same subject rows later (progress_after subject rows p r x) (shown_with subject q x) (receptions_after subject rows p r x)
-      (written_alone subject (shown_with subject p x) (receptions_after subject rows p r x) ∙ progress_same subject x.micros (kind_in subject x) p q e))
+      ap (λ (l : List Finding). l ++ program_from these subject rows (progress_after subject rows p r x) (receptions_after subject rows p r x) later)
+      (found_same subject rows x.micros (kind_at subject x) p q e)
+      ∙ ap (λ (l : List Finding). these (kind_at subject x) (findings_at subject rows q x.micros (kind_at subject x)) ++ l)
+      (all_same subject rows later (progress_after subject rows p r x) (progress_with subject q x.micros (kind_at subject x)) (receptions_after subject rows p r x)
+      (written_alone subject (progress_with subject p x.micros (kind_at subject x)) (receptions_after subject rows p r x) ∙ progress_same subject x.micros (kind_at subject x) p q e))
 
-  pub same : (subject : Subject) (rows : List Row) (recorded : List Recorded) → differences_with_rpdos_in these subject rows recorded ≡ differences_in these subject rows recorded
-  same subject rows recorded = all_same subject rows recorded (before_recording subject) (before_recording subject) no_receptions refl
+  pub same : (subject : Subject) (rows : List Row) (frames : List Record) → program_over these subject rows frames ≡ findings_over these subject rows frames
+  same subject rows frames = all_same subject rows frames (before_recording subject) (before_recording subject) no_receptions refl
+
+  read_same : (subject : Subject) (rows : List Row) (recorded : List Recorded) (p : Progress) → findings_from these subject rows p (map as_read recorded) ≡ differences_from these subject rows p recorded
+  read_same subject rows [] p = refl
+  read_same subject rows (x ∷ later) p =
+      ap (λ (l : List Finding). these (kind_in subject x) (findings_at subject rows p x.micros (kind_in subject x)) ++ l)
+      (read_same subject rows later (progress_with subject p x.micros (kind_in subject x)))
+
+  pub same_read : (subject : Subject) (rows : List Row) (recorded : List Recorded) → program_over these subject rows (map as_read recorded) ≡ differences_in these subject rows recorded
+  same_read subject rows recorded = same subject rows (map as_read recorded) ∙ read_same subject rows recorded (before_recording subject)
 
 -- ---- which differences these are
 

@@ -35,7 +35,7 @@ use Rattle.conode_compare_rules.specs.Verdicts.{found}
 use Rattle.conode_compare_receptions.specs.Receptions.{booted_receptions, exchanged_by, is_sure, no_receptions, process_received, receptions_with, with_receptions}
 use Rattle.conode_compare_laws.specs.Differences.{differences_in}
 use Rattle.conode_compare_laws.specs.Recordings.{Recorded, with_stamp}
-use Rattle.conode_compare_laws.specs.RpdoDifferences.{all_besides_held, besides_held, differences_with_rpdos_in}
+use Rattle.conode_compare_laws.specs.RpdoDifferences.{all_besides_held, as_read, besides_held, program_over}
 
 -- ---- node 5, with an RPDO on 205h for 2000:00, which is held to what was written
 
@@ -83,7 +83,7 @@ written = with_stamp 0 (frame 0x705 1 0)
 abbrev of_frames : FrameKind → Findings → List Finding
 of_frames kind f = option_to_list f.frame
 
-with_rpdos : differences_with_rpdos_in of_frames subject rows written ≡ Held (record { key = record { index = 0x2000; sub = 0 }; shown = 5; written = 0x102 }) ∷ Unasked ∷ []
+with_rpdos : program_over of_frames subject rows (map as_read written) ≡ Held (record { key = record { index = 0x2000; sub = 0 }; shown = 5; written = 0x102 }) ∷ Unasked ∷ []
 unfolding findings_at progress_with begun booted found states.after_control after_boot_up after_other awaits_boot_up is_settled progresses.after_control control_findings heartbeat_findings silence_finding channel_heard exchange_at exchange_noted late_noted
     request_findings confirmed_finding answer_findings answer_finding stopped_finding held_finding what_finding held_mismatch dialogue_heard exchange_in is_certain newest_with newest_after breach_at shown_period shown_inhibit asked_to_write mismatch_at request_row_in response_row_in
     control_finding second_boot_up state_finding boot_finding row_mismatch value_mismatch late_finding overdue_by after_command states.after_command after_process moment_at process_findings sighting framed written_heard unmapped_from nothing_written
@@ -91,7 +91,7 @@ unfolding findings_at progress_with begun booted found states.after_control afte
 with_rpdos = refl
 
 -- without them, and but for `value-held`
-others : (differences_in of_frames subject rows written ≡ Unasked ∷ []) × (differences_with_rpdos_in all_besides_held subject rows written ≡ Unasked ∷ [])
+others : (differences_in of_frames subject rows written ≡ Unasked ∷ []) × (program_over all_besides_held subject rows (map as_read written) ≡ Unasked ∷ [])
 unfolding findings_at progress_with begun booted found states.after_control after_boot_up after_other awaits_boot_up is_settled progresses.after_control control_findings heartbeat_findings silence_finding channel_heard exchange_at exchange_noted late_noted
     request_findings confirmed_finding answer_findings answer_finding stopped_finding held_finding what_finding held_mismatch dialogue_heard exchange_in is_certain newest_with newest_after breach_at shown_period shown_inhibit asked_to_write mismatch_at request_row_in response_row_in
     control_finding second_boot_up state_finding boot_finding row_mismatch value_mismatch late_finding overdue_by after_command states.after_command after_process moment_at process_findings sighting framed written_heard unmapped_from nothing_written

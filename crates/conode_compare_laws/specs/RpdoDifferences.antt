@@ -6,6 +6,7 @@ use Rattle.co_sheet.specs.Content.{Row}
 use Rattle.conode_explain_transfers.specs.declared.kinds.Side.{Side}
 use Rattle.conode_record.specs.declared.content.Content.TheVariants.{Data}
 use Rattle.conode_record.specs.declared.fields.Identifier.TheVariants.{Base}
+use Rattle.conode_record.specs.declared.line.Record.{Record}
 use Rattle.conode_compare_pdos.specs.declared.deviation.Deviation.{Deviation}
 use Rattle.conode_compare_rules.specs.declared.finding.Finding.{Finding}
 use Rattle.conode_compare_rules.specs.declared.finding.Finding.TheVariants.{Held}
@@ -14,39 +15,54 @@ use Rattle.conode_compare_rules.specs.declared.kind.FrameKind.TheVariants.{Sdo}
 use Rattle.conode_compare_rules.specs.declared.limits.Subject.{Subject}
 use Rattle.conode_compare_rules.specs.declared.progress.Progress.{Progress}
 use Rattle.conode_compare_rules.specs.declared.verdict.Findings.{Findings}
+use Rattle.conode_compare_rules.specs.FrameKinds.{kind_of}
 use Rattle.conode_compare_rules.specs.Progresses.{before_recording, findings_at, progress_with}
 use Rattle.conode_compare_receptions.specs.declared.receptions.Receptions.{Receptions}
 use Rattle.conode_compare_receptions.specs.Receptions.{no_receptions, receptions_with, with_receptions}
 use Rattle.conode_compare_laws.specs.AnswerFindings.{answer_differences, data_differences, toggle_differences, transfer_differences}
-use Rattle.conode_compare_laws.specs.Differences.{emergency_differences, inhibit_differences, kind_in, late_differences, state_differences}
+use Rattle.conode_compare_laws.specs.Differences.{emergency_differences, inhibit_differences, late_differences, state_differences}
 use Rattle.conode_compare_laws.specs.Recordings.{Recorded}
 use Rattle.conode_compare_laws.specs.TpdoDifferences.{tpdo_differences}
 
--- what a data frame shows of the device by itself
-abbrev pub shown_with : Subject → Progress → Recorded → Progress
-shown_with subject progress r = progress_with subject progress r.micros (kind_in subject r)
+-- what a frame is to the device, whatever frame it is
+abbrev pub kind_at : Subject → Record → FrameKind
+kind_at subject r = kind_of subject.node r.id r.content
+
+-- of what is found at each frame these, in their order, as `differences_from` of Differences, where
+-- nothing is looked at between two frames
+abbrev pub findings_from : (FrameKind → Findings → List Finding) → Subject → List Row → Progress → List Record → List Finding
+findings_from these subject rows progress [] = []
+findings_from these subject rows progress (r ∷ later) =
+    these (kind_at subject r) (findings_at subject rows progress r.micros (kind_at subject r))
+    ++ findings_from these subject rows (progress_with subject progress r.micros (kind_at subject r)) later
 
 -- what RPDOs wrote to the entries that are held, after a frame
-abbrev pub receptions_after : Subject → List Row → Progress → Receptions → Recorded → Receptions
+abbrev pub receptions_after : Subject → List Row → Progress → Receptions → Record → Receptions
 receptions_after subject rows progress receptions r =
-    receptions_with subject rows receptions (shown_with subject progress r) r.micros (kind_in subject r) (Base r.frame.id) (Data r.frame.bytes)
+    receptions_with subject rows receptions (progress_with subject progress r.micros (kind_at subject r)) r.micros (kind_at subject r) r.id r.content
 
 -- and what is known of the device then: `frame_taken` of conode_compare
-abbrev pub progress_after : Subject → List Row → Progress → Receptions → Recorded → Progress
+abbrev pub progress_after : Subject → List Row → Progress → Receptions → Record → Progress
 progress_after subject rows progress receptions r =
-    with_receptions subject (shown_with subject progress r) (receptions_after subject rows progress receptions r)
+    with_receptions subject (progress_with subject progress r.micros (kind_at subject r)) (receptions_after subject rows progress receptions r)
 
--- as `differences_from`, with what RPDOs write
-abbrev pub differences_with_rpdos_from : (FrameKind → Findings → List Finding) → Subject → List Row → Progress → Receptions → List Recorded → List Finding
-differences_with_rpdos_from these subject rows progress receptions [] = []
-differences_with_rpdos_from these subject rows progress receptions (r ∷ later) =
-    these (kind_in subject r) (findings_at subject rows progress r.micros (kind_in subject r))
-    ++ differences_with_rpdos_from these subject rows (progress_after subject rows progress receptions r) (receptions_after subject rows progress receptions r) later
+-- of what the program finds at each frame these
+abbrev pub program_from : (FrameKind → Findings → List Finding) → Subject → List Row → Progress → Receptions → List Record → List Finding
+program_from these subject rows progress receptions [] = []
+program_from these subject rows progress receptions (r ∷ later) =
+    these (kind_at subject r) (findings_at subject rows progress r.micros (kind_at subject r))
+    ++ program_from these subject rows (progress_after subject rows progress receptions r) (receptions_after subject rows progress receptions r) later
 
 -- over a whole recording
-abbrev pub differences_with_rpdos_in : (FrameKind → Findings → List Finding) → Subject → List Row → List Recorded → List Finding
-differences_with_rpdos_in these subject rows recording =
-    differences_with_rpdos_from these subject rows (before_recording subject) no_receptions recording
+abbrev pub findings_over : (FrameKind → Findings → List Finding) → Subject → List Row → List Record → List Finding
+findings_over these subject rows frames = findings_from these subject rows (before_recording subject) frames
+
+abbrev pub program_over : (FrameKind → Findings → List Finding) → Subject → List Row → List Record → List Finding
+program_over these subject rows frames = program_from these subject rows (before_recording subject) no_receptions frames
+
+-- a data frame as the program reads it of a line
+abbrev pub as_read : Recorded → Record
+as_read r = record { micros = r.micros; interface = []; id = Base r.frame.id; content = Data r.frame.bytes; direction = None }
 
 -- ---- which differences don't depend on it
 
