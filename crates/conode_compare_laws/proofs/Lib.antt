@@ -73,3 +73,5 @@ pub mod SheetNumbers
 pub mod TpdoMapped
 pub mod TpdoSheets
 pub mod RoomsOfDevices
+pub mod RpdoDifferences
+mod RpdoExamples

@@ -3,6 +3,7 @@ pub mod Differences
 pub mod Identifiers
 pub mod Periods
 pub mod TpdoDifferences
+pub mod RpdoDifferences
 pub mod TpdoFrames
 pub mod TpdoParameters
 pub mod TpdoSheets
