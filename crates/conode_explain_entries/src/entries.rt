@@ -150,9 +150,13 @@ impl Entries {
     fn contains(&self, interface: &[u8], node: u8, index: u16) -> bool
         ensures { result ≡ list_any (is_of interface.now node index) self.now }
     {
-        self.pdos
-            .iter()
-            .any(|pdo| pdo.is_of(interface, node, index))
+        let pdos = self.pdos.as_slice();
+        for pdo in pdos {
+            if pdo.is_of(interface, node, index) {
+                return true;
+            }
+        }
+        false
     }
 
     // Adds a PDO that wasn't shown before, where there is room.
@@ -163,8 +167,10 @@ impl Entries {
         if self.contains(interface, node, index) || self.pdos.len() >= MOST_PDOS {
             return Ok(());
         }
-        self.pdos.push(ShownPdo::new(interface, node, index))?;
-        Ok(())
+        match self.pdos.push(ShownPdo::new(interface, node, index)) {
+            Ok(()) => Ok(()),
+            Err(_) => Err(AllocError),
+        }
     }
 
     fn add(&mut self, interface: &[u8], node: u8, event: Event) -> Result<(), AllocError>
@@ -183,7 +189,7 @@ impl Entries {
         requires { length interface.now ≤ 15 }
         ensures { OnOk result (self.new ≡ table_with self.old interface.now node event) }
     {
-        self.add(interface, node, event)?;
+        attempt!(self.add(interface, node, event));
         self.change(interface, node, event);
         Ok(())
     }

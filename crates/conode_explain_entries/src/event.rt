@@ -159,7 +159,9 @@ fn written_event(key: Key, bytes: &[u8]) -> Option<Event>
     if is_load(key, bytes) {
         return Some(Event::Restored);
     }
-    let of = entry_of(key)?;
+    let Some(of) = entry_of(key) else {
+        return None;
+    };
     let number = Some(number_in(key, bytes));
     Some(Event::Written { of, number })
 }
@@ -167,7 +169,9 @@ fn written_event(key: Key, bytes: &[u8]) -> Option<Event>
 fn read_event(key: Key, bytes: &[u8]) -> Option<Event>
     ensures { result ≡ read_event key bytes.now }
 {
-    let of = entry_of(key)?;
+    let Some(of) = entry_of(key) else {
+        return None;
+    };
     let number = number_in(key, bytes);
     Some(Event::Read { of, number })
 }
@@ -175,7 +179,9 @@ fn read_event(key: Key, bytes: &[u8]) -> Option<Event>
 fn unclear_event(key: Key) -> Option<Event>
     ensures { result ≡ unclear_event key }
 {
-    let of = entry_of(key)?;
+    let Some(of) = entry_of(key) else {
+        return None;
+    };
     Some(Event::Written { of, number: None })
 }
 

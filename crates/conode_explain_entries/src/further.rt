@@ -164,8 +164,10 @@ impl FurtherChannels {
         if at >= MOST_CHANNELS {
             return Ok(None);
         }
-        self.channels.push(FurtherChannel::new(interface, place))?;
-        Ok(Some(at))
+        match self.channels.push(FurtherChannel::new(interface, place)) {
+            Ok(()) => Ok(Some(at)),
+            Err(_) => Err(AllocError),
+        }
     }
 
     // Takes a frame of the channel at a place.
@@ -197,7 +199,7 @@ impl FurtherChannels {
         ensures channels { OnOk result (self.new
             ≡ (further_telling self.old interface.now place micros frame.now.bytes).channels) }
     {
-        let Some(at) = self.place(interface, place)? else {
+        let Some(at) = attempt!(self.place(interface, place)) else {
             return Ok(None);
         };
         let heard = self.take_at(at, micros, place.side, frame);

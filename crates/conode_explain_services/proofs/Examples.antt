@@ -10,10 +10,9 @@ use Rattle.conode_explain_services.specs.declared.nmt_state.KnownState.TheVarian
 use Rattle.conode_explain_services.specs.declared.last.Last.{Last}
 use Rattle.conode_explain_services.specs.Codes.{class_words, code_words, known_class, single_words}
 use Rattle.conode_explain_services.specs.Emergencies.{emergency_words}
-use Rattle.conode_explain_services.specs.Guardings.{guarding_answer_words, state_words}
+use Rattle.conode_explain_services.specs.Guardings.{guarding_answer_words, guarding_request_words, state_words}
 use Rattle.conode_explain_services.specs.Lss.{answer_parameter, answer_words, lss_answer_words, lss_request_words, lss_text, failure_text, mode_words, node_failure, outcome_text, parameter_text, part_text, part_words, rate_words, request_parameter, request_words, scan_text, store_failure, timing_failure, timing_text}
 use Rattle.conode_explain_services.specs.Nodes.{nothing_seen}
-use Rattle.conode_explain_services.specs.Parts.{of_node}
 use Rattle.conode_explain_services.specs.Registers.{bit_text, bit_word, bits_text, register_text}
 use Rattle.conode_explain_services.specs.Reserved.{is_reserved, reserved_words}
 use Rattle.conode_explain_services.specs.Times.{time_words}
@@ -122,12 +121,12 @@ eight a b c d e f g h = a ∷ b ∷ c ∷ d ∷ e ∷ f ∷ g ∷ h ∷ []
 
 emergency : says nothing_seen 0x085 (eight 0x10 0x82 0x11 0x01 0x02 0x03 0x04 0xFF)
     ≡ Some (codes "EMCY node 5 code 8210 (protocol error: PDO not processed due to length error) register 11 (generic, communication) manufacturer 01020304FF")
-unfolding service_words emergency_words of_node code_words known_class single_words register_text bits_text bit_text bit_word digits_text digits filled
+unfolding service_words emergency_words code_words known_class single_words register_text bits_text bit_text bit_word digits_text digits filled
 emergency = refl
 
 next_emergency : says (record { register = Some 0x11; guarding = NotSeen; state = Unknown }) 0x0FF (eight 0 0 0 0 0 0 0 0)
     ≡ Some (codes "EMCY node 127 code 0000 (error reset or no error) register 00 (no error; went: generic, communication) manufacturer 0000000000")
-unfolding service_words emergency_words of_node code_words known_class single_words register_text bits_text bit_text bit_word digits_text digits filled
+unfolding service_words emergency_words code_words known_class single_words register_text bits_text bit_text bit_word digits_text digits filled
 next_emergency = refl
 
 -- identifiers beside, and seven bytes
@@ -145,7 +144,7 @@ short_emergency = refl
 toggled : map (λ byte. says nothing_seen 0x705 (byte ∷ [])) (0x84 ∷ 0x85 ∷ 0xFF ∷ 0x80 ∷ 0x83 ∷ 0x86 ∷ 0xFE ∷ [])
     ≡ Some (codes "guarding answer node 5 stopped toggle 1") ∷ Some (codes "guarding answer node 5 operational toggle 1")
     ∷ Some (codes "guarding answer node 5 pre-operational toggle 1") ∷ None ∷ None ∷ None ∷ None ∷ []
-unfolding service_words guarding_answer_words state_words of_node digits filled
+unfolding service_words guarding_answer_words state_words digits filled
 toggled = refl
 
 -- without it they are heartbeats, unless the node is guarded
@@ -158,29 +157,29 @@ guarded guarding = record { register = None; guarding = guarding; state = Unknow
 
 answers : map (λ byte. says (guarded (Requested None)) 0x77F (byte ∷ [])) (0x00 ∷ 0x04 ∷ 0x85 ∷ [])
     ≡ None ∷ Some (codes "guarding answer node 127 stopped toggle 0") ∷ Some (codes "guarding answer node 127 operational toggle 1") ∷ []
-unfolding service_words guarding_answer_words state_words of_node digits filled
+unfolding service_words guarding_answer_words state_words digits filled
 answers = refl
 
 awaited_one : map (λ byte. says (guarded (Requested (Some true))) 0x701 (byte ∷ [])) (0x05 ∷ 0x85 ∷ [])
     ≡ Some (codes "guarding answer node 1 operational toggle 0 (1 is awaited)") ∷ Some (codes "guarding answer node 1 operational toggle 1") ∷ []
-unfolding service_words guarding_answer_words state_words of_node digits filled
+unfolding service_words guarding_answer_words state_words digits filled
 awaited_one = refl
 
 awaited_zero : map (λ byte. says (guarded (Requested (Some false))) 0x701 (byte ∷ [])) (0x7F ∷ 0xFF ∷ [])
     ≡ Some (codes "guarding answer node 1 pre-operational toggle 0") ∷ Some (codes "guarding answer node 1 pre-operational toggle 1 (0 is awaited)") ∷ []
-unfolding service_words guarding_answer_words state_words of_node digits filled
+unfolding service_words guarding_answer_words state_words digits filled
 awaited_zero = refl
 
 -- without a request that was recorded: the next answer, or the one before again, which without the toggle bit is a heartbeat
 next_answers : map (λ guarding. says (guarded guarding) 0x701 (0x05 ∷ [])) (Answered false ∷ Answered true ∷ BootedUp ∷ [])
     ≡ Some (codes "guarding answer node 1 operational toggle 0") ∷ None ∷ None ∷ []
-unfolding service_words guarding_answer_words state_words of_node digits filled
+unfolding service_words guarding_answer_words state_words digits filled
 next_answers = refl
 
 next_toggled : map (λ guarding. says (guarded guarding) 0x701 (0x85 ∷ [])) (Answered false ∷ Answered true ∷ BootedUp ∷ [])
     ≡ Some (codes "guarding answer node 1 operational toggle 1 (0 is awaited)") ∷ Some (codes "guarding answer node 1 operational toggle 1")
     ∷ Some (codes "guarding answer node 1 operational toggle 1 (0 is awaited)") ∷ []
-unfolding service_words guarding_answer_words state_words of_node digits filled
+unfolding service_words guarding_answer_words state_words digits filled
 next_toggled = refl
 
 -- identifiers beside, and two bytes; 780h is reserved
@@ -194,7 +193,7 @@ long_answer = refl
 
 remote : map remote_words (0x700 ∷ 0x701 ∷ 0x77F ∷ 0x780 ∷ [])
     ≡ codes "remote frame" ∷ codes "guarding request node 1" ∷ codes "guarding request node 127" ∷ codes "remote frame" ∷ []
-unfolding remote_words of_node digits filled
+unfolding remote_words guarding_request_words digits filled
 remote = refl
 
 -- ---- TIME: 43,200,000 ms on day 2; the first ms of 1984; five and seven bytes, and an identifier beside

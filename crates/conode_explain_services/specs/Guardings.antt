@@ -4,7 +4,7 @@ use Rattle.std.specs.Prelude.{ℕ, ◌%◌, ◌==◌, Bool, true, false, not, �
 use Rattle.conode_text.specs.Filled.{filled}
 use Rattle.conode_explain_services.specs.declared.guarding.Guarding.{Guarding}
 use Rattle.conode_explain_services.specs.declared.guarding.Guarding.TheVariants.{NotSeen, BootedUp, Requested, Answered}
-use Rattle.conode_explain_services.specs.Parts.{of_node, words_in}
+use Rattle.conode_explain_services.specs.Parts.{words_in}
 
 -- the lower seven bits of the byte are the state, the upper one toggles
 abbrev pub toggle_of : ℕ → Bool
@@ -61,5 +61,5 @@ guarding_answer_words node guarding byte =
     filled (codes "guarding answer node % % toggle %%")
     (decimal node ∷ state_words byte ∷ toggle_text (toggle_of byte) ∷ awaited_text (awaited_of guarding) (toggle_of byte) ∷ [])
 
-abbrev pub guarding_request_words : ℕ → List ℕ
-guarding_request_words node = of_node (codes "guarding request") node
+unfoldable pub guarding_request_words : ℕ → List ℕ
+guarding_request_words node = filled (codes "guarding request node %") (decimal node ∷ [])

@@ -1,7 +1,6 @@
 -- What the texts of services share.
-use Rattle.std.specs.Prelude.{ℕ, ◌==◌, List, [], ◌∷◌, codes, find, decimal}
+use Rattle.std.specs.Prelude.{ℕ, ◌==◌, List, [], find}
 use Rattle.std.specs.Option.{option_map_or}
-use Rattle.conode_text.specs.Filled.{filled}
 use Rattle.conode_explain_services.specs.declared.texts.Row.{Row}
 
 -- the words of a number in a table; none where the table doesn't have it
@@ -14,7 +13,3 @@ row_of row = (row.0, row.1.now)
 
 abbrev pub words_of : List Row → ℕ → List ℕ
 words_of rows number = option_map_or (λ row. row.1.now) (find (λ row. row.0 == number) rows) []
-
--- a service of a node
-unfoldable pub of_node : List ℕ → ℕ → List ℕ
-of_node service node = filled (codes "% node %") (service ∷ decimal node ∷ [])

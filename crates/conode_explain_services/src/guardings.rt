@@ -9,6 +9,7 @@ ghost use Rattle.conode_explain_services.specs.Guardings.{
   awaited_text,
   guarding_after,
   guarding_asked,
+  guarding_request_words,
   is_answer,
   is_state,
   state_words,
@@ -137,5 +138,18 @@ pub(crate) fn push_answer(
             Value::Words(toggle_text(toggle)),
             Value::Words(awaited_text(awaited_of(guarding), toggle)),
         ],
+    )
+}
+
+/// Appends a master's request to a node. On an `Err` memory ran out, and a part of it may be there.
+#[tactic(auto, unfolding(crate::specs::Guardings::guarding_request_words))]
+pub(crate) fn push_request(text: &mut String, node: u8) -> Result<(), AllocError>
+    ensures { OnOk result
+        (string_bytes text.new ≡ string_bytes text.old ++ guarding_request_words node) }
+{
+    push_filled(
+        text,
+        "guarding request node %",
+        &[Value::Number(node as u64)],
     )
 }

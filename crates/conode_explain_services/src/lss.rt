@@ -16,6 +16,7 @@ ghost use Rattle.conode_explain_services.specs.Lss.{
   outcome_text,
   parameter_text,
   part_text,
+  part_words,
   rate_in,
   rate_words,
   scan_text,
@@ -115,11 +116,18 @@ const PARTS: [Row; 4] = [
     Row(3, "serial number"),
 ];
 
-#[tactic(auto, unfolding(crate::specs::Lss::part_text, crate::specs::Lss::part_words))]
+#[tactic(auto, unfolding(crate::specs::Lss::part_words))]
+fn part_words(part: u8) -> &'static str
+    ensures { result.now ≡ part_words part }
+{
+    words_in(&PARTS, part as u16)
+}
+
+#[tactic(auto, unfolding(crate::specs::Lss::part_text))]
 fn push_part(text: &mut String, part: u8) -> Result<(), AllocError>
     ensures { OnOk result (string_bytes text.new ≡ string_bytes text.old ++ part_text part) }
 {
-    push_or_number(text, words_in(&PARTS, part as u16), "part ", part)
+    push_or_number(text, part_words(part), "part ", part)
 }
 
 /// What fastscan names.

@@ -136,8 +136,10 @@ impl Nodes {
         if self.nodes.len() >= MOST_NODES {
             return Ok(());
         }
-        self.nodes.push(Node::new(interface, id, last))?;
-        Ok(())
+        match self.nodes.push(Node::new(interface, id, last)) {
+            Ok(()) => Ok(()),
+            Err(_) => Err(AllocError),
+        }
     }
 
     /// Takes a data frame on an interface, whose name has at most 15 bytes. It allocates when a

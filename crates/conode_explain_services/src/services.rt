@@ -11,13 +11,12 @@ ghost use Rattle.conode_explain_services.specs.Services.{
 };
 
 use crate::emergencies::push_emergency;
-use crate::guardings::{is_answer, push_answer};
+use crate::guardings::{is_answer, push_answer, push_request};
 use crate::last::Last;
 use crate::lss::{push_lss_answer, push_lss_request};
 use crate::nmt_states::{found_words, is_command, push_shown};
 use crate::nodes::{is_emergency, is_error_control, is_error_control_id};
 use crate::reserved::{LSS_ANSWER, LSS_REQUEST, is_reserved, reserved_words};
-use crate::texts::push_of_node;
 use crate::times::push_time;
 use co_frame::{Emergency, Frame};
 use std::alloc::AllocError;
@@ -40,13 +39,23 @@ fn is_guarding(last: Last, frame: &Frame) -> bool
     is_error_control(frame) && is_answer(last.guarding, frame.bytes()[0])
 }
 
-/// Appends what a data frame says by its service; `last` is what the last frames of its node had.
-/// Returns whether it appended anything: if not, the text of `conode decode` stands. On an `Err`
-/// memory ran out, and a part of it may be there.
+// whether a data frame says something by its service
 #[tactic(auto, unfolding(crate::specs::Services::service_words))]
-pub fn push_service(text: &mut String, last: Last, frame: &Frame) -> Result<bool, AllocError>
-    ensures said { IfOk result (λ said. said ≡ is_some (service_words last frame.now)) }
-    ensures words { OnOk result (string_bytes text.new
+fn is_said(last: Last, frame: &Frame) -> bool
+    ensures { result ≡ is_some (service_words last frame.now) }
+{
+    is_emergency(frame)
+        || is_guarding(last, frame)
+        || is_time(frame)
+        || is_lss(LSS_REQUEST, frame)
+        || is_lss(LSS_ANSWER, frame)
+        || is_reserved(frame.id())
+}
+
+// appends it
+#[tactic(auto, unfolding(crate::specs::Services::service_words))]
+fn push_said(text: &mut String, last: Last, frame: &Frame) -> Result<(), AllocError>
+    ensures { OnOk result (string_bytes text.new
         ≡ string_bytes text.old ++ unwrap_or (service_words last frame.now) []) }
 {
     let bytes = frame.bytes();
@@ -54,30 +63,39 @@ pub fn push_service(text: &mut String, last: Last, frame: &Frame) -> Result<bool
         let Some(emergency) = Emergency::read(frame) else {
             unreachable!()
         };
-        attempt!(push_emergency(text, (frame.id() - 0x080) as u8, last.register, &emergency));
-        return Ok(true);
+        return push_emergency(text, (frame.id() - 0x080) as u8, last.register, &emergency);
     }
     if is_guarding(last, frame) {
-        attempt!(push_answer(text, (frame.id() - 0x700) as u8, last.guarding, bytes[0]));
-        return Ok(true);
+        return push_answer(text, (frame.id() - 0x700) as u8, last.guarding, bytes[0]);
     }
     if is_time(frame) {
-        attempt!(push_time(text, bytes));
-        return Ok(true);
+        return push_time(text, bytes);
     }
     if is_lss(LSS_REQUEST, frame) {
-        attempt!(push_lss_request(text, bytes));
-        return Ok(true);
+        return push_lss_request(text, bytes);
     }
     if is_lss(LSS_ANSWER, frame) {
-        attempt!(push_lss_answer(text, bytes));
-        return Ok(true);
+        return push_lss_answer(text, bytes);
     }
     if is_reserved(frame.id()) {
-        attempt!(text.push_str(reserved_words()));
-        return Ok(true);
+        return text.push_str(reserved_words());
     }
-    Ok(false)
+    Ok(())
+}
+
+/// Appends what a data frame says by its service; `last` is what the last frames of its node had.
+/// Returns whether it appended anything: if not, the text of `conode decode` stands. On an `Err`
+/// memory ran out, and a part of it may be there.
+pub fn push_service(text: &mut String, last: Last, frame: &Frame) -> Result<bool, AllocError>
+    ensures said { IfOk result (λ said. said ≡ is_some (service_words last frame.now)) }
+    ensures words { OnOk result (string_bytes text.new
+        ≡ string_bytes text.old ++ unwrap_or (service_words last frame.now) []) }
+{
+    if !is_said(last, frame) {
+        return Ok(false);
+    }
+    attempt!(push_said(text, last, frame));
+    Ok(true)
 }
 
 /// Appends what the NMT state of its node is, after the text of a data frame: of a command for one
@@ -110,7 +128,7 @@ pub fn push_remote(text: &mut String, id: u16) -> Result<(), AllocError>
     ensures { OnOk result (string_bytes text.new ≡ string_bytes text.old ++ remote_words id) }
 {
     if is_error_control_id(id) {
-        return push_of_node(text, "guarding request", (id - 0x700) as u8);
+        return push_request(text, (id - 0x700) as u8);
     }
     text.push_str("remote frame")
 }

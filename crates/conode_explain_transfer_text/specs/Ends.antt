@@ -2,6 +2,7 @@
 use Rattle.std.specs.Prelude.{ℕ, Bool, true, false, List, [], ◌∷◌, ◌++◌, codes}
 use Rattle.co_value.specs.declared.key.Key.{Key}
 use Rattle.co_value.specs.KeyTexts.{key_text}
+use Rattle.conode_text.specs.Filled.{filled}
 use Rattle.conode_explain_transfers.specs.declared.ended.Ended.{Ended}
 use Rattle.conode_explain_transfers.specs.declared.ended.Ending.{Ending}
 use Rattle.conode_explain_transfers.specs.declared.ended.Ending.TheVariants.{Done, Aborted, Unanswered, Repeated, Interrupted, Unfinished, Irregular, SizeDiffers, CrcDiffers}
@@ -9,7 +10,7 @@ use Rattle.conode_explain_transfers.specs.declared.kinds.Direction.{Direction}
 use Rattle.conode_explain_transfers.specs.declared.kinds.Direction.TheVariants.{Download, Upload}
 use Rattle.conode_explain_transfers.specs.declared.kinds.Side.{Side}
 use Rattle.conode_explain_transfers.specs.declared.kinds.Side.TheVariants.{Client, Server}
-use Rattle.conode_explain_transfer_text.specs.Numbers.{hexadecimal, grouped, counted_text, seconds_text}
+use Rattle.conode_explain_transfer_text.specs.Numbers.{hexadecimal, grouped, plural, seconds_text}
 
 -- ---- what is transferred
 
@@ -26,11 +27,6 @@ quoted (letter ∷ letters) = codes " \"" ++ (letter ∷ letters) ++ codes "\""
 unfoldable pub entry_text : Key → List ℕ → List ℕ
 entry_text key name = key_text key ++ quoted name
 
--- how many bytes and frames there are, and the time from the first frame to the end
-unfoldable pub counts_text : Ended → List ℕ
-counts_text e =
-    counted_text e.bytes (codes "byte") ++ codes " in " ++ counted_text e.frames (codes "frame") ++ codes ", " ++ seconds_text e.begun e.end
-
 -- ---- how it ended
 
 abbrev pub side_text : Side → List ℕ
@@ -40,54 +36,47 @@ side_text Server = codes "server"
 -- what an abort code means, where that is known
 abbrev pub in_brackets : List ℕ → List ℕ
 in_brackets [] = []
-in_brackets (letter ∷ letters) = codes " (" ++ (letter ∷ letters) ++ codes ")"
-
-abbrev pub done_text : Bool → List ℕ
-done_text true = codes "done, CRC right"
-done_text false = codes "done"
+in_brackets (letter ∷ letters) = filled (codes " (%)") ((letter ∷ letters) ∷ [])
 
 unfoldable pub aborted_text : Side → ℕ → List ℕ → List ℕ
-aborted_text by code words = codes "aborted by the " ++ side_text by ++ codes " with " ++ hexadecimal 8 code ++ in_brackets words
-
--- the time from its newest frame to the end, with words on both sides
-unfoldable pub waited_text : List ℕ → Ended → List ℕ → List ℕ
-waited_text front e last = front ++ seconds_text e.newest e.end ++ last
-
-unfoldable pub unfinished_text : Ended → List ℕ
-unfinished_text e = waited_text (codes "unfinished where the recording ends, ") e (codes " after its last frame")
-
-unfoldable pub irregular_text : List ℕ
-irregular_text = codes "confirmed, but frames are missing or repeated in the recording"
-
--- two sizes, and two CRCs, with words between them
-unfoldable pub sizes_text : List ℕ → ℕ → List ℕ → ℕ → List ℕ → List ℕ
-sizes_text front indicated middle came last = front ++ grouped indicated ++ middle ++ grouped came ++ last
+aborted_text by code words =
+    filled (codes "aborted by the % with %%") (side_text by ∷ hexadecimal 8 code ∷ in_brackets words ∷ [])
 
 unfoldable pub size_text : ℕ → ℕ → List ℕ
-size_text indicated came = sizes_text (codes "confirmed, but size ") indicated (codes " indicated, ") came (codes " came")
-
-unfoldable pub crcs_text : List ℕ → ℕ → List ℕ → ℕ → List ℕ
-crcs_text front came middle computed = front ++ hexadecimal 4 came ++ middle ++ hexadecimal 4 computed
+size_text indicated came = filled (codes "confirmed, but size % indicated, % came") (grouped indicated ∷ grouped came ∷ [])
 
 unfoldable pub crc_text : ℕ → ℕ → List ℕ
-crc_text came computed = crcs_text (codes "confirmed, but CRC ") came (codes ", computed ") computed
+crc_text came computed =
+    filled (codes "confirmed, but CRC %, computed %") (hexadecimal 4 came ∷ hexadecimal 4 computed ∷ [])
+
+-- every other end; a percent sign is the time from its newest frame to the end
+unfoldable pub ending_words : Ending → List ℕ
+ending_words (Done true) = codes "done, CRC right"
+ending_words (Done false) = codes "done"
+ending_words Unanswered = codes "no answer in %"
+ending_words Repeated = codes "requested again after %"
+ending_words Interrupted = codes "interrupted"
+ending_words Unfinished = codes "unfinished where the recording ends, % after its last frame"
+ending_words Irregular = codes "confirmed, but frames are missing or repeated in the recording"
+ending_words _ = []
 
 -- `words` is what its abort code means
 abbrev pub ending_text : Ended → Ending → List ℕ → List ℕ
-ending_text e (Done crc) words = done_text crc
 ending_text e (Aborted by code) words = aborted_text by code.0 words
-ending_text e Unanswered words = waited_text (codes "no answer in ") e []
-ending_text e Repeated words = waited_text (codes "requested again after ") e []
-ending_text e Interrupted words = codes "interrupted"
-ending_text e Unfinished words = unfinished_text e
-ending_text e Irregular words = irregular_text
 ending_text e (SizeDiffers indicated) words = size_text indicated e.bytes
 ending_text e (CrcDiffers came computed) words = crc_text came computed
+ending_text e ending words = filled (ending_words ending) (seconds_text e.newest e.end ∷ [])
 
 -- ---- the line
 
--- the whole line, without its end; `name` is what its entry is called
+-- what was transferred, in how many frames, and the time from the first of them to the end; `name` is
+-- what its entry is called
+unfoldable pub transfer_text : Ended → List ℕ → List ℕ
+transfer_text e name =
+    filled (codes "SDO % % % byte% in % frame%, %: ")
+    (direction_text e.direction ∷ entry_text e.key name ∷ grouped e.bytes ∷ plural e.bytes ∷ grouped e.frames ∷ plural e.frames
+    ∷ seconds_text e.begun e.end ∷ [])
+
+-- the whole line, without its end
 unfoldable pub end_text : Ended → List ℕ → List ℕ → List ℕ
-end_text e name words =
-    codes "SDO " ++ direction_text e.direction ++ codes " " ++ entry_text e.key name ++ codes " " ++ counts_text e ++ codes ": "
-    ++ ending_text e e.ending words
+end_text e name words = transfer_text e name ++ ending_text e e.ending words

@@ -1,6 +1,7 @@
 -- What is said of a frame of a transfer.
-use Rattle.std.specs.Prelude.{ℕ, Bool, true, false, List, [], ◌++◌, codes, decimal, Option, Some, None}
+use Rattle.std.specs.Prelude.{ℕ, List, [], ◌∷◌, ◌++◌, codes, decimal, Option, Some, None}
 use Rattle.co_value.specs.declared.key.Key.{Key}
+use Rattle.conode_text.specs.Filled.{filled}
 use Rattle.conode_explain_transfers.specs.declared.kinds.Side.{Side}
 use Rattle.conode_explain_transfers.specs.declared.kinds.Side.TheVariants.{Client, Server}
 use Rattle.conode_explain_transfers.specs.declared.kinds.What.{What}
@@ -14,7 +15,7 @@ segment_number (Segment number) = Some number
 segment_number (OutOfSequence number awaited) = Some number
 segment_number _ = None
 
-abbrev pub service_text : Side → List ℕ
+unfoldable pub service_text : Side → List ℕ
 service_text Client = codes "SDO request node "
 service_text Server = codes "SDO answer node "
 
@@ -33,7 +34,7 @@ of_text None name = []
 of_text (Some key) name = codes " of " ++ entry_text key name
 
 -- what is odd about it
-abbrev pub remark_words : What → List ℕ
+unfoldable pub remark_words : What → List ℕ
 remark_words Repeated = codes " (repeated)"
 remark_words Overtaken = codes " (overtaken)"
 remark_words Unexpected = codes " (unexpected)"
@@ -41,12 +42,11 @@ remark_words Stray = codes " (no transfer is open)"
 remark_words BegunBefore = codes " (begun before the recording)"
 remark_words _ = []
 
--- a number with words on both sides
-unfoldable pub between : List ℕ → ℕ → List ℕ → List ℕ
-between front number last = front ++ decimal number ++ last
+unfoldable pub awaited_text : ℕ → List ℕ
+awaited_text number = filled (codes " (% is awaited)") (decimal number ∷ [])
 
 abbrev pub remark_text : What → List ℕ
-remark_text (OutOfSequence number awaited) = between (codes " (") awaited (codes " is awaited)")
+remark_text (OutOfSequence number awaited) = awaited_text awaited
 remark_text what = remark_words what
 
 unfoldable pub after_text : What → Option Key → List ℕ → List ℕ

@@ -1,3 +1,4 @@
 pub mod Ends
 pub mod Frames
 pub mod Numbers
+pub mod Parts

@@ -1,6 +1,7 @@
 -- Numbers for people.
-use Rattle.std.specs.Prelude.{ℕ, ◌-◌, ◌/◌, ◌%◌, ◌==◌, nat_lt, if◌then◌else◌, List, [], ◌++◌, codes, decimal}
+use Rattle.std.specs.Prelude.{ℕ, ◌-◌, ◌/◌, ◌%◌, ◌==◌, nat_lt, if◌then◌else◌, List, [], ◌∷◌, ◌++◌, codes, decimal}
 use Rattle.co_text.specs.Printed.{digits_text}
+use Rattle.conode_text.specs.Filled.{filled}
 
 -- the last three digits
 abbrev pub three_digits : ℕ → List ℕ
@@ -21,11 +22,11 @@ thousands number = if nat_lt number 1000 then decimal number else millions (numb
 unfoldable pub grouped : ℕ → List ℕ
 grouped number = if nat_lt number 1000 then decimal number else thousands (number / 1000) ++ codes "," ++ three_digits (number % 1000)
 
--- how many of a thing there are
-unfoldable pub counted_text : ℕ → List ℕ → List ℕ
-counted_text number thing = grouped number ++ codes " " ++ thing ++ (if number == 1 then [] else codes "s")
+-- what comes after a thing of which there are so many
+abbrev pub plural : ℕ → List ℕ
+plural number = if number == 1 then [] else codes "s"
 
 -- the time from one stamp in microseconds to another, in seconds; 0 where the other is earlier
 unfoldable pub seconds_text : ℕ → ℕ → List ℕ
 seconds_text from to =
-    decimal ((to - from) / 1000 / 1000) ++ codes "." ++ three_digits ((to - from) / 1000 % 1000) ++ codes " s"
+    filled (codes "%.% s") (decimal ((to - from) / 1000 / 1000) ∷ three_digits ((to - from) / 1000 % 1000) ∷ [])

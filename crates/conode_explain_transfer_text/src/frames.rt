@@ -3,22 +3,22 @@
 
 ghost use Rattle.std.specs.Prelude.{◌≡◌, ◌++◌, OnOk, string_bytes};
 ghost use Rattle.conode_explain_transfer_text.specs.Frames.{
+  numbers_text,
   segment_number,
   service_text,
-  numbers_text,
   segment_text,
   of_text,
   remark_words,
-  between,
+  awaited_text,
   remark_text,
   after_text,
 };
 
-use crate::ends::push_entry;
-use crate::numbers::push_words;
+use crate::part::push_entry;
 use co_text::push_decimal;
 use co_value::Key;
 use conode_explain_transfers::{Side, What};
+use conode_text::{Value, push_filled};
 use std::alloc::AllocError;
 
 /// The number of a segment of a sub-block, the next one or not; `None` for another frame.
@@ -32,6 +32,7 @@ pub fn segment_number(what: What) -> Option<u8>
     }
 }
 
+#[tactic(auto, unfolding(crate::specs::Frames::service_text))]
 fn service_text(side: Side) -> &'static str
     ensures { result.now ≡ service_text side }
 {
@@ -53,9 +54,9 @@ fn push_numbers(
     ensures { OnOk result (string_bytes text.new
         ≡ string_bytes text.old ++ numbers_text front.now first middle.now second) }
 {
-    attempt!(push_words(text, front));
+    attempt!(text.push_str(front));
     attempt!(push_decimal(text, first as u64));
-    attempt!(push_words(text, middle));
+    attempt!(text.push_str(middle));
     push_decimal(text, second as u64)
 }
 
@@ -75,10 +76,11 @@ fn push_of(text: &mut String, of: Option<Key>, name: &str) -> Result<(), AllocEr
     let Some(key) = of else {
         return Ok(());
     };
-    attempt!(push_words(text, " of "));
+    attempt!(text.push_str(" of "));
     push_entry(text, key, name)
 }
 
+#[tactic(auto, unfolding(crate::specs::Frames::remark_words))]
 fn remark_words(what: What) -> &'static str
     ensures { result.now ≡ remark_words what }
 {
@@ -92,25 +94,20 @@ fn remark_words(what: What) -> &'static str
     }
 }
 
-// a number with words on both sides
-#[tactic(auto, unfolding(crate::specs::Frames::between))]
-fn push_between(text: &mut String, front: &str, number: u8, last: &str) -> Result<(), AllocError>
-    ensures { OnOk result (string_bytes text.new
-        ≡ string_bytes text.old ++ between front.now number last.now) }
+#[tactic(auto, unfolding(crate::specs::Frames::awaited_text))]
+fn push_awaited(text: &mut String, number: u8) -> Result<(), AllocError>
+    ensures { OnOk result
+        (string_bytes text.new ≡ string_bytes text.old ++ awaited_text number) }
 {
-    attempt!(push_words(text, front));
-    attempt!(push_decimal(text, number as u64));
-    push_words(text, last)
+    push_filled(text, " (% is awaited)", &[Value::Number(number as u64)])
 }
 
 fn push_remark(text: &mut String, what: What) -> Result<(), AllocError>
     ensures { OnOk result (string_bytes text.new ≡ string_bytes text.old ++ remark_text what) }
 {
     match what {
-        What::OutOfSequence { number: _, awaited } => {
-            push_between(text, " (", awaited, " is awaited)")
-        }
-        _ => push_words(text, remark_words(what)),
+        What::OutOfSequence { number: _, awaited } => push_awaited(text, awaited),
+        _ => text.push_str(remark_words(what)),
     }
 }
 

@@ -15,6 +15,7 @@ macro_rules! attempt {
 mod ends;
 mod frames;
 mod numbers;
+mod part;
 
 pub use ends::push_end;
 pub use frames::{push_after, push_segment, segment_number};

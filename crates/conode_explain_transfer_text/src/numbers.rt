@@ -1,34 +1,49 @@
 //! Numbers for people. Each function appends a text; on an `Err` memory ran out, and a part of it
 //! may be there.
 
-ghost use Rattle.std.specs.Prelude.{◌≡◌, ◌<◌, ◌++◌, OnOk, string_bytes};
+ghost use Rattle.std.specs.Prelude.{◌≡◌, ◌<◌, ◌++◌, OnOk, codes, string_bytes};
+ghost use Rattle.co_text.specs.Printed.{printed_digit};
 ghost use Rattle.conode_explain_transfer_text.specs.Numbers.{
-  three_digits,
-  millions,
-  thousands,
   grouped,
-  counted_text,
+  millions,
+  plural,
   seconds_text,
-  hexadecimal,
+  thousands,
+  three_digits,
 };
 
-use co_text::{push_decimal, push_digit, push_u16, push_u32};
+use arrayvec::ArrayString;
+use co_text::push_decimal;
+use conode_text::{Value, push_filled};
 use std::alloc::AllocError;
 
-/// Appends words.
-pub(crate) fn push_words(text: &mut String, words: &str) -> Result<(), AllocError>
-    ensures { OnOk result (string_bytes text.new ≡ string_bytes text.old ++ words.now) }
+fn decimal_char(digit: u64) -> char
+    requires { digit < 10 }
+    ensures value { result ≡ printed_digit digit }
+    ensures ascii { result < 128 }
 {
-    text.push_str(words)
+    (b'0' + digit as u8) as char
 }
 
 #[tactic(auto, unfolding(co_text::specs::Printed::digits_text))]
-fn push_three_digits(text: &mut String, number: u64) -> Result<(), AllocError>
-    ensures { OnOk result (string_bytes text.new ≡ string_bytes text.old ++ three_digits number) }
+fn three_digits(number: u64) -> ArrayString<3>
+    ensures { result.bytes ≡ three_digits number }
 {
-    attempt!(push_digit(text, (number / 10 / 10 % 10) as u8));
-    attempt!(push_digit(text, (number / 10 % 10) as u8));
-    push_digit(text, (number % 10) as u8)
+    let mut digits = ArrayString::new();
+    digits.push(decimal_char(number / 10 / 10 % 10));
+    digits.push(decimal_char(number / 10 % 10));
+    digits.push(decimal_char(number % 10));
+    digits
+}
+
+// a comma and three digits
+#[tactic(auto, unfolding(conode_text::specs::Filled::filled))]
+fn push_group(text: &mut String, number: u64) -> Result<(), AllocError>
+    ensures { OnOk result
+        (string_bytes text.new ≡ string_bytes text.old ++ codes "," ++ three_digits number) }
+{
+    let digits = three_digits(number);
+    push_filled(text, ",%", &[Value::Words(digits.as_str())])
 }
 
 #[tactic(auto, unfolding(crate::specs::Numbers::millions))]
@@ -39,8 +54,7 @@ fn push_millions(text: &mut String, number: u64) -> Result<(), AllocError>
         return push_decimal(text, number);
     }
     attempt!(push_decimal(text, number / 1000));
-    attempt!(text.push(','));
-    push_three_digits(text, number % 1000)
+    push_group(text, number % 1000)
 }
 
 #[tactic(auto, unfolding(crate::specs::Numbers::thousands))]
@@ -51,8 +65,7 @@ fn push_thousands(text: &mut String, number: u64) -> Result<(), AllocError>
         return push_decimal(text, number);
     }
     attempt!(push_millions(text, number / 1000));
-    attempt!(text.push(','));
-    push_three_digits(text, number % 1000)
+    push_group(text, number % 1000)
 }
 
 /// Appends a number with commas between its digits.
@@ -64,23 +77,14 @@ pub(crate) fn push_grouped(text: &mut String, number: u64) -> Result<(), AllocEr
         return push_decimal(text, number);
     }
     attempt!(push_thousands(text, number / 1000));
-    attempt!(text.push(','));
-    push_three_digits(text, number % 1000)
+    push_group(text, number % 1000)
 }
 
-/// Appends a number with a thing after it, in the plural unless it is 1.
-#[tactic(auto, unfolding(crate::specs::Numbers::counted_text))]
-pub(crate) fn push_counted(text: &mut String, number: u64, thing: &str) -> Result<(), AllocError>
-    ensures { OnOk result (string_bytes text.new
-        ≡ string_bytes text.old ++ counted_text number thing.now) }
+/// What comes after a thing of which there are so many.
+pub(crate) fn plural(number: u64) -> &'static str
+    ensures { result.now ≡ plural number }
 {
-    attempt!(push_grouped(text, number));
-    attempt!(text.push(' '));
-    attempt!(text.push_str(thing));
-    if number != 1 {
-        attempt!(text.push('s'));
-    }
-    Ok(())
+    if number == 1 { "" } else { "s" }
 }
 
 /// Appends the time from one stamp to another in seconds, with three digits after the point; 0
@@ -90,22 +94,10 @@ pub(crate) fn push_seconds(text: &mut String, from: u64, to: u64) -> Result<(), 
     ensures { OnOk result (string_bytes text.new ≡ string_bytes text.old ++ seconds_text from to) }
 {
     let millis = to.saturating_sub(from) / 1000;
-    attempt!(push_decimal(text, millis / 1000));
-    attempt!(text.push('.'));
-    attempt!(push_three_digits(text, millis % 1000));
-    text.push_str(" s")
-}
-
-/// Appends a CRC in four hexadecimal digits.
-pub(crate) fn push_crc(text: &mut String, crc: u16) -> Result<(), AllocError>
-    ensures { OnOk result (string_bytes text.new ≡ string_bytes text.old ++ hexadecimal 4 crc) }
-{
-    push_u16(text, crc)
-}
-
-/// Appends an abort code in eight hexadecimal digits.
-pub(crate) fn push_code(text: &mut String, code: u32) -> Result<(), AllocError>
-    ensures { OnOk result (string_bytes text.new ≡ string_bytes text.old ++ hexadecimal 8 code) }
-{
-    push_u32(text, code)
+    let rest = three_digits(millis % 1000);
+    push_filled(
+        text,
+        "%.% s",
+        &[Value::Number(millis / 1000), Value::Words(rest.as_str())],
+    )
 }

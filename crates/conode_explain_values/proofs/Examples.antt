@@ -11,7 +11,7 @@ use Rattle.conode_explain_values.specs.declared.value_type.ValueType.TheVariants
 use Rattle.conode_explain_values.specs.Numbers.{number_text}
 use Rattle.conode_explain_values.specs.Times.{difference_text, moment_text, ms_text}
 use Rattle.conode_explain_values.specs.Types.{type_of}
-use Rattle.conode_explain_values.specs.Unicode.{characters_text}
+use Rattle.conode_explain_values.specs.Unicode.{characters_text, pair_text, unit_text}
 use Rattle.conode_explain_values.specs.Values.{value_text}
 
 -- ---- types
@@ -111,16 +111,16 @@ no_domain = refl
 
 -- ä, and 1F600h in two units
 unicode : value_text UnicodeString 48 (0xE4 ∷ 0x00 ∷ 0x3D ∷ 0xD8 ∷ 0x00 ∷ 0xDE ∷ []) ≡ 0x22 ∷ 0xC3 ∷ 0xA4 ∷ 0xF0 ∷ 0x9F ∷ 0x98 ∷ 0x80 ∷ 0x22 ∷ []
-unfolding value_text characters_text encode
+unfolding value_text characters_text pair_text unit_text encode
 unicode = refl
 
 -- the two units of a pair in the other order, and the quote
 alone : value_text UnicodeString 48 (0x00 ∷ 0xDE ∷ 0x3D ∷ 0xD8 ∷ 0x22 ∷ 0x00 ∷ []) ≡ codes "\"\\uDE00\\uD83D\\u0022\""
-unfolding value_text characters_text digits_text encode
+unfolding value_text characters_text pair_text unit_text digits_text encode
 alone = refl
 
 left_over : value_text UnicodeString 24 (0x41 ∷ 0x00 ∷ 0x41 ∷ []) ≡ codes "\"A\""
-unfolding value_text characters_text digits_text encode
+unfolding value_text characters_text pair_text unit_text digits_text encode
 left_over = refl
 
 -- ---- times

@@ -20,11 +20,11 @@ is_escaped unit =
     || ((unit == 0x22 || unit == 0x5C) || (nat_le 0xD800 unit && nat_lt unit 0xE000))
 
 -- a unit alone
-abbrev pub unit_text : ℕ → List ℕ
+unfoldable pub unit_text : ℕ → List ℕ
 unit_text unit = if is_escaped unit then codes "\\u" ++ digits_text 16 4 unit else encode_utf8 unit
 
 -- two units that are one character
-abbrev pub pair_text : ℕ → ℕ → List ℕ
+unfoldable pub pair_text : ℕ → ℕ → List ℕ
 pair_text first second = encode_utf8 (0x10000 + 0x400 * (first - 0xD800) + (second - 0xDC00))
 
 -- the characters; a byte that is left over is none

@@ -43,7 +43,7 @@ fn scalar(code: u32) -> char
     char::from_u32(code).unwrap()
 }
 
-#[tactic(auto, unfolding(conode_text::specs::Filled::filled))]
+#[tactic(auto, unfolding(crate::specs::Unicode::unit_text, conode_text::specs::Filled::filled))]
 fn push_unit(text: &mut String, unit: u16) -> Result<(), AllocError>
     ensures { OnOk result (string_bytes text.new ≡ string_bytes text.old ++ unit_text unit) }
 {
@@ -53,6 +53,7 @@ fn push_unit(text: &mut String, unit: u16) -> Result<(), AllocError>
     text.push(scalar(unit as u32))
 }
 
+#[tactic(auto, unfolding(crate::specs::Unicode::pair_text))]
 fn push_pair(text: &mut String, first: u16, second: u16) -> Result<(), AllocError>
     requires { (is_first first && is_second second) ≡ true }
     ensures { OnOk result
