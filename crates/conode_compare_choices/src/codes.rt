@@ -78,7 +78,9 @@ fn entry_choice(rows: &[EntryRow<'_>], ended: &Ended, came: u32) -> Option<Choic
     requires { AllPairs (λ e f. is_key_before e.key f.key ≡ true) rows.now }
     ensures { result ≡ entry_choice (map row_view rows.now) ended.now came }
 {
-    let fitting = sheet_code(rows, ended)?;
+    let Some(fitting) = sheet_code(rows, ended) else {
+        return None;
+    };
     if came == other_code(fitting) {
         Some(Choice::Code(ended.key, came, fitting))
     } else {
@@ -121,11 +123,15 @@ fn write_choice(
     requires { AllPairs (λ e f. is_key_before e.key f.key ≡ true) rows.now }
     ensures { result ≡ write_choice (map row_view rows.now) request.now ended.now came }
 {
-    let row = row_at(rows, ended.key)?;
+    let Some(row) = row_at(rows, ended.key) else {
+        return None;
+    };
     if is_read_only(row.access) {
         return None;
     }
-    let fitting = request.request_code(rows, row)?;
+    let Some(fitting) = request.request_code(rows, row) else {
+        return None;
+    };
     if also_fits(fitting, came) {
         Some(Choice::Code(ended.key, came, fitting))
     } else {

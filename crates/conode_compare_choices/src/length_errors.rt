@@ -148,7 +148,10 @@ fn rpdo_id(rows: &[EntryRow<'_>], node: u8, number: u8) -> Option<u16>
         index,
         sub: PDO_COB_ID,
     };
-    identifier_of(preset_at(rows, node, cob_id)?)
+    match preset_at(rows, node, cob_id) {
+        Some(value) => identifier_of(value),
+        None => None,
+    }
 }
 
 fn length_error(length: u8, mapped: u8) -> Option<LengthError>
@@ -238,7 +241,9 @@ fn missing_choice(
 ) -> Option<Choice>
     ensures { result ≡ missing_choice limits.now inhibit micros awaited }
 {
-    let awaited = awaited?;
+    let Some(awaited) = awaited else {
+        return None;
+    };
     if is_missing(limits, inhibit, micros, awaited) {
         Some(Choice::NoEmergency(awaited.error, micros.saturating_sub(awaited.micros)))
     } else {
@@ -255,7 +260,9 @@ fn awaited_still(
 ) -> Option<Awaited>
     ensures { result ≡ awaited_still limits.now inhibit micros awaited }
 {
-    let awaited = awaited?;
+    let Some(awaited) = awaited else {
+        return None;
+    };
     if is_missing(limits, inhibit, micros, awaited) {
         None
     } else {
@@ -313,7 +320,10 @@ impl Rpdo {
         ensures { result ≡ rpdo_error id length self }
     {
         if is_id(self.id, id) {
-            length_error(length, self.length?)
+            match self.length {
+                Some(mapped) => length_error(length, mapped),
+                None => None,
+            }
         } else {
             None
         }
@@ -395,7 +405,10 @@ impl LengthErrors {
         ensures { result ≡ error_in self.now progress.now id length }
     {
         if is_id(progress.pdos().sync, id) {
-            sync_error(length, self.sync?)
+            match self.sync {
+                Some(right) => sync_error(length, right),
+                None => None,
+            }
         } else if progress.state().is_operational() {
             self.rpdos_error(id, length)
         } else {

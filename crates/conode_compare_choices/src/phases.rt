@@ -189,7 +189,10 @@ impl Phase {
         ensures { result ≡ seen syncs id number pdo.now self }
     {
         if self.awaited && is_id(pdo.parameters.id, id) {
-            early(syncs, number, pdo.parameters.kind?)
+            match pdo.parameters.kind {
+                Some(kind) => early(syncs, number, kind),
+                None => None,
+            }
         } else {
             None
         }

@@ -201,7 +201,10 @@ impl Request {
     fn size_code(&self, width: usize) -> Option<u32>
         ensures { result ≡ size_code self.now width }
     {
-        length_code(width, self.indicated_size()?)
+        match self.indicated_size() {
+            Some(size) => length_code(width, size),
+            None => None,
+        }
     }
 
     // the code for a number beyond the limits
@@ -249,6 +252,9 @@ impl Request {
         requires { AllPairs (λ e f. is_key_before e.key f.key ≡ true) rows.now }
         ensures { result ≡ request_code self.now (map row_view rows.now) (row_view row.now) }
     {
-        self.number_code(rows, row, row.data_type.width()?)
+        match row.data_type.width() {
+            Some(width) => self.number_code(rows, row, width),
+            None => None,
+        }
     }
 }

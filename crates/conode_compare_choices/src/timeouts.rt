@@ -43,7 +43,9 @@ pub(crate) fn timeout_choice(
     if !exchange.certain {
         return None;
     }
-    let time = limits.time?;
+    let Some(time) = limits.time else {
+        return None;
+    };
     if !is_late(limits.tolerance, limits.drift, time, waited) {
         return None;
     }

@@ -1,4 +1,5 @@
 pub mod Parts
+pub mod Members
 pub mod NotedTokens
 pub mod CoverageTokens
 pub mod JsonDocument

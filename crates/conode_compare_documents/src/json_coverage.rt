@@ -12,6 +12,7 @@ ghost use Rattle.conode_compare_documents.specs.CoverageTokens.{
   types_member,
 };
 
+use crate::member::Member;
 use crate::parts::{Document, Part};
 use co_sheet::EntryRow;
 use conode_compare_report::{Coverage, Covered, Numbered, Served};
@@ -21,12 +22,12 @@ fn put_entry(document: &mut Document, row: &EntryRow<'_>, covered: Covered)
 {
     document.put(&[
         Part::BeginObject,
-        Part::Number("index", row.key.index as u64),
-        Part::Number("subIndex", row.key.sub as u64),
-        Part::Bytes("name", row.name),
-        Part::Flag("read", covered.read),
-        Part::Flag("written", covered.written),
-        Part::Flag("refused", covered.refused),
+        Part::Number(Member::Index, row.key.index as u64),
+        Part::Number(Member::SubIndex, row.key.sub as u64),
+        Part::Bytes(Member::Name, row.name),
+        Part::Flag(Member::Read, covered.read),
+        Part::Flag(Member::Written, covered.written),
+        Part::Flag(Member::Refused, covered.refused),
         Part::EndObject,
     ]);
 }
@@ -46,12 +47,12 @@ fn put_rows(document: &mut Document, rows: &[EntryRow<'_>], covered: &[Covered])
 fn put_services(document: &mut Document, services: &[Served])
     ensures { Appended document.old (services_member services.now) document.new }
 {
-    document.put(&[Part::Array("services")]);
+    document.put(&[Part::Array(Member::Services)]);
     for served in services {
         document.put(&[
             Part::BeginObject,
-            Part::Text("name", served.service.name()),
-            Part::Number("count", served.count),
+            Part::Text(Member::Name, served.service.name()),
+            Part::Number(Member::Count, served.count),
             Part::EndObject,
         ]);
     }
@@ -62,12 +63,12 @@ fn put_services(document: &mut Document, services: &[Served])
 fn put_types(document: &mut Document, types: &[Numbered])
     ensures { Appended document.old (types_member types.now) document.new }
 {
-    document.put(&[Part::Array("tpdoTypes")]);
+    document.put(&[Part::Array(Member::TpdoTypes)]);
     for numbered in types {
         document.put(&[
             Part::BeginObject,
-            Part::Number("type", numbered.number as u64),
-            Part::Number("count", numbered.count),
+            Part::Number(Member::Type, numbered.number as u64),
+            Part::Number(Member::Count, numbered.count),
             Part::EndObject,
         ]);
     }
@@ -78,12 +79,12 @@ fn put_types(document: &mut Document, types: &[Numbered])
 fn put_aborts(document: &mut Document, aborts: &[Numbered])
     ensures { Appended document.old (aborts_member aborts.now) document.new }
 {
-    document.put(&[Part::Array("abortCodes")]);
+    document.put(&[Part::Array(Member::AbortCodes)]);
     for numbered in aborts {
         document.put(&[
             Part::BeginObject,
-            Part::Code("code", numbered.number),
-            Part::Number("count", numbered.count),
+            Part::Code(Member::Code, numbered.number),
+            Part::Number(Member::Count, numbered.count),
             Part::EndObject,
         ]);
     }
@@ -95,16 +96,16 @@ pub(crate) fn put_coverage(document: &mut Document, rows: &[EntryRow<'_>], cover
     ensures { Appended document.old
         (coverage_member (map row_view rows.now) coverage.now) document.new }
 {
-    document.put(&[Part::Object("coverage"), Part::Array("entries")]);
+    document.put(&[Part::Object(Member::Coverage), Part::Array(Member::Entries)]);
     put_rows(document, rows, coverage.entries.as_slice());
     document.put(&[Part::EndArray]);
     put_services(document, coverage.services.as_slice());
     document.put(&[
-        Part::Object("states"),
-        Part::Flag("initialising", coverage.states.initialising),
-        Part::Flag("preOperational", coverage.states.pre_operational),
-        Part::Flag("operational", coverage.states.operational),
-        Part::Flag("stopped", coverage.states.stopped),
+        Part::Object(Member::States),
+        Part::Flag(Member::Initialising, coverage.states.initialising),
+        Part::Flag(Member::PreOperational, coverage.states.pre_operational),
+        Part::Flag(Member::Operational, coverage.states.operational),
+        Part::Flag(Member::Stopped, coverage.states.stopped),
         Part::EndObject,
     ]);
     put_types(document, coverage.types.as_slice());

@@ -10,6 +10,7 @@ ghost use Rattle.conode_compare_documents.specs.NotedTokens.{
   said_tokens,
 };
 
+use crate::member::Member;
 use crate::parts::{Document, Part};
 use crate::words::finding_words;
 use conode_compare_report::{ContextLine, Kind, Noted, Report};
@@ -21,8 +22,8 @@ fn put_context_line(document: &mut Document, line: &ContextLine)
 {
     document.put(&[
         Part::BeginObject,
-        Part::Number("line", line.number),
-        Part::Bytes("text", Some(line.bytes.as_slice())),
+        Part::Number(Member::Line, line.number),
+        Part::Bytes(Member::Text, Some(line.bytes.as_slice())),
         Part::EndObject,
     ]);
 }
@@ -31,7 +32,7 @@ fn put_context_line(document: &mut Document, line: &ContextLine)
 fn put_context(document: &mut Document, lines: &[ContextLine])
     ensures { Appended document.old (context_member lines.now) document.new }
 {
-    document.put(&[Part::Array("context")]);
+    document.put(&[Part::Array(Member::Context)]);
     for line in lines {
         put_context_line(document, line);
     }
@@ -47,11 +48,11 @@ fn put_found(alloc: Global, document: &mut Document, noted: &Noted)
     match finding_words(alloc, noted) {
         Ok(text) => document.put(&[
             Part::BeginObject,
-            Part::Number("line", noted.line),
-            Part::Number("stamp", noted.micros),
-            Part::Text("kind", kind.name()),
-            Part::Text("text", text.as_str()),
-            Part::Text("rule", kind.rule()),
+            Part::Number(Member::Line, noted.line),
+            Part::Number(Member::Stamp, noted.micros),
+            Part::Text(Member::Kind, kind.name()),
+            Part::Text(Member::Text, text.as_str()),
+            Part::Text(Member::Rule, kind.rule()),
         ]),
         Err(_) => document.fail(),
     }
@@ -75,7 +76,7 @@ pub(crate) fn put_findings(
     ensures { Appended document.old
         (findings_member report.now.context listed.now) document.new }
 {
-    document.put(&[Part::Array("findings")]);
+    document.put(&[Part::Array(Member::Findings)]);
     for noted in listed {
         put_noted(alloc, document, report, noted);
     }

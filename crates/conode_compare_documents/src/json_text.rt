@@ -13,6 +13,7 @@ ghost use Rattle.conode_compare_documents.specs.JsonDocument.{
 
 use crate::json_coverage::put_coverage;
 use crate::json_findings::put_findings;
+use crate::member::Member;
 use crate::parts::{Document, Part};
 use conode_compare_report::{About, Counted, Coverage, Outcome, Report};
 use conode_compare_text::Tally;
@@ -29,25 +30,25 @@ fn begin_document(document: &mut Document, about: &About<'_, '_>, coverage: &Cov
     let shown = coverage.identity;
     document.put(&[
         Part::BeginObject,
-        Part::Number("version", VERSION),
-        Part::Text("program", about.version),
-        Part::Text("sheet", about.sheet),
-        Part::Text("recording", about.recording),
-        Part::Object("device"),
-        Part::Number("node", about.node as u64),
-        Part::NumberIf("vendor", about.vendor),
-        Part::NumberIf("product", about.product),
-        Part::NumberIf("revision", about.revision),
-        Part::Bytes("vendorName", about.names.vendor),
-        Part::Bytes("productName", about.names.product),
-        Part::NumberIf("recordedRevision", shown.revision),
-        Part::NumberIf("recordedSerial", shown.serial),
+        Part::Number(Member::Version, VERSION),
+        Part::Text(Member::Program, about.version),
+        Part::Text(Member::Sheet, about.sheet),
+        Part::Text(Member::Recording, about.recording),
+        Part::Object(Member::Device),
+        Part::Number(Member::Node, about.node as u64),
+        Part::NumberIf(Member::Vendor, about.vendor),
+        Part::NumberIf(Member::Product, about.product),
+        Part::NumberIf(Member::Revision, about.revision),
+        Part::Bytes(Member::VendorName, about.names.vendor),
+        Part::Bytes(Member::ProductName, about.names.product),
+        Part::NumberIf(Member::RecordedRevision, shown.revision),
+        Part::NumberIf(Member::RecordedSerial, shown.serial),
         Part::EndObject,
-        Part::Object("limits"),
-        Part::Number("tolerance", about.limits.tolerance as u64),
-        Part::Number("drift", about.limits.drift as u64),
-        Part::Number("answer", about.limits.answer as u64),
-        Part::Number("boot", about.limits.boot as u64),
+        Part::Object(Member::Limits),
+        Part::Number(Member::Tolerance, about.limits.tolerance as u64),
+        Part::Number(Member::Drift, about.limits.drift as u64),
+        Part::Number(Member::Answer, about.limits.answer as u64),
+        Part::Number(Member::Boot, about.limits.boot as u64),
         Part::EndObject,
     ]);
 }
@@ -72,31 +73,31 @@ fn put_ended(
         (ended_members verdict.now tally report.now end) document.new }
 {
     document.put(&[
-        Part::Text("verdict", verdict),
-        Part::Object("frames"),
-        Part::Number("prescribed", tally.prescribed),
-        Part::Number("different", tally.different),
-        Part::Number("unjudged", tally.unjudged),
+        Part::Text(Member::Verdict, verdict),
+        Part::Object(Member::Frames),
+        Part::Number(Member::Prescribed, tally.prescribed),
+        Part::Number(Member::Different, tally.different),
+        Part::Number(Member::Unjudged, tally.unjudged),
         Part::EndObject,
-        Part::Number("lines", report.lines),
-        Part::Number("badLines", report.bad_lines),
-        Part::NumberIf("begin", report.begin),
-        Part::NumberIf("end", end),
-        Part::Number("unlisted", report.unlisted),
+        Part::Number(Member::Lines, report.lines),
+        Part::Number(Member::BadLines, report.bad_lines),
+        Part::NumberIf(Member::Begin, report.begin),
+        Part::NumberIf(Member::End, end),
+        Part::Number(Member::Unlisted, report.unlisted),
     ]);
 }
 
 fn put_kinds(document: &mut Document, kinds: &[Counted])
     ensures { Appended document.old (kinds_member kinds.now) document.new }
 {
-    document.put(&[Part::Array("kinds")]);
+    document.put(&[Part::Array(Member::Kinds)]);
     for counted in kinds {
         document.put(&[
             Part::BeginObject,
-            Part::Text("name", counted.kind.name()),
-            Part::Text("rule", counted.kind.rule()),
-            Part::Number("found", counted.found),
-            Part::Number("occasions", counted.occasions),
+            Part::Text(Member::Name, counted.kind.name()),
+            Part::Text(Member::Rule, counted.kind.rule()),
+            Part::Number(Member::Found, counted.found),
+            Part::Number(Member::Occasions, counted.occasions),
             Part::EndObject,
         ]);
     }

@@ -14,6 +14,7 @@ mod junit_cases;
 mod junit_text;
 mod kinds;
 mod lane;
+mod member;
 mod page_text;
 mod parts;
 mod picture;

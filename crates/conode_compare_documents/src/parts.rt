@@ -9,6 +9,7 @@ ghost use Rattle.conode_json.specs.Appended.{Appended};
 ghost use Rattle.conode_json.specs.Members.{text_member};
 ghost use Rattle.conode_compare_documents.specs.Parts.{part_tokens};
 
+use crate::member::Member;
 use co_text::push_u32;
 use conode_json::JsonWriter;
 use std::alloc::{AllocError, Global};
@@ -20,19 +21,19 @@ pub(crate) enum Part<'a> {
     BeginObject,
     EndObject,
     /// The beginning of a member that is an object.
-    Object(&'a str),
+    Object(Member),
     /// The beginning of a member that is an array.
-    Array(&'a str),
+    Array(Member),
     EndArray,
-    Text(&'a str, &'a str),
+    Text(Member, &'a str),
     /// A text from outside, in UTF-8; nothing for `None`.
-    Bytes(&'a str, Option<&'a [u8]>),
-    Number(&'a str, u64),
+    Bytes(Member, Option<&'a [u8]>),
+    Number(Member, u64),
     /// A number, nothing for `None`.
-    NumberIf(&'a str, Option<u64>),
-    Flag(&'a str, bool),
+    NumberIf(Member, Option<u64>),
+    Flag(Member, bool),
     /// Eight hexadecimal digits.
-    Code(&'a str, u32),
+    Code(Member, u32),
 }
 
 fn put_code(alloc: Global, writer: &mut JsonWriter, name: &str, code: u32) -> Result<(), AllocError>
@@ -50,17 +51,17 @@ fn put_part(alloc: Global, writer: &mut JsonWriter, part: &Part<'_>) -> Result<(
     match *part {
         Part::BeginObject => writer.begin_object(),
         Part::EndObject => writer.end_object(),
-        Part::Object(name) => writer.begin_object_of(name),
-        Part::Array(name) => writer.begin_array_of(name),
+        Part::Object(member) => writer.begin_object_of(member.name()),
+        Part::Array(member) => writer.begin_array_of(member.name()),
         Part::EndArray => writer.end_array(),
-        Part::Text(name, text) => writer.put_text(name, text),
-        Part::Bytes(name, Some(bytes)) => writer.put_bytes(alloc, name, bytes),
-        Part::Number(name, number) | Part::NumberIf(name, Some(number)) => {
-            writer.put_number(alloc, name, i128::from(number))
+        Part::Text(member, text) => writer.put_text(member.name(), text),
+        Part::Bytes(member, Some(bytes)) => writer.put_bytes(alloc, member.name(), bytes),
+        Part::Number(member, number) | Part::NumberIf(member, Some(number)) => {
+            writer.put_number(alloc, member.name(), i128::from(number))
         }
         Part::Bytes(_, None) | Part::NumberIf(_, None) => Ok(()),
-        Part::Flag(name, is) => writer.put_flag(name, is),
-        Part::Code(name, code) => put_code(alloc, writer, name, code),
+        Part::Flag(member, is) => writer.put_flag(member.name(), is),
+        Part::Code(member, code) => put_code(alloc, writer, member.name(), code),
     }
 }
 

@@ -78,16 +78,24 @@ fn bytes_in(ended: &Ended) -> Option<Content>
 fn number_shown(row: &EntryRow<'_>, ended: &Ended) -> Option<Content>
     ensures { result ≡ number_shown (row_view row.now) ended.now }
 {
-    let width = held_width(row.data_type)?;
-    let number = shown_number(width, ended.first.as_slice())?;
+    let Some(width) = held_width(row.data_type) else {
+        return None;
+    };
+    let Some(number) = shown_number(width, ended.first.as_slice()) else {
+        return None;
+    };
     Some(Content::Number(number))
 }
 
 fn number_written_in(row: &EntryRow<'_>, ended: &Ended) -> Option<Content>
     ensures { result ≡ number_written_in (row_view row.now) ended.now }
 {
-    let width = held_width(row.data_type)?;
-    let number = number_written(width, ended.first.as_slice())?;
+    let Some(width) = held_width(row.data_type) else {
+        return None;
+    };
+    let Some(number) = number_written(width, ended.first.as_slice()) else {
+        return None;
+    };
     Some(Content::Number(number))
 }
 

@@ -82,7 +82,10 @@ fn shown_by(
     if !is_later(limits, entries, signalled, ended) {
         return None;
     }
-    let code = (shown_number(4, ended.first.as_slice())? % 65536) as u16;
+    let Some(shown) = shown_number(4, ended.first.as_slice()) else {
+        return None;
+    };
+    let code = (shown % 65536) as u16;
     if code == signalled.code {
         return None;
     }

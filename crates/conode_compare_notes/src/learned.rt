@@ -62,9 +62,15 @@ fn shown_of(rows: &[EntryRow<'_>], ended: &Ended) -> Option<Shown>
     requires { AllPairs (λ e f. is_key_before e.key f.key ≡ true) rows.now }
     ensures { result ≡ shown_of (map row_view rows.now) ended.now }
 {
-    let row = row_at(rows, ended.key)?;
-    let width = row.data_type.width()?;
-    let number = shown_number(width, ended.first.as_slice())?;
+    let Some(row) = row_at(rows, ended.key) else {
+        return None;
+    };
+    let Some(width) = row.data_type.width() else {
+        return None;
+    };
+    let Some(number) = shown_number(width, ended.first.as_slice()) else {
+        return None;
+    };
     Some(Shown {
         key: ended.key,
         number,
@@ -114,10 +120,10 @@ impl Learned {
                 self.shown[place] = shown;
                 Ok(())
             }
-            None => {
-                self.shown.push(shown)?;
-                Ok(())
-            }
+            None => match self.shown.push(shown) {
+                Ok(()) => Ok(()),
+                Err(_) => Err(AllocError),
+            },
         }
     }
 

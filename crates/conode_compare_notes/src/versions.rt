@@ -60,7 +60,9 @@ fn revision_shown(node: u8, row: &EntryRow<'_>, shown: u64) -> Option<Warning>
 fn revision_warning(node: u8, ended: &Ended, row: &EntryRow<'_>) -> Option<Warning>
     ensures { result ≡ revision_warning node ended.now (row_view row.now) }
 {
-    let shown = shown_number(4, ended.first.as_slice())?;
+    let Some(shown) = shown_number(4, ended.first.as_slice()) else {
+        return None;
+    };
     revision_shown(node, row, shown)
 }
 
@@ -126,7 +128,10 @@ pub(crate) fn version_warning(
     if !certain || !is_read(ended) {
         return None;
     }
-    version_at(node, ended, row_at(rows, ended.key)?)
+    let Some(row) = row_at(rows, ended.key) else {
+        return None;
+    };
+    version_at(node, ended, row)
 }
 
 // Whether the code of an EMCY has a class: 00xxh; 1xxxh to 9xxxh, with those of device profiles;

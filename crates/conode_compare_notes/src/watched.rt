@@ -97,7 +97,10 @@ fn changed_warning(
     if subject.held.entry(key).is_some() {
         return None;
     }
-    content_warning(key, shown, written?)
+    match written {
+        Some(written) => content_warning(key, shown, written),
+        None => None,
+    }
 }
 
 // another number than the data sheet's, of a setting
@@ -229,8 +232,12 @@ impl Watched {
         requires { AllPairs (λ e f. is_key_before e.key f.key ≡ true) rows.now }
         ensures { result ≡ upload_warning subject.now (map row_view rows.now) self.now ended.now }
     {
-        let row = row_at(rows, ended.key)?;
-        let shown = shown_content(row, ended)?;
+        let Some(row) = row_at(rows, ended.key) else {
+            return None;
+        };
+        let Some(shown) = shown_content(row, ended) else {
+            return None;
+        };
         self.shown_warning(subject, row, shown)
     }
 
@@ -294,7 +301,7 @@ impl Watched {
             ≡ after_end subject.now (map row_view rows.now) self.old certain ended.now) }
     {
         let warning = self.ended_warning(subject, rows, certain, ended);
-        self.note_end(rows, certain, ended)?;
+        attempt!(self.note_end(rows, certain, ended));
         self.fresh = self.fresh && !is_stored(warning);
         Ok(warning.or(version_warning(subject.node, rows, certain, ended)))
     }
@@ -307,10 +314,12 @@ impl Watched {
     {
         if !is_timed(key) {
             self.forget();
+            Ok(())
         } else if row_at(rows, key).is_some() {
-            self.writes.note(key, None)?;
+            self.writes.note(key, None)
+        } else {
+            Ok(())
         }
-        Ok(())
     }
 
     // A frame of the SDO channel by an end.
@@ -330,12 +339,12 @@ impl Watched {
             subject.now (map row_view rows.now) self.old side frame.now exchange.now) }
     {
         let warning = match &exchange.heard.ended {
-            Some(ended) => self.take_end(subject, rows, exchange.certain, ended)?,
+            Some(ended) => attempt!(self.take_end(subject, rows, exchange.certain, ended)),
             None => None,
         };
         match (side, exchange.heard.what) {
             (Side::Client, What::Initiate) if asks_to_write(frame) => {
-                self.take_request(rows, key_in(frame))?;
+                attempt!(self.take_request(rows, key_in(frame)));
             }
             _ => {}
         }
@@ -404,7 +413,7 @@ impl Watched {
             self.forget();
         }
         let errors = self.errors;
-        let noted = self.take_kind(subject, rows, kind, progress)?;
+        let noted = attempt!(self.take_kind(subject, rows, kind, progress));
         self.errors = errors.after(&subject.limits, kind, progress);
         Ok(noted.or(errors.warning(&subject.limits, kind, progress.newest)))
     }

@@ -73,10 +73,10 @@ impl Writes {
                 self.all[place] = wrote;
                 Ok(())
             }
-            None => {
-                self.all.push(wrote)?;
-                Ok(())
-            }
+            None => match self.all.push(wrote) {
+                Ok(()) => Ok(()),
+                Err(_) => Err(AllocError),
+            },
         }
     }
 

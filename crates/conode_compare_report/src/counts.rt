@@ -31,7 +31,10 @@ pub(crate) fn count_number(
         }
         None => {
             if numbers.len() < most {
-                numbers.push(Numbered { number, count: 1 })?;
+                return match numbers.push(Numbered { number, count: 1 }) {
+                    Ok(()) => Ok(()),
+                    Err(_) => Err(AllocError),
+                };
             }
             Ok(())
         }

@@ -171,7 +171,7 @@ impl Coverage {
     pub(crate) fn new(alloc: Global, rows: usize) -> Result<Coverage, AllocError>
         ensures { IfOk result (λ coverage. coverage ≡ no_coverage rows) }
     {
-        let services = no_services(alloc)?;
+        let services = attempt!(no_services(alloc));
         let entry = Covered {
             read: false,
             written: false,
@@ -226,7 +226,7 @@ impl Coverage {
     {
         count_service(&mut self.services, service_of(kind, role, ended));
         self.states.note(state);
-        count_type(&mut self.types, role)?;
+        attempt!(count_type(&mut self.types, role));
         self.note_transfer(rows, ended)
     }
 }

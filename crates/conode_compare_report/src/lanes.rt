@@ -284,7 +284,7 @@ impl Lanes {
     {
         let place = place_in(self.width, micros.saturating_sub(self.begin)).min(MOST_BINS - 1);
         let place = place as usize;
-        self.fill(place)?;
+        attempt!(self.fill(place));
         if place < self.bins.len() {
             self.bins[place].add(state, lane, differences);
         }

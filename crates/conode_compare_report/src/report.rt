@@ -126,7 +126,7 @@ fn add_line(
     ensures { OnOk result (lines.new.items
         ≡ lines.old.items ++ (record { number = number; bytes = bytes.now }) ∷ []) }
 {
-    let bytes = Vec::from_slice(alloc, bytes)?;
+    let bytes = attempt!(Vec::from_slice(alloc, bytes));
     lines.push(ContextLine { number, bytes })?;
     Ok(())
 }
@@ -187,8 +187,8 @@ impl Report {
         requires { AllPairs (λ e f. is_key_before e.key f.key ≡ true) rows.now }
         ensures { IfOk result (λ report. report ≡ nothing_kept (map row_view rows.now) node) }
     {
-        let kinds = no_counts(alloc)?;
-        let coverage = Coverage::new(alloc, rows.len())?;
+        let kinds = attempt!(no_counts(alloc));
+        let coverage = attempt!(Coverage::new(alloc, rows.len()));
         Ok(Report {
             kinds,
             noted: Vec::new(alloc),
@@ -253,10 +253,12 @@ impl Report {
     {
         let heard = hear(&mut self.channel, micros, kind);
         pass_frame(&mut self.kinds, rows, kind, before, &heard, found.verdict);
-        self.coverage
-            .add(rows, kind, before.role, state, ended_in(&heard))?;
+        attempt!(
+            self.coverage
+                .add(rows, kind, before.role, state, ended_in(&heard))
+        );
         let lane = lane_of(kind, before.role);
-        self.lanes.add(micros, state, lane, number_found(found))?;
+        attempt!(self.lanes.add(micros, state, lane, number_found(found)));
         self.begin = self.begin.or(Some(micros));
         self.end = micros;
         Ok(())
@@ -279,16 +281,19 @@ impl Report {
         ensures { OnOk result (self.new ≡ listed_in
             (self.old.context ++ self.old.recent) self.old micros value_type finding) }
     {
-        self.context.append(&mut self.recent)?;
+        attempt!(self.context.append(&mut self.recent));
         let own = self.lines.min(4) as usize;
         let first = self.context.len().saturating_sub(own);
-        self.noted.push(Noted {
+        let noted = Noted {
             line: self.lines,
             micros,
             finding,
             value_type,
             first,
-        })?;
+        };
+        let Ok(()) = self.noted.push(noted) else {
+            return Err(AllocError);
+        };
         self.wanted = self.lines.saturating_add(3);
         Ok(())
     }

@@ -7,6 +7,8 @@ use Rattle.conode_explain_values.specs.declared.value_type.ValueType.{ValueType}
 use Rattle.conode_explain_values.specs.declared.value_type.ValueType.TheVariants.{Real32}
 use Rattle.conode_explain_values.specs.Values.{value_text}
 use Rattle.conode_text.specs.Filled.{filled}
+use Rattle.conode_compare_text.specs.declared.value.Said.{Said}
+use Rattle.conode_compare_text.specs.declared.value.Said.TheVariants.{Alone, One, Two, Three}
 use Rattle.conode_compare_text.specs.declared.value.Value.{Value}
 use Rattle.conode_compare_text.specs.declared.value.Value.TheVariants.{Words, Number, Millis, Byte, Short, Long, Hexadecimal, Key, Shown}
 
@@ -42,6 +44,14 @@ printed (Long number) = digits_text 16 8 number
 printed (Hexadecimal number) = hexadecimal number
 printed (Key key) = key_text key
 printed (Shown t number) = shown_value t number
+
+-- words with values in their places
+abbrev pub said_text : Said → List ℕ
+said_text (Alone words) = words.now
+said_text (One words first) = filled words.now (printed first ∷ [])
+said_text (Two words first second) = filled words.now (printed first ∷ printed second ∷ [])
+said_text (Three words first second third) =
+    filled words.now (printed first ∷ printed second ∷ printed third ∷ [])
 
 -- `recording.log:123: `
 unfoldable pub line_front : List ℕ → ℕ → List ℕ

@@ -10,207 +10,248 @@ ghost use Rattle.conode_compare_text.specs.FindingTexts.{
   state_name,
   transfer_text,
 };
+ghost use Rattle.conode_compare_text.specs.Values.{said_text};
 
-use crate::value::{Value, set_front};
+use crate::value::{Said, Value, push_said, set_line};
 use co_value::Key;
 use conode_compare_pdos::Deviation;
 use conode_compare_rules::{Finding, NmtState};
 use conode_compare_transfers::Breach;
 use conode_compare_values::Mismatch;
 use conode_explain_values::ValueType;
-use conode_text::push_filled;
 use std::alloc::AllocError;
+
+/// Their names, in the order of `NmtState`.
+static STATES: [&str; 5] = [
+    "unknown",
+    "initialising",
+    "pre-operational",
+    "operational",
+    "stopped",
+];
 
 fn state_name(state: NmtState) -> &'static str
     ensures { result.now ≡ state_name state }
 {
-    match state {
-        NmtState::Unknown => "unknown",
-        NmtState::Initialising => "initialising",
-        NmtState::PreOperational => "pre-operational",
-        NmtState::Operational => "operational",
-        NmtState::Stopped => "stopped",
-    }
+    STATES[state as usize]
 }
 
 // what is different of a TPDO
 #[tactic(auto, unfolding(crate::specs::FindingTexts::pdo_text))]
-fn push_pdo(text: &mut String, number: u8, deviation: Deviation) -> Result<(), AllocError>
-    ensures { OnOk result (string_bytes text.new ≡ string_bytes text.old ++ pdo_text number deviation) }
+fn pdo_said(number: u8, deviation: Deviation) -> Said
+    ensures { said_text result ≡ pdo_text number deviation }
 {
     match deviation {
-        Deviation::Length(length, mapped) => push_filled(
-            text,
+        Deviation::Length(length, mapped) => Said::Three(
             "pdo-length: TPDO% has % bytes, its mapping %",
-            &[
-                Value::Number(number as u64),
-                Value::Number(length as u64),
-                Value::Number(mapped as u64),
-            ],
+            Value::Number(number as u64),
+            Value::Number(length as u64),
+            Value::Number(mapped as u64),
         ),
-        Deviation::NotOperational => push_filled(
-            text,
+        Deviation::NotOperational => Said::One(
             "pdo-state: TPDO% while the device isn't operational",
-            &[Value::Number(number as u64)],
+            Value::Number(number as u64),
         ),
-        Deviation::WithoutSync => push_filled(
-            text,
+        Deviation::WithoutSync => Said::One(
             "pdo-sync: TPDO%, and since its last one no SYNC came",
-            &[Value::Number(number as u64)],
+            Value::Number(number as u64),
         ),
-        Deviation::Inhibit(passed, inhibit) => push_filled(
-            text,
+        Deviation::Inhibit(passed, inhibit) => Said::Three(
             "pdo-inhibit: TPDO% % since the last one, its inhibit time is %",
-            &[
-                Value::Number(number as u64),
-                Value::Millis(passed),
-                Value::Millis(inhibit as u64 * 100),
-            ],
+            Value::Number(number as u64),
+            Value::Millis(passed),
+            Value::Millis(inhibit as u64 * 100),
         ),
-        Deviation::Timer(passed, timer) => push_filled(
-            text,
+        Deviation::Timer(passed, timer) => Said::Three(
             "pdo-late: TPDO% % since the last one, its event timer has % ms",
-            &[
-                Value::Number(number as u64),
-                Value::Millis(passed),
-                Value::Number(timer as u64),
-            ],
+            Value::Number(number as u64),
+            Value::Millis(passed),
+            Value::Number(timer as u64),
         ),
     }
 }
 
 // of a transfer that was aborted so many microseconds after the client's last frame; `time`: the
 // timeout in ms, 0 for none
-fn push_early(text: &mut String, key: Key, waited: u64, time: u16) -> Result<(), AllocError>
-    ensures { OnOk result (string_bytes text.new
-        ≡ string_bytes text.old ++ early_text key waited time) }
+fn early_said(key: Key, waited: u64, time: u16) -> Said
+    ensures { said_text result ≡ early_text key waited time }
 {
     if time == 0 {
-        return push_filled(
-            text,
+        return Said::One(
             "abort-early: % was aborted as timed out, and the device has no timeout",
-            &[Value::Key(key)],
+            Value::Key(key),
         );
     }
-    push_filled(
-        text,
+    Said::Three(
         "abort-early: % was aborted as timed out % after the client's last frame, the timeout is % ms",
-        &[
-            Value::Key(key),
-            Value::Millis(waited),
-            Value::Number(time as u64),
-        ],
+        Value::Key(key),
+        Value::Millis(waited),
+        Value::Number(time as u64),
     )
 }
 
 // what is different in an open transfer
 #[tactic(auto, unfolding(crate::specs::FindingTexts::transfer_text))]
-fn push_transfer(text: &mut String, breach: Breach) -> Result<(), AllocError>
-    ensures { OnOk result (string_bytes text.new ≡ string_bytes text.old ++ transfer_text breach) }
+fn transfer_said(breach: Breach) -> Said
+    ensures { said_text result ≡ transfer_text breach }
 {
     match breach {
-        Breach::Toggle(key) => push_filled(
-            text,
+        Breach::Toggle(key) => Said::One(
             "answer-toggle: % is transferred, a segment has the wrong toggle bit",
-            &[Value::Key(key)],
+            Value::Key(key),
         ),
-        Breach::Form(key) => push_filled(
-            text,
+        Breach::Form(key) => Said::One(
             "answer-form: % is transferred, which has no such answer here",
-            &[Value::Key(key)],
+            Value::Key(key),
         ),
-        Breach::AbortKey(key) => push_filled(
-            text,
+        Breach::AbortKey(key) => Said::One(
             "abort-key: % is transferred, the abort is of another entry",
-            &[Value::Key(key)],
+            Value::Key(key),
         ),
-        Breach::Size(key, indicated, bytes) => push_filled(
-            text,
+        Breach::Size(key, indicated, bytes) => Said::Three(
             "answer-size: % has % bytes, its response to initiate has %",
-            &[
-                Value::Key(key),
-                Value::Number(bytes),
-                Value::Number(indicated as u64),
-            ],
+            Value::Key(key),
+            Value::Number(bytes),
+            Value::Number(indicated as u64),
         ),
-        Breach::Crc(key, came, computed) => push_filled(
-            text,
+        Breach::Crc(key, came, computed) => Said::Three(
             "answer-crc: % has the CRC %, that of its bytes is %",
-            &[
-                Value::Key(key),
-                Value::Hexadecimal(came as u64),
-                Value::Hexadecimal(computed as u64),
-            ],
+            Value::Key(key),
+            Value::Hexadecimal(came as u64),
+            Value::Hexadecimal(computed as u64),
         ),
-        Breach::Early(key, waited, time) => push_early(text, key, waited, time),
+        Breach::Early(key, waited, time) => early_said(key, waited, time),
     }
 }
 
 // what is different at the end of a transfer, where the values of the entry have this type
 #[tactic(auto, unfolding(crate::specs::FindingTexts::mismatch_text))]
-fn push_mismatch(
-    text: &mut String,
-    value_type: ValueType,
-    mismatch: Mismatch,
-) -> Result<(), AllocError>
-    ensures { OnOk result (string_bytes text.new ≡ string_bytes text.old ++ mismatch_text value_type mismatch) }
+fn mismatch_said(value_type: ValueType, mismatch: Mismatch) -> Said
+    ensures { said_text result ≡ mismatch_text value_type mismatch }
 {
     match mismatch {
-        Mismatch::ValueLength(key, length, width) => push_filled(
-            text,
+        Mismatch::ValueLength(key, length, width) => Said::Three(
             "value-length: % has % bytes, its type %",
-            &[
-                Value::Key(key),
-                Value::Number(length),
-                Value::Number(width as u64),
-            ],
+            Value::Key(key),
+            Value::Number(length),
+            Value::Number(width as u64),
         ),
-        Mismatch::ValueConst(key, shown, held) => push_filled(
-            text,
+        Mismatch::ValueConst(key, shown, held) => Said::Three(
             "value-const: % has %, the sheet %",
-            &[
-                Value::Key(key),
-                Value::Shown(value_type, shown),
-                Value::Shown(value_type, held),
-            ],
+            Value::Key(key),
+            Value::Shown(value_type, shown),
+            Value::Shown(value_type, held),
         ),
-        Mismatch::ConstText(key) => push_filled(
-            text,
+        Mismatch::ConstText(key) => Said::One(
             "value-const: % has another text than the sheet",
-            &[Value::Key(key)],
+            Value::Key(key),
         ),
-        Mismatch::ReadRefused(key, code) => push_filled(
-            text,
+        Mismatch::ReadRefused(key, code) => Said::Two(
             "access-read: % refused with %, the sheet has it as readable",
-            &[Value::Key(key), Value::Long(code.0)],
+            Value::Key(key),
+            Value::Long(code.0),
         ),
-        Mismatch::Written(key) => push_filled(
-            text,
+        Mismatch::Written(key) => Said::One(
             "access-write: % was written, the sheet has it as read only",
-            &[Value::Key(key)],
+            Value::Key(key),
         ),
-        Mismatch::AboveLimit(key) => push_filled(
-            text,
+        Mismatch::AboveLimit(key) => Said::One(
             "access-limits: % was written, with a value above its HighLimit",
-            &[Value::Key(key)],
+            Value::Key(key),
         ),
-        Mismatch::BelowLimit(key) => push_filled(
-            text,
+        Mismatch::BelowLimit(key) => Said::One(
             "access-limits: % was written, with a value below its LowLimit",
-            &[Value::Key(key)],
+            Value::Key(key),
         ),
-        Mismatch::BeyondRoom(key, bytes, room) => push_filled(
-            text,
+        Mismatch::BeyondRoom(key, bytes, room) => Said::Three(
             "access-limits: % was written, with % bytes, its room is %",
-            &[Value::Key(key), Value::Number(bytes), Value::Number(room)],
+            Value::Key(key),
+            Value::Number(bytes),
+            Value::Number(room),
         ),
+    }
+}
+
+// the name of the kind, and what is different
+#[tactic(auto, unfolding(crate::specs::FindingTexts::finding_text))]
+fn finding_said(value_type: ValueType, finding: Finding) -> Said
+    ensures { said_text result ≡ finding_text value_type finding }
+{
+    match finding {
+        Finding::BootMissing(passed) => Said::One(
+            "boot-missing: no boot-up % after the reset command",
+            Value::Millis(passed),
+        ),
+        Finding::SecondBootUp(passed) => Said::One(
+            "second-sender: a boot-up % after the last one",
+            Value::Millis(passed),
+        ),
+        Finding::HeartbeatLength(length) => Said::One(
+            "heartbeat-length: % bytes, not 1",
+            Value::Number(length as u64),
+        ),
+        Finding::NoState(byte) => Said::One(
+            "heartbeat-state: %h is no NMT state",
+            Value::Byte(byte),
+        ),
+        Finding::WrongState(shown, held) => Said::Two(
+            "heartbeat-state: %, but by the commands it is %",
+            Value::Words(state_name(shown)),
+            Value::Words(state_name(held)),
+        ),
+        Finding::HeartbeatLate(passed, period) => Said::Two(
+            "heartbeat-late: % since the last one, 1017:00 has % ms",
+            Value::Millis(passed),
+            Value::Number(period as u64),
+        ),
+        Finding::EmergencyLength(length) => Said::One(
+            "emcy-length: % bytes, not 8",
+            Value::Number(length as u64),
+        ),
+        Finding::EmergencyStopped => Said::Alone("emcy-state: an EMCY while stopped"),
+        Finding::EmergencyRegister(code, register) => Said::Two(
+            "emcy-register: code %h with error register %h, whose bit 0 isn't set",
+            Value::Short(code),
+            Value::Byte(register),
+        ),
+        Finding::EmergencyInhibit(passed, inhibit) => Said::Two(
+            "emcy-inhibit: % since the last one, 1015:00 has %",
+            Value::Millis(passed),
+            Value::Millis(inhibit as u64 * 100),
+        ),
+        Finding::NoAnswer(key, passed) => Said::Two(
+            "no-answer: % was requested % ago",
+            Value::Key(key),
+            Value::Millis(passed),
+        ),
+        Finding::Unasked => Said::Alone("second-sender: an answer without a request"),
+        Finding::AnswerKey(key) => Said::One(
+            "answer-key: % was requested, another entry is answered",
+            Value::Key(key),
+        ),
+        Finding::AnswerForm(key) => Said::One(
+            "answer-form: % was requested, which has no such answer",
+            Value::Key(key),
+        ),
+        Finding::AnswerStopped(key) => Said::One(
+            "answer-state: % is answered while stopped",
+            Value::Key(key),
+        ),
+        Finding::Transfer(breach) => transfer_said(breach),
+        Finding::Value(mismatch) => mismatch_said(value_type, mismatch),
+        Finding::Held(mismatch) => Said::Three(
+            "value-held: % has %, written was %",
+            Value::Key(mismatch.key),
+            Value::Shown(value_type, mismatch.shown),
+            Value::Shown(value_type, mismatch.written),
+        ),
+        Finding::Pdo(number, deviation) => pdo_said(number, deviation),
     }
 }
 
 /// Appends the name of the kind, and what is different: `heartbeat-late: ..`. The values of an
 /// entry are hexadecimal; a REAL32 is as `explain` shows it. On an `Err` memory ran out, and a part
 /// of it may be there.
-#[tactic(auto, unfolding(crate::specs::FindingTexts::finding_text))]
 pub fn push_finding(
     text: &mut String,
     value_type: ValueType,
@@ -219,90 +260,7 @@ pub fn push_finding(
     ensures { OnOk result (string_bytes text.new
         ≡ string_bytes text.old ++ finding_text value_type finding) }
 {
-    match finding {
-        Finding::BootMissing(passed) => push_filled(
-            text,
-            "boot-missing: no boot-up % after the reset command",
-            &[Value::Millis(passed)],
-        ),
-        Finding::SecondBootUp(passed) => push_filled(
-            text,
-            "second-sender: a boot-up % after the last one",
-            &[Value::Millis(passed)],
-        ),
-        Finding::HeartbeatLength(length) => push_filled(
-            text,
-            "heartbeat-length: % bytes, not 1",
-            &[Value::Number(length as u64)],
-        ),
-        Finding::NoState(byte) => push_filled(
-            text,
-            "heartbeat-state: %h is no NMT state",
-            &[Value::Byte(byte)],
-        ),
-        Finding::WrongState(shown, held) => push_filled(
-            text,
-            "heartbeat-state: %, but by the commands it is %",
-            &[
-                Value::Words(state_name(shown)),
-                Value::Words(state_name(held)),
-            ],
-        ),
-        Finding::HeartbeatLate(passed, period) => push_filled(
-            text,
-            "heartbeat-late: % since the last one, 1017:00 has % ms",
-            &[Value::Millis(passed), Value::Number(period as u64)],
-        ),
-        Finding::EmergencyLength(length) => push_filled(
-            text,
-            "emcy-length: % bytes, not 8",
-            &[Value::Number(length as u64)],
-        ),
-        Finding::EmergencyStopped => text.push_str("emcy-state: an EMCY while stopped"),
-        Finding::EmergencyRegister(code, register) => push_filled(
-            text,
-            "emcy-register: code %h with error register %h, whose bit 0 isn't set",
-            &[Value::Short(code), Value::Byte(register)],
-        ),
-        Finding::EmergencyInhibit(passed, inhibit) => push_filled(
-            text,
-            "emcy-inhibit: % since the last one, 1015:00 has %",
-            &[Value::Millis(passed), Value::Millis(inhibit as u64 * 100)],
-        ),
-        Finding::NoAnswer(key, passed) => push_filled(
-            text,
-            "no-answer: % was requested % ago",
-            &[Value::Key(key), Value::Millis(passed)],
-        ),
-        Finding::Unasked => text.push_str("second-sender: an answer without a request"),
-        Finding::AnswerKey(key) => push_filled(
-            text,
-            "answer-key: % was requested, another entry is answered",
-            &[Value::Key(key)],
-        ),
-        Finding::AnswerForm(key) => push_filled(
-            text,
-            "answer-form: % was requested, which has no such answer",
-            &[Value::Key(key)],
-        ),
-        Finding::AnswerStopped(key) => push_filled(
-            text,
-            "answer-state: % is answered while stopped",
-            &[Value::Key(key)],
-        ),
-        Finding::Transfer(breach) => push_transfer(text, breach),
-        Finding::Value(mismatch) => push_mismatch(text, value_type, mismatch),
-        Finding::Held(mismatch) => push_filled(
-            text,
-            "value-held: % has %, written was %",
-            &[
-                Value::Key(mismatch.key),
-                Value::Shown(value_type, mismatch.shown),
-                Value::Shown(value_type, mismatch.written),
-            ],
-        ),
-        Finding::Pdo(number, deviation) => push_pdo(text, number, deviation),
-    }
+    push_said(text, finding_said(value_type, finding))
 }
 
 /// Sets a text to the line of a difference, with its line feed, as `recording.log:123:
@@ -321,7 +279,5 @@ pub fn set_finding_line(
     ensures { OnOk result
         (string_bytes text.new ≡ finding_line recording.now line value_type finding) }
 {
-    set_front(text, recording, line)?;
-    push_finding(text, value_type, finding)?;
-    text.push('\n')
+    set_line(text, recording, line, finding_said(value_type, finding))
 }

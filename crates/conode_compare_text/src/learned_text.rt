@@ -41,7 +41,7 @@ fn push_other(
     ensures { OnOk result (string_bytes text.new
         ≡ string_bytes text.old ++ other_text value_type width sheet) }
 {
-    text.push_str(", the sheet has ")?;
+    attempt!(text.push_str(", the sheet has "));
     push_number(text, value_type, width, sheet)
 }
 
@@ -82,10 +82,10 @@ pub fn set_learned_line(
         ≡ learned_line (option_copied name.entry) key value_type width number sheet) }
 {
     text.clear();
-    text.push_str("learned: ")?;
-    push_named_key(text, name, key)?;
-    text.push_str(" = ")?;
-    push_number(text, value_type, width, number)?;
-    push_sheet(text, value_type, width, number, sheet)?;
+    attempt!(text.push_str("learned: "));
+    attempt!(push_named_key(text, name, key));
+    attempt!(text.push_str(" = "));
+    attempt!(push_number(text, value_type, width, number));
+    attempt!(push_sheet(text, value_type, width, number, sheet));
     text.push('\n')
 }

@@ -1,6 +1,16 @@
 //! The differences of a device, its choices, and the values that it showed, in words.
 #![tactic(auto)]
 
+// As `?`, without a conversion of the error: a `match` is one step of a proof where `?` is three.
+macro_rules! attempt {
+    ($result:expr) => {
+        match $result {
+            Ok(value) => value,
+            Err(fault) => return Err(fault),
+        }
+    };
+}
+
 mod choice_text;
 mod finding_text;
 mod learned_text;

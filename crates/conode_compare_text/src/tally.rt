@@ -83,6 +83,6 @@ pub fn set_summary(text: &mut String, node: u8, tally: Tally) -> Result<(), Allo
     ensures { OnOk result (string_bytes text.new ≡ summary node tally) }
 {
     text.clear();
-    push_tally(text, node, tally)?;
+    attempt!(push_tally(text, node, tally));
     text.push('\n')
 }

@@ -1,4 +1,4 @@
-//! Values in lines, and the front of a line.
+//! Values in lines, and what is said with them.
 
 ghost use Rattle.std.specs.Prelude.{◌≡◌, ◌++◌, OnOk, string_bytes};
 ghost use Rattle.co_text.specs.Printed.{digits_text};
@@ -6,9 +6,10 @@ ghost use Rattle.conode_compare_text.specs.Values.{
   eight_digits,
   hexadecimal,
   high_digits,
-  line_front,
+  line_text,
   millis_text,
   printed,
+  said_text,
   shown_value,
 };
 
@@ -46,8 +47,8 @@ fn push_three_digits(text: &mut String, number: u64) -> Result<(), AllocError>
     ensures { OnOk result
         (string_bytes text.new ≡ string_bytes text.old ++ digits_text 10 3 number) }
 {
-    push_digit(text, (number / 10 / 10 % 10) as u8)?;
-    push_digit(text, (number / 10 % 10) as u8)?;
+    attempt!(push_digit(text, (number / 10 / 10 % 10) as u8));
+    attempt!(push_digit(text, (number / 10 % 10) as u8));
     push_digit(text, (number % 10) as u8)
 }
 
@@ -56,9 +57,9 @@ fn push_three_digits(text: &mut String, number: u64) -> Result<(), AllocError>
 fn push_millis(text: &mut String, micros: u64) -> Result<(), AllocError>
     ensures { OnOk result (string_bytes text.new ≡ string_bytes text.old ++ millis_text micros) }
 {
-    push_decimal(text, micros / 1000)?;
-    text.push('.')?;
-    push_three_digits(text, micros % 1000)?;
+    attempt!(push_decimal(text, micros / 1000));
+    attempt!(text.push('.'));
+    attempt!(push_three_digits(text, micros % 1000));
     text.push_str(" ms")
 }
 
@@ -67,7 +68,7 @@ fn push_millis(text: &mut String, micros: u64) -> Result<(), AllocError>
 fn push_eight_digits(text: &mut String, number: u64) -> Result<(), AllocError>
     ensures { OnOk result (string_bytes text.new ≡ string_bytes text.old ++ eight_digits number) }
 {
-    push_u16(text, (number / 0x1_0000 % 0x1_0000) as u16)?;
+    attempt!(push_u16(text, (number / 0x1_0000 % 0x1_0000) as u16));
     push_u16(text, (number % 0x1_0000) as u16)
 }
 
@@ -87,8 +88,8 @@ fn push_high_digits(text: &mut String, number: u64) -> Result<(), AllocError>
 fn push_hexadecimal(text: &mut String, number: u64) -> Result<(), AllocError>
     ensures { OnOk result (string_bytes text.new ≡ string_bytes text.old ++ hexadecimal number) }
 {
-    push_high_digits(text, number)?;
-    push_eight_digits(text, number)?;
+    attempt!(push_high_digits(text, number));
+    attempt!(push_eight_digits(text, number));
     text.push('h')
 }
 
@@ -125,16 +126,51 @@ impl HasText for Value<'_> {
     }
 }
 
-/// Sets a text to the front of a line: the name of the recording, and the number of its line. On an
-/// `Err` memory ran out, and a part of it may be there.
+/// What is said in a line: words, with a value in each of their places.
+#[derive(Clone, Copy)]
+pub(crate) enum Said {
+    /// Words as they are.
+    Alone(&'static str),
+    /// Words with one place.
+    One(&'static str, Value<'static>),
+    /// Words with two places.
+    Two(&'static str, Value<'static>, Value<'static>),
+    /// Words with three places.
+    Three(&'static str, Value<'static>, Value<'static>, Value<'static>),
+}
+
+/// Appends what is said. On an `Err` memory ran out, and a part of it may be there.
+pub(crate) fn push_said(text: &mut String, said: Said) -> Result<(), AllocError>
+    ensures { OnOk result (string_bytes text.new ≡ string_bytes text.old ++ said_text said) }
+{
+    match said {
+        Said::Alone(words) => text.push_str(words),
+        Said::One(words, first) => push_filled(text, words, &[first]),
+        Said::Two(words, first, second) => push_filled(text, words, &[first, second]),
+        Said::Three(words, first, second, third) => {
+            push_filled(text, words, &[first, second, third])
+        }
+    }
+}
+
+/// Sets a text to a line: the name of the recording, the number of its line, what is said, and a
+/// line feed. On an `Err` memory ran out, and a part of it may be there.
 #[tactic(auto, unfolding(crate::specs::Values::line_front))]
-pub(crate) fn set_front(text: &mut String, recording: &str, line: u64) -> Result<(), AllocError>
-    ensures { OnOk result (string_bytes text.new ≡ line_front recording.now line) }
+pub(crate) fn set_line(
+    text: &mut String,
+    recording: &str,
+    line: u64,
+    said: Said,
+) -> Result<(), AllocError>
+    ensures { OnOk result
+        (string_bytes text.new ≡ line_text recording.now line (said_text said)) }
 {
     text.clear();
-    push_filled(
+    attempt!(push_filled(
         text,
         "%:%: ",
         &[Value::Words(recording), Value::Number(line)],
-    )
+    ));
+    attempt!(push_said(text, said));
+    text.push('\n')
 }

@@ -1,78 +1,62 @@
 //! The line of a warning.
 
-ghost use Rattle.std.specs.Prelude.{◌≡◌, ◌++◌, OnOk, string_bytes};
+ghost use Rattle.std.specs.Prelude.{◌≡◌, OnOk, string_bytes};
 ghost use Rattle.conode_compare_text.specs.WarningTexts.{warning_line, warning_text};
+ghost use Rattle.conode_compare_text.specs.Values.{said_text};
 
-use crate::value::{Value, set_front};
+use crate::value::{Said, Value, set_line};
 use conode_compare_notes::Warning;
 use conode_explain_values::ValueType;
-use conode_text::push_filled;
 use std::alloc::AllocError;
 
 // the name of the kind, and what was seen
 #[tactic(auto, unfolding(crate::specs::WarningTexts::warning_text))]
-fn push_warning(
-    text: &mut String,
-    value_type: ValueType,
-    warning: Warning,
-) -> Result<(), AllocError>
-    ensures { OnOk result (string_bytes text.new ≡ string_bytes text.old ++ warning_text value_type warning) }
+fn warning_said(value_type: ValueType, warning: Warning) -> Said
+    ensures { said_text result ≡ warning_text value_type warning }
 {
     match warning {
-        Warning::Restarted => text.push_str(
+        Warning::Restarted => Said::Alone(
             "warning: restarted: a boot-up, and no reset was commanded",
         ),
-        Warning::Stored(key, shown, sheet) => push_filled(
-            text,
+        Warning::Stored(key, shown, sheet) => Said::Three(
             "warning: stored: % has % after the boot-up, the sheet %",
-            &[
-                Value::Key(key),
-                Value::Shown(value_type, shown),
-                Value::Shown(value_type, sheet),
-            ],
+            Value::Key(key),
+            Value::Shown(value_type, shown),
+            Value::Shown(value_type, sheet),
         ),
-        Warning::Changed(mismatch) => push_filled(
-            text,
+        Warning::Changed(mismatch) => Said::Three(
             "warning: changed-after-write: % has %, written was %",
-            &[
-                Value::Key(mismatch.key),
-                Value::Shown(value_type, mismatch.shown),
-                Value::Shown(value_type, mismatch.written),
-            ],
+            Value::Key(mismatch.key),
+            Value::Shown(value_type, mismatch.shown),
+            Value::Shown(value_type, mismatch.written),
         ),
-        Warning::ChangedBytes(key) => push_filled(
-            text,
+        Warning::ChangedBytes(key) => Said::One(
             "warning: changed-after-write: % has other bytes than were written",
-            &[Value::Key(key)],
+            Value::Key(key),
         ),
-        Warning::SteppedBack(micros) => push_filled(
-            text,
+        Warning::SteppedBack(micros) => Said::One(
             "warning: stepped-back: the stamp is % before the last one",
-            &[Value::Millis(micros)],
+            Value::Millis(micros),
         ),
-        Warning::OtherRevision(key, shown, sheet) => push_filled(
-            text,
+        Warning::OtherRevision(key, shown, sheet) => Said::Three(
             "warning: other-version: % has %, the sheet %",
-            &[
-                Value::Key(key),
-                Value::Shown(value_type, shown),
-                Value::Shown(value_type, sheet),
-            ],
+            Value::Key(key),
+            Value::Shown(value_type, shown),
+            Value::Shown(value_type, sheet),
         ),
-        Warning::OtherText(key) => push_filled(
-            text,
+        Warning::OtherText(key) => Said::One(
             "warning: other-version: % has another text than the sheet",
-            &[Value::Key(key)],
+            Value::Key(key),
         ),
-        Warning::OddCode(code, register) => push_filled(
-            text,
+        Warning::OddCode(code, register) => Said::Two(
             "warning: emcy-code: code %h with error register %h, of a class that CiA 301 doesn't have",
-            &[Value::Short(code), Value::Byte(register)],
+            Value::Short(code),
+            Value::Byte(register),
         ),
-        Warning::OtherError(shown, signalled) => push_filled(
-            text,
+        Warning::OtherError(shown, signalled) => Said::Two(
             "warning: emcy-history: 1003:01 has code %h, the last EMCY %h",
-            &[Value::Short(shown), Value::Short(signalled)],
+            Value::Short(shown),
+            Value::Short(signalled),
         ),
     }
 }
@@ -91,7 +75,5 @@ pub fn set_warning_line(
     ensures { OnOk result
         (string_bytes text.new ≡ warning_line recording.now line value_type warning) }
 {
-    set_front(text, recording, line)?;
-    push_warning(text, value_type, warning)?;
-    text.push('\n')
+    set_line(text, recording, line, warning_said(value_type, warning))
 }
