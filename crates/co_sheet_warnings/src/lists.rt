@@ -10,6 +10,7 @@ ghost use Rattle.std.specs.Prelude.{
   flat_map,
   option_to_list,
   filter_map,
+  IfOk,
   OnOk,
 };
 ghost use Rattle.indexmap.specs.IndexSet.{contains};
@@ -138,39 +139,29 @@ pub(crate) fn add_places_of_lists(
     Ok(())
 }
 
-// adds the indices that listings name
-fn add_indices(indices: &mut IndexSet<u64>, listings: &[Listing]) -> Result<(), AllocError>
-    ensures { OnOk result ((i : ℕ) → contains nat_eq indices.new i
-        ≡ (contains nat_eq indices.old i || names i (map listing_view listings.now))) }
+// the indices that listings name
+fn indices_of(alloc: Global, listings: &[Listing]) -> Result<IndexSet<u64>, AllocError>
+    ensures { IfOk result (λ indices. (i : ℕ) →
+        contains nat_eq indices i ≡ names i (map listing_view listings.now)) }
 {
+    let mut indices = IndexSet::new(alloc);
     for listing in listings {
         indices.insert(listing.index)?;
     }
-    Ok(())
+    Ok(indices)
 }
 
-fn add_all_named(listings: &mut Vec<Listing>, sections: &[TextSection]) -> Result<(), AllocError>
-    ensures { OnOk result (map listing_view listings.new.items
-        ≡ map listing_view listings.old.items ++ flat_map named_by (map section_view sections.now)) }
-{
-    for section in sections {
-        add_named(listings, section)?;
-    }
-    Ok(())
-}
-
-/// Adds the indices that the lists name.
-pub(crate) fn add_listed_indices(
+/// The indices that the lists name.
+pub(crate) fn listed_indices(
     alloc: Global,
-    indices: &mut IndexSet<u64>,
     sections: &[TextSection],
-) -> Result<(), AllocError>
-    ensures { OnOk result ((i : ℕ) → contains nat_eq indices.new i
-        ≡ (contains nat_eq indices.old i || is_listed (map section_view sections.now) i)) }
+) -> Result<IndexSet<u64>, AllocError>
+    ensures { IfOk result (λ indices. (i : ℕ) →
+        contains nat_eq indices i ≡ is_listed (map section_view sections.now) i) }
 {
     let mut all = Vec::new(alloc);
-    match add_all_named(&mut all, sections) {
-        Ok(()) => add_indices(indices, all.as_slice()),
-        Err(fault) => Err(fault),
+    for section in sections {
+        add_named(&mut all, section)?;
     }
+    indices_of(alloc, all.as_slice())
 }

@@ -1,7 +1,6 @@
 //! A text as it is read, with what is looked up in it.
 
-ghost use Rattle.std.specs.Prelude.{◌≡◌, ℕ, map, nat_eq};
-ghost use Rattle.indexmap.specs.IndexSet.{contains};
+ghost use Rattle.std.specs.Prelude.{◌≡◌, map, IfOk};
 ghost use Rattle.co_sheet.specs.Entries.{sub_indices};
 ghost use Rattle.co_sheet.specs.ObjectLists.{is_listed};
 ghost use Rattle.co_sheet.specs.SectionViews.{entry_view};
@@ -10,28 +9,30 @@ ghost use Rattle.co_sheet_warnings.specs.private.Views.{text_view};
 
 use crate::keys::WrittenKey;
 use crate::lines::first_other;
+use crate::lists::listed_indices;
 use co_sheet::{EntrySection, Tables};
 use co_sheet_text::TextSection;
 use indexmap::IndexSet;
+use std::alloc::{AllocError, Global};
 use std::marker::Model;
 
 /// The lines and sections of a text, and the node-ID that is given for the device. Contracts see
 /// these; beside them are the indices that the lists name, and the first line with a byte above
 /// 7Fh.
 #[derive(Drop)]
-pub(crate) struct ReadText<'t, 's, 'a> {
+pub(crate) struct ReadText<'s, 'a> {
     pub(crate) bytes: &'a [u8],
     pub(crate) lines: &'s [&'a [u8]],
-    tables: &'t Tables<'s, 'a>,
+    tables: Tables<'s, 'a>,
     /// The keys as they are written.
-    pub(crate) keys: &'t [WrittenKey<'a>],
+    pub(crate) keys: &'s [WrittenKey<'a>],
     pub(crate) node: Option<u8>,
-    indices: &'t IndexSet<u64>,
+    indices: IndexSet<u64>,
     /// The first line with a byte above 7Fh.
     pub(crate) other: Option<usize>,
 }
 
-impl<'t, 's, 'a> Model for ReadText<'t, 's, 'a> {
+impl<'s, 'a> Model for ReadText<'s, 'a> {
     ghost use Rattle.std.specs.Prelude.{map};
     ghost use Rattle.co_sheet_warnings.specs.ReadTexts.{ReadText};
     ghost use Rattle.co_sheet_warnings.specs.private.Views.{text_view, IsLookedUp};
@@ -39,27 +40,26 @@ impl<'t, 's, 'a> Model for ReadText<'t, 's, 'a> {
     ghost Value = { ReadText };
 
     ghost view = { λ t. text_view t.bytes.now (map (λ line. line.now) t.lines.now)
-        t.tables.now t.keys.now t.node };
+        t.tables t.keys.now t.node };
 
-    ghost invariant = { λ t. IsLookedUp t.tables.now (map (λ line. line.now) t.lines.now)
-        t.indices.now t.other };
+    ghost invariant = { λ t. IsLookedUp t.tables (map (λ line. line.now) t.lines.now) t.indices t.other };
 }
 
-impl<'t, 's, 'a> ReadText<'t, 's, 'a> {
-    /// The text of these lines, sections and keys; the lists name these indices.
+impl<'s, 'a> ReadText<'s, 'a> {
     pub(crate) fn new(
+        alloc: Global,
         bytes: &'a [u8],
         lines: &'s [&'a [u8]],
-        tables: &'t Tables<'s, 'a>,
-        keys: &'t [WrittenKey<'a>],
+        sections: &'s [TextSection<'s, 'a>],
+        keys: &'s [WrittenKey<'a>],
         node: Option<u8>,
-        indices: &'t IndexSet<u64>,
-    ) -> ReadText<'t, 's, 'a>
-        requires { (i : ℕ) → contains nat_eq indices.now i ≡ is_listed tables.now i }
-        ensures { result ≡ text_view bytes.now (map (λ line. line.now) lines.now)
-            tables.now keys.now node }
+    ) -> Result<ReadText<'s, 'a>, AllocError>
+        ensures { IfOk result (λ text. text ≡ text_view bytes.now
+            (map (λ line. line.now) lines.now) (map section_view sections.now) keys.now node) }
     {
-        ReadText {
+        let tables = Tables::new(alloc, sections)?;
+        let indices = listed_indices(alloc, sections)?;
+        Ok(ReadText {
             bytes,
             lines,
             tables,
@@ -67,7 +67,7 @@ impl<'t, 's, 'a> ReadText<'t, 's, 'a> {
             node,
             indices,
             other: first_other(lines),
-        }
+        })
     }
 
     pub(crate) fn sections(&self) -> &'s [TextSection<'s, 'a>]

@@ -1,5 +1,5 @@
 use Rattle.co_sheet_warnings.proofs.IndexLemmas.{indices-end, indices-turn, none_named}
-use Rattle.co_sheet_warnings.proofs.lists.add_indices.Goals as goal
+use Rattle.co_sheet_warnings.proofs.lists.indices_of.Goals as goal
 
 pub loop-listing-preserved : goal.loop-listing-preserved
 loop-listing-preserved c = λ i.
