@@ -82,6 +82,8 @@ pub(crate) fn column_of(finding: &Finding<'_>, characters: &[char]) -> usize
 pub(crate) fn own_column(alloc: Global, finding: &Finding<'_>) -> Result<usize, AllocError>
     ensures { IfOk result (λ column. column ≡ column_of finding.now) }
 {
-    let characters = characters_of(alloc, finding.text)?;
-    Ok(column_of(finding, characters.as_slice()))
+    match characters_of(alloc, finding.text) {
+        Ok(characters) => Ok(column_of(finding, characters.as_slice())),
+        Err(fault) => Err(fault),
+    }
 }

@@ -63,8 +63,10 @@ fn put_column(
     ensures { OnOk result
         (writer.new ≡ writer.old ++ count_member (member_name member) (column_of finding.now)) }
 {
-    let column = own_column(alloc, finding)?;
-    writer.put_count(member.name(), column as u64)
+    match own_column(alloc, finding) {
+        Ok(column) => writer.put_count(member.name(), column as u64),
+        Err(fault) => Err(fault),
+    }
 }
 
 impl HasTokens for Part<'_> {

@@ -79,8 +79,10 @@ pub fn push_finding(
     ensures { OnOk result (string_bytes text.new
         ≡ string_bytes text.old ++ finding_lines colours file.now finding.now) }
 {
-    let characters = characters_of(alloc, finding.text)?;
-    push_lines(text, colours, file, finding, characters.as_slice())
+    match characters_of(alloc, finding.text) {
+        Ok(characters) => push_lines(text, colours, file, finding, characters.as_slice()),
+        Err(fault) => Err(fault),
+    }
 }
 
 /// Appends the line of a file whose further findings aren't printed, as `motor.eds: 3 more`.
