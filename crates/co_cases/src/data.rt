@@ -11,16 +11,8 @@ use std::test::Fail;
 const ROWS: [(&[u8], &str, [u8; 6]); 4] = [
     (&[1, 2, 3, 4, 5], "too short", [0; 6]),
     (&[1, 2, 3, 4, 5, 0], "taken", [1, 2, 3, 4, 5, 0]),
-    (
-        &[6, 7, 8, 9, 0xE9, 3],
-        "out of limits",
-        [1, 2, 3, 4, 5, 0],
-    ),
-    (
-        &[6, 7, 8, 9, 0xE8, 3, 0],
-        "too long",
-        [6, 7, 8, 9, 0xE8, 3],
-    ),
+    (&[6, 7, 8, 9, 0xE9, 3], "out of limits", [1, 2, 3, 4, 5, 0]),
+    (&[6, 7, 8, 9, 0xE8, 3, 0], "too long", [6, 7, 8, 9, 0xE8, 3]),
 ];
 
 fn words_for(answer: Result<(), PdoFault>) -> &'static str {
