@@ -1,7 +1,6 @@
 -- The heartbeats of a device in its recording, and what compare knows of them.
 use Rattle.std.proofs.Common.{◌≡◌, ◌≢◌, ℕ, ◌+◌, ◌*◌, ◌-◌, ◌%◌, ◌<◌, ◌≤◌, Bool, true, false, List, [], ◌∷◌, length, Option, Some, None, refl, sym, ap, ◌∙◌, subst, arith, ◌⊎◌, inl, inr, add-one}
-use Rattle.std.specs.Prelude.{if◌then◌else◌, ◌==◌, ◌||◌, nat_le, nat_lt, option_map, IfSome}
-use Rattle.std.specs.List.{AllByRecursion}
+use Rattle.std.specs.Prelude.{if◌then◌else◌, ◌==◌, ◌||◌, nat_le, nat_lt, is_some, option_map, IfSome}
 use Rattle.std.specs.Option.{option_to_list}
 use Rattle.std.proofs.Math.Nat.{mod-eq_of_lt, mod-lt, mod_self, suc-mod}
 use Rattle.std.proofs.lemmas.Bool.{eq-eqb, le-leb, ltb-false, ltb-true, ne_eqb, or_parts, or_right}
@@ -16,48 +15,72 @@ use Rattle.co_frame.specs.declared.heartbeat.Heartbeat.TheVariants as heartbeat
 use Rattle.co_frame.specs.declared.nmt.NmtCommand.{NmtCommand}
 use Rattle.co_frame.specs.declared.nmt.NmtService.{NmtService}
 use Rattle.co_frame.specs.declared.nmt.NmtService.TheVariants.{Start, Stop, EnterPreOperational, ResetNode, ResetCommunication}
+use Rattle.co_profile.specs.Keys.{producer_key}
+use Rattle.co_value.specs.Keys.{same_key}
 use Rattle.co_sheet.specs.Content.{Row}
+use Rattle.conode_explain_transfers.specs.declared.ended.Ended.{Ended}
+use Rattle.conode_explain_transfers.specs.declared.kinds.Side.{Side}
 use Rattle.conode_explain_transfers.specs.declared.kinds.Side.TheVariants.{Client, Server}
 use Rattle.conode_compare_pdos.specs.Followed as tpdos
 use Rattle.conode_compare_pdos.specs.declared.pdos.Sighting.{Sighting}
+use Rattle.conode_compare_rules.specs.declared.entries.Entries.{Entries}
+use Rattle.conode_compare_rules.specs.declared.finding.Finding.{Finding}
 use Rattle.conode_compare_rules.specs.declared.finding.Finding.TheVariants.{HeartbeatLate}
+use Rattle.conode_compare_rules.specs.declared.heartbeats.Heartbeats.{Heartbeats}
 use Rattle.conode_compare_rules.specs.declared.kind.FrameKind.{FrameKind}
 use Rattle.conode_compare_rules.specs.declared.kind.FrameKind.TheVariants.{Command, CommandToAll, Control, Emergency as Emcy, OddEmergency, Other, Process, Sdo}
 use Rattle.conode_compare_rules.specs.declared.limits.Limits.{Limits}
 use Rattle.conode_compare_rules.specs.declared.limits.Subject.{Subject}
 use Rattle.conode_compare_rules.specs.declared.progress.Progress.{Progress}
 use Rattle.conode_compare_rules.specs.FrameKinds.{command_kind, command_to, control_kind, data_kind, emergency_kind, emergency_with, length_of}
-use Rattle.conode_compare_rules.specs.Heartbeats.{allowance, follows_closely, is_gap, late_finding, overdue_by, overdue_for, overdue_since, overdue_with}
+use Rattle.conode_compare_rules.specs.Answers.{confirmed_finding}
+use Rattle.conode_compare_rules.specs.EntriesInForce.{asked_to_write, done_word, shown_inhibit, shown_period, with_inhibit, with_period}
+use Rattle.conode_compare_rules.specs.Heartbeats.{after_transfer, allowance, follows_closely, is_gap, late_finding, overdue_by, overdue_for, overdue_since, overdue_with, sent_after}
 use Rattle.conode_compare_rules.specs.Progresses as progresses
 use Rattle.conode_compare_rules.specs.Progresses.{
   after_command,
   after_emergency,
   after_frame,
   after_process,
+  after_sdo,
   anew_after,
+  answer_findings,
+  answer_noted,
   begins_anew,
   begun,
   booted,
+  channel_heard,
+  confirmed_findings,
   control_findings,
   emergency_findings,
+  entries_asked,
+  entries_ended,
+  exchange_at,
+  exchange_noted,
   findings_at,
   findings_in,
   free_at,
   heartbeat_findings,
   late_at,
+  late_noted,
   moment_at,
   process_findings,
   progress_with,
+  request_findings,
   sighting_findings,
   with_gap,
 }
 use Rattle.conode_compare_rules.specs.Times.{drift_of}
+use Rattle.conode_compare_transfers.specs.declared.dialogue.Asked.{Asked}
+use Rattle.conode_compare_transfers.specs.Dialogues.{dialogue_heard}
 use Rattle.conode_compare_transfers.specs.Times.{micros_of}
 use Rattle.conode_compare_rules.specs.Verdicts.{found}
 use Rattle.conode_compare_laws.specs.Differences.{late_differences}
+use Rattle.conode_compare_laws.specs.Identifiers.{AreWithout}
 use Rattle.conode_compare_laws.specs.Periods.{KnowsPeriod}
 use Rattle.conode_compare_laws.proofs.Frames.{life_kind}
 use Rattle.conode_compare_laws.proofs.Runs.{AllRun}
+use Rattle.conode_compare_laws.proofs.NamedKeys.{AllName, And, Differs, IsOpenOn, NamesAs, NamesBy, begun_open, ended_such, names_as, noted_open, stays_open}
 
 -- what compare has of the heartbeats at a time: the bus was free then or before; the period, if it is known; and the last heartbeat,
 -- if it is known, so long ago at most
@@ -153,15 +176,98 @@ pub record Passes (subject : Subject) (rows : List Row) (p : Progress) (micros :
   pub none : late_differences kind (findings_in subject rows p micros kind) ≡ []
   pub beats : Beats period micros ago (after_frame subject p micros kind)
 
--- of the kinds that change nothing of heartbeats but at a reset
-abbrev is_still : FrameKind → Bool
-is_still (Command service) = true
-is_still (CommandToAll service) = true
-is_still (Emcy code register) = true
-is_still (OddEmergency length) = true
-is_still (Process id length) = true
-is_still Other = true
-is_still _ = false
+-- ---- a frame of the default SDO channel, with which no transfer of 1017:00 ends
+
+none_shown : (e : Ended) → Differs producer_key e.key → shown_period e ≡ None
+unfolding shown_period
+none_shown e other = ap (λ b. if b then done_word e.protocol e.ending e.first.items else None) other
+
+-- the period is known as before
+ended_known : (entries : Entries) (o : Option Ended) → IfSome o (λ e. Differs producer_key e.key) → (entries_ended entries o).period ≡ entries.period
+ended_known entries None others = refl
+ended_known entries (Some e) others = inhibit (shown_inhibit e) ∙ ap (λ shown. (with_period entries shown).period) (none_shown e others)
+  where
+    inhibit : (shown : Option ℕ) → (with_inhibit (with_period entries (shown_period e)) shown e.end).period ≡ (with_period entries (shown_period e)).period
+    inhibit None = refl
+    inhibit (Some time) = refl
+
+-- or it isn't any more, after a request to write it
+asked_known : (period : ℕ) (entries : Entries) (o : Option Asked) → IfSome entries.period (λ n. n ≡ period) → IfSome (entries_asked entries o).period (λ n. n ≡ period)
+unfolding asked_to_write
+asked_known period entries None h = h
+asked_known period entries (Some asked) h = by asked.writes (asked_to_write entries asked.key) (forgets (same_key asked.key producer_key))
+  where
+    forgets : (b : Bool) → IfSome (if b then None else entries.period) (λ n. n ≡ period)
+    forgets true = tt
+    forgets false = h
+
+    by : (b : Bool) (x : Entries) → IfSome x.period (λ n. n ≡ period) → IfSome (if b then x else entries).period (λ n. n ≡ period)
+    by true x g = g
+    by false x g = h
+
+-- the last heartbeat is as before
+same_since : (beats : Heartbeats) (o : Option Ended) (micros : ℕ) → IfSome o (λ e. Differs producer_key e.key) → (after_transfer beats o micros).since ≡ beats.since
+same_since beats None micros others = refl
+same_since beats (Some e) micros others = ap (λ (shown : Option ℕ). (with_shown shown).since) (none_shown e others)
+  where
+    with_shown : Option ℕ → Heartbeats
+    with_shown shown = if is_some shown then record { guarded = beats.guarded; since = Some micros; sent = sent_after e.direction e beats.sent } else beats
+
+sdo_begun : (subject : Subject) (p : Progress) (micros : ℕ) (side : Side) (frame : FrameContent) (period ago : ℕ) → NamesBy (Differs producer_key) side frame.bytes → IsOpenOn (Differs producer_key) p → Begun period micros ago p
+    → Begun period micros ago (after_sdo subject p micros side frame)
+unfolding channel_heard exchange_noted
+sdo_begun subject p micros side frame period ago n opened h =
+    let o : Option Ended = (exchange_at subject p micros side frame).heard.ended in
+    let others : IfSome o (λ e. Differs producer_key e.key) = ended_such (Differs producer_key) subject p micros side frame n opened in
+    record {
+      free = h.free;
+      newest = h.newest;
+      known = asked_known period (entries_ended p.entries o) (dialogue_heard subject.limits.answer p.started p.dialogue micros side frame).asked
+          (subst (λ known. IfSome known (λ number. number ≡ period)) (sym (ended_known p.entries o others)) h.known);
+      since = subst (λ since. IfSome since (λ last. micros ≤ last + ago)) (sym (same_since p.heartbeats o micros others)) h.since;
+    }
+
+noted_begun : (subject : Subject) (p : Progress) (micros period ago : ℕ) → Begun period micros ago p → Begun period micros ago (answer_noted subject p micros)
+unfolding late_noted
+noted_begun subject p micros period ago h = record { free = h.free; newest = h.newest; known = h.known; since = by (is_some (late_at subject p micros)) }
+  where
+    by : (b : Bool) → IfSome (if b then None else p.heartbeats.since) (λ last. micros ≤ last + ago)
+    by true = tt
+    by false = h.since
+
+answer_passes : (subject : Subject) (rows : List Row) (p : Progress) (micros : ℕ) (frame : FrameContent) (period ago : ℕ) → (period ≡ 0) ⊎ (ago ≤ period * 1000) → IsOpenOn (Differs producer_key) p → Begun period micros ago p
+    → Passes subject rows p micros (Sdo Server frame) period ago
+unfolding answer_findings found
+answer_passes subject rows p micros frame period ago few opened h = record {
+  none = ap (λ o. option_to_list o) (none_late subject p micros period ago few h);
+  beats = ended period micros ago (after_sdo subject (answer_noted subject p micros) micros Server frame)
+      (sdo_begun subject (answer_noted subject p micros) micros Server frame period ago tt (noted_open (Differs producer_key) subject p micros opened) (noted_begun subject p micros period ago h));
+}
+
+confirmed_none : (frame : FrameContent) (o : Option Finding) → late_differences (Sdo Client frame) (confirmed_findings o) ≡ []
+unfolding found
+confirmed_none frame None = refl
+confirmed_none frame (Some finding) = refl
+
+request_passes : (subject : Subject) (rows : List Row) (p : Progress) (micros : ℕ) (frame : FrameContent) (period ago : ℕ) → NamesBy (Differs producer_key) Client frame.bytes → IsOpenOn (Differs producer_key) p → Begun period micros ago p
+    → Passes subject rows p micros (Sdo Client frame) period ago
+unfolding request_findings
+request_passes subject rows p micros frame period ago n opened h = record {
+  none = confirmed_none frame (confirmed_finding subject rows p.written (exchange_at subject p micros Client frame) frame);
+  beats = ended period micros ago (after_sdo subject p micros Client frame) (sdo_begun subject p micros Client frame period ago n opened h);
+}
+
+-- ---- frames that aren't of error control
+
+abbrev is_other : FrameKind → Bool
+is_other (Command service) = true
+is_other (CommandToAll service) = true
+is_other (Emcy code register) = true
+is_other (OddEmergency length) = true
+is_other (Sdo side frame) = true
+is_other (Process id length) = true
+is_other Other = true
+is_other _ = false
 
 command_beats : (p : Progress) (micros period ago : ℕ) (service : NmtService) (own : Bool) → Begun period micros ago p → Beats period micros ago (after_command p service own micros)
 unfolding after_command with_gap
@@ -176,19 +282,21 @@ unfolding found
 sighted_none id length None = refl
 sighted_none id length (Some sighting) = refl
 
-still_passes : (subject : Subject) (rows : List Row) (p : Progress) (micros : ℕ) (kind : FrameKind) (period ago : ℕ) → is_still kind ≡ true → Begun period micros ago p → Passes subject rows p micros kind period ago
+other_passes : (subject : Subject) (rows : List Row) (p : Progress) (micros : ℕ) (kind : FrameKind) (period ago : ℕ) → (period ≡ 0) ⊎ (ago ≤ period * 1000) → is_other kind ≡ true → NamesAs (Differs producer_key) kind → IsOpenOn (Differs producer_key) p → Begun period micros ago p → Passes subject rows p micros kind period ago
 unfolding emergency_findings found after_emergency process_findings after_process
-still_passes subject rows p micros (Command service) period ago is h = record { none = refl; beats = command_beats p micros period ago service false h }
-still_passes subject rows p micros (CommandToAll service) period ago is h = record { none = refl; beats = command_beats p micros period ago service subject.facts.starts_itself h }
-still_passes subject rows p micros (Emcy code register) period ago is h =
+other_passes subject rows p micros (Command service) period ago few is n opened h = record { none = refl; beats = command_beats p micros period ago service false h }
+other_passes subject rows p micros (CommandToAll service) period ago few is n opened h = record { none = refl; beats = command_beats p micros period ago service subject.facts.starts_itself h }
+other_passes subject rows p micros (Emcy code register) period ago few is n opened h =
     (let e : Beats period micros ago p = ended period micros ago p h in record { none = refl; beats = record { fresh = e.fresh; known = e.known; since = e.since } })
-still_passes subject rows p micros (OddEmergency length) period ago is h =
+other_passes subject rows p micros (OddEmergency length) period ago few is n opened h =
     (let e : Beats period micros ago p = ended period micros ago p h in record { none = refl; beats = record { fresh = e.fresh; known = e.known; since = e.since } })
-still_passes subject rows p micros (Process id length) period ago is h =
+other_passes subject rows p micros (Process id length) period ago few is n opened h =
     (let e : Beats period micros ago p = ended period micros ago p h in record { none = sighted_none id length (tpdos.sighting (moment_at subject p micros) p.pdos id length); beats = record { fresh = e.fresh; known = e.known; since = e.since } })
-still_passes subject rows p micros Other period ago is h =
+other_passes subject rows p micros Other period ago few is n opened h =
     (let e : Beats period micros ago p = ended period micros ago p h in record { none = refl; beats = record { fresh = e.fresh; known = e.known; since = e.since } })
-still_passes subject rows p micros _ period ago is h = absurd (cc)
+other_passes subject rows p micros (Sdo Server frame) period ago few is n opened h = answer_passes subject rows p micros frame period ago few opened h
+other_passes subject rows p micros (Sdo Client frame) period ago few is n opened h = request_passes subject rows p micros frame period ago n opened h
+other_passes subject rows p micros _ period ago few is n opened h = absurd (cc)
 
 -- the boot-up, and heartbeats: the next one is awaited from then on
 boot_passes : (subject : Subject) (rows : List Row) (p : Progress) (micros period ago after : ℕ) → KnowsPeriod period subject → Begun period micros ago p → Passes subject rows p micros (Control 0) period after
@@ -215,49 +323,49 @@ one subject rows micros p frame kind period after is h =
     let pass : Passes subject rows (begun subject p micros) micros (data_kind subject.node frame) period after = subst (λ other. Passes subject rows (begun subject p micros) micros other period after) (sym is) h in
     (pass.none, pass.beats)
 
--- frames of other services than SDO and error control
-abbrev pub IsStill : ℕ → ℕ → Type 0
-IsStill node id = (id ≢ 0x580 + node) × (id ≢ 0x600 + node) × (id ≢ 0x700 + node)
-
-still_command : (node : ℕ) (command : Option NmtCommand) → is_still (command_to node command) ≡ true
-still_command node None = refl
-still_command node (Some command) = by (command.node == 0) (command.node == node)
+other_command : (node : ℕ) (command : Option NmtCommand) → is_other (command_to node command) ≡ true
+other_command node None = refl
+other_command node (Some command) = by (command.node == 0) (command.node == node)
   where
-    by : (a b : Bool) → is_still (if a then CommandToAll command.service else (if b then Command command.service else Other)) ≡ true
+    by : (a b : Bool) → is_other (if a then CommandToAll command.service else (if b then Command command.service else Other)) ≡ true
     by true b = refl
     by false true = refl
     by false false = refl
 
-still_emergency : (length : ℕ) (o : Option Emergency) → is_still (emergency_with length o) ≡ true
-still_emergency length None = refl
-still_emergency length (Some emergency) = refl
+other_emergency : (length : ℕ) (o : Option Emergency) → is_other (emergency_with length o) ≡ true
+other_emergency length None = refl
+other_emergency length (Some emergency) = refl
 
-still_kind : (node : ℕ) (frame : FrameContent) → IsStill node frame.id → is_still (data_kind node frame) ≡ true
-still_kind node frame h =
-    by (frame.id == 0) (frame.id == 0x80 + node) (frame.id == 0x580 + node) (frame.id == 0x600 + node) (frame.id == 0x700 + node)
-    (ne_eqb frame.id (0x580 + node) h.0) (ne_eqb frame.id (0x600 + node) h.1) (ne_eqb frame.id (0x700 + node) h.2)
+other_kind : (node : ℕ) (frame : FrameContent) → frame.id ≢ 0x700 + node → is_other (data_kind node frame) ≡ true
+other_kind node frame h =
+    by (frame.id == 0) (frame.id == 0x80 + node) (frame.id == 0x580 + node) (frame.id == 0x600 + node) (frame.id == 0x700 + node) (ne_eqb frame.id (0x700 + node) h)
   where
-    by : (a b c d e : Bool) → c ≡ false → d ≡ false → e ≡ false
-        → is_still (if a then command_kind node frame
+    by : (a b c d e : Bool) → e ≡ false
+        → is_other (if a then command_kind node frame
         else (if b then emergency_kind frame
         else (if c then Sdo Server frame
         else (if d then Sdo Client frame
         else (if e then control_kind frame else Process frame.id (length_of frame)))))) ≡ true
-    by true b c d e p q r = still_command node (nmt_command_in frame)
-    by false true c d e p q r = still_emergency (length_of frame) (emergency_in frame.bytes)
-    by false false true d e p q r = absurd (cc)
-    by false false false true e p q r = absurd (cc)
-    by false false false false true p q r = absurd (cc)
-    by false false false false false p q r = refl
+    by true b c d e r = other_command node (nmt_command_in frame)
+    by false true c d e r = other_emergency (length_of frame) (emergency_in frame.bytes)
+    by false false true d e r = refl
+    by false false false true e r = refl
+    by false false false false true r = absurd (cc)
+    by false false false false false r = refl
 
-pub stills : (subject : Subject) (rows : List Row) (micros : ℕ) (frames : List FrameContent) (p : Progress) (period ago : ℕ) → KnowsPeriod period subject → AllByRecursion (λ frame. IsStill subject.node frame.id) frames
-    → Beats period micros ago p → AllRun late_differences subject rows micros p frames (Beats period micros ago)
-stills subject rows micros [] p period ago knows are h = h
-stills subject rows micros (frame ∷ later) p period ago knows are h =
+-- frames that don't name 1017:00, none of error control
+pub all_others : (subject : Subject) (rows : List Row) (micros : ℕ) (frames : List FrameContent) (p : Progress) (period ago : ℕ) → KnowsPeriod period subject → (period ≡ 0) ⊎ (ago ≤ period * 1000)
+    → AreWithout (0x700 + subject.node) frames → AllName (Differs producer_key) subject.node frames → And (Differs producer_key) (Beats period micros ago) p
+    → AllRun late_differences subject rows micros p frames (And (Differs producer_key) (Beats period micros ago))
+all_others subject rows micros [] p period ago knows few without unnamed h = h
+all_others subject rows micros (frame ∷ later) p period ago knows few without unnamed h =
+    let q : Progress = begun subject p micros in
+    let kind : FrameKind = data_kind subject.node frame in
     let first : AllRun late_differences subject rows micros p (frame ∷ []) (Beats period micros ago) =
-    one subject rows micros p frame (data_kind subject.node frame) period ago refl
-    (still_passes subject rows (begun subject p micros) micros (data_kind subject.node frame) period ago (still_kind subject.node frame are.0) (begun_beats subject period micros ago p knows h)) in
-    (first.0, stills subject rows micros later (progress_with subject p micros (data_kind subject.node frame)) period ago knows are.1 first.1)
+    one subject rows micros p frame kind period ago refl
+    (other_passes subject rows q micros kind period ago few (other_kind subject.node frame without.0) (names_as (Differs producer_key) subject.node frame unnamed.0)
+    (begun_open (Differs producer_key) subject p micros h.1) (begun_beats subject period micros ago p knows h.0)) in
+    (first.0, all_others subject rows micros later (progress_with subject p micros kind) period ago knows few without.1 unnamed.1 (first.1, stays_open (Differs producer_key) subject p micros frame unnamed.0 h.1))
 
 byte_of : (life : Heartbeat) (b : Bool) → (state_byte life == 0) ≡ b → ((state_byte life == 0) ≡ false) ⊎ (state_byte life ≡ 0)
 byte_of heartbeat.BootUp b is = inr refl

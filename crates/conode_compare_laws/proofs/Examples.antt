@@ -1,12 +1,16 @@
 -- A recording of a small device, and that the conditions of the laws are needed: what compare finds where another sender, or the
 -- device itself, uses an identifier a second time.
 use Rattle.std.specs.Prelude.{pos}
-use Rattle.std.proofs.Common.{◌≡◌, ℕ, ◌+◌, true, false, List, [], ◌∷◌, map, Some, None, refl}
+use Rattle.std.proofs.Common.{◌≡◌, ℕ, ◌+◌, true, false, List, [], ◌∷◌, map, Some, None, refl, ap, arith}
 use Rattle.co_frame.specs.FrameContent.{FrameContent}
+use Rattle.co_frame.specs.SdoRequests.{request_row_in}
+use Rattle.co_frame.specs.SdoResponses.{response_row_in}
+use Rattle.co_profile.specs.Keys.{producer_key}
 use Rattle.co_profile.specs.declared.access.Access.TheVariants.{Rw}
 use Rattle.co_dict.specs.FreeIds.{is_good_word}
 use Rattle.co_sheet.specs.Content.{Row}
 use Rattle.co_sheet.specs.Limits.{Default, number, node_id}
+use Rattle.co_value.specs.declared.key.Key.{Key}
 use Rattle.co_value.specs.declared.data_type.DataType.TheVariants.{Unsigned32}
 use Rattle.co_node_model.specs.Inputs.{InputView, Ticked}
 use Rattle.co_node_model.proofs.ExampleNode.{device, device_with, frame, reset_node, searches, start, u16, u32}
@@ -15,18 +19,21 @@ use Rattle.conode_record.specs.declared.fields.Identifier.TheVariants.{Base}
 use Rattle.conode_compare_pdos.specs.Followed.{unknown_pdos}
 use Rattle.conode_compare_rules.specs.declared.entries.Entries.{Entries}
 use Rattle.conode_compare_rules.specs.declared.finding.Finding.{Finding}
-use Rattle.conode_compare_rules.specs.declared.finding.Finding.TheVariants.{EmergencyInhibit, EmergencyLength, HeartbeatLength, SecondBootUp, WrongState}
+use Rattle.conode_compare_rules.specs.declared.finding.Finding.TheVariants.{EmergencyInhibit, EmergencyLength, HeartbeatLate, HeartbeatLength, SecondBootUp, WrongState}
 use Rattle.conode_compare_rules.specs.declared.finding.NmtState.TheVariants.{Operational, PreOperational}
 use Rattle.conode_compare_rules.specs.declared.limits.Subject.{Subject}
 use Rattle.conode_compare_rules.specs.EmergencyRules.{emergency_finding, inhibit_finding}
-use Rattle.conode_compare_rules.specs.EntriesInForce.{facts_of, initial_entries, sheet_entries}
+use Rattle.conode_compare_rules.specs.EntriesInForce.{asked_to_write, facts_of, initial_entries, sheet_entries, shown_inhibit, shown_period}
 use Rattle.conode_compare_rules.specs.FrameKinds.{data_kind, kind_of}
-use Rattle.conode_compare_rules.specs.Progresses.{after_command, after_emergency, begun, booted, control_findings, emergency_findings, findings_at, heartbeat_findings, progress_with}
+use Rattle.conode_compare_rules.specs.Heartbeats.{late_finding, overdue_by}
+use Rattle.conode_compare_rules.specs.Progresses.{after_command, after_emergency, answer_findings, begun, booted, channel_heard, control_findings, emergency_findings, exchange_at, exchange_noted, findings_at, heartbeat_findings, late_noted, progress_with, request_findings}
 use Rattle.conode_compare_rules.specs.States as states
 use Rattle.conode_compare_rules.specs.States.{after_boot_up, after_other, awaits_boot_up, boot_finding, control_finding, is_settled, second_boot_up, state_finding}
 use Rattle.conode_compare_rules.specs.Verdicts.{found}
-use Rattle.conode_compare_laws.specs.Differences.{differences_in, emergency_differences, inhibit_differences, state_differences}
-use Rattle.conode_compare_laws.specs.Identifiers.{JudgesNone}
+use Rattle.conode_compare_rules.specs.Answers.{confirmed_finding}
+use Rattle.conode_compare_transfers.specs.Dialogues.{dialogue_heard, exchange_in, is_certain}
+use Rattle.conode_compare_laws.specs.Differences.{differences_in, emergency_differences, inhibit_differences, late_differences, state_differences}
+use Rattle.conode_compare_laws.specs.Identifiers.{IsUnnamed, IsUnnamedAt, JudgesNone}
 use Rattle.conode_compare_laws.specs.Recordings.{Recorded, Stamped, recording, with_stamp}
 use Rattle.conode_compare_laws.proofs.Unjudged.{none_judged}
 
@@ -138,3 +145,50 @@ pause_found micros = differences_in inhibit_differences pausing [] (with_stamp 0
 pauses : map pause_found (88999 ∷ 89000 ∷ []) ≡ (EmergencyInhibit 88999 1000 ∷ []) ∷ [] ∷ []
 unfolding findings_at progress_with begun booted found states.after_control after_boot_up emergency_findings emergency_finding inhibit_finding after_emergency is_settled
 pauses = refl
+
+-- ---- an entry that a client names
+
+-- by a request to upload 1017:00, by an abort, and by a frame that is no request at all (ccs = 7)
+upload_names : IsUnnamedAt producer_key 5 (with_stamp 0 (frame 0x605 8 0x4017_1000_0000_0000)) → ⊥
+upload_names h = h refl refl refl
+
+abort_names : IsUnnamedAt producer_key 5 (with_stamp 0 (frame 0x605 8 0x8017_1000_0000_0008)) → ⊥
+abort_names h = h refl refl refl
+
+other_names : IsUnnamedAt producer_key 5 (with_stamp 0 (frame 0x605 8 0xE017_1000_0000_0000)) → ⊥
+other_names h = h refl refl refl
+
+-- not by a frame of another index or sub-index, of another node's client, or of seven bytes, nor by an answer
+not_named : IsUnnamed producer_key 5 (map (with_stamp 0) (frame 0x605 8 0x4016_1000_0000_0000 ∷ frame 0x605 8 0x4017_1001_0000_0000 ∷ frame 0x606 8 0x4017_1000_0000_0000 ∷ frame 0x605 7 0x4017_1000_0000_00 ∷ frame 0x585 8 0x4B17_1000_6400_0000 ∷ []))
+not_named = (
+  (λ id eight same. let index : 0x1016 ≡ 0x1017 = ap (λ (k : Key). k.index) same in omega arith),
+  (
+    (λ id eight same. let sub : 1 ≡ 0 = ap (λ (k : Key). k.sub) same in omega arith),
+    (
+      (λ id eight same. let identifier : 0x606 ≡ 0x605 = id in omega arith),
+      (
+        (λ id eight same. let seven : 7 ≡ 8 = eight in omega arith),
+        ((λ id eight same. let identifier : 0x585 ≡ 0x605 = id in omega arith), tt),
+      ),
+    ),
+  ),
+)
+
+-- the answer of another device may show another period then, 100 ms: the heartbeats of this one, whose period is 1 s, are late
+abbrev beating : Subject
+beating = record subject { facts = record subject.facts { booted = record sheet { period = Some 1000 } } }
+
+abbrev late_found : ℕ → ℕ → List Finding
+late_found request response = differences_in late_differences beating []
+    (with_stamp 0 (frame 0x705 1 0) ∷ with_stamp 100000 (frame 0x605 8 request) ∷ with_stamp 100000 (frame 0x585 8 response) ∷ with_stamp 400000 (frame 0x705 1 127) ∷ [])
+
+shown_otherwise : late_found 0x4017_1000_0000_0000 0x4B17_1000_6400_0000 ≡ HeartbeatLate 300000 100 ∷ []
+unfolding findings_at progress_with begun booted found states.after_control after_boot_up after_other awaits_boot_up boot_finding is_settled control_findings heartbeat_findings late_finding overdue_by channel_heard exchange_at exchange_noted late_noted
+    request_findings confirmed_finding answer_findings dialogue_heard exchange_in is_certain shown_period shown_inhibit asked_to_write request_row_in response_row_in
+shown_otherwise = refl
+
+-- not by a transfer of 1016:01
+not_shown : late_found 0x4016_1001_0000_0000 0x4316_1001_6400_0000 ≡ []
+unfolding findings_at progress_with begun booted found states.after_control after_boot_up after_other awaits_boot_up boot_finding is_settled control_findings heartbeat_findings late_finding overdue_by channel_heard exchange_at exchange_noted late_noted
+    request_findings confirmed_finding answer_findings dialogue_heard exchange_in is_certain shown_period shown_inhibit asked_to_write request_row_in response_row_in
+not_shown = refl

@@ -1,5 +1,5 @@
 -- The heartbeats that a device sends, over all its inputs: none is late by what compare knows of them.
-use Rattle.std.proofs.Common.{◌≡◌, ◌≢◌, ℕ, ◌+◌, ◌*◌, ◌%◌, ◌<◌, ◌≤◌, Bool, true, false, List, [], ◌∷◌, ◌++◌, map, Some, None, refl, sym, ap, ◌∙◌, subst, arith, inl, inr}
+use Rattle.std.proofs.Common.{◌≡◌, ◌≢◌, ℕ, ◌+◌, ◌*◌, ◌%◌, ◌<◌, ◌≤◌, Bool, true, false, List, [], ◌∷◌, ◌++◌, map, Some, None, refl, sym, ap, ◌∙◌, subst, arith, ◌⊎◌, inl, inr}
 use Rattle.std.specs.Prelude.{if◌then◌else◌, ◌==◌, ◌&&◌, ◌||◌, nat_lt}
 use Rattle.std.specs.List.{AllByRecursion}
 use Rattle.std.proofs.Math.Nat.{mod-lt}
@@ -27,12 +27,13 @@ use Rattle.conode_compare_rules.specs.declared.limits.Subject.{Subject}
 use Rattle.conode_compare_rules.specs.declared.progress.Progress.{Progress}
 use Rattle.conode_compare_rules.specs.Progresses.{before_recording}
 use Rattle.conode_compare_laws.specs.Differences.{differences_from, differences_in, late_differences}
-use Rattle.conode_compare_laws.specs.Identifiers.{AllSendAside, AreAside, AreElsewhere, AreNoSdo, IsElsewhere, SendsAside}
+use Rattle.conode_compare_laws.specs.Identifiers.{AllSendAside, AreAside, AreElsewhere, AreNoSdo, AreWithout, IsElsewhere, IsUnnamed, IsUnnamedAt, SendsAside}
 use Rattle.conode_compare_laws.specs.Periods.{AllKeepPeriod, KeepsPeriod, KnowsPeriod}
 use Rattle.conode_compare_laws.specs.Recordings.{AreInTime, AreTimed, Recorded, Stamped, elapsed, frame_of, heard_from, recording, stamped}
-use Rattle.conode_compare_laws.proofs.Beats.{Beats, IsStill, later, life_runs, more_ago, next_rest, stills}
+use Rattle.conode_compare_laws.proofs.Beats.{Beats, all_others, later, life_runs, more_ago, next_rest}
 use Rattle.conode_compare_laws.proofs.Runs.{AllRun, joined, then_none}
 use Rattle.conode_compare_laws.proofs.Heard.{of_device}
+use Rattle.conode_compare_laws.proofs.NamedKeys.{AllName, And, Differs, Names, all_open, first_of, last_of, others_named}
 
 -- ---- which frames these are
 
@@ -60,14 +61,15 @@ pub after_those : (node : ℕ) (xs ys : List FrameContent) → NoSdo node (xs ++
 after_those node [] ys h = h
 after_those node (x ∷ xs) ys h = after_those node xs ys h.1
 
-still : (node : ℕ) (frames : List FrameContent) → NoSdo node frames → AreAside node frames → AllByRecursion (λ frame. IsStill node frame.id) frames
-still node [] none aside = tt
-still node (frame ∷ frames) none aside = ((none.0.0, none.0.1, aside.0.1), still node frames none.1 aside.1)
+-- none of these is one of error control
+pub uncontrolled : (node : ℕ) (frames : List FrameContent) → AreAside node frames → AreWithout (0x700 + node) frames
+uncontrolled node [] aside = tt
+uncontrolled node (frame ∷ frames) aside = (aside.0.1, uncontrolled node frames aside.1)
 
-came_still : (node : ℕ) (input : InputView) → NoSdo node (frame_of input) → IsElsewhere (0x700 + node) input → AllByRecursion (λ frame. IsStill node frame.id) (frame_of input)
-came_still node (Framed frame) none control = ((none.0.0, none.0.1, control), tt)
-came_still node Ticked none control = tt
-came_still node (Applied event) none control = tt
+pub came_without : (id : ℕ) (input : InputView) → IsElsewhere id input → AreWithout id (frame_of input)
+came_without id (Framed frame) elsewhere = (elsewhere, tt)
+came_without id Ticked elsewhere = tt
+came_without id (Applied event) elsewhere = tt
 
 -- ---- how long the last heartbeat is ago
 
@@ -126,6 +128,13 @@ no_time k history (Framed frame) off = refl
 no_time k history Ticked off = absurd (cc)
 no_time k history (Applied event) off = refl
 
+-- it counts no longer than the period
+below : (period n : ℕ) → 0 < period → (n % period) * 1000 ≤ period * 1000
+below period n some = omega (arith, mod-lt n some)
+
+at_most : (period n more : ℕ) → 0 < period → more ≤ 1000 → (n % period) * 1000 + more ≤ period * 1000
+at_most period n more some few = omega (arith, mod-lt n some)
+
 life_at : (k : Constants) (subject : Subject) (rows : List Row) (micros more period : ℕ) (history : History) (input : InputView) (p : Progress) → KnowsPeriod period subject → 0 < period
     → period_of (producer_log k history) ≡ period → is_set (marked_key (moment k history input).mark) producer_key ≡ false → more ≤ 1000 → (marked_tick (moment k history input).mark ≡ false → more ≡ 0)
     → Beats period micros (ago_of period (producer_log k history) + more) p
@@ -143,9 +152,9 @@ life_at k subject rows micros more period history input p knows some same off fe
 
 input_runs : (k : Constants) (subject : Subject) (rows : List Row) (micros last period : ℕ) (before : Inputs) (input : InputView) (p : Progress) → KnowsPeriod period subject → 0 < period
     → period_of (producer_log k (moments k before)) ≡ period → KeepsPeriod period (moment k (moments k before) input) → micros ≤ last + elapsed input
-    → IsElsewhere (0x700 + k.description.node) input → SendsAside k (moment k (moments k before) input) → NoSdo k.description.node (frame_of input ++ prescribed k before input)
-    → Beats period last (ago_of period (producer_log k (moments k before))) p
-    → AllRun late_differences (of_device k subject) rows micros p (frame_of input ++ prescribed k before input) (Beats period micros (ago_of period (producer_log k (moments k (input ∷ before)))))
+    → IsElsewhere (0x700 + k.description.node) input → SendsAside k (moment k (moments k before) input) → AllName (Differs producer_key) k.description.node (frame_of input ++ prescribed k before input)
+    → And (Differs producer_key) (Beats period last (ago_of period (producer_log k (moments k before)))) p
+    → AllRun late_differences (of_device k subject) rows micros p (frame_of input ++ prescribed k before input) (And (Differs producer_key) (Beats period micros (ago_of period (producer_log k (moments k (input ∷ before))))))
 input_runs k subject rows micros last period before input p knows some same keeps time control aside none h =
     let s : Subject = of_device k subject in
     let n : ℕ = k.description.node in
@@ -159,57 +168,67 @@ input_runs k subject rows micros last period before input p knows some same keep
     let e : List FrameContent = map (tpdo_frame k.description m.contents) m.due in
     let after : ℕ = ago_of period (producer_log k (m ∷ moments k before)) in
     let known : KnowsPeriod period s = record { before = knows.before; booted = knows.booted } in
-    let sent : NoSdo n (a ++ b ++ c ++ d ++ e) = after_those n (frame_of input) (prescribed k before input) none in
-    let sent_d : NoSdo n (a ++ b ++ c ++ d) = before_these n (a ++ b ++ c ++ d) e sent in
-    let sent_c : NoSdo n (a ++ b ++ c) = before_these n (a ++ b ++ c) d sent_d in
-    let sent_b : NoSdo n (a ++ b) = before_these n (a ++ b) c sent_c in
-    let now : Beats period micros ago p = later period last micros (ago_of period log) (elapsed input) p time h in
-    joined late_differences s rows micros (frame_of input) (a ++ b ++ c ++ d ++ e) p (Beats period micros ago) (Beats period micros after)
-    (stills s rows micros (frame_of input) p period ago known (came_still n input (before_these n (frame_of input) (prescribed k before input) none) control) now)
+    let N : FrameContent → Type 0 = Names (Differs producer_key) n in
+    let sent : AllName (Differs producer_key) n (a ++ b ++ c ++ d ++ e) = last_of N (frame_of input) (prescribed k before input) none in
+    let sent_d : AllName (Differs producer_key) n (a ++ b ++ c ++ d) = first_of N (a ++ b ++ c ++ d) e sent in
+    let sent_c : AllName (Differs producer_key) n (a ++ b ++ c) = first_of N (a ++ b ++ c) d sent_d in
+    let sent_b : AllName (Differs producer_key) n (a ++ b) = first_of N (a ++ b) c sent_c in
+    let within : (period ≡ 0) ⊎ (ago ≤ period * 1000) = inr (at_most period (ticks log) (elapsed input) some (ms input)) in
+    let within_after : (period ≡ 0) ⊎ (after ≤ period * 1000) = inr (below period (ticks (producer_log k (m ∷ moments k before))) some) in
+    let then_ago : Progress → Type 0 = And (Differs producer_key) (Beats period micros ago) in
+    let then_after : Progress → Type 0 = And (Differs producer_key) (Beats period micros after) in
+    let now : then_ago p = (later period last micros (ago_of period log) (elapsed input) p time h.0, h.1) in
+    joined late_differences s rows micros (frame_of input) (a ++ b ++ c ++ d ++ e) p then_ago then_after
+    (all_others s rows micros (frame_of input) p period ago known within (came_without (0x700 + n) input control) (first_of N (frame_of input) (prescribed k before input) none) now)
     (λ q0 g0.
-    joined late_differences s rows micros (a ++ b ++ c ++ d) e q0 (Beats period micros after) (Beats period micros after)
-    (joined late_differences s rows micros (a ++ b ++ c) d q0 (Beats period micros ago) (Beats period micros after)
-    (joined late_differences s rows micros (a ++ b) c q0 (Beats period micros ago) (Beats period micros ago)
-    (joined late_differences s rows micros a b q0 (Beats period micros ago) (Beats period micros ago)
-    (stills s rows micros a q0 period ago known (still n a (before_these n a b sent_b) aside.answers) g0)
-    (λ q g. stills s rows micros b q period ago known (still n b (after_those n a b sent_b) aside.time_out) g))
-    (λ q g. stills s rows micros c q period ago known (still n c (after_those n (a ++ b) c sent_c) aside.emergency) g))
-    (λ q g. life_at k s rows micros (elapsed input) period (moments k before) input q known some same keeps.unwritten (ms input) (no_time k (moments k before) input) g))
-    (λ q g. stills s rows micros e q period after known (still n e (after_those n (a ++ b ++ c ++ d) e sent) aside.tpdos) g))
+    joined late_differences s rows micros (a ++ b ++ c ++ d) e q0 then_after then_after
+    (joined late_differences s rows micros (a ++ b ++ c) d q0 then_ago then_after
+    (joined late_differences s rows micros (a ++ b) c q0 then_ago then_ago
+    (joined late_differences s rows micros a b q0 then_ago then_ago
+    (all_others s rows micros a q0 period ago known within (uncontrolled n a aside.answers) (first_of N a b sent_b) g0)
+    (λ q g. all_others s rows micros b q period ago known within (uncontrolled n b aside.time_out) (last_of N a b sent_b) g))
+    (λ q g. all_others s rows micros c q period ago known within (uncontrolled n c aside.emergency) (last_of N (a ++ b) c sent_c) g))
+    (λ q g. all_open (Differs producer_key) late_differences s rows micros d q (Beats period micros after) (last_of N (a ++ b ++ c) d sent_d) g.1
+    (life_at k s rows micros (elapsed input) period (moments k before) input q known some same keeps.unwritten (ms input) (no_time k (moments k before) input) g.0)))
+    (λ q g. all_others s rows micros e q period after known within_after (uncontrolled n e aside.tpdos) (last_of N (a ++ b ++ c ++ d) e sent) g))
 
 -- ---- all inputs
 
 all_none : (k : Constants) (subject : Subject) (rows : List Row) (period : ℕ) (inputs : List Stamped) (before : Inputs) (last : ℕ) (p : Progress) → KnowsPeriod period subject → 0 < period
     → period_of (producer_log k (moments k before)) ≡ period → AllKeepPeriod period k before inputs → AreInTime last inputs → AreElsewhere (0x700 + k.description.node) inputs → AllSendAside k before inputs
-    → AreNoSdo k.description.node (heard_from k before inputs) → Beats period last (ago_of period (producer_log k (moments k before))) p
+    → IsUnnamed producer_key k.description.node (heard_from k before inputs) → And (Differs producer_key) (Beats period last (ago_of period (producer_log k (moments k before)))) p
     → differences_from late_differences (of_device k subject) rows p (heard_from k before inputs) ≡ []
 all_none k subject rows period [] before last p knows some same keep time control aside none h = refl
 all_none k subject rows period (s ∷ others) before last p knows some same keep time control aside none h =
     let frames : List FrameContent = frame_of s.input ++ prescribed k before s.input in
     let rest : List Recorded = heard_from k (s.input ∷ before) others in
-    then_none late_differences (of_device k subject) rows s.micros frames rest p (Beats period s.micros (ago_of period (producer_log k (moments k (s.input ∷ before)))))
-    (input_runs k subject rows s.micros last period before s.input p knows some same keep.0 time.0 control.0 aside.0 (unstamped k.description.node s.micros frames (first_part k.description.node (stamped s.micros frames) rest none)) h)
+    let U : Recorded → Type 0 = IsUnnamedAt producer_key k.description.node in
+    then_none late_differences (of_device k subject) rows s.micros frames rest p (And (Differs producer_key) (Beats period s.micros (ago_of period (producer_log k (moments k (s.input ∷ before))))))
+    (input_runs k subject rows s.micros last period before s.input p knows some same keep.0 time.0 control.0 aside.0
+    (others_named producer_key k.description.node s.micros frames (first_of U (stamped s.micros frames) rest none)) h)
     (λ q g. all_none k subject rows period others (s.input ∷ before) s.micros q knows some (keeps k (moments k before) (moment k (moments k before) s.input) period keep.0 same) keep.1 time.1 control.1 aside.1
-    (last_part k.description.node (stamped s.micros frames) rest none) g)
+    (last_of U (stamped s.micros frames) rest none) g)
 
 begins : (k : Constants) (subject : Subject) (rows : List Row) (micros period : ℕ) → KnowsPeriod period subject → 0 < period
-    → AllRun late_differences (of_device k subject) rows micros (before_recording (of_device k subject)) (boot_up k ∷ []) (Beats period micros (ago_of period (producer.Begin period ∷ [])))
-begins k subject rows micros period knows some =
+    → AllName (Differs producer_key) k.description.node (boot_up k ∷ [])
+    → AllRun late_differences (of_device k subject) rows micros (before_recording (of_device k subject)) (boot_up k ∷ []) (And (Differs producer_key) (Beats period micros (ago_of period (producer.Begin period ∷ []))))
+begins k subject rows micros period knows some none =
     let s : Subject = of_device k subject in
-    life_runs s rows micros (before_recording s) BootUp period 0 _ (record { before = knows.before; booted = knows.booted }) (inr (omega arith)) (record { fresh = tt; known = knows.before; since = tt })
+    all_open (Differs producer_key) late_differences s rows micros (boot_up k ∷ []) (before_recording s) (Beats period micros (ago_of period (producer.Begin period ∷ []))) none tt
+    (life_runs s rows micros (before_recording s) BootUp period 0 _ (record { before = knows.before; booted = knows.booted }) (inr (omega arith)) (record { fresh = tt; known = knows.before; since = tt }))
 
 of_recording : (k : Constants) (subject : Subject) (rows : List Row) (period : ℕ) (inputs : List Stamped) → KnowsPeriod period subject → 0 < period → number_at k.start producer_key ≡ period → AllKeepPeriod period k [] inputs → AreTimed inputs
-    → AreElsewhere (0x700 + k.description.node) inputs → AllSendAside k [] inputs → AreNoSdo k.description.node (recording k inputs)
+    → AreElsewhere (0x700 + k.description.node) inputs → AllSendAside k [] inputs → IsUnnamed producer_key k.description.node (recording k inputs)
     → differences_in late_differences (of_device k subject) rows (recording k inputs) ≡ []
 of_recording k subject rows period [] knows some start keep time control aside none = refl
 of_recording k subject rows period (s ∷ others) knows some start keep time control aside none =
     let subj : Subject = of_device k subject in
-    then_none late_differences subj rows s.micros (boot_up k ∷ []) (heard_from k [] (s ∷ others)) (before_recording subj) (Beats period s.micros (ago_of period (producer.Begin period ∷ [])))
-    (begins k subject rows s.micros period knows some)
+    then_none late_differences subj rows s.micros (boot_up k ∷ []) (heard_from k [] (s ∷ others)) (before_recording subj) (And (Differs producer_key) (Beats period s.micros (ago_of period (producer.Begin period ∷ []))))
+    (begins k subject rows s.micros period knows some (others_named producer_key k.description.node s.micros (boot_up k ∷ []) (none.0, tt)))
     (λ q g. all_none k subject rows period (s ∷ others) [] s.micros q knows some start keep (omega arith, time) control aside none.1 g)
 
 pub no_late_heartbeats : (k : Constants) (subject : Subject) (rows : List Row) (period : ℕ) (inputs : List Stamped) → subject.node ≡ k.description.node → KnowsPeriod period subject → 0 < period → number_at k.start producer_key ≡ period
-    → AllKeepPeriod period k [] inputs → AreTimed inputs → AreElsewhere (0x700 + k.description.node) inputs → AllSendAside k [] inputs → AreNoSdo k.description.node (recording k inputs)
+    → AllKeepPeriod period k [] inputs → AreTimed inputs → AreElsewhere (0x700 + k.description.node) inputs → AllSendAside k [] inputs → IsUnnamed producer_key k.description.node (recording k inputs)
     → differences_in late_differences subject rows (recording k inputs) ≡ []
 no_late_heartbeats k subject rows period inputs is knows some start keep time control aside none =
     subst (λ n. differences_in late_differences (record subject { node = n }) rows (recording k inputs) ≡ []) (sym is)

@@ -10,6 +10,7 @@ pub mod Queues
 pub mod EmergencyFrames
 pub mod Unjudged
 pub mod Begins
+pub mod NamedKeys
 pub mod Beats
 pub mod Heartbeats
 pub mod Pauses

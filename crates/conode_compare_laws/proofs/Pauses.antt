@@ -1,7 +1,7 @@
 -- The inhibit time of EMCY: what compare knows of the last EMCY at each frame of a device's recording, and of the frames at one input.
-use Rattle.std.proofs.Common.{◌≡◌, ◌≢◌, ℕ, ◌+◌, ◌*◌, ◌-◌, ◌/◌, ◌≤◌, Bool, true, false, List, [], ◌∷◌, length, map, Option, Some, None, refl, sym, ap, subst, arith}
+use Rattle.std.proofs.Common.{◌≡◌, ◌≢◌, ℕ, ◌+◌, ◌*◌, ◌-◌, ◌/◌, ◌≤◌, Bool, true, false, List, [], ◌∷◌, length, map, Option, Some, None, refl, sym, ap, ◌∙◌, subst, arith}
 use Rattle.std.specs.Prelude.{if◌then◌else◌, ◌==◌, ◌&&◌, ◌||◌, not, nat_lt, IfSome}
-use Rattle.std.specs.List.{AllByRecursion, list_all}
+use Rattle.std.specs.List.{list_all}
 use Rattle.std.proofs.lemmas.Bool.{le-ltb, leb-true, ne_eqb}
 use Rattle.co_frame.specs.FrameContent.{FrameContent}
 use Rattle.co_frame.specs.Emergencies.{emergency_in}
@@ -13,8 +13,12 @@ use Rattle.co_frame.specs.declared.heartbeat.Heartbeat.{Heartbeat}
 use Rattle.co_frame.specs.declared.nmt.NmtCommand.{NmtCommand}
 use Rattle.co_frame.specs.declared.nmt.NmtService.{NmtService}
 use Rattle.co_frame.specs.declared.nmt.NmtService.TheVariants.{Start, Stop, EnterPreOperational, ResetNode, ResetCommunication}
+use Rattle.co_profile.specs.Keys.{emergency_inhibit_key}
+use Rattle.co_value.specs.Keys.{same_key}
 use Rattle.co_node_parts.specs.EmergencyQueues.{Sending, is_past, older}
 use Rattle.co_sheet.specs.Content.{Row}
+use Rattle.conode_explain_transfers.specs.declared.ended.Ended.{Ended}
+use Rattle.conode_explain_transfers.specs.declared.kinds.Side.{Side}
 use Rattle.conode_explain_transfers.specs.declared.kinds.Side.TheVariants.{Client, Server}
 use Rattle.conode_compare_rules.specs.declared.entries.Entries.{Entries}
 use Rattle.conode_compare_rules.specs.declared.finding.Finding.{Finding}
@@ -26,6 +30,7 @@ use Rattle.conode_compare_rules.specs.declared.limits.Limits.{Limits}
 use Rattle.conode_compare_rules.specs.declared.limits.Subject.{Subject}
 use Rattle.conode_compare_rules.specs.declared.progress.Progress.{Progress}
 use Rattle.conode_compare_rules.specs.EmergencyRules.{emergency_finding, gap_finding, has_register, inhibit_finding, inhibit_with, is_in_force, is_stopped, least_gap}
+use Rattle.conode_compare_rules.specs.EntriesInForce.{asked_to_write, done_word, shown_inhibit, shown_period, with_inhibit, with_period}
 use Rattle.conode_compare_rules.specs.FrameKinds.{command_kind, command_to, control_kind, data_kind, emergency_kind, emergency_with, length_of}
 use Rattle.conode_compare_rules.specs.Progresses as progresses
 use Rattle.conode_compare_rules.specs.Progresses.{
@@ -33,23 +38,35 @@ use Rattle.conode_compare_rules.specs.Progresses.{
   after_emergency,
   after_frame,
   after_process,
+  after_sdo,
+  answer_noted,
   begins_anew,
   begun,
   booted,
+  channel_heard,
   emergency_findings,
+  entries_asked,
+  entries_ended,
+  exchange_at,
+  exchange_noted,
   findings_at,
   findings_in,
+  late_noted,
   progress_with,
   with_gap,
 }
 use Rattle.conode_compare_rules.specs.States.{is_initialising, is_settled}
 use Rattle.conode_compare_rules.specs.Times.{drift_of}
 use Rattle.conode_compare_rules.specs.Verdicts.{found}
+use Rattle.conode_compare_transfers.specs.declared.dialogue.Asked.{Asked}
+use Rattle.conode_compare_transfers.specs.Dialogues.{dialogue_heard}
 use Rattle.conode_compare_transfers.specs.Times.{micros_of}
 use Rattle.conode_compare_laws.specs.Differences.{inhibit_differences, only_inhibit}
+use Rattle.conode_compare_laws.specs.Identifiers.{AreWithout}
 use Rattle.conode_compare_laws.specs.Periods.{KnowsInhibit}
 use Rattle.conode_compare_laws.proofs.Frames.{life_kind}
 use Rattle.conode_compare_laws.proofs.Runs.{AllRun}
+use Rattle.conode_compare_laws.proofs.NamedKeys.{AllName, And, Differs, IsOpenOn, Names, NamesAs, NamesBy, begun_open, ended_such, names_as, noted_open, stays_open}
 
 -- the device sent its newest EMCY as long after this stamp as its age is ago, with this inhibit time
 abbrev pub IsSince : ℕ → ℕ → ℕ → List Sending → Type 0
@@ -90,16 +107,14 @@ begun_calm subject inhibit micros sent p knows h = by (begins_anew subject.limit
 
 -- ---- frames that are no EMCY
 
--- what a frame may be: no SDO, no EMCY, no error control
+-- what a frame may be: no EMCY, no error control
 abbrev is_quiet : FrameKind → Bool
 is_quiet (Command service) = true
 is_quiet (CommandToAll service) = true
+is_quiet (Sdo side frame) = true
 is_quiet (Process id length) = true
 is_quiet Other = true
 is_quiet _ = false
-
-abbrev pub IsQuiet : ℕ → ℕ → Type 0
-IsQuiet node id = (id ≢ 0x80 + node) × (id ≢ 0x580 + node) × (id ≢ 0x600 + node) × (id ≢ 0x700 + node)
 
 quiet_command : (node : ℕ) (command : Option NmtCommand) → is_quiet (command_to node command) ≡ true
 quiet_command node None = refl
@@ -110,28 +125,71 @@ quiet_command node (Some command) = by (command.node == 0) (command.node == node
     by false true = refl
     by false false = refl
 
-quiet_kind : (node : ℕ) (frame : FrameContent) → IsQuiet node frame.id → is_quiet (data_kind node frame) ≡ true
-quiet_kind node frame h =
+quiet_kind : (node : ℕ) (frame : FrameContent) → frame.id ≢ 0x80 + node → frame.id ≢ 0x700 + node → is_quiet (data_kind node frame) ≡ true
+quiet_kind node frame emergency control =
     by (frame.id == 0) (frame.id == 0x80 + node) (frame.id == 0x580 + node) (frame.id == 0x600 + node) (frame.id == 0x700 + node)
-    (ne_eqb frame.id (0x80 + node) h.0) (ne_eqb frame.id (0x580 + node) h.1) (ne_eqb frame.id (0x600 + node) h.2) (ne_eqb frame.id (0x700 + node) h.3)
+    (ne_eqb frame.id (0x80 + node) emergency) (ne_eqb frame.id (0x700 + node) control)
   where
-    by : (a b c d e : Bool) → b ≡ false → c ≡ false → d ≡ false → e ≡ false
+    by : (a b c d e : Bool) → b ≡ false → e ≡ false
         → is_quiet (if a then command_kind node frame
         else (if b then emergency_kind frame
         else (if c then Sdo Server frame
         else (if d then Sdo Client frame
         else (if e then control_kind frame else Process frame.id (length_of frame)))))) ≡ true
-    by true b c d e o p q r = quiet_command node (nmt_command_in frame)
-    by false true c d e o p q r = absurd (cc)
-    by false false true d e o p q r = absurd (cc)
-    by false false false true e o p q r = absurd (cc)
-    by false false false false true o p q r = absurd (cc)
-    by false false false false false o p q r = refl
+    by true b c d e o r = quiet_command node (nmt_command_in frame)
+    by false true c d e o r = absurd (cc)
+    by false false true d e o r = refl
+    by false false false true e o r = refl
+    by false false false false true o r = absurd (cc)
+    by false false false false false o r = refl
 
 -- nothing is found at a frame of these kinds, and what compare has then
 record Passes (inhibit micros : ℕ) (sent : List Sending) (subject : Subject) (rows : List Row) (p : Progress) (kind : FrameKind) : Type 0 where
   none : inhibit_differences kind (findings_in subject rows p micros kind) ≡ []
   calm : Calm inhibit micros sent (after_frame subject p micros kind)
+
+-- a frame of the default SDO channel, with which no transfer of 1015:00 ends: the time is known as before
+none_shown : (e : Ended) → Differs emergency_inhibit_key e.key → shown_inhibit e ≡ None
+unfolding shown_inhibit
+none_shown e other = ap (λ b. if b then done_word e.protocol e.ending e.first.items else None) other
+
+ended_known : (entries : Entries) (o : Option Ended) → IfSome o (λ e. Differs emergency_inhibit_key e.key) → (entries_ended entries o).inhibit ≡ entries.inhibit
+ended_known entries None others = refl
+ended_known entries (Some e) others = ap (λ shown. (with_inhibit (with_period entries (shown_period e)) shown e.end).inhibit) (none_shown e others) ∙ period (shown_period e)
+  where
+    period : (shown : Option ℕ) → (with_period entries shown).inhibit ≡ entries.inhibit
+    period None = refl
+    period (Some n) = refl
+
+-- or it isn't any more, after a request to write it
+asked_known : (inhibit : ℕ) (entries : Entries) (o : Option Asked) → IfSome entries.inhibit (λ n. n ≡ inhibit) → IfSome (entries_asked entries o).inhibit (λ n. n ≡ inhibit)
+unfolding asked_to_write
+asked_known inhibit entries None h = h
+asked_known inhibit entries (Some asked) h = by asked.writes (asked_to_write entries asked.key) (forgets (same_key asked.key emergency_inhibit_key))
+  where
+    forgets : (b : Bool) → IfSome (if b then None else entries.inhibit) (λ n. n ≡ inhibit)
+    forgets true = tt
+    forgets false = h
+
+    by : (b : Bool) (x : Entries) → IfSome x.inhibit (λ n. n ≡ inhibit) → IfSome (if b then x else entries).inhibit (λ n. n ≡ inhibit)
+    by true x g = g
+    by false x g = h
+
+sdo_calm : (inhibit micros : ℕ) (sent : List Sending) (subject : Subject) (p : Progress) (side : Side) (frame : FrameContent) → NamesBy (Differs emergency_inhibit_key) side frame.bytes → IsOpenOn (Differs emergency_inhibit_key) p
+    → Calm inhibit micros sent p → Calm inhibit micros sent (after_sdo subject p micros side frame)
+unfolding channel_heard exchange_noted
+sdo_calm inhibit micros sent subject p side frame n opened h =
+    let o : Option Ended = (exchange_at subject p micros side frame).heard.ended in
+    let others : IfSome o (λ e. Differs emergency_inhibit_key e.key) = ended_such (Differs emergency_inhibit_key) subject p micros side frame n opened in
+    record {
+      known = asked_known inhibit (entries_ended p.entries o) (dialogue_heard subject.limits.answer p.started p.dialogue micros side frame).asked
+          (subst (λ known. IfSome known (λ number. number ≡ inhibit)) (sym (ended_known p.entries o others)) h.known);
+      since = h.since;
+    }
+
+noted_calm : (inhibit micros : ℕ) (sent : List Sending) (subject : Subject) (p : Progress) → Calm inhibit micros sent p → Calm inhibit micros sent (answer_noted subject p micros)
+unfolding late_noted
+noted_calm inhibit micros sent subject p h = record { known = h.known; since = h.since }
 
 command_calm : (inhibit micros : ℕ) (sent : List Sending) (p : Progress) (service : NmtService) (own : Bool) → Calm inhibit micros sent p → Calm inhibit micros sent (after_command p service own micros)
 unfolding after_command with_gap
@@ -141,13 +199,19 @@ command_calm inhibit micros sent p EnterPreOperational own h = record { known = 
 command_calm inhibit micros sent p ResetNode own h = record { known = tt; since = tt }
 command_calm inhibit micros sent p ResetCommunication own h = record { known = tt; since = tt }
 
-quiet_passes : (inhibit micros : ℕ) (sent : List Sending) (subject : Subject) (rows : List Row) (p : Progress) (kind : FrameKind) → is_quiet kind ≡ true → Calm inhibit micros sent p → Passes inhibit micros sent subject rows p kind
+quiet_passes : (inhibit micros : ℕ) (sent : List Sending) (subject : Subject) (rows : List Row) (p : Progress) (kind : FrameKind) → is_quiet kind ≡ true → NamesAs (Differs emergency_inhibit_key) kind
+    → IsOpenOn (Differs emergency_inhibit_key) p → Calm inhibit micros sent p → Passes inhibit micros sent subject rows p kind
 unfolding after_process
-quiet_passes inhibit micros sent subject rows p (Command service) is h = record { none = refl; calm = command_calm inhibit micros sent p service false h }
-quiet_passes inhibit micros sent subject rows p (CommandToAll service) is h = record { none = refl; calm = command_calm inhibit micros sent p service subject.facts.starts_itself h }
-quiet_passes inhibit micros sent subject rows p (Process id length) is h = record { none = refl; calm = record { known = h.known; since = h.since } }
-quiet_passes inhibit micros sent subject rows p Other is h = record { none = refl; calm = record { known = h.known; since = h.since } }
-quiet_passes inhibit micros sent subject rows p _ is h = absurd (cc)
+quiet_passes inhibit micros sent subject rows p (Command service) is n opened h = record { none = refl; calm = command_calm inhibit micros sent p service false h }
+quiet_passes inhibit micros sent subject rows p (CommandToAll service) is n opened h = record { none = refl; calm = command_calm inhibit micros sent p service subject.facts.starts_itself h }
+quiet_passes inhibit micros sent subject rows p (Sdo Server frame) is n opened h = record {
+  none = refl;
+  calm = sdo_calm inhibit micros sent subject (answer_noted subject p micros) Server frame n (noted_open (Differs emergency_inhibit_key) subject p micros opened) (noted_calm inhibit micros sent subject p h);
+}
+quiet_passes inhibit micros sent subject rows p (Sdo Client frame) is n opened h = record { none = refl; calm = sdo_calm inhibit micros sent subject p Client frame n opened h }
+quiet_passes inhibit micros sent subject rows p (Process id length) is n opened h = record { none = refl; calm = record { known = h.known; since = h.since } }
+quiet_passes inhibit micros sent subject rows p Other is n opened h = record { none = refl; calm = record { known = h.known; since = h.since } }
+quiet_passes inhibit micros sent subject rows p _ is n opened h = absurd (cc)
 
 one : (inhibit micros : ℕ) (sent : List Sending) (subject : Subject) (rows : List Row) (p : Progress) (frame : FrameContent) (kind : FrameKind) → data_kind subject.node frame ≡ kind
     → Passes inhibit micros sent subject rows (begun subject p micros) kind → AllRun inhibit_differences subject rows micros p (frame ∷ []) (Calm inhibit micros sent)
@@ -156,14 +220,19 @@ one inhibit micros sent subject rows p frame kind is h =
     let pass : Passes inhibit micros sent subject rows (begun subject p micros) (data_kind subject.node frame) = subst (λ other. Passes inhibit micros sent subject rows (begun subject p micros) other) (sym is) h in
     (pass.none, pass.calm)
 
-pub quiets : (inhibit micros : ℕ) (sent : List Sending) (subject : Subject) (rows : List Row) (frames : List FrameContent) (p : Progress) → KnowsInhibit inhibit subject → AllByRecursion (λ frame. IsQuiet subject.node frame.id) frames
-    → Calm inhibit micros sent p → AllRun inhibit_differences subject rows micros p frames (Calm inhibit micros sent)
-quiets inhibit micros sent subject rows [] p knows are h = h
-quiets inhibit micros sent subject rows (frame ∷ frames) p knows are h =
+-- frames that don't name 1015:00, none of EMCY or of error control
+pub quiets : (inhibit micros : ℕ) (sent : List Sending) (subject : Subject) (rows : List Row) (frames : List FrameContent) (p : Progress) → KnowsInhibit inhibit subject
+    → AreWithout (0x80 + subject.node) frames → AreWithout (0x700 + subject.node) frames → AllName (Differs emergency_inhibit_key) subject.node frames
+    → And (Differs emergency_inhibit_key) (Calm inhibit micros sent) p → AllRun inhibit_differences subject rows micros p frames (And (Differs emergency_inhibit_key) (Calm inhibit micros sent))
+quiets inhibit micros sent subject rows [] p knows emergency control unnamed h = h
+quiets inhibit micros sent subject rows (frame ∷ frames) p knows emergency control unnamed h =
+    let q : Progress = begun subject p micros in
+    let kind : FrameKind = data_kind subject.node frame in
     let first : AllRun inhibit_differences subject rows micros p (frame ∷ []) (Calm inhibit micros sent) =
-    one inhibit micros sent subject rows p frame (data_kind subject.node frame) refl
-    (quiet_passes inhibit micros sent subject rows (begun subject p micros) (data_kind subject.node frame) (quiet_kind subject.node frame are.0) (begun_calm subject inhibit micros sent p knows h)) in
-    (first.0, quiets inhibit micros sent subject rows frames (progress_with subject p micros (data_kind subject.node frame)) knows are.1 first.1)
+    one inhibit micros sent subject rows p frame kind refl
+    (quiet_passes inhibit micros sent subject rows q kind (quiet_kind subject.node frame emergency.0 control.0) (names_as (Differs emergency_inhibit_key) subject.node frame unnamed.0)
+    (begun_open (Differs emergency_inhibit_key) subject p micros h.1) (begun_calm subject inhibit micros sent p knows h.0)) in
+    (first.0, quiets inhibit micros sent subject rows frames (progress_with subject p micros kind) knows emergency.1 control.1 unnamed.1 (first.1, stays_open (Differs emergency_inhibit_key) subject p micros frame unnamed.0 h.1))
 
 -- ---- the boot-up, and heartbeats
 
@@ -266,11 +335,11 @@ unfolding after_emergency
 odd_passes inhibit micros length sent subject rows p h = record { none = refl; calm = record { known = h.known; since = (omega arith, refl) } }
 
 -- on another identifier than compare has for EMCY
-other_passes : (inhibit micros : ℕ) (sent : List Sending) (subject : Subject) (rows : List Row) (p : Progress) (kind : FrameKind) → is_quiet kind ≡ true → Calm inhibit micros sent p
-    → Passes inhibit micros (just_now inhibit ∷ sent) subject rows p kind
-other_passes inhibit micros sent subject rows p kind is h =
+other_passes : (inhibit micros : ℕ) (sent : List Sending) (subject : Subject) (rows : List Row) (p : Progress) (kind : FrameKind) → is_quiet kind ≡ true → NamesAs (Differs emergency_inhibit_key) kind → IsOpenOn (Differs emergency_inhibit_key) p
+    → Calm inhibit micros sent p → Passes inhibit micros (just_now inhibit ∷ sent) subject rows p kind
+other_passes inhibit micros sent subject rows p kind is n opened h =
     let now : Calm inhibit micros (just_now inhibit ∷ sent) p = record { known = h.known; since = now_since inhibit micros sent p.emergency h.since } in
-    quiet_passes inhibit micros (just_now inhibit ∷ sent) subject rows p kind is now
+    quiet_passes inhibit micros (just_now inhibit ∷ sent) subject rows p kind is n opened now
 
 -- what a frame of EMCY may be
 abbrev is_own : FrameKind → Bool
@@ -278,19 +347,21 @@ is_own (Emcy code register) = true
 is_own (OddEmergency length) = true
 is_own kind = is_quiet kind
 
-own_passes : (inhibit micros : ℕ) (sent : List Sending) (subject : Subject) (rows : List Row) (p : Progress) (kind : FrameKind) → is_own kind ≡ true → list_all is_past sent ≡ true → Calm inhibit micros sent p
-    → Passes inhibit micros (just_now inhibit ∷ sent) subject rows p kind
-own_passes inhibit micros sent subject rows p (Emcy code register) is over h = emergency_passes inhibit micros code register sent subject rows p over h
-own_passes inhibit micros sent subject rows p (OddEmergency length) is over h = odd_passes inhibit micros length sent subject rows p h
-own_passes inhibit micros sent subject rows p (Command service) is over h = other_passes inhibit micros sent subject rows p (Command service) refl h
-own_passes inhibit micros sent subject rows p (CommandToAll service) is over h = other_passes inhibit micros sent subject rows p (CommandToAll service) refl h
-own_passes inhibit micros sent subject rows p (Process id length) is over h = other_passes inhibit micros sent subject rows p (Process id length) refl h
-own_passes inhibit micros sent subject rows p Other is over h = other_passes inhibit micros sent subject rows p Other refl h
-own_passes inhibit micros sent subject rows p _ is over h = absurd (cc)
+own_passes : (inhibit micros : ℕ) (sent : List Sending) (subject : Subject) (rows : List Row) (p : Progress) (kind : FrameKind) → is_own kind ≡ true → NamesAs (Differs emergency_inhibit_key) kind → IsOpenOn (Differs emergency_inhibit_key) p
+    → list_all is_past sent ≡ true → Calm inhibit micros sent p → Passes inhibit micros (just_now inhibit ∷ sent) subject rows p kind
+own_passes inhibit micros sent subject rows p (Emcy code register) is n opened over h = emergency_passes inhibit micros code register sent subject rows p over h
+own_passes inhibit micros sent subject rows p (OddEmergency length) is n opened over h = odd_passes inhibit micros length sent subject rows p h
+own_passes inhibit micros sent subject rows p (Command service) is n opened over h = other_passes inhibit micros sent subject rows p (Command service) refl n opened h
+own_passes inhibit micros sent subject rows p (CommandToAll service) is n opened over h = other_passes inhibit micros sent subject rows p (CommandToAll service) refl n opened h
+own_passes inhibit micros sent subject rows p (Sdo side frame) is n opened over h = other_passes inhibit micros sent subject rows p (Sdo side frame) refl n opened h
+own_passes inhibit micros sent subject rows p (Process id length) is n opened over h = other_passes inhibit micros sent subject rows p (Process id length) refl n opened h
+own_passes inhibit micros sent subject rows p Other is n opened over h = other_passes inhibit micros sent subject rows p Other refl n opened h
+own_passes inhibit micros sent subject rows p _ is n opened over h = absurd (cc)
 
 quiet_own : (kind : FrameKind) → is_quiet kind ≡ true → is_own kind ≡ true
 quiet_own (Command service) h = refl
 quiet_own (CommandToAll service) h = refl
+quiet_own (Sdo side frame) h = refl
 quiet_own (Process id length) h = refl
 quiet_own Other h = refl
 quiet_own _ h = absurd (cc)
@@ -299,30 +370,27 @@ own_emergency : (length : ℕ) (o : Option Emergency) → is_own (emergency_with
 own_emergency length None = refl
 own_emergency length (Some emergency) = refl
 
--- identifiers that an EMCY of the device may have
-abbrev pub IsFree : ℕ → ℕ → Type 0
-IsFree node id = (id ≢ 0x580 + node) × (id ≢ 0x600 + node) × (id ≢ 0x700 + node)
-
-own_kind : (node : ℕ) (frame : FrameContent) → IsFree node frame.id → is_own (data_kind node frame) ≡ true
-own_kind node frame h =
-    by (frame.id == 0) (frame.id == 0x80 + node) (frame.id == 0x580 + node) (frame.id == 0x600 + node) (frame.id == 0x700 + node)
-    (ne_eqb frame.id (0x580 + node) h.0) (ne_eqb frame.id (0x600 + node) h.1) (ne_eqb frame.id (0x700 + node) h.2)
+own_kind : (node : ℕ) (frame : FrameContent) → frame.id ≢ 0x700 + node → is_own (data_kind node frame) ≡ true
+own_kind node frame control =
+    by (frame.id == 0) (frame.id == 0x80 + node) (frame.id == 0x580 + node) (frame.id == 0x600 + node) (frame.id == 0x700 + node) (ne_eqb frame.id (0x700 + node) control)
   where
-    by : (a b c d e : Bool) → c ≡ false → d ≡ false → e ≡ false
+    by : (a b c d e : Bool) → e ≡ false
         → is_own (if a then command_kind node frame
         else (if b then emergency_kind frame
         else (if c then Sdo Server frame
         else (if d then Sdo Client frame
         else (if e then control_kind frame else Process frame.id (length_of frame)))))) ≡ true
-    by true b c d e p q r = quiet_own (command_to node (nmt_command_in frame)) (quiet_command node (nmt_command_in frame))
-    by false true c d e p q r = own_emergency (length_of frame) (emergency_in frame.bytes)
-    by false false true d e p q r = absurd (cc)
-    by false false false true e p q r = absurd (cc)
-    by false false false false true p q r = absurd (cc)
-    by false false false false false p q r = refl
+    by true b c d e r = quiet_own (command_to node (nmt_command_in frame)) (quiet_command node (nmt_command_in frame))
+    by false true c d e r = own_emergency (length_of frame) (emergency_in frame.bytes)
+    by false false true d e r = refl
+    by false false false true e r = refl
+    by false false false false true r = absurd (cc)
+    by false false false false false r = refl
 
-pub emergency_runs : (inhibit micros : ℕ) (sent : List Sending) (subject : Subject) (rows : List Row) (frame : FrameContent) (p : Progress) → KnowsInhibit inhibit subject → IsFree subject.node frame.id
-    → list_all is_past sent ≡ true → Calm inhibit micros sent p → AllRun inhibit_differences subject rows micros p (frame ∷ []) (Calm inhibit micros (just_now inhibit ∷ sent))
-emergency_runs inhibit micros sent subject rows frame p knows free over h =
+pub emergency_runs : (inhibit micros : ℕ) (sent : List Sending) (subject : Subject) (rows : List Row) (frame : FrameContent) (p : Progress) → KnowsInhibit inhibit subject → frame.id ≢ 0x700 + subject.node
+    → Names (Differs emergency_inhibit_key) subject.node frame → list_all is_past sent ≡ true → And (Differs emergency_inhibit_key) (Calm inhibit micros sent) p
+    → AllRun inhibit_differences subject rows micros p (frame ∷ []) (Calm inhibit micros (just_now inhibit ∷ sent))
+emergency_runs inhibit micros sent subject rows frame p knows control unnamed over h =
     one inhibit micros (just_now inhibit ∷ sent) subject rows p frame (data_kind subject.node frame) refl
-    (own_passes inhibit micros sent subject rows (begun subject p micros) (data_kind subject.node frame) (own_kind subject.node frame free) over (begun_calm subject inhibit micros sent p knows h))
+    (own_passes inhibit micros sent subject rows (begun subject p micros) (data_kind subject.node frame) (own_kind subject.node frame control) (names_as (Differs emergency_inhibit_key) subject.node frame unnamed)
+    (begun_open (Differs emergency_inhibit_key) subject p micros h.1) over (begun_calm subject inhibit micros sent p knows h.0))

@@ -1,7 +1,7 @@
 -- The EMCY that a device sends, over all its inputs: none within the inhibit time by what compare knows of it.
 use Rattle.std.proofs.Common.{◌≡◌, ℕ, ◌+◌, ◌≤◌, Bool, true, false, List, [], ◌∷◌, ◌++◌, map, Option, Some, None, refl, sym, ap, ◌∙◌, subst}
 use Rattle.std.specs.Prelude.{if◌then◌else◌, ◌&&◌, not, slice_get}
-use Rattle.std.specs.List.{AllByRecursion, list_all}
+use Rattle.std.specs.List.{list_all}
 use Rattle.co_value.specs.declared.key.Key.{Key}
 use Rattle.co_frame.specs.FrameContent.{FrameContent}
 use Rattle.co_frame.specs.Emergencies.{emergency_bytes}
@@ -40,28 +40,14 @@ use Rattle.conode_compare_rules.specs.declared.limits.Subject.{Subject}
 use Rattle.conode_compare_rules.specs.declared.progress.Progress.{Progress}
 use Rattle.conode_compare_rules.specs.Progresses.{before_recording}
 use Rattle.conode_compare_laws.specs.Differences.{differences_from, differences_in, inhibit_differences}
-use Rattle.conode_compare_laws.specs.Identifiers.{AllSendAside, AllSendWithout, AreAside, AreElsewhere, AreNoSdo, AreWithout, IsElsewhere, SendsAside, SendsWithout}
+use Rattle.conode_compare_laws.specs.Identifiers.{AllSendAside, AllSendWithout, AreElsewhere, AreWithout, IsElsewhere, IsUnnamed, IsUnnamedAt, SendsAside, SendsWithout}
 use Rattle.conode_compare_laws.specs.Periods.{AllHaveInhibit, KnowsInhibit}
 use Rattle.conode_compare_laws.specs.Recordings.{AreSpaced, AreUnhurried, Recorded, Stamped, elapsed, frame_of, heard_from, recording, stamped}
 use Rattle.conode_compare_laws.proofs.Heard.{of_device}
-use Rattle.conode_compare_laws.proofs.Heartbeats.{NoSdo, after_those, before_these, first_part, last_part, unstamped}
-use Rattle.conode_compare_laws.proofs.Pauses.{Calm, IsFree, IsQuiet, boots, emergency_runs, later, lives, quiets}
+use Rattle.conode_compare_laws.proofs.Heartbeats.{came_without, uncontrolled}
+use Rattle.conode_compare_laws.proofs.Pauses.{Calm, boots, emergency_runs, later, lives, quiets}
 use Rattle.conode_compare_laws.proofs.Runs.{AllRun, joined, then_none}
-
--- ---- which frames these are
-
-quiet : (node : ℕ) (frames : List FrameContent) → NoSdo node frames → AreAside node frames → AreWithout (0x80 + node) frames → AllByRecursion (λ frame. IsQuiet node frame.id) frames
-quiet node [] none aside without = tt
-quiet node (frame ∷ frames) none aside without = ((without.0, none.0.0, none.0.1, aside.0.1), quiet node frames none.1 aside.1 without.1)
-
-came_quiet : (node : ℕ) (input : InputView) → NoSdo node (frame_of input) → IsElsewhere (0x700 + node) input → IsElsewhere (0x80 + node) input → AllByRecursion (λ frame. IsQuiet node frame.id) (frame_of input)
-came_quiet node (Framed frame) none control emergency = ((emergency, none.0.0, none.0.1, control), tt)
-came_quiet node Ticked none control emergency = tt
-came_quiet node (Applied event) none control emergency = tt
-
-free : (node : ℕ) (frames : List FrameContent) → NoSdo node frames → AreAside node frames → AllByRecursion (λ frame. IsFree node frame.id) frames
-free node [] none aside = tt
-free node (frame ∷ frames) none aside = ((none.0.0, none.0.1, aside.0.1), free node frames none.1 aside.1)
+use Rattle.conode_compare_laws.proofs.NamedKeys.{AllName, And, Differs, Names, all_open, first_of, last_of, others_named}
 
 -- ---- the log of an input
 
@@ -116,26 +102,30 @@ took k history (Applied event) = ap (λ b. if b then 1000 else 0) (event_off k.d
 -- ---- the EMCY that is sent at an input, then the boot-up or a heartbeat
 
 front_runs : (inhibit micros : ℕ) (subject : Subject) (rows : List Row) (p : Progress) (c : Contents) (front : Option Emergency) (log : EmergencyLog) → KnowsInhibit inhibit subject → number_at c emergency_inhibit_key ≡ inhibit
-    → AllByRecursion (λ frame. IsFree subject.node frame.id) (emergency_frames c front) → list_all is_past (sendings log) ≡ true → Calm inhibit micros (sendings log) p
+    → AreWithout (0x700 + subject.node) (emergency_frames c front) → AllName (Differs emergency_inhibit_key) subject.node (emergency_frames c front) → list_all is_past (sendings log) ≡ true
+    → And (Differs emergency_inhibit_key) (Calm inhibit micros (sendings log)) p
     → AllRun inhibit_differences subject rows micros p (emergency_frames c front) (Calm inhibit micros (sendings (with_sending front (number_at c emergency_inhibit_key) log)))
-front_runs inhibit micros subject rows p c None log knows same ids over h = h
-front_runs inhibit micros subject rows p c (Some e) log knows same ids over h =
+front_runs inhibit micros subject rows p c None log knows same control unnamed over h = h.0
+front_runs inhibit micros subject rows p c (Some e) log knows same control unnamed over h =
     let frame : FrameContent = record { id = identifier_of (number_at c emergency_key); bytes = emergency_bytes e } in
     subst (λ n. AllRun inhibit_differences subject rows micros p (frame ∷ []) (Calm inhibit micros (record { age = 0; inhibit = n } ∷ sendings log))) (sym same)
-    (emergency_runs inhibit micros (sendings log) subject rows frame p knows ids.0 over h)
+    (emergency_runs inhibit micros (sendings log) subject rows frame p knows control.0 unnamed.0 over h)
 
 due_runs : (inhibit micros : ℕ) (subject : Subject) (rows : List Row) (p : Progress) (c : Contents) (may : Bool) (log : EmergencyLog) → KnowsInhibit inhibit subject → number_at c emergency_inhibit_key ≡ inhibit
-    → AllByRecursion (λ frame. IsFree subject.node frame.id) (emergency_frames c (if may && is_inhibit_over log then slice_get (queue_of log) 0 else None)) → Calm inhibit micros (sendings log) p
+    → AreWithout (0x700 + subject.node) (emergency_frames c (if may && is_inhibit_over log then slice_get (queue_of log) 0 else None))
+    → AllName (Differs emergency_inhibit_key) subject.node (emergency_frames c (if may && is_inhibit_over log then slice_get (queue_of log) 0 else None))
+    → And (Differs emergency_inhibit_key) (Calm inhibit micros (sendings log)) p
     → AllRun inhibit_differences subject rows micros p (emergency_frames c (if may && is_inhibit_over log then slice_get (queue_of log) 0 else None))
     (Calm inhibit micros (sendings (with_sending (if may && is_inhibit_over log then slice_get (queue_of log) 0 else None) (number_at c emergency_inhibit_key) log)))
-due_runs inhibit micros subject rows p c false log knows same ids h = h
-due_runs inhibit micros subject rows p c true log knows same ids h = by (is_inhibit_over log) refl ids
+due_runs inhibit micros subject rows p c false log knows same control unnamed h = h.0
+due_runs inhibit micros subject rows p c true log knows same control unnamed h = by (is_inhibit_over log) refl control unnamed
   where
-    by : (b : Bool) → is_inhibit_over log ≡ b → AllByRecursion (λ frame. IsFree subject.node frame.id) (emergency_frames c (if b then slice_get (queue_of log) 0 else None))
+    by : (b : Bool) → is_inhibit_over log ≡ b → AreWithout (0x700 + subject.node) (emergency_frames c (if b then slice_get (queue_of log) 0 else None))
+        → AllName (Differs emergency_inhibit_key) subject.node (emergency_frames c (if b then slice_get (queue_of log) 0 else None))
         → AllRun inhibit_differences subject rows micros p (emergency_frames c (if b then slice_get (queue_of log) 0 else None))
         (Calm inhibit micros (sendings (with_sending (if b then slice_get (queue_of log) 0 else None) (number_at c emergency_inhibit_key) log)))
-    by true is free_ids = front_runs inhibit micros subject rows p c (slice_get (queue_of log) 0) log knows same free_ids is h
-    by false is free_ids = h
+    by true is o n = front_runs inhibit micros subject rows p c (slice_get (queue_of log) 0) log knows same o n is h
+    by false is o n = h.0
 
 -- a reset empties the queue, and no EMCY is sent; so what compare has changes with the boot-up
 abbrev event_log : Bool → Bool → EmergencyLog → EmergencyLog
@@ -154,12 +144,13 @@ Between inhibit micros c may false tick log p =
     Calm inhibit micros (sendings (with_sending (due_in may (event_log false tick log)) (number_at c emergency_inhibit_key) (event_log false tick log))) p
 
 emergency_part : (inhibit micros : ℕ) (subject : Subject) (rows : List Row) (p : Progress) (c : Contents) (may reset tick : Bool) (log : EmergencyLog) → KnowsInhibit inhibit subject → number_at c emergency_inhibit_key ≡ inhibit
-    → AllByRecursion (λ frame. IsFree subject.node frame.id) (emergency_frames c (due_in may (event_log reset tick log))) → Calm inhibit micros (aged tick log) p
+    → AreWithout (0x700 + subject.node) (emergency_frames c (due_in may (event_log reset tick log))) → AllName (Differs emergency_inhibit_key) subject.node (emergency_frames c (due_in may (event_log reset tick log)))
+    → And (Differs emergency_inhibit_key) (Calm inhibit micros (aged tick log)) p
     → AllRun inhibit_differences subject rows micros p (emergency_frames c (due_in may (event_log reset tick log))) (Between inhibit micros c may reset tick log)
-emergency_part inhibit micros subject rows p c true true tick log knows same ids h = h
-emergency_part inhibit micros subject rows p c false true tick log knows same ids h = h
-emergency_part inhibit micros subject rows p c may false true log knows same ids h = due_runs inhibit micros subject rows p c may (Noted Tick ∷ log) knows same ids h
-emergency_part inhibit micros subject rows p c may false false log knows same ids h = due_runs inhibit micros subject rows p c may (Noted Quiet ∷ log) knows same ids h
+emergency_part inhibit micros subject rows p c true true tick log knows same control unnamed h = h.0
+emergency_part inhibit micros subject rows p c false true tick log knows same control unnamed h = h.0
+emergency_part inhibit micros subject rows p c may false true log knows same control unnamed h = due_runs inhibit micros subject rows p c may (Noted Tick ∷ log) knows same control unnamed h
+emergency_part inhibit micros subject rows p c may false false log knows same control unnamed h = due_runs inhibit micros subject rows p c may (Noted Quiet ∷ log) knows same control unnamed h
 
 life_part : (inhibit micros : ℕ) (subject : Subject) (rows : List Row) (p : Progress) (c : Contents) (may reset tick due : Bool) (log : EmergencyLog) (final : NodeState) → KnowsInhibit inhibit subject
     → Between inhibit micros c may reset tick log p
@@ -176,9 +167,10 @@ life_part inhibit micros subject rows p c may false tick true log final knows h 
 input_runs : (k : Constants) (subject : Subject) (rows : List Row) (micros inhibit : ℕ) (before : Inputs) (input : InputView) (p : Progress) → KnowsInhibit inhibit subject
     → number_at (moment k (moments k before) input).contents emergency_inhibit_key ≡ inhibit
     → IsElsewhere (0x700 + k.description.node) input → IsElsewhere (0x80 + k.description.node) input
-    → SendsAside k (moment k (moments k before) input) → SendsWithout (0x80 + k.description.node) k (moment k (moments k before) input) → NoSdo k.description.node (frame_of input ++ prescribed k before input)
-    → Calm inhibit micros (aged (marked_tick (moment k (moments k before) input).mark) (emergency_log (moments k before))) p
-    → AllRun inhibit_differences (of_device k subject) rows micros p (frame_of input ++ prescribed k before input) (Calm inhibit micros (sendings (emergency_log (moments k (input ∷ before)))))
+    → SendsAside k (moment k (moments k before) input) → SendsWithout (0x80 + k.description.node) k (moment k (moments k before) input)
+    → AllName (Differs emergency_inhibit_key) k.description.node (frame_of input ++ prescribed k before input)
+    → And (Differs emergency_inhibit_key) (Calm inhibit micros (aged (marked_tick (moment k (moments k before) input).mark) (emergency_log (moments k before)))) p
+    → AllRun inhibit_differences (of_device k subject) rows micros p (frame_of input ++ prescribed k before input) (And (Differs emergency_inhibit_key) (Calm inhibit micros (sendings (emergency_log (moments k (input ∷ before))))))
 input_runs k subject rows micros inhibit before input p knows same control emergency aside without none h =
     let s : Subject = of_device k subject in
     let n : ℕ = k.description.node in
@@ -196,52 +188,60 @@ input_runs k subject rows micros inhibit before input p knows same control emerg
     let d : List FrameContent = life_frames n m.life in
     let e : List FrameContent = map (tpdo_frame k.description m.contents) m.due in
     let known : KnowsInhibit inhibit s = record { before = knows.before; booted = knows.booted } in
-    let sent : NoSdo n (a ++ b ++ c ++ d ++ e) = after_those n (frame_of input) (prescribed k before input) none in
-    let sent_d : NoSdo n (a ++ b ++ c ++ d) = before_these n (a ++ b ++ c ++ d) e sent in
-    let sent_c : NoSdo n (a ++ b ++ c) = before_these n (a ++ b ++ c) d sent_d in
-    let sent_b : NoSdo n (a ++ b) = before_these n (a ++ b) c sent_c in
-    let came : Progress → Type 0 = Calm inhibit micros (aged tick log) in
-    let middle : Progress → Type 0 = Between inhibit micros m.contents may reset tick log in
-    let after : Progress → Type 0 = Calm inhibit micros (sendings (emergency_log (m ∷ moments k before))) in
-    let now : Calm inhibit micros (aged tick log) p = subst (λ sendings_then. Calm inhibit micros (if tick then map older sendings_then else sendings_then) p) (sym (all_same m old)) h in
+    let N : FrameContent → Type 0 = Names (Differs emergency_inhibit_key) n in
+    let sent : AllName (Differs emergency_inhibit_key) n (a ++ b ++ c ++ d ++ e) = last_of N (frame_of input) (prescribed k before input) none in
+    let sent_d : AllName (Differs emergency_inhibit_key) n (a ++ b ++ c ++ d) = first_of N (a ++ b ++ c ++ d) e sent in
+    let sent_c : AllName (Differs emergency_inhibit_key) n (a ++ b ++ c) = first_of N (a ++ b ++ c) d sent_d in
+    let sent_b : AllName (Differs emergency_inhibit_key) n (a ++ b) = first_of N (a ++ b) c sent_c in
+    let came : Progress → Type 0 = And (Differs emergency_inhibit_key) (Calm inhibit micros (aged tick log)) in
+    let between : Progress → Type 0 = Between inhibit micros m.contents may reset tick log in
+    let middle : Progress → Type 0 = And (Differs emergency_inhibit_key) between in
+    let last : List Sending = sendings (emergency_log (m ∷ moments k before)) in
+    let after : Progress → Type 0 = And (Differs emergency_inhibit_key) (Calm inhibit micros last) in
+    let now : came p = (subst (λ sendings_then. Calm inhibit micros (if tick then map older sendings_then else sendings_then) p) (sym (all_same m old)) h.0, h.1) in
     joined inhibit_differences s rows micros (frame_of input) (a ++ b ++ c ++ d ++ e) p came after
-    (quiets inhibit micros (aged tick log) s rows (frame_of input) p known (came_quiet n input (before_these n (frame_of input) (prescribed k before input) none) control emergency) now)
+    (quiets inhibit micros (aged tick log) s rows (frame_of input) p known (came_without (0x80 + n) input emergency) (came_without (0x700 + n) input control) (first_of N (frame_of input) (prescribed k before input) none) now)
     (λ q0 g0.
     joined inhibit_differences s rows micros (a ++ b ++ c ++ d) e q0 after after
     (joined inhibit_differences s rows micros (a ++ b ++ c) d q0 middle after
     (joined inhibit_differences s rows micros (a ++ b) c q0 came middle
     (joined inhibit_differences s rows micros a b q0 came came
-    (quiets inhibit micros (aged tick log) s rows a q0 known (quiet n a (before_these n a b sent_b) aside.answers without.answers) g0)
-    (λ q g. quiets inhibit micros (aged tick log) s rows b q known (quiet n b (after_those n a b sent_b) aside.time_out without.time_out) g))
-    (λ q g. emergency_part inhibit micros s rows q m.contents may reset tick log known same (free n c (after_those n (a ++ b) c sent_c) aside.emergency) g))
-    (λ q g. life_part inhibit micros s rows q m.contents may reset tick due log final known g))
-    (λ q g. quiets inhibit micros (sendings (emergency_log (m ∷ moments k before))) s rows e q known (quiet n e (after_those n (a ++ b ++ c ++ d) e sent) aside.tpdos without.tpdos) g))
+    (quiets inhibit micros (aged tick log) s rows a q0 known without.answers (uncontrolled n a aside.answers) (first_of N a b sent_b) g0)
+    (λ q g. quiets inhibit micros (aged tick log) s rows b q known without.time_out (uncontrolled n b aside.time_out) (last_of N a b sent_b) g))
+    (λ q g. all_open (Differs emergency_inhibit_key) inhibit_differences s rows micros c q between (last_of N (a ++ b) c sent_c) g.1
+    (emergency_part inhibit micros s rows q m.contents may reset tick log known same (uncontrolled n c aside.emergency) (last_of N (a ++ b) c sent_c) g)))
+    (λ q g. all_open (Differs emergency_inhibit_key) inhibit_differences s rows micros d q (Calm inhibit micros last) (last_of N (a ++ b ++ c) d sent_d) g.1
+    (life_part inhibit micros s rows q m.contents may reset tick due log final known g.0)))
+    (λ q g. quiets inhibit micros last s rows e q known without.tpdos (uncontrolled n e aside.tpdos) (last_of N (a ++ b ++ c ++ d) e sent) g))
 
 -- ---- all inputs
 
 -- after an input nothing is found at those that follow it
 step : (k : Constants) (subject : Subject) (rows : List Row) (inhibit : ℕ) (s : Stamped) (others : List Stamped) (before : Inputs) (p : Progress) → KnowsInhibit inhibit subject → AllHaveInhibit inhibit k before (s ∷ others)
     → AreElsewhere (0x700 + k.description.node) (s ∷ others) → AreElsewhere (0x80 + k.description.node) (s ∷ others) → AllSendAside k before (s ∷ others) → AllSendWithout (0x80 + k.description.node) k before (s ∷ others)
-    → AreNoSdo k.description.node (heard_from k before (s ∷ others)) → Calm inhibit s.micros (aged (marked_tick (moment k (moments k before) s.input).mark) (emergency_log (moments k before))) p
-    → ((q : Progress) → Calm inhibit s.micros (sendings (emergency_log (moments k (s.input ∷ before)))) q → AreNoSdo k.description.node (heard_from k (s.input ∷ before) others)
+    → IsUnnamed emergency_inhibit_key k.description.node (heard_from k before (s ∷ others))
+    → And (Differs emergency_inhibit_key) (Calm inhibit s.micros (aged (marked_tick (moment k (moments k before) s.input).mark) (emergency_log (moments k before)))) p
+    → ((q : Progress) → And (Differs emergency_inhibit_key) (Calm inhibit s.micros (sendings (emergency_log (moments k (s.input ∷ before))))) q → IsUnnamed emergency_inhibit_key k.description.node (heard_from k (s.input ∷ before) others)
     → differences_from inhibit_differences (of_device k subject) rows q (heard_from k (s.input ∷ before) others) ≡ [])
     → differences_from inhibit_differences (of_device k subject) rows p (heard_from k before (s ∷ others)) ≡ []
 step k subject rows inhibit s others before p knows same control emergency aside without none h rest_none =
     let frames : List FrameContent = frame_of s.input ++ prescribed k before s.input in
     let rest : List Recorded = heard_from k (s.input ∷ before) others in
-    then_none inhibit_differences (of_device k subject) rows s.micros frames rest p (Calm inhibit s.micros (sendings (emergency_log (moments k (s.input ∷ before)))))
-    (input_runs k subject rows s.micros inhibit before s.input p knows same.0 control.0 emergency.0 aside.0 without.0 (unstamped k.description.node s.micros frames (first_part k.description.node (stamped s.micros frames) rest none)) h)
-    (λ q g. rest_none q g (last_part k.description.node (stamped s.micros frames) rest none))
+    let U : Recorded → Type 0 = IsUnnamedAt emergency_inhibit_key k.description.node in
+    then_none inhibit_differences (of_device k subject) rows s.micros frames rest p (And (Differs emergency_inhibit_key) (Calm inhibit s.micros (sendings (emergency_log (moments k (s.input ∷ before))))))
+    (input_runs k subject rows s.micros inhibit before s.input p knows same.0 control.0 emergency.0 aside.0 without.0
+    (others_named emergency_inhibit_key k.description.node s.micros frames (first_of U (stamped s.micros frames) rest none)) h)
+    (λ q g. rest_none q g (last_of U (stamped s.micros frames) rest none))
 
 all_none : (k : Constants) (subject : Subject) (rows : List Row) (inhibit : ℕ) (inputs : List Stamped) (before : Inputs) (last : ℕ) (p : Progress) → KnowsInhibit inhibit subject → AllHaveInhibit inhibit k before inputs
     → AreSpaced last inputs → AreElsewhere (0x700 + k.description.node) inputs → AreElsewhere (0x80 + k.description.node) inputs → AllSendAside k before inputs → AllSendWithout (0x80 + k.description.node) k before inputs
-    → AreNoSdo k.description.node (heard_from k before inputs) → Calm inhibit last (sendings (emergency_log (moments k before))) p
+    → IsUnnamed emergency_inhibit_key k.description.node (heard_from k before inputs) → And (Differs emergency_inhibit_key) (Calm inhibit last (sendings (emergency_log (moments k before)))) p
     → differences_from inhibit_differences (of_device k subject) rows p (heard_from k before inputs) ≡ []
 all_none k subject rows inhibit [] before last p knows same time control emergency aside without none h = refl
 all_none k subject rows inhibit (s ∷ others) before last p knows same time control emergency aside without none h =
     let history : History = moments k before in
     step k subject rows inhibit s others before p knows same control emergency aside without none
-    (later inhibit last s.micros (marked_tick (moment k history s.input).mark) (sendings (emergency_log history)) p (subst (λ more. last + more ≤ s.micros) (sym (took k history s.input)) time.0) h)
+    (later inhibit last s.micros (marked_tick (moment k history s.input).mark) (sendings (emergency_log history)) p (subst (λ more. last + more ≤ s.micros) (sym (took k history s.input)) time.0) h.0, h.1)
     (λ q g rest. all_none k subject rows inhibit others (s.input ∷ before) s.micros q knows same.1 time.1 control.1 emergency.1 aside.1 without.1 rest g)
 
 -- before the first one no EMCY was sent
@@ -251,20 +251,22 @@ none_aged inhibit micros false p h = h
 
 of_recording : (k : Constants) (subject : Subject) (rows : List Row) (inhibit : ℕ) (inputs : List Stamped) → KnowsInhibit inhibit subject → AllHaveInhibit inhibit k [] inputs → AreUnhurried inputs
     → AreElsewhere (0x700 + k.description.node) inputs → AreElsewhere (0x80 + k.description.node) inputs → AllSendAside k [] inputs → AllSendWithout (0x80 + k.description.node) k [] inputs
-    → AreNoSdo k.description.node (recording k inputs) → differences_in inhibit_differences (of_device k subject) rows (recording k inputs) ≡ []
+    → IsUnnamed emergency_inhibit_key k.description.node (recording k inputs) → differences_in inhibit_differences (of_device k subject) rows (recording k inputs) ≡ []
 of_recording k subject rows inhibit [] knows same time control emergency aside without none = refl
 of_recording k subject rows inhibit (s ∷ others) knows same time control emergency aside without none =
     let subj : Subject = of_device k subject in
     let known : KnowsInhibit inhibit subj = record { before = knows.before; booted = knows.booted } in
-    then_none inhibit_differences subj rows s.micros (boot_up k ∷ []) (heard_from k [] (s ∷ others)) (before_recording subj) (Calm inhibit s.micros [])
-    (boots inhibit s.micros [] [] subj rows (before_recording subj) BootUp refl known)
+    then_none inhibit_differences subj rows s.micros (boot_up k ∷ []) (heard_from k [] (s ∷ others)) (before_recording subj) (And (Differs emergency_inhibit_key) (Calm inhibit s.micros []))
+    (all_open (Differs emergency_inhibit_key) inhibit_differences subj rows s.micros (boot_up k ∷ []) (before_recording subj) (Calm inhibit s.micros [])
+    (others_named emergency_inhibit_key k.description.node s.micros (boot_up k ∷ []) (none.0, tt)) tt
+    (boots inhibit s.micros [] [] subj rows (before_recording subj) BootUp refl known))
     (λ q g. step k subject rows inhibit s others [] q knows same control emergency aside without none.1
-    (none_aged inhibit s.micros (marked_tick (moment k [] s.input).mark) q g)
+    (none_aged inhibit s.micros (marked_tick (moment k [] s.input).mark) q g.0, g.1)
     (λ q2 g2 rest. all_none k subject rows inhibit others (s.input ∷ []) s.micros q2 knows same.1 time control.1 emergency.1 aside.1 without.1 rest g2))
 
 pub no_early_emergencies : (k : Constants) (subject : Subject) (rows : List Row) (inhibit : ℕ) (inputs : List Stamped) → subject.node ≡ k.description.node → KnowsInhibit inhibit subject → AllHaveInhibit inhibit k [] inputs
     → AreUnhurried inputs → AreElsewhere (0x700 + k.description.node) inputs → AreElsewhere (0x80 + k.description.node) inputs → AllSendAside k [] inputs → AllSendWithout (0x80 + k.description.node) k [] inputs
-    → AreNoSdo k.description.node (recording k inputs) → differences_in inhibit_differences subject rows (recording k inputs) ≡ []
+    → IsUnnamed emergency_inhibit_key k.description.node (recording k inputs) → differences_in inhibit_differences subject rows (recording k inputs) ≡ []
 no_early_emergencies k subject rows inhibit inputs is knows same time control emergency aside without none =
     subst (λ n. differences_in inhibit_differences (record subject { node = n }) rows (recording k inputs) ≡ []) (sym is)
     (of_recording k subject rows inhibit inputs knows same time control emergency aside without none)

@@ -1,7 +1,9 @@
 -- Whose frames have which identifiers in a recording.
-use Rattle.std.specs.Prelude.{◌≡◌, ℕ, ◌+◌, ◌≢◌, ◌<◌, ◌≤◌, true, false, List, [], ◌∷◌, map}
+use Rattle.std.specs.Prelude.{◌≡◌, ℕ, ◌+◌, ◌≢◌, ◌<◌, ◌≤◌, true, false, List, [], ◌∷◌, length, map}
 use Rattle.std.specs.List.{AllByRecursion}
+use Rattle.co_value.specs.declared.key.Key.{Key}
 use Rattle.co_frame.specs.FrameContent.{FrameContent}
+use Rattle.co_frame.specs.SdoFields.{key_in}
 use Rattle.co_profile.specs.Keys.{emergency_key}
 use Rattle.co_dict.specs.CobIds.{identifier_of, is_valid}
 use Rattle.co_dict.specs.Rows.{Contents, number_at}
@@ -42,6 +44,15 @@ IsNoSdo node r = (r.frame.id ≢ 0x580 + node) × (r.frame.id ≢ 0x600 + node)
 
 abbrev pub AreNoSdo : ℕ → List Recorded → Type 0
 AreNoSdo node recorded = AllByRecursion (IsNoSdo node) recorded
+
+-- a frame of a recording doesn't name an entry on the device's default SDO channel: it isn't one of
+-- eight bytes with the identifier of the client's frames that has the key in bytes 1 to 3, where
+-- initiate requests have their multiplexer (CiA 301, 7.2.4.3), whatever else it is
+abbrev pub IsUnnamedAt : Key → ℕ → Recorded → Type 0
+IsUnnamedAt key node r = r.frame.id ≡ 0x600 + node → length r.frame.bytes ≡ 8 → key_in r.frame.bytes ≢ key
+
+abbrev pub IsUnnamed : Key → ℕ → List Recorded → Type 0
+IsUnnamed key node recorded = AllByRecursion (IsUnnamedAt key node) recorded
 
 -- ---- frames of the device
 
