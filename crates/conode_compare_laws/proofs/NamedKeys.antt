@@ -114,7 +114,7 @@ abbrev pub NamesBy : (Key → Type 0) → Side → List ℕ → Type 0
 NamesBy P Client bytes = length bytes ≡ 8 → P (key_in bytes)
 NamesBy P Server bytes = Unit {0}
 
-abbrev BeginsSuch : (Key → Type 0) → Reading → Type 0
+abbrev pub BeginsSuch : (Key → Type 0) → Reading → Type 0
 BeginsSuch P (Begin t) = P t.key
 BeginsSuch P _ = Unit {0}
 
@@ -151,7 +151,7 @@ segment_begins P block_size (Some segment) otherwise h = by (nat_le segment.sequ
     by true = tt
     by false = h
 
-reading_begins : (P : Key → Type 0) (current : Option Transfer) (side : Side) (micros : ℕ) (bytes : List ℕ) → NamesBy P side bytes → BeginsSuch P (reading_of current side micros bytes)
+pub reading_begins : (P : Key → Type 0) (current : Option Transfer) (side : Side) (micros : ℕ) (bytes : List ℕ) → NamesBy P side bytes → BeginsSuch P (reading_of current side micros bytes)
 reading_begins P current Server micros bytes n = no_begin P (reading_of current Server micros bytes) (server_no_begin current micros bytes)
 reading_begins P None Client micros bytes n = client_begins P micros bytes n
 reading_begins P (Some t) Client micros bytes n = by (awaits_segment t Client) (is_abort_in_sub_block bytes)
@@ -300,7 +300,7 @@ control_open P subject p micros byte h = by (byte == 0) _ _ tt (given (is_some (
     given true = h
     given false = h
 
-frame_open : (P : Key → Type 0) (subject : Subject) (p : Progress) (micros : ℕ) (kind : FrameKind) → NamesAs P kind → IsOpenOn P p → IsOpenOn P (after_frame subject p micros kind)
+pub frame_open : (P : Key → Type 0) (subject : Subject) (p : Progress) (micros : ℕ) (kind : FrameKind) → NamesAs P kind → IsOpenOn P p → IsOpenOn P (after_frame subject p micros kind)
 unfolding after_odd_control after_emergency after_process after_fault with_gap
 frame_open P subject p micros (Command service) n h = command_open P p service false micros h
 frame_open P subject p micros (CommandToAll service) n h = command_open P p service subject.facts.starts_itself micros h

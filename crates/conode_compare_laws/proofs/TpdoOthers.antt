@@ -2,7 +2,7 @@
 use Rattle.std.proofs.Common.{◌≡◌, ◌≢◌, ℕ, ◌+◌, ◌-◌, ◌≤◌, Bool, true, false, List, [], ◌∷◌, length, Option, Some, None, refl, sym, ap, ◌∙◌, subst, arith, ◌⊎◌, inl, inr}
 use Rattle.std.specs.Prelude.{if◌then◌else◌, ◌==◌, nat_lt, is_some, option_map, IfSome}
 use Rattle.std.specs.List.{AllByRecursion}
-use Rattle.std.proofs.lemmas.Bool.{ltb-false, ne_eqb, or_parts}
+use Rattle.std.proofs.lemmas.Bool.{eqb-true, ltb-false, ne_eqb, or_parts}
 use Rattle.co_frame.specs.FrameContent.{FrameContent}
 use Rattle.co_frame.specs.Emergencies.{emergency_in}
 use Rattle.co_frame.specs.Heartbeats.{heartbeat_bytes, state_byte}
@@ -45,9 +45,12 @@ use Rattle.conode_compare_rules.specs.Progresses.{
   begins_anew,
   begun,
   booted,
+  channel_heard,
+  exchange_noted,
   findings_at,
   findings_in,
   free_at,
+  late_noted,
   moment_at,
   process_findings,
   progress_with,
@@ -59,7 +62,9 @@ use Rattle.conode_compare_rules.specs.Verdicts.{found}
 use Rattle.conode_compare_laws.specs.TpdoDifferences.{of_kind, tpdo_differences}
 use Rattle.conode_compare_laws.specs.TpdoFrames.{is_followed}
 use Rattle.conode_compare_laws.proofs.Frames.{life_kind}
+use Rattle.conode_compare_laws.proofs.NamedKeys.{IsOpenOn, Names, NamesBy, begun_open, frame_open}
 use Rattle.conode_compare_laws.proofs.Runs.{AllRun}
+use Rattle.conode_compare_laws.proofs.TpdoNamed.{NoTpdo, pdos_stay}
 
 -- ---- what compare has of TPDOs
 
@@ -241,10 +246,11 @@ begun_kept subject I p micros kept h = by (begins_anew subject.limits p micros) 
 
 -- ---- one frame
 
--- what holds after it
+-- what holds after it: no transfer of a parameter of a TPDO is open
 pub record Holds (I : Pdos → Type 0) (p : Progress) : Type 0 where
   pub fresh : IsFresh p
   pub kept : I p.pdos
+  pub apart : IsOpenOn NoTpdo p
 
 -- nothing of these kinds is found at it, and what holds then
 pub record Passes (is : Deviation → Bool) (I : Pdos → Type 0) (subject : Subject) (rows : List Row) (p : Progress) (micros : ℕ) (kind : FrameKind) : Type 0 where
@@ -258,7 +264,7 @@ one is I subject rows micros p frame kind same h =
     let pass : Passes is I subject rows (begun subject p micros) micros (data_kind subject.node frame) = subst (λ other. Passes is I subject rows (begun subject p micros) micros other) (sym same) h in
     (pass.none, pass.after)
 
--- ---- frames that are neither SDO, nor error control, nor TPDOs
+-- ---- frames that are neither error control nor TPDOs
 
 abbrev IsOtherKind : Pdos → FrameKind → Type 0
 IsOtherKind facts (Command service) = Unit {0}
@@ -269,28 +275,28 @@ IsOtherKind facts (Process id length) = is_followed facts id ≡ false
 IsOtherKind facts Other = Unit {0}
 IsOtherKind facts _ = ⊥
 
-command_holds : (facts : Pdos) (I : Pdos → Type 0) (p : Progress) (micros : ℕ) (service : NmtService) (own : Bool) → IsKept facts I → IsNewest micros p → I p.pdos → Holds I (after_command p service own micros)
+command_holds : (facts : Pdos) (I : Pdos → Type 0) (p : Progress) (micros : ℕ) (service : NmtService) (own : Bool) → IsKept facts I → IsNewest micros p → I p.pdos → IsOpenOn NoTpdo p → Holds I (after_command p service own micros)
 unfolding after_command with_gap
-command_holds facts I p micros Start own kept new h = record { fresh = fresh micros p new; kept = kept.command p.pdos h }
-command_holds facts I p micros Stop own kept new h = record { fresh = fresh micros p new; kept = kept.command p.pdos h }
-command_holds facts I p micros EnterPreOperational own kept new h = record { fresh = fresh micros p new; kept = kept.command p.pdos h }
-command_holds facts I p micros ResetNode own kept new h = record { fresh = fresh micros p new; kept = kept.unknown }
-command_holds facts I p micros ResetCommunication own kept new h = record { fresh = fresh micros p new; kept = kept.unknown }
+command_holds facts I p micros Start own kept new h apart = record { fresh = fresh micros p new; kept = kept.command p.pdos h; apart = apart }
+command_holds facts I p micros Stop own kept new h apart = record { fresh = fresh micros p new; kept = kept.command p.pdos h; apart = apart }
+command_holds facts I p micros EnterPreOperational own kept new h apart = record { fresh = fresh micros p new; kept = kept.command p.pdos h; apart = apart }
+command_holds facts I p micros ResetNode own kept new h apart = record { fresh = fresh micros p new; kept = kept.unknown; apart = tt }
+command_holds facts I p micros ResetCommunication own kept new h apart = record { fresh = fresh micros p new; kept = kept.unknown; apart = tt }
 
 other_passes : (is : Deviation → Bool) (I : Pdos → Type 0) (subject : Subject) (rows : List Row) (p : Progress) (micros : ℕ) (kind : FrameKind) → IsKept subject.facts.pdos I → IsOtherKind subject.facts.pdos kind
-    → IsNewest micros p → I p.pdos → Passes is I subject rows p micros kind
+    → IsNewest micros p → I p.pdos → IsOpenOn NoTpdo p → Passes is I subject rows p micros kind
 unfolding after_emergency process_findings after_process
-other_passes is I subject rows p micros (Command service) kept other new h = record { none = refl; after = command_holds subject.facts.pdos I p micros service false kept new h }
-other_passes is I subject rows p micros (CommandToAll service) kept other new h = record { none = refl; after = command_holds subject.facts.pdos I p micros service subject.facts.starts_itself kept new h }
-other_passes is I subject rows p micros (Emcy code register) kept other new h = record { none = refl; after = record { fresh = fresh micros p new; kept = h } }
-other_passes is I subject rows p micros (OddEmergency length) kept other new h = record { none = refl; after = record { fresh = fresh micros p new; kept = h } }
-other_passes is I subject rows p micros (Process id length) kept other new h = record {
+other_passes is I subject rows p micros (Command service) kept other new h apart = record { none = refl; after = command_holds subject.facts.pdos I p micros service false kept new h apart }
+other_passes is I subject rows p micros (CommandToAll service) kept other new h apart = record { none = refl; after = command_holds subject.facts.pdos I p micros service subject.facts.starts_itself kept new h apart }
+other_passes is I subject rows p micros (Emcy code register) kept other new h apart = record { none = refl; after = record { fresh = fresh micros p new; kept = h; apart = apart } }
+other_passes is I subject rows p micros (OddEmergency length) kept other new h apart = record { none = refl; after = record { fresh = fresh micros p new; kept = h; apart = apart } }
+other_passes is I subject rows p micros (Process id length) kept other new h apart = record {
   none = sighted_none is id length (sighting (moment_at subject p micros) p.pdos id length)
       (all_fine is (moment_at subject p micros) p.pdos id length (unseen is (moment_at subject p micros) subject.facts.pdos p.pdos id length (kept.knows p.pdos h) other));
-  after = record { fresh = fresh micros p new; kept = kept.other p.pdos (moment_at subject p micros) id other h };
+  after = record { fresh = fresh micros p new; kept = kept.other p.pdos (moment_at subject p micros) id other h; apart = apart };
 }
-other_passes is I subject rows p micros Other kept other new h = record { none = refl; after = record { fresh = fresh micros p new; kept = h } }
-other_passes is I subject rows p micros _ kept other new h = absurd other
+other_passes is I subject rows p micros Other kept other new h apart = record { none = refl; after = record { fresh = fresh micros p new; kept = h; apart = apart } }
+other_passes is I subject rows p micros _ kept other new h apart = absurd other
 
 other_command : (facts : Pdos) (node : ℕ) (command : Option NmtCommand) → IsOtherKind facts (command_to node command)
 other_command facts node None = tt
@@ -305,43 +311,67 @@ other_emergency : (facts : Pdos) (length : ℕ) (o : Option Emergency) → IsOth
 other_emergency facts length None = tt
 other_emergency facts length (Some emergency) = tt
 
--- frames of other services than SDO and error control, and none that is taken for a TPDO
-abbrev pub IsOther : Pdos → ℕ → ℕ → Type 0
-IsOther facts node id = (id ≢ 0x580 + node) × (id ≢ 0x600 + node) × (id ≢ 0x700 + node) × (is_followed facts id ≡ false)
+-- frames of other services than error control, none that is taken for a TPDO, and no request of a parameter of a TPDO
+abbrev pub IsOther : Pdos → ℕ → FrameContent → Type 0
+IsOther facts node frame = (frame.id ≢ 0x700 + node) × (is_followed facts frame.id ≡ false) × Names NoTpdo node frame
 
-other_kind : (facts : Pdos) (node : ℕ) (frame : FrameContent) → IsOther facts node frame.id → IsOtherKind facts (data_kind node frame)
-other_kind facts node frame h =
-    by (frame.id == 0) (frame.id == 0x80 + node) (frame.id == 0x580 + node) (frame.id == 0x600 + node) (frame.id == 0x700 + node)
-    (ne_eqb frame.id (0x580 + node) h.0) (ne_eqb frame.id (0x600 + node) h.1) (ne_eqb frame.id (0x700 + node) h.2)
+client_passes : (is : Deviation → Bool) (I : Pdos → Type 0) (subject : Subject) (rows : List Row) (p : Progress) (micros : ℕ) (frame : FrameContent) → NamesBy NoTpdo Client frame.bytes → IsNewest micros p → I p.pdos → IsOpenOn NoTpdo p
+    → Passes is I subject rows p micros (Sdo Client frame)
+unfolding channel_heard exchange_noted
+client_passes is I subject rows p micros frame n new h apart = record {
+  none = refl;
+  after = record {
+    fresh = fresh micros p new;
+    kept = subst I (sym (pdos_stay subject p micros Client frame n apart)) h;
+    apart = frame_open NoTpdo subject p micros (Sdo Client frame) n apart;
+  };
+}
+
+server_passes : (is : Deviation → Bool) (I : Pdos → Type 0) (subject : Subject) (rows : List Row) (p : Progress) (micros : ℕ) (frame : FrameContent) → IsNewest micros p → I p.pdos → IsOpenOn NoTpdo p
+    → Passes is I subject rows p micros (Sdo Server frame)
+unfolding channel_heard exchange_noted late_noted
+server_passes is I subject rows p micros frame new h apart = record {
+  none = refl;
+  after = record {
+    fresh = fresh micros p new;
+    kept = subst I (sym (pdos_stay subject p micros Server frame tt apart)) h;
+    apart = frame_open NoTpdo subject p micros (Sdo Server frame) tt apart;
+  };
+}
+
+frame_passes : (is : Deviation → Bool) (I : Pdos → Type 0) (subject : Subject) (rows : List Row) (p : Progress) (micros : ℕ) (frame : FrameContent) → IsKept subject.facts.pdos I → IsOther subject.facts.pdos subject.node frame
+    → IsNewest micros p → I p.pdos → IsOpenOn NoTpdo p → Passes is I subject rows p micros (data_kind subject.node frame)
+frame_passes is I subject rows p micros frame kept other new h apart =
+    by (frame.id == 0) (frame.id == 0x80 + subject.node) (frame.id == 0x580 + subject.node) (frame.id == 0x600 + subject.node) (frame.id == 0x700 + subject.node)
+    (λ on. other.2 (eqb-true frame.id (0x600 + subject.node) on)) (ne_eqb frame.id (0x700 + subject.node) other.0)
   where
-    by : (a b c d e : Bool) → c ≡ false → d ≡ false → e ≡ false
-        → IsOtherKind facts (if a then command_kind node frame
+    by : (a b c d e : Bool) → (d ≡ true → NamesBy NoTpdo Client frame.bytes) → e ≡ false
+        → Passes is I subject rows p micros (if a then command_kind subject.node frame
         else (if b then emergency_kind frame
         else (if c then Sdo Server frame
         else (if d then Sdo Client frame
         else (if e then control_kind frame else Process frame.id (length_of frame))))))
-    by true b c d e p q r = other_command facts node (nmt_command_in frame)
-    by false true c d e p q r = other_emergency facts (length_of frame) (emergency_in frame.bytes)
-    by false false true d e p q r = absurd (cc)
-    by false false false true e p q r = absurd (cc)
-    by false false false false true p q r = absurd (cc)
-    by false false false false false p q r = h.3
+    by true b c d e n r = other_passes is I subject rows p micros (command_kind subject.node frame) kept (other_command subject.facts.pdos subject.node (nmt_command_in frame)) new h apart
+    by false true c d e n r = other_passes is I subject rows p micros (emergency_kind frame) kept (other_emergency subject.facts.pdos (length_of frame) (emergency_in frame.bytes)) new h apart
+    by false false true d e n r = server_passes is I subject rows p micros frame new h apart
+    by false false false true e n r = client_passes is I subject rows p micros frame (n refl) new h apart
+    by false false false false true n r = absurd (cc)
+    by false false false false false n r = other_passes is I subject rows p micros (Process frame.id (length_of frame)) kept other.1 new h apart
 
 pub others : (is : Deviation → Bool) (I : Pdos → Type 0) (subject : Subject) (rows : List Row) (micros : ℕ) (frames : List FrameContent) (p : Progress) → IsKept subject.facts.pdos I
-    → AllByRecursion (λ frame. IsOther subject.facts.pdos subject.node frame.id) frames → Holds I p → AllRun (tpdo_differences is) subject rows micros p frames (Holds I)
+    → AllByRecursion (IsOther subject.facts.pdos subject.node) frames → Holds I p → AllRun (tpdo_differences is) subject rows micros p frames (Holds I)
 others is I subject rows micros [] p kept are h = h
 others is I subject rows micros (frame ∷ later) p kept are h =
     let first : AllRun (tpdo_differences is) subject rows micros p (frame ∷ []) (Holds I) =
     one is I subject rows micros p frame (data_kind subject.node frame) refl
-    (other_passes is I subject rows (begun subject p micros) micros (data_kind subject.node frame) kept (other_kind subject.facts.pdos subject.node frame are.0)
-    (begun_newest subject p micros h.fresh) (begun_kept subject I p micros kept h.kept)) in
+    (frame_passes is I subject rows (begun subject p micros) micros frame kept are.0 (begun_newest subject p micros h.fresh) (begun_kept subject I p micros kept h.kept) (begun_open NoTpdo subject p micros h.apart)) in
     (first.0, others is I subject rows micros later (progress_with subject p micros (data_kind subject.node frame)) kept are.1 first.1)
 
 -- ---- the boot-up, and heartbeats
 
 boot_passes : (is : Deviation → Bool) (I : Pdos → Type 0) (subject : Subject) (rows : List Row) (p : Progress) (micros : ℕ) → I subject.facts.pdos → IsNewest micros p → Passes is I subject rows p micros (Control 0)
 unfolding booted
-boot_passes is I subject rows p micros begins new = record { none = refl; after = record { fresh = fresh micros p new; kept = begins } }
+boot_passes is I subject rows p micros begins new = record { none = refl; after = record { fresh = fresh micros p new; kept = begins; apart = tt } }
 
 -- whatever held before it
 pub boots : (is : Deviation → Bool) (I : Pdos → Type 0) (subject : Subject) (rows : List Row) (micros : ℕ) (p : Progress) → I subject.facts.pdos → IsFresh p
@@ -354,12 +384,12 @@ either_kept : (I : Pdos → Type 0) (b : Bool) (x y : Pdos) → I x → I y → 
 either_kept I true x y p q = p
 either_kept I false x y p q = q
 
-heartbeat_passes : (is : Deviation → Bool) (I : Pdos → Type 0) (subject : Subject) (rows : List Row) (p : Progress) (micros : ℕ) (actual : NodeState) → IsKept subject.facts.pdos I → IsNewest micros p → I p.pdos
+heartbeat_passes : (is : Deviation → Bool) (I : Pdos → Type 0) (subject : Subject) (rows : List Row) (p : Progress) (micros : ℕ) (actual : NodeState) → IsKept subject.facts.pdos I → IsNewest micros p → I p.pdos → IsOpenOn NoTpdo p
     → Passes is I subject rows p micros (Control (state_byte (heartbeat_of actual)))
 unfolding progresses.after_control
-heartbeat_passes is I subject rows p micros node.PreOperational kept new h = record { none = refl; after = record { fresh = fresh micros p new; kept = kept.command p.pdos h } }
-heartbeat_passes is I subject rows p micros node.Operational kept new h = record { none = refl; after = record { fresh = fresh micros p new; kept = h } }
-heartbeat_passes is I subject rows p micros node.Stopped kept new h = record { none = refl; after = record { fresh = fresh micros p new; kept = kept.command p.pdos h } }
+heartbeat_passes is I subject rows p micros node.PreOperational kept new h apart = record { none = refl; after = record { fresh = fresh micros p new; kept = kept.command p.pdos h; apart = frame_open NoTpdo subject p micros (Control (state_byte (heartbeat_of node.PreOperational))) tt apart } }
+heartbeat_passes is I subject rows p micros node.Operational kept new h apart = record { none = refl; after = record { fresh = fresh micros p new; kept = h; apart = frame_open NoTpdo subject p micros (Control (state_byte (heartbeat_of node.Operational))) tt apart } }
+heartbeat_passes is I subject rows p micros node.Stopped kept new h apart = record { none = refl; after = record { fresh = fresh micros p new; kept = kept.command p.pdos h; apart = frame_open NoTpdo subject p micros (Control (state_byte (heartbeat_of node.Stopped))) tt apart } }
 
 -- what the device sends of error control at an input: its boot-up at a reset, else a heartbeat or nothing
 pub lives : (is : Deviation → Bool) (I : Pdos → Type 0) (subject : Subject) (rows : List Row) (micros : ℕ) (p : Progress) (reset due : Bool) (final : NodeState) → IsKept subject.facts.pdos I
@@ -369,4 +399,4 @@ lives is I subject rows micros p true due final kept begins h = boots is I subje
 lives is I subject rows micros p false false final kept begins h = h
 lives is I subject rows micros p false true final kept begins h =
     one is I subject rows micros p (record { id = 0x700 + subject.node; bytes = heartbeat_bytes (heartbeat_of final) }) (Control (state_byte (heartbeat_of final))) (life_kind subject.node (heartbeat_of final))
-    (heartbeat_passes is I subject rows (begun subject p micros) micros final kept (begun_newest subject p micros h.fresh) (begun_kept subject I p micros kept h.kept))
+    (heartbeat_passes is I subject rows (begun subject p micros) micros final kept (begun_newest subject p micros h.fresh) (begun_kept subject I p micros kept h.kept) (begun_open NoTpdo subject p micros h.apart))

@@ -29,24 +29,26 @@ use Rattle.conode_compare_rules.specs.declared.progress.Progress.{Progress}
 use Rattle.conode_compare_rules.specs.declared.verdict.Findings.{Findings}
 use Rattle.conode_compare_rules.specs.FrameKinds.{command_kind, control_kind, data_kind, emergency_kind, emergency_with, length_of}
 use Rattle.conode_compare_rules.specs.Progresses.{after_emergency, after_process, begun, moment_at, process_findings, progress_with}
+use Rattle.conode_compare_laws.specs.AnswerSenders.{AreOther}
 use Rattle.conode_compare_laws.specs.Identifiers.{AreAside, IsElsewhere, SendsAside}
 use Rattle.conode_compare_laws.specs.Recordings.{frame_of}
 use Rattle.conode_compare_laws.specs.TpdoDifferences.{tpdo_differences}
 use Rattle.conode_compare_laws.specs.TpdoFrames.{AreUnfollowed, IsNoTpdo, SendsBesideTpdos}
 use Rattle.conode_compare_laws.proofs.Heard.{of_device}
-use Rattle.conode_compare_laws.proofs.Heartbeats.{NoSdo, after_those, before_these}
+use Rattle.conode_compare_laws.proofs.NamedKeys.{IsOpenOn, begun_open}
 use Rattle.conode_compare_laws.proofs.Runs.{AllRun, joined}
 use Rattle.conode_compare_laws.proofs.TpdoDue.{AreDistinct}
+use Rattle.conode_compare_laws.proofs.TpdoNamed.{NoTpdo, Unnamed, after_those, before_these}
 use Rattle.conode_compare_laws.proofs.TpdoOthers.{AreFine, Holds, IsKept, IsNewest, IsOther, Passes, all_fine, begun_kept, begun_newest, fresh, lives, one, others, sighted_none}
 
 -- ---- which frames these are
 
-pub others_of : (facts : Pdos) (node : ℕ) (frames : List FrameContent) → NoSdo node frames → AreAside node frames → AreUnfollowed facts frames → AllByRecursion (λ frame. IsOther facts node frame.id) frames
+pub others_of : (facts : Pdos) (node : ℕ) (frames : List FrameContent) → Unnamed node frames → AreAside node frames → AreUnfollowed facts frames → AllByRecursion (IsOther facts node) frames
 others_of facts node [] none aside off = tt
-others_of facts node (frame ∷ frames) none aside off = ((none.0.0, none.0.1, aside.0.1, off.0), others_of facts node frames none.1 aside.1 off.1)
+others_of facts node (frame ∷ frames) none aside off = ((aside.0.1, off.0, none.0), others_of facts node frames none.1 aside.1 off.1)
 
-pub came_other : (facts : Pdos) (node : ℕ) (input : InputView) → NoSdo node (frame_of input) → IsElsewhere (0x700 + node) input → IsNoTpdo facts input → AllByRecursion (λ frame. IsOther facts node frame.id) (frame_of input)
-came_other facts node (Framed frame) none control off = ((none.0.0, none.0.1, control, off), tt)
+pub came_other : (facts : Pdos) (node : ℕ) (input : InputView) → Unnamed node (frame_of input) → IsElsewhere (0x700 + node) input → IsNoTpdo facts input → AllByRecursion (IsOther facts node) (frame_of input)
+came_other facts node (Framed frame) none control off = ((control, off, none.0), tt)
 came_other facts node Ticked none control off = tt
 came_other facts node (Applied event) none control off = tt
 
@@ -57,7 +59,7 @@ besides k m = frames_at m.exchange ++ frames_at m.timed_out ++ emergency_frames 
 
 pub besides_run : (is : Deviation → Bool) (I : Pdos → Type 0) (k : Constants) (subject : Subject) (rows : List Row) (micros : ℕ) (before : Inputs) (input : InputView) (p : Progress) → IsKept subject.facts.pdos I
     → (is_reset (moment k (moments k before) input).mark ≡ true → I subject.facts.pdos) → SendsAside k (moment k (moments k before) input) → SendsBesideTpdos subject.facts.pdos k (moment k (moments k before) input)
-    → NoSdo k.description.node (besides k (moment k (moments k before) input)) → Holds I p
+    → Unnamed k.description.node (besides k (moment k (moments k before) input)) → Holds I p
     → AllRun (tpdo_differences is) (of_device k subject) rows micros p (besides k (moment k (moments k before) input)) (Holds I)
 besides_run is I k subject rows micros before input p kept begins aside off none h =
     let s : Subject = of_device k subject in
@@ -70,8 +72,8 @@ besides_run is I k subject rows micros before input p kept begins aside off none
     let b : List FrameContent = frames_at m.timed_out in
     let c : List FrameContent = emergency_frames m.contents m.emergency in
     let d : List FrameContent = life_frames n m.life in
-    let none_c : NoSdo n (a ++ b ++ c) = before_these n (a ++ b ++ c) d none in
-    let none_b : NoSdo n (a ++ b) = before_these n (a ++ b) c none_c in
+    let none_c : Unnamed n (a ++ b ++ c) = before_these n (a ++ b ++ c) d none in
+    let none_b : Unnamed n (a ++ b) = before_these n (a ++ b) c none_c in
     joined (tpdo_differences is) s rows micros (a ++ b ++ c) d p (Holds I) (Holds I)
     (joined (tpdo_differences is) s rows micros (a ++ b) c p (Holds I) (Holds I)
     (joined (tpdo_differences is) s rows micros a b p (Holds I) (Holds I)
@@ -92,23 +94,23 @@ pub record Step (is : Deviation → Bool) (J : Pdos → Type 0) (subject : Subje
   pub kept : (id == 0x80 + subject.node) ≡ false → J (framed p.pdos (moment_at subject p micros) id)
   pub unseen : (id == 0x80 + subject.node) ≡ true → J p.pdos
 
-emergency_passes : (is : Deviation → Bool) (J : Pdos → Type 0) (subject : Subject) (rows : List Row) (p : Progress) (micros length : ℕ) (o : Option Emergency) → IsNewest micros p → J p.pdos
+emergency_passes : (is : Deviation → Bool) (J : Pdos → Type 0) (subject : Subject) (rows : List Row) (p : Progress) (micros length : ℕ) (o : Option Emergency) → IsNewest micros p → J p.pdos → IsOpenOn NoTpdo p
     → Passes is J subject rows p micros (emergency_with length o)
 unfolding after_emergency
-emergency_passes is J subject rows p micros length None new h = record { none = refl; after = record { fresh = fresh micros p new; kept = h } }
-emergency_passes is J subject rows p micros length (Some emergency) new h = record { none = refl; after = record { fresh = fresh micros p new; kept = h } }
+emergency_passes is J subject rows p micros length None new h apart = record { none = refl; after = record { fresh = fresh micros p new; kept = h; apart = apart } }
+emergency_passes is J subject rows p micros length (Some emergency) new h apart = record { none = refl; after = record { fresh = fresh micros p new; kept = h; apart = apart } }
 
-process_passes : (is : Deviation → Bool) (J : Pdos → Type 0) (subject : Subject) (rows : List Row) (p : Progress) (micros id length : ℕ) → (id == 0x80 + subject.node) ≡ false → IsNewest micros p → Step is J subject p micros id length
+process_passes : (is : Deviation → Bool) (J : Pdos → Type 0) (subject : Subject) (rows : List Row) (p : Progress) (micros id length : ℕ) → (id == 0x80 + subject.node) ≡ false → IsNewest micros p → Step is J subject p micros id length → IsOpenOn NoTpdo p
     → Passes is J subject rows p micros (Process id length)
 unfolding process_findings after_process
-process_passes is J subject rows p micros id length other new step = record {
+process_passes is J subject rows p micros id length other new step apart = record {
   none = sighted_none is id length (sighting (moment_at subject p micros) p.pdos id length) (all_fine is (moment_at subject p micros) p.pdos id length step.fine);
-  after = record { fresh = fresh micros p new; kept = step.kept other };
+  after = record { fresh = fresh micros p new; kept = step.kept other; apart = apart };
 }
 
 tpdo_passes : (is : Deviation → Bool) (J : Pdos → Type 0) (subject : Subject) (rows : List Row) (p : Progress) (micros : ℕ) (frame : FrameContent) → IsTpdoId subject.node frame.id → IsNewest micros p
-    → Step is J subject p micros frame.id (length_of frame) → Passes is J subject rows p micros (data_kind subject.node frame)
-tpdo_passes is J subject rows p micros frame id new step =
+    → Step is J subject p micros frame.id (length_of frame) → IsOpenOn NoTpdo p → Passes is J subject rows p micros (data_kind subject.node frame)
+tpdo_passes is J subject rows p micros frame id new step apart =
     by (frame.id == 0) (frame.id == 0x80 + subject.node) (frame.id == 0x580 + subject.node) (frame.id == 0x600 + subject.node) (frame.id == 0x700 + subject.node)
     (ne_eqb frame.id 0 id.0) refl (ne_eqb frame.id (0x580 + subject.node) id.1) (ne_eqb frame.id (0x600 + subject.node) id.2) (ne_eqb frame.id (0x700 + subject.node) id.3)
   where
@@ -119,11 +121,11 @@ tpdo_passes is J subject rows p micros frame id new step =
         else (if d then Sdo Client frame
         else (if e then control_kind frame else Process frame.id (length_of frame))))))
     by true b c d e o emergency q r s = absurd (cc)
-    by false true c d e o emergency q r s = emergency_passes is J subject rows p micros (length_of frame) (emergency_in frame.bytes) new (step.unseen emergency)
+    by false true c d e o emergency q r s = emergency_passes is J subject rows p micros (length_of frame) (emergency_in frame.bytes) new (step.unseen emergency) apart
     by false false true d e o emergency q r s = absurd (cc)
     by false false false true e o emergency q r s = absurd (cc)
     by false false false false true o emergency q r s = absurd (cc)
-    by false false false false false o emergency q r s = process_passes is J subject rows p micros frame.id (length_of frame) emergency new step
+    by false false false false false o emergency q r s = process_passes is J subject rows p micros frame.id (length_of frame) emergency new step apart
 
 -- ---- the TPDOs that are due, one after another
 
@@ -148,10 +150,10 @@ walks is Ok J Q subject rows micros frame (n ∷ later) p walk ids oks once h g 
     let step : Step is (J later) subject (begun subject p micros) micros (frame n).id (length_of (frame n)) =
     walk.step n later (begun subject p micros) new oks.0 once.0 (walk.begins p g) (begun_kept subject (J (n ∷ later)) p micros (walk.kept (n ∷ later)) h.kept) in
     let first : AllRun (tpdo_differences is) subject rows micros p (frame n ∷ []) (Holds (J later)) =
-    one is (J later) subject rows micros p (frame n) (data_kind subject.node (frame n)) refl (tpdo_passes is (J later) subject rows (begun subject p micros) micros (frame n) ids.0 new step) in
+    one is (J later) subject rows micros p (frame n) (data_kind subject.node (frame n)) refl (tpdo_passes is (J later) subject rows (begun subject p micros) micros (frame n) ids.0 new step (begun_open NoTpdo subject p micros h.apart)) in
     (first.0, walks is Ok J Q subject rows micros frame later (progress_with subject p micros (data_kind subject.node (frame n))) walk ids.1 oks.1 once.1 first.1 (walk.goes_on p n ids.0 g))
 
-pub tpdo_ids : (node : ℕ) (frame : ℕ → FrameContent) (due : List ℕ) → AreAside node (map frame due) → NoSdo node (map frame due) → AllByRecursion (λ n. IsTpdoId node (frame n).id) due
+pub tpdo_ids : (node : ℕ) (frame : ℕ → FrameContent) (due : List ℕ) → AreAside node (map frame due) → AreOther node (map frame due) → AllByRecursion (λ n. IsTpdoId node (frame n).id) due
 tpdo_ids node frame [] aside none = tt
 tpdo_ids node frame (n ∷ due) aside none = ((aside.0.0, none.0.0, none.0.1, aside.0.1), tpdo_ids node frame due aside.1 none.1)
 

@@ -38,6 +38,8 @@ use Rattle.conode_compare_laws.proofs.Inputs.{command_in, end_shown, state_by}
 use Rattle.conode_compare_laws.proofs.Pausing.{took}
 use Rattle.conode_compare_laws.proofs.Runs.{AllRun}
 use Rattle.conode_compare_laws.proofs.Shown.{is_shown}
+use Rattle.conode_compare_laws.proofs.NamedKeys.{IsOpenOn, begun_open}
+use Rattle.conode_compare_laws.proofs.TpdoNamed.{NoTpdo}
 use Rattle.conode_compare_laws.proofs.TpdoOthers.{Holds, IsNewest, Knows, Passes, begun_kept, begun_newest, fresh, knows_kept, one}
 use Rattle.conode_compare_laws.proofs.TpdoTimes.{AreTimed, commanded_timed, unknown_timed}
 
@@ -171,22 +173,22 @@ module _ (is : Deviation → Bool) (R : ℕ → Sent → List ℕ → Type 0) (i
   abbrev pub I : Pdos → Type 0
   I = AreTimed R subject.node ids subject.facts.pdos micros ages
 
-  command_holds : (p : Progress) (service : NmtService) (own : Bool) → IsNewest micros p → Knows subject.facts.pdos p.pdos → Holds I (after_command p service own micros)
+  command_holds : (p : Progress) (service : NmtService) (own : Bool) → IsNewest micros p → Knows subject.facts.pdos p.pdos → IsOpenOn NoTpdo p → Holds I (after_command p service own micros)
   unfolding after_command with_gap
-  command_holds p Start own new h = record { fresh = fresh micros p new; kept = commanded_timed R subject.node ids subject.facts.pdos micros ages p.pdos h }
-  command_holds p Stop own new h = record { fresh = fresh micros p new; kept = commanded_timed R subject.node ids subject.facts.pdos micros ages p.pdos h }
-  command_holds p EnterPreOperational own new h = record { fresh = fresh micros p new; kept = commanded_timed R subject.node ids subject.facts.pdos micros ages p.pdos h }
-  command_holds p ResetNode own new h = record { fresh = fresh micros p new; kept = unknown_timed R subject.node ids subject.facts.pdos micros ages }
-  command_holds p ResetCommunication own new h = record { fresh = fresh micros p new; kept = unknown_timed R subject.node ids subject.facts.pdos micros ages }
+  command_holds p Start own new h apart = record { fresh = fresh micros p new; kept = commanded_timed R subject.node ids subject.facts.pdos micros ages p.pdos h; apart = apart }
+  command_holds p Stop own new h apart = record { fresh = fresh micros p new; kept = commanded_timed R subject.node ids subject.facts.pdos micros ages p.pdos h; apart = apart }
+  command_holds p EnterPreOperational own new h apart = record { fresh = fresh micros p new; kept = commanded_timed R subject.node ids subject.facts.pdos micros ages p.pdos h; apart = apart }
+  command_holds p ResetNode own new h apart = record { fresh = fresh micros p new; kept = unknown_timed R subject.node ids subject.facts.pdos micros ages; apart = tt }
+  command_holds p ResetCommunication own new h apart = record { fresh = fresh micros p new; kept = unknown_timed R subject.node ids subject.facts.pdos micros ages; apart = tt }
 
-  command_passes : (p : Progress) (command : Option NmtCommand) → is_some (service_for subject.node command) ≡ true → IsNewest micros p → Knows subject.facts.pdos p.pdos → Passes is I subject rows p micros (command_to subject.node command)
-  command_passes p None is_one new h = absurd (cc)
-  command_passes p (Some command) is_one new h = by (command.node == 0) (command.node == subject.node) is_one
+  command_passes : (p : Progress) (command : Option NmtCommand) → is_some (service_for subject.node command) ≡ true → IsNewest micros p → Knows subject.facts.pdos p.pdos → IsOpenOn NoTpdo p → Passes is I subject rows p micros (command_to subject.node command)
+  command_passes p None is_one new h apart = absurd (cc)
+  command_passes p (Some command) is_one new h apart = by (command.node == 0) (command.node == subject.node) is_one
     where
       by : (all this : Bool) → is_some (if all || this then Some command.service else None) ≡ true
           → Passes is I subject rows p micros (if all then CommandToAll command.service else (if this then Command command.service else Other))
-      by true this g = record { none = refl; after = command_holds p command.service subject.facts.starts_itself new h }
-      by false true g = record { none = refl; after = command_holds p command.service false new h }
+      by true this g = record { none = refl; after = command_holds p command.service subject.facts.starts_itself new h apart }
+      by false true g = record { none = refl; after = command_holds p command.service false new h apart }
       by false false g = absurd (cc)
 
   pub command_comes : (input : InputView) (p : Progress) → is_some (command_in subject.node input) ≡ true → Holds (Knows subject.facts.pdos) p → AllRun (tpdo_differences is) subject rows micros p (frame_of input) (Holds I)
@@ -197,5 +199,5 @@ module _ (is : Deviation → Bool) (R : ℕ → Sent → List ℕ → Type 0) (i
       by : (b : Bool) → (frame.id == 0) ≡ b → is_some (if b then service_for subject.node (nmt_command_in frame) else None) ≡ true → AllRun (tpdo_differences is) subject rows micros p (frame ∷ []) (Holds I)
       by true zero g =
           one is I subject rows micros p frame (command_to subject.node (nmt_command_in frame)) (nmt_kind subject.node frame zero)
-          (command_passes (begun subject p micros) (nmt_command_in frame) g (begun_newest subject p micros h.fresh) (begun_kept subject (Knows subject.facts.pdos) p micros (knows_kept subject.facts.pdos) h.kept))
+          (command_passes (begun subject p micros) (nmt_command_in frame) g (begun_newest subject p micros h.fresh) (begun_kept subject (Knows subject.facts.pdos) p micros (knows_kept subject.facts.pdos) h.kept) (begun_open NoTpdo subject p micros h.apart))
       by false zero g = absurd (cc)

@@ -35,7 +35,9 @@ use Rattle.conode_compare_rules.specs.declared.verdict.Findings.{Findings}
 use Rattle.conode_compare_rules.specs.FrameKinds.{data_kind, length_of}
 use Rattle.conode_compare_rules.specs.Progresses.{before_recording, is_idle, moment_at, progress_with, settled_when_free}
 use Rattle.conode_compare_laws.specs.Differences.{differences_from, differences_in, state_differences}
-use Rattle.conode_compare_laws.specs.Identifiers.{AllSendAside, AreElsewhere, AreNoSdo, IsElsewhere, SendsAside}
+use Rattle.conode_compare_laws.specs.AnswerSenders.{AllSendOther, AreOther}
+use Rattle.conode_compare_laws.specs.TpdoParameters.{NameNoTpdos}
+use Rattle.conode_compare_laws.specs.Identifiers.{AllSendAside, AreElsewhere, IsElsewhere, SendsAside}
 use Rattle.conode_compare_laws.specs.Recordings.{Recorded, Stamped, frame_of, heard_from, recording, stamped}
 use Rattle.conode_compare_laws.specs.TpdoDifferences.{is_pdo_state, tpdo_differences}
 use Rattle.conode_compare_laws.specs.TpdoFrames.{AllSendBesideTpdos, AreNoTpdos, IsNoTpdo, SendsBesideTpdos}
@@ -43,7 +45,7 @@ use Rattle.conode_compare_laws.proofs.Along as along
 use Rattle.conode_compare_laws.proofs.Along.{AllGo, Goes}
 use Rattle.conode_compare_laws.proofs.Frames.{FitsAt, begun_fits}
 use Rattle.conode_compare_laws.proofs.Heard.{Ends, aside_goes, asides, before_sending, boot_goes, life_goes, of_device, received, stage_at}
-use Rattle.conode_compare_laws.proofs.Heartbeats.{NoSdo, after_those, before_these, first_part, last_part, unstamped}
+use Rattle.conode_compare_laws.proofs.TpdoNamed.{Unnamed, after_those, before_these, first_part, last_part, unstamped}
 use Rattle.conode_compare_laws.proofs.Inputs.{command_in, command_is, end_shown, state_by}
 use Rattle.conode_compare_laws.proofs.Runs.{AllRun, joined, then_none}
 use Rattle.conode_compare_laws.proofs.Shown.{Stage, boots, fits_nothing, is_shown, runs, stage_after}
@@ -161,10 +163,10 @@ record IsShown (facts : Pdos) (actual : NodeState) (p : Progress) : Type 0 where
   state : is_shown p.nmt.state actual ≡ true
 
 input_runs : (k : Constants) (subject : Subject) (rows : List Row) (micros : ℕ) (before : Inputs) (input : InputView) (p : Progress) → IsElsewhere (0x700 + k.description.node) input → IsNoTpdo subject.facts.pdos input
-    → SendsAside k (moment k (moments k before) input) → SendsBesideTpdos subject.facts.pdos k (moment k (moments k before) input) → NoSdo k.description.node (frame_of input ++ prescribed k before input)
-    → IsShown subject.facts.pdos (state_of k before) p
+    → SendsAside k (moment k (moments k before) input) → SendsBesideTpdos subject.facts.pdos k (moment k (moments k before) input) → Unnamed k.description.node (frame_of input ++ prescribed k before input)
+    → AreOther k.description.node (map (tpdo_frame k.description (moment k (moments k before) input).contents) (moment k (moments k before) input).due) → IsShown subject.facts.pdos (state_of k before) p
     → AllRun (tpdo_differences is_pdo_state) (of_device k subject) rows micros p (frame_of input ++ prescribed k before input) (Walked (Knows subject.facts.pdos) (FitsAt micros (runs (state_of k (input ∷ before)))))
-input_runs k subject rows micros before input p control no_tpdo aside off none h =
+input_runs k subject rows micros before input p control no_tpdo aside off none other h =
     let s : Subject = of_device k subject in
     let n : ℕ = k.description.node in
     let facts : Pdos = subject.facts.pdos in
@@ -175,7 +177,7 @@ input_runs k subject rows micros before input p control no_tpdo aside off none h
     let stage : Stage = stage_after (command_in n input) (state_of k before) in
     let came : List FrameContent = frame_of input in
     let more : List FrameContent = besides k m in
-    let sent : NoSdo n (more ++ map frame m.due) = after_those n came (prescribed k before input) none in
+    let sent : Unnamed n (more ++ map frame m.due) = after_those n came (prescribed k before input) none in
     let after_came : Progress → Type 0 = λ q. FitsAt micros stage q × Holds (Knows facts) q in
     let after_more : Progress → Type 0 = λ q. FitsAt micros (runs final) q × Holds (Knows facts) q in
     let after : Progress → Type 0 = Walked (Knows facts) (FitsAt micros (runs final)) in
@@ -189,27 +191,27 @@ input_runs k subject rows micros before input p control no_tpdo aside off none h
     (subst (λ c. FitsAt micros (stage_at c final) q) (sym (command_is k (moments k before) input))
     (before_sending micros (command_in n input) (state_of k before) final q (λ state shown. end_shown k (moments k before) input state shown) g.0)))
     (besides_run is_pdo_state (Knows facts) k subject rows micros before input q (knows_kept facts) (λ reset. knows_sheet facts) aside off (before_these n more (map frame m.due) sent) g.1))
-    (λ r f. tpdos_run s rows micros frame m.due final r (due_operational k before input) (tpdo_ids n frame m.due aside.tpdos (after_those n more (map frame m.due) sent))
+    (λ r f. tpdos_run s rows micros frame m.due final r (due_operational k before input) (tpdo_ids n frame m.due aside.tpdos other)
     (due_distinct k.description (turn_at m (moments k before)) m.contents (schedule_log k (moments k before))) f.1 f.0))
 
 -- ---- all inputs
 
 all_none : (k : Constants) (subject : Subject) (rows : List Row) (inputs : List Stamped) (before : Inputs) (p : Progress) → AreElsewhere (0x700 + k.description.node) inputs → AreNoTpdos subject.facts.pdos inputs
-    → AllSendAside k before inputs → AllSendBesideTpdos subject.facts.pdos k before inputs → AreNoSdo k.description.node (heard_from k before inputs) → IsShown subject.facts.pdos (state_of k before) p
+    → AllSendAside k before inputs → AllSendBesideTpdos subject.facts.pdos k before inputs → AllSendOther k before inputs → NameNoTpdos k.description.node (heard_from k before inputs) → IsShown subject.facts.pdos (state_of k before) p
     → differences_from (tpdo_differences is_pdo_state) (of_device k subject) rows p (heard_from k before inputs) ≡ []
-all_none k subject rows [] before p control no_tpdos aside off none h = refl
-all_none k subject rows (s ∷ later) before p control no_tpdos aside off none h =
+all_none k subject rows [] before p control no_tpdos aside off other none h = refl
+all_none k subject rows (s ∷ later) before p control no_tpdos aside off other none h =
     let frames : List FrameContent = frame_of s.input ++ prescribed k before s.input in
     let rest : List Recorded = heard_from k (s.input ∷ before) later in
     then_none (tpdo_differences is_pdo_state) (of_device k subject) rows s.micros frames rest p (Walked (Knows subject.facts.pdos) (FitsAt s.micros (runs (state_of k (s.input ∷ before)))))
-    (input_runs k subject rows s.micros before s.input p control.0 no_tpdos.0 aside.0 off.0 (unstamped k.description.node s.micros frames (first_part k.description.node (stamped s.micros frames) rest none)) h)
-    (λ q g. all_none k subject rows later (s.input ∷ before) q control.1 no_tpdos.1 aside.1 off.1 (last_part k.description.node (stamped s.micros frames) rest none) (record { holds = g.holds; state = g.besides }))
+    (input_runs k subject rows s.micros before s.input p control.0 no_tpdos.0 aside.0 off.0 (unstamped k.description.node s.micros frames (first_part k.description.node (stamped s.micros frames) rest none)) other.0.tpdos h)
+    (λ q g. all_none k subject rows later (s.input ∷ before) q control.1 no_tpdos.1 aside.1 off.1 other.1 (last_part k.description.node (stamped s.micros frames) rest none) (record { holds = g.holds; state = g.besides }))
 
 of_recording : (k : Constants) (subject : Subject) (rows : List Row) (inputs : List Stamped) → AreElsewhere (0x700 + k.description.node) inputs → AreNoTpdos subject.facts.pdos inputs
-    → AllSendAside k [] inputs → AllSendBesideTpdos subject.facts.pdos k [] inputs → AreNoSdo k.description.node (recording k inputs)
+    → AllSendAside k [] inputs → AllSendBesideTpdos subject.facts.pdos k [] inputs → AllSendOther k [] inputs → NameNoTpdos k.description.node (recording k inputs)
     → differences_in (tpdo_differences is_pdo_state) (of_device k subject) rows (recording k inputs) ≡ []
-of_recording k subject rows [] control no_tpdos aside off none = refl
-of_recording k subject rows (s ∷ later) control no_tpdos aside off none =
+of_recording k subject rows [] control no_tpdos aside off other none = refl
+of_recording k subject rows (s ∷ later) control no_tpdos aside off other none =
     let subj : Subject = of_device k subject in
     let these : FrameKind → Findings → List Finding = tpdo_differences is_pdo_state in
     let g : Goes state_differences subj rows s.micros (before_recording subj) (boot_up k) (runs node.PreOperational) =
@@ -217,11 +219,11 @@ of_recording k subject rows (s ∷ later) control no_tpdos aside off none =
     then_none these subj rows s.micros (boot_up k ∷ []) (heard_from k [] (s ∷ later)) (before_recording subj) (λ q. FitsAt s.micros (runs node.PreOperational) q × Holds (Knows subject.facts.pdos) q)
     (with_fits these subj rows s.micros (boot_up k ∷ []) (before_recording subj) (runs node.PreOperational) (Holds (Knows subject.facts.pdos)) (g.none, g.fits)
     (others.boots is_pdo_state (Knows subject.facts.pdos) subj rows s.micros (before_recording subj) (knows_sheet subject.facts.pdos) tt))
-    (λ q h. all_none k subject rows (s ∷ later) [] q control no_tpdos aside off none.1 (record { holds = h.1; state = h.0 }))
+    (λ q h. all_none k subject rows (s ∷ later) [] q control no_tpdos aside off other none.1 (record { holds = h.1; state = h.0 }))
 
 pub no_pdo_state : (k : Constants) (subject : Subject) (rows : List Row) (inputs : List Stamped) → subject.node ≡ k.description.node → AreElsewhere (0x700 + k.description.node) inputs → AreNoTpdos subject.facts.pdos inputs
-    → AllSendAside k [] inputs → AllSendBesideTpdos subject.facts.pdos k [] inputs → AreNoSdo k.description.node (recording k inputs)
+    → AllSendAside k [] inputs → AllSendBesideTpdos subject.facts.pdos k [] inputs → AllSendOther k [] inputs → NameNoTpdos k.description.node (recording k inputs)
     → differences_in (tpdo_differences is_pdo_state) subject rows (recording k inputs) ≡ []
-no_pdo_state k subject rows inputs is control no_tpdos aside off none =
+no_pdo_state k subject rows inputs is control no_tpdos aside off other none =
     subst (λ n. differences_in (tpdo_differences is_pdo_state) (record subject { node = n }) rows (recording k inputs) ≡ []) (sym is)
-    (of_recording k subject rows inputs control no_tpdos aside off none)
+    (of_recording k subject rows inputs control no_tpdos aside off other none)

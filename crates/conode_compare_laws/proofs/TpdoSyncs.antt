@@ -18,6 +18,9 @@ use Rattle.co_pdo.specs.Schedules.{History as Schedule, is_among, is_tpdo_due, l
 use Rattle.co_pdo.specs.Tpdos.{settings_of, tpdo_key}
 use Rattle.co_node_model.specs.declared.turn.Turn.{Turn}
 use Rattle.co_node_model.specs.declared.turn.Turn.TheVariants as turn
+use Rattle.co_sdo.specs.Events.{frames_at}
+use Rattle.co_node_model.specs.Emergencies.{emergency_frames}
+use Rattle.co_node_model.specs.Heartbeats.{life_frames}
 use Rattle.co_node_model.specs.Device.{contents_of, moment, moments, prescribed}
 use Rattle.co_node_model.specs.Inputs.{Applied, Framed, Inputs, InputView, Ticked}
 use Rattle.co_node_model.specs.Marks.{marked_sync}
@@ -37,13 +40,17 @@ use Rattle.conode_compare_rules.specs.declared.progress.Progress.{Progress}
 use Rattle.conode_compare_rules.specs.FrameKinds.{data_kind, length_of}
 use Rattle.conode_compare_rules.specs.Progresses.{after_process, begun, moment_at, process_findings}
 use Rattle.conode_compare_laws.specs.Differences.{differences_in}
+use Rattle.conode_compare_laws.specs.AnswerSenders.{AllSendOther}
 use Rattle.conode_compare_laws.specs.Identifiers.{AllSendAside, AreElsewhere, AreNoSdo, IsElsewhere}
-use Rattle.conode_compare_laws.specs.Recordings.{Stamped, frame_of, recording}
+use Rattle.conode_compare_laws.specs.Recordings.{frame_of, heard_at, heard_from, recording, Stamped}
 use Rattle.conode_compare_laws.specs.TpdoDifferences.{is_pdo_sync, tpdo_differences}
 use Rattle.conode_compare_laws.specs.TpdoFrames.{AllSendBesideTpdos, AreNoTpdos, IsNoTpdo, is_followed}
 use Rattle.conode_compare_laws.specs.TpdoParameters.{AllKeepTpdos, AreTpdosOf, IsTpdoOf, KeepsTpdos}
 use Rattle.conode_compare_laws.proofs.Heard.{of_device}
-use Rattle.conode_compare_laws.proofs.Heartbeats.{NoSdo, after_those, before_these}
+use Rattle.conode_compare_laws.proofs.Heartbeats as no_sdo
+use Rattle.conode_compare_laws.proofs.Heartbeats.{NoSdo}
+use Rattle.conode_compare_laws.proofs.NamedKeys.{IsOpenOn, begun_open}
+use Rattle.conode_compare_laws.proofs.TpdoNamed.{NoTpdo, Unnamed, after_those, before_these, none_named}
 use Rattle.conode_compare_laws.proofs.Runs.{AllRun, joined}
 use Rattle.conode_compare_laws.proofs.TpdoDue.{IsAt, active, active_kept, alone, due_all, due_distinct, number_kept, tpdo_number}
 use Rattle.conode_compare_laws.proofs.TpdoInputs.{AllInputs, AreClear, all_clear, no_sdo_later, of_device_too, of_recording}
@@ -362,14 +369,15 @@ synced_has facts due pdos moment id knows (inr here) =
       fourth = λ on has is. counted pdos.fourth;
     })
 
-sync_passes : (subject : Subject) (rows : List Row) (p : Progress) (micros id length : ℕ) (due : List ℕ) → IsNewest micros p → Knows subject.facts.pdos p.pdos → is_followed subject.facts.pdos id ≡ false → IfSome subject.facts.pdos.sync (λ known. known ≡ id)
+sync_passes : (subject : Subject) (rows : List Row) (p : Progress) (micros id length : ℕ) (due : List ℕ) → IsNewest micros p → Knows subject.facts.pdos p.pdos → is_followed subject.facts.pdos id ≡ false → IfSome subject.facts.pdos.sync (λ known. known ≡ id) → IsOpenOn NoTpdo p
     → Passes is_pdo_sync (HaveSync subject.facts.pdos true due) subject rows p micros (Process id length)
 unfolding process_findings after_process
-sync_passes subject rows p micros id length due new knows off same = record {
+sync_passes subject rows p micros id length due new knows off same apart = record {
   none = sighted_none is_pdo_sync id length (sighting (moment_at subject p micros) p.pdos id length)
       (all_fine is_pdo_sync (moment_at subject p micros) p.pdos id length (unseen is_pdo_sync (moment_at subject p micros) subject.facts.pdos p.pdos id length knows off));
   after = record {
     fresh = fresh micros p new;
+    apart = apart;
     kept = synced_has subject.facts.pdos due p.pdos (moment_at subject p micros) id knows (known_sync subject.facts.pdos p.pdos id knows same);
   };
 }
@@ -378,12 +386,18 @@ sync_comes : (subject : Subject) (rows : List Row) (micros : ℕ) (frame : Frame
     → IfSome subject.facts.pdos.sync (λ known. known ≡ frame.id) → Holds (Knows subject.facts.pdos) p → AllRun (tpdo_differences is_pdo_sync) subject rows micros p (frame ∷ []) (Holds (HaveSync subject.facts.pdos true due))
 sync_comes subject rows micros frame due p kind off same h =
     one is_pdo_sync (HaveSync subject.facts.pdos true due) subject rows micros p frame (Process frame.id (length_of frame)) kind
-    (sync_passes subject rows (begun subject p micros) micros frame.id (length_of frame) due (begun_newest subject p micros h.fresh) (begun_kept subject (Knows subject.facts.pdos) p micros (knows_kept subject.facts.pdos) h.kept) off same)
+    (sync_passes subject rows (begun subject p micros) micros frame.id (length_of frame) due (begun_newest subject p micros h.fresh) (begun_kept subject (Knows subject.facts.pdos) p micros (knows_kept subject.facts.pdos) h.kept) off same (begun_open NoTpdo subject p micros h.apart))
+
+-- without SDO on the default channel no frame names an entry, and none of the device's own is on it
+none_in : (node : ℕ) (frames : List FrameContent) → NoSdo node frames → Unnamed node frames
+none_in node [] h = tt
+none_in node (frame ∷ frames) h = (λ id eight. absurd (h.0.1 id), none_in node frames h.1)
 
 -- ---- an input
 
 record IsMet (pdos : Pdos) (k : Constants) (before : Inputs) (s : Stamped) : Type 0 where
   clear : AreClear pdos k before s
+  sdo : NoSdo k.description.node (frame_of s.input)
   emergency : IsElsewhere (0x80 + k.description.node) s.input
   keeps : KeepsTpdos k (moment k (moments k before) s.input)
   sync : number_at (contents_of k before) sync_key ≡ number_at k.start sync_key
@@ -419,8 +433,8 @@ came_either k subject rows before s p false is of met none h =
     let facts : Pdos = subject.facts.pdos in
     let due : List ℕ = (moment k (moments k before) s.input).due in
     weaken (tpdo_differences is_pdo_sync) (of_device k subject) rows s.micros (frame_of s.input) p (Holds (Knows facts)) (Holds (HaveSync facts false due))
-    (λ q g. record { fresh = g.fresh; kept = none_synced facts due q.pdos g.kept })
-    (others is_pdo_sync (Knows facts) (of_device k subject) rows s.micros (frame_of s.input) p (knows_kept facts) (came_other facts k.description.node s.input none met.clear.control met.clear.foreign) h)
+    (λ q g. record { fresh = g.fresh; kept = none_synced facts due q.pdos g.kept; apart = g.apart })
+    (others is_pdo_sync (Knows facts) (of_device k subject) rows s.micros (frame_of s.input) p (knows_kept facts) (came_other facts k.description.node s.input (none_in k.description.node (frame_of s.input) none) met.clear.control met.clear.foreign) h)
 came_either k subject rows before s p true is of met none h =
     let m : Moment = moment k (moments k before) s.input in
     elim (sync_or k (moments k before) s.input) [
@@ -453,30 +467,55 @@ input_runs k subject rows before last s p of met h =
     let frame : ℕ → FrameContent = tpdo_frame k.description m.contents in
     let came : List FrameContent = frame_of s.input in
     let more : List FrameContent = besides k m in
-    let sent : NoSdo n (more ++ map frame m.due) = after_those n came (prescribed k before s.input) met.clear.sdo in
+    let sent : Unnamed n (more ++ map frame m.due) = after_those n came (prescribed k before s.input) met.clear.sdo in
     let ready : Progress → Type 0 = Holds (HaveSync facts synced m.due) in
     let after : Progress → Type 0 = Holds (Knows facts) in
     joined (tpdo_differences is_pdo_sync) subj rows s.micros came (more ++ map frame m.due) p ready after
-    (came_either k subject rows before s p synced refl of met (before_these n came (prescribed k before s.input) met.clear.sdo) h)
+    (came_either k subject rows before s p synced refl of met met.sdo h)
     (λ q g.
     joined (tpdo_differences is_pdo_sync) subj rows s.micros more (map frame m.due) q ready after
     (besides_run is_pdo_sync (HaveSync facts synced m.due) k subject rows s.micros before s.input q (sync_kept facts synced m.due) (begins_either k facts before s.input synced refl) met.clear.aside met.clear.beside
     (before_these n more (map frame m.due) sent) g)
     (λ r f. weaken (tpdo_differences is_pdo_sync) subj rows s.micros (map frame m.due) r (Walked (HaveSync facts synced []) (λ x. Unit {0})) after
-    (λ x e. record { fresh = e.holds.fresh; kept = e.holds.kept.knows })
+    (λ x e. record { fresh = e.holds.fresh; kept = e.holds.kept.knows; apart = e.holds.apart })
     (walks is_pdo_sync (λ i. AreSynced facts synced i (frame i).id) (HaveSync facts synced) (λ x. Unit {0}) subj rows s.micros frame m.due r (sync_walk subj s.micros synced frame)
-    (tpdo_ids n frame m.due met.clear.aside.tpdos (after_those n more (map frame m.due) sent))
+    (tpdo_ids n frame m.due met.clear.aside.tpdos met.clear.other)
     (due_all (λ i. AreSynced facts synced i (frame i).id) k.description t m.contents schedule (λ i o less at due sent. all_synced k m facts t schedule o i of met.keeps less at due))
     (due_distinct k.description t m.contents schedule) f tt)))
 
 -- ---- all inputs
 
-all_met : (pdos : Pdos) (k : Constants) (inputs : List Stamped) (before : Inputs) (last : ℕ) → AllInputs (λ b l s. AreClear pdos k b s) before last inputs → AreElsewhere (0x80 + k.description.node) inputs → AllKeepTpdos k before inputs
+came_sdo : (k : Constants) (before : Inputs) (s : Stamped) (later : List Stamped) → AreNoSdo k.description.node (heard_from k before (s ∷ later)) → NoSdo k.description.node (frame_of s.input)
+came_sdo k before s later none =
+    no_sdo.before_these k.description.node (frame_of s.input) (prescribed k before s.input)
+    (no_sdo.unstamped k.description.node s.micros (frame_of s.input ++ prescribed k before s.input) (no_sdo.first_part k.description.node (heard_at k before s) (heard_from k (s.input ∷ before) later) none))
+
+pub sent_other : (k : Constants) (inputs : List Stamped) (before : Inputs) → AreNoSdo k.description.node (heard_from k before inputs) → AllSendOther k before inputs
+sent_other k [] before none = tt
+sent_other k (s ∷ later) before none =
+    let n : ℕ = k.description.node in
+    let m : Moment = moment k (moments k before) s.input in
+    let a : List FrameContent = frames_at m.exchange in
+    let b : List FrameContent = frames_at m.timed_out in
+    let c : List FrameContent = emergency_frames m.contents m.emergency in
+    let d : List FrameContent = life_frames n m.life in
+    let e : List FrameContent = map (tpdo_frame k.description m.contents) m.due in
+    let sent : NoSdo n (a ++ b ++ c ++ d ++ e) =
+    no_sdo.after_those n (frame_of s.input) (prescribed k before s.input)
+    (no_sdo.unstamped n s.micros (frame_of s.input ++ prescribed k before s.input) (no_sdo.first_part n (heard_at k before s) (heard_from k (s.input ∷ before) later) none)) in (
+      record {
+        emergency = no_sdo.after_those n (a ++ b) c (no_sdo.before_these n (a ++ b ++ c) d (no_sdo.before_these n (a ++ b ++ c ++ d) e sent));
+        tpdos = no_sdo.after_those n (a ++ b ++ c ++ d) e sent;
+      },
+      sent_other k later (s.input ∷ before) (no_sdo.last_part n (heard_at k before s) (heard_from k (s.input ∷ before) later) none),
+    )
+
+all_met : (pdos : Pdos) (k : Constants) (inputs : List Stamped) (before : Inputs) (last : ℕ) → AllInputs (λ b l s. AreClear pdos k b s) before last inputs → AreNoSdo k.description.node (heard_from k before inputs) → AreElsewhere (0x80 + k.description.node) inputs → AllKeepTpdos k before inputs
     → number_at (contents_of k before) sync_key ≡ number_at k.start sync_key → AllInputs (λ b l s. IsMet pdos k b s) before last inputs
-all_met pdos k [] before last clear emergency keeps sync = tt
-all_met pdos k (s ∷ later) before last clear emergency keeps sync = (
-  record { clear = clear.0; emergency = emergency.0; keeps = keeps.0; sync = sync },
-  all_met pdos k later (s.input ∷ before) s.micros clear.1 emergency.1 keeps.1 (number_kept k (moment k (moments k before) s.input) sync_key keeps.0 refl),
+all_met pdos k [] before last clear none emergency keeps sync = tt
+all_met pdos k (s ∷ later) before last clear none emergency keeps sync = (
+  record { clear = clear.0; sdo = came_sdo k before s later none; emergency = emergency.0; keeps = keeps.0; sync = sync },
+  all_met pdos k later (s.input ∷ before) s.micros clear.1 (no_sdo.last_part k.description.node (heard_at k before s) (heard_from k (s.input ∷ before) later) none) emergency.1 keeps.1 (number_kept k (moment k (moments k before) s.input) sync_key keeps.0 refl),
 )
 
 pub no_pdo_sync : (k : Constants) (subject : Subject) (rows : List Row) (inputs : List Stamped) → subject.node ≡ k.description.node → AreTpdosOf k subject.facts.pdos → AllKeepTpdos k [] inputs
@@ -486,4 +525,4 @@ no_pdo_sync k subject rows inputs is of keeps control emergency foreign aside be
     let facts : Pdos = subject.facts.pdos in
     of_device_too is_pdo_sync k subject rows inputs is
     (of_recording is_pdo_sync k subject rows (λ b l s. IsMet facts k b s) (λ b l. Knows facts) (λ before last s p met h. input_runs k subject rows before last s p of met h) inputs (λ micros. knows_sheet facts)
-    (λ last. all_met facts k inputs [] last (all_clear facts k inputs [] last control foreign aside beside (no_sdo_later k inputs none)) emergency keeps refl))
+    (λ last. all_met facts k inputs [] last (all_clear facts k inputs [] last control foreign aside beside (sent_other k inputs [] (no_sdo_later k inputs none)) (none_named k.description.node (heard_from k [] inputs) (no_sdo_later k inputs none))) (no_sdo_later k inputs none) emergency keeps refl))
