@@ -1,4 +1,5 @@
 mod ChangeExamples
 mod Examples
+pub mod Faults
 pub mod Places
 pub mod Readings

@@ -52,7 +52,10 @@ fn hex_number(digits: &[u8]) -> Option<u32>
 {
     let mut number: u64 = 0;
     for byte in digits {
-        number = 16 * number + hex_digit(*byte)? as u64;
+        let Some(digit) = hex_digit(*byte) else {
+            return None;
+        };
+        number = 16 * number + digit as u64;
     }
     Some(number as u32)
 }
@@ -66,7 +69,9 @@ fn written_in(word: &[u8]) -> Option<Written>
         return None;
     }
     let wide = word.len() == 8;
-    let number = hex_number(word)?;
+    let Some(number) = hex_number(word) else {
+        return None;
+    };
     let most = if wide { 0x3FFF_FFFF } else { 0x7FF };
     if number <= most {
         Some(Written { wide, number })
@@ -127,9 +132,18 @@ impl Condition {
         match option {
             FilterOption::Of => node_condition(word.as_bytes()),
             FilterOption::Id => id_condition(word.as_bytes()),
-            FilterOption::Kind => Some(Condition::OfKind(Kind::read(word)?)),
-            FilterOption::From => Some(Condition::From(Moment::read(word.as_bytes())?)),
-            FilterOption::To => Some(Condition::Until(Moment::read(word.as_bytes())?)),
+            FilterOption::Kind => match Kind::read(word) {
+                Some(kind) => Some(Condition::OfKind(kind)),
+                None => None,
+            },
+            FilterOption::From => match Moment::read(word.as_bytes()) {
+                Some(moment) => Some(Condition::From(moment)),
+                None => None,
+            },
+            FilterOption::To => match Moment::read(word.as_bytes()) {
+                Some(moment) => Some(Condition::Until(moment)),
+                None => None,
+            },
         }
     }
 

@@ -30,9 +30,12 @@ pub struct Filter {
 fn any_holds(conditions: &[Condition], subject: &Subject, times: Times) -> bool
     ensures { result ≡ list_any (holds subject.now times) conditions.now }
 {
-    conditions
-        .iter()
-        .any(|condition| condition.holds(subject, times))
+    for condition in conditions {
+        if condition.holds(subject, times) {
+            return true;
+        }
+    }
+    false
 }
 
 fn is_one(conditions: &[Condition], subject: &Subject, times: Times) -> bool

@@ -52,11 +52,12 @@ impl Last {
         name.try_extend_from_slice(interface).unwrap();
         let mut data = ArrayVec::new();
         data.try_extend_from_slice(bytes).unwrap();
+        let words = attempt!(words.to_vec(alloc));
         Ok(Last {
             interface: name,
             id,
             bytes: data,
-            words: words.to_vec(alloc)?,
+            words,
         })
     }
 

@@ -110,11 +110,11 @@ impl Lasts {
         })) }
     {
         let place = place_of(self.lasts.as_slice(), interface, id);
-        let said = Last::new(self.alloc, interface, id, bytes, words)?;
+        let said = attempt!(Last::new(self.alloc, interface, id, bytes, words));
         if !self.is_new_at(place, &said) {
             return Ok(false);
         }
-        self.keep_at(place, said)?;
+        attempt!(self.keep_at(place, said));
         Ok(true)
     }
 }

@@ -2,6 +2,16 @@
 //! whether a line says something new.
 #![tactic(auto)]
 
+// As `?`, without a conversion of the error: a `match` is one step of a proof where `?` is three.
+macro_rules! attempt {
+    ($result:expr) => {
+        match $result {
+            Ok(value) => value,
+            Err(fault) => return Err(fault),
+        }
+    };
+}
+
 mod condition;
 mod filter;
 mod kind;

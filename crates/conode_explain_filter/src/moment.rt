@@ -82,8 +82,14 @@ impl Moment {
     {
         match word {
             [] => None,
-            [b'@', rest @ ..] => Some(Moment::Recorded(micros_in(rest)?)),
-            _ => Some(Moment::SinceFirst(micros_in(word)?)),
+            [b'@', rest @ ..] => match micros_in(rest) {
+                Some(micros) => Some(Moment::Recorded(micros)),
+                None => None,
+            },
+            _ => match micros_in(word) {
+                Some(micros) => Some(Moment::SinceFirst(micros)),
+                None => None,
+            },
         }
     }
 

@@ -1,6 +1,6 @@
 //! The words of a filter.
 
-ghost use Rattle.std.specs.Prelude.{◌≡◌, ◌∷◌, ◌++◌, [], ◌<◌, length, Ok, Some, None, OnOk, IfOk, IfErr, IfSome, IfNone};
+ghost use Rattle.std.specs.Prelude.{◌≡◌, ◌∷◌, [], ◌<◌, length, Ok, Some, OnOk, IfOk, IfErr, IfSome, IfNone};
 ghost use Rattle.std.specs.Option.{option_copied};
 ghost use Rattle.conode_explain_filter.specs.Conditions.{asked, words_in};
 ghost use Rattle.conode_explain_filter.specs.Filters.{IsFault, IsFaultOf, IsFilter};
@@ -8,7 +8,7 @@ ghost use Rattle.conode_explain_filter.specs.Filters.{IsFault, IsFaultOf, IsFilt
 use crate::condition::Condition;
 use crate::filter::Filter;
 use crate::option::FilterOption;
-use std::alloc::{AllocError, Global};
+use std::alloc::Global;
 
 /// The text of each option of a filter that is used.
 #[derive(Clone, Copy)]
@@ -34,17 +34,6 @@ pub enum FilterFault<'a> {
     Memory,
 }
 
-impl<'a> From<AllocError> for FilterFault<'a> {
-    ghost use Rattle.std.specs.Prelude.{◌≡◌};
-    ghost use Rattle.conode_explain_filter.specs.declared.reading.FilterFault.TheVariants.{Memory};
-
-    ghost from_gives = { λ _ fault. fault ≡ Memory };
-
-    fn from(_: AllocError) -> FilterFault<'a> {
-        FilterFault::Memory
-    }
-}
-
 // the first word of an option's text, and the text after its comma; `None` where it is one word
 #[tactic(auto, unfolding(crate::specs::Conditions::words_in))]
 fn first_word(option: FilterOption, text: &str) -> Option<(&str, &str)>
@@ -59,15 +48,7 @@ fn first_word(option: FilterOption, text: &str) -> Option<(&str, &str)>
     text.split_once(',')
 }
 
-fn push(conditions: &mut Vec<Condition>, condition: Condition) -> Result<(), AllocError>
-    ensures { OnOk result (conditions.new.items ≡ conditions.old.items ++ condition ∷ []) }
-{
-    conditions.push(condition)?;
-    Ok(())
-}
-
 // appends what the text of an option asks for; there is nothing before it
-#[tactic(auto, using(crate::proofs::Readings::goes_on, crate::proofs::Readings::fails_at, crate::proofs::Readings::ends, crate::proofs::Readings::fails_last, crate::proofs::Readings::onto_empty))]
 fn add_conditions<'a>(
     conditions: &mut Vec<Condition>,
     option: FilterOption,
@@ -82,14 +63,18 @@ fn add_conditions<'a>(
         let Some(condition) = Condition::read(option, word) else {
             return Err(FilterFault::Word(option, word));
         };
-        push(conditions, condition)?;
-        rest = more;
+        match conditions.push(condition) {
+            Ok(()) => rest = more,
+            Err(_) => return Err(FilterFault::Memory),
+        }
     }
     let Some(condition) = Condition::read(option, rest) else {
         return Err(FilterFault::Word(option, rest));
     };
-    push(conditions, condition)?;
-    Ok(())
+    match conditions.push(condition) {
+        Ok(()) => Ok(()),
+        Err(_) => Err(FilterFault::Memory),
+    }
 }
 
 // likewise of an option that may not be used
@@ -122,7 +107,7 @@ impl Filter {
             from: Vec::new(alloc),
             to: Vec::new(alloc),
         };
-        filter.add(words)?;
+        attempt!(filter.add(words));
         Ok(filter)
     }
 
@@ -136,10 +121,10 @@ impl Filter {
         ensures ok { OnOk result (IsFilter words.now self.new) }
         ensures err { IfErr result (λ fault. IsFault words.now fault) }
     {
-        add_asked(&mut self.of, FilterOption::Of, words.of)?;
-        add_asked(&mut self.id, FilterOption::Id, words.id)?;
-        add_asked(&mut self.kind, FilterOption::Kind, words.kind)?;
-        add_asked(&mut self.from, FilterOption::From, words.from)?;
+        attempt!(add_asked(&mut self.of, FilterOption::Of, words.of));
+        attempt!(add_asked(&mut self.id, FilterOption::Id, words.id));
+        attempt!(add_asked(&mut self.kind, FilterOption::Kind, words.kind));
+        attempt!(add_asked(&mut self.from, FilterOption::From, words.from));
         add_asked(&mut self.to, FilterOption::To, words.to)
     }
 }
