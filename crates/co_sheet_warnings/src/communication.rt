@@ -107,7 +107,7 @@ pub(crate) fn own_heartbeat(node: Option<u8>, section: &TextSection) -> Option<u
                 return None;
             };
             match given.number() {
-                Some(word) if consumes(u64::from(node), word) => Some(given.line),
+                Some(word) if consumes(node as u64, word) => Some(given.line),
                 _ => None,
             }
         }

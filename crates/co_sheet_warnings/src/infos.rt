@@ -20,6 +20,7 @@ ghost use Rattle.co_sheet_warnings.specs.Infos.{
   object_count,
   other_format,
   other_number_at,
+  other_than,
   pdo_counts,
 };
 ghost use Rattle.co_sheet_warnings.specs.private.Views.{is_written, key_view};
@@ -131,16 +132,29 @@ pub(crate) fn missing_keys(
     Some(0)
 }
 
+// the line of a key whose number isn't this one
+fn other_than(key: &WrittenKey, number: u64) -> Option<usize>
+    ensures { option_to_list result ≡ other_than number (key_view key.now) }
+{
+    match unsigned_number(key.value) {
+        Ok(given) => {
+            if given == number {
+                None
+            } else {
+                Some(key.line)
+            }
+        }
+        Err(_) => None,
+    }
+}
+
 // the line of a key of DeviceInfo whose number isn't this one
 fn other_number_at(keys: &[WrittenKey], known: KnownKey, number: u64) -> Option<usize>
     ensures { option_to_list result ≡ other_number_at (map key_view keys.now) known number }
 {
-    let Some(key) = key_at(Topic::DeviceInfo, keys, known) else {
-        return None;
-    };
-    match unsigned_number(key.value) {
-        Ok(given) if given != number => Some(key.line),
-        _ => None,
+    match key_at(Topic::DeviceInfo, keys, known) {
+        Some(key) => other_than(key, number),
+        None => None,
     }
 }
 

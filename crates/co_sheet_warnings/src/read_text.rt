@@ -87,6 +87,6 @@ impl<'s, 'a> ReadText<'s, 'a> {
     pub(crate) fn is_listed(&self, index: u16) -> bool
         ensures { result ≡ is_listed self.now.sections index }
     {
-        self.indices.contains(&u64::from(index))
+        self.indices.contains(&(index as u64))
     }
 }

@@ -62,7 +62,7 @@ const DISABLED: u64 = 1 << 31;
 fn enabled_number(number: i128) -> Option<u64>
     ensures { result ≡ enabled_number number }
 {
-    if 0 <= number && number < i128::from(DISABLED) {
+    if 0 <= number && number < DISABLED as i128 {
         Some(number as u64)
     } else {
         None
@@ -75,7 +75,7 @@ fn enabled_cob_id(node: u8, value: &[u8]) -> Option<u64>
 {
     match numeric_default(DataType::Unsigned32, value) {
         Ok(Preset::Number(number)) => enabled_number(number),
-        Ok(Preset::NodeId(addend)) => enabled_number(i128::from(addend) + i128::from(node)),
+        Ok(Preset::NodeId(addend)) => enabled_number(addend as i128 + node as i128),
         _ => None,
     }
 }
@@ -141,7 +141,7 @@ fn placed_in<'a>(once: Once, section: &TextSection<'_, 'a>) -> Option<PlacedName
     }
     let scope = match section.kind {
         SectionKind::Object(_) => OBJECTS,
-        SectionKind::SubIndex(key) => u64::from(key.index),
+        SectionKind::SubIndex(key) => key.index as u64,
         _ => return None,
     };
     match section.property(b"ParameterName") {

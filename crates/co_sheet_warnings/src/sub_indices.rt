@@ -143,7 +143,7 @@ pub(crate) fn sub_index_0(text: &ReadText, section: &TextSection) -> Option<usiz
             let Some(number) = given.number() else {
                 return None;
             };
-            if number > 0xFF || number == u64::from(highest_of(text.parts(key.index))) {
+            if number > 0xFF || number == highest_of(text.parts(key.index)) as u64 {
                 None
             } else {
                 Some(given.line)
