@@ -12,7 +12,7 @@ use Rattle.co_sheet.specs.Content.{Row}
 use Rattle.co_text.specs.Printed.{digits_text}
 use Rattle.co_sheet_changes.specs.Names.{Names, entry_of}
 use Rattle.conode_explain_values.specs.Numbers.{number_text}
-use Rattle.conode_explain_values.specs.Unicode.{characters_text}
+use Rattle.conode_explain_values.specs.Unicode.{characters_text, pair_text, unit_text}
 use Rattle.conode_explain_values.specs.Values.{entry_text, value_text}
 use Rattle.conode_explain_pdo.specs.declared.cob_id.SheetCobId.{SheetCobId}
 use Rattle.conode_explain_pdo.specs.declared.entry_bits.EntryBits.{EntryBits}
@@ -21,7 +21,7 @@ use Rattle.conode_explain_services.specs.Codes.{code_words, known_class, single_
 use Rattle.conode_explain_services.specs.Drives.{command_words, controlword_words, drive_words, meaning_at, mode_words, state_words, statusword_words, word_text}
 use Rattle.conode_explain_pdo.specs.KnownEntries.{is_node_drive, known_text}
 use Rattle.conode_text.specs.Filled.{filled}
-use Rattle.conode_explain_pdo.specs.Mappings.{addressing_word, bits_at, data_text, mapped_text, more_parts, more_text, multiplexed_data, multiplexed_text, part_bytes, part_text, parts_text, short_text}
+use Rattle.conode_explain_pdo.specs.Mappings.{addressed_text, addressing_word, bits_at, data_text, mapped_text, missing_text, more_parts, more_text, multiplexed_data, multiplexed_text, part_bytes, part_text, parts_text, short_text}
 use Rattle.conode_explain_pdo.specs.CobIds.{has_identifier, is_of, may_be_pdo, node_with}
 use Rattle.conode_explain_entries.specs.declared.entries.ShownPdo.{ShownPdo}
 use Rattle.conode_explain_entries.specs.declared.state.Value.{Value}
@@ -93,7 +93,7 @@ two_values = refl
 -- of a sheet that was adapted: a letter of a UNICODE_STRING
 original : mapped_text (record (names_with (row 0x2003 0 OctetString absent (codes "U") ∷ [])) { originals = λ line. if line == 1 then Some (codes "0x000B") else None }) 5
     (0x20030010 ∷ []) (0x41 ∷ 0x00 ∷ []) ≡ codes "U 2003:00 = \"A\""
-unfolding mapped_text parts_text more_parts part_text part_bytes short_text more_text filled entry_of known_text meaning_at entry_text value_text characters_text digits digits_text is_utf8 chars encode
+unfolding mapped_text parts_text more_parts part_text part_bytes short_text more_text filled entry_of known_text meaning_at entry_text value_text characters_text pair_text unit_text digits digits_text is_utf8 chars encode
 original = refl
 
 -- a bit, a gap of seven, and a number over the bounds of bytes
@@ -102,12 +102,12 @@ unfolding mapped_text parts_text more_parts part_text part_bytes short_text more
 bits_and_gap = refl
 
 not_there : data_of (0x23450108 ∷ 0x20020008 ∷ []) (0x01 ∷ 0x00 ∷ []) ≡ codes "2345:01 (not in sheet); B 2002:00 = false"
-unfolding mapped_text parts_text more_parts part_text part_bytes short_text more_text filled entry_of known_text meaning_at entry_text value_text number_text digits digits_text is_utf8 chars encode
+unfolding mapped_text parts_text more_parts part_text missing_text part_bytes short_text more_text filled entry_of known_text meaning_at entry_text value_text number_text digits digits_text is_utf8 chars encode
 not_there = refl
 
 -- the first index that is no gap, and a gap with a sub-index
 no_gaps : data_of (0x00200008 ∷ 0x00050108 ∷ []) (0x01 ∷ 0x00 ∷ []) ≡ codes "0020:00 (not in sheet); 0005:01 (not in sheet)"
-unfolding mapped_text parts_text more_parts part_text part_bytes short_text more_text filled entry_of known_text meaning_at entry_text value_text number_text digits digits_text is_utf8 chars encode
+unfolding mapped_text parts_text more_parts part_text missing_text part_bytes short_text more_text filled entry_of known_text meaning_at entry_text value_text number_text digits digits_text is_utf8 chars encode
 no_gaps = refl
 
 too_short : data_of (0x20010110 ∷ 0x20010220 ∷ []) (1 ∷ 2 ∷ 3 ∷ 4 ∷ []) ≡ codes "4 bytes, mapping has 6"
@@ -181,11 +181,11 @@ unfolding data_text
 below_multiplexed = refl
 
 destination : counted 0xFE (0x85 ∷ 0x01 ∷ 0x20 ∷ 0x02 ∷ 0xE8 ∷ 0x03 ∷ 0 ∷ 0 ∷ []) ≡ codes ": destination node 5 2001:02 E8030000"
-unfolding data_text multiplexed_data multiplexed_text filled addressing_word digits digits_text
+unfolding data_text multiplexed_data multiplexed_text addressed_text filled addressing_word digits digits_text
 destination = refl
 
 source : counted 0xFF (0x7F ∷ 0x01 ∷ 0x20 ∷ 0x02 ∷ 0xE8 ∷ 0x03 ∷ 0 ∷ 0 ∷ []) ≡ codes ": source node 127 2001:02 E8030000"
-unfolding data_text multiplexed_data multiplexed_text filled addressing_word digits digits_text
+unfolding data_text multiplexed_data multiplexed_text addressed_text filled addressing_word digits digits_text
 source = refl
 
 short_multiplexed : counted 0xFF (0x85 ∷ 0x01 ∷ []) ≡ codes ": 2 bytes, mapping has 8"
@@ -416,7 +416,7 @@ word_missing = refl
 no_sheet : said_with (record { sheet = None; only = None; originals = λ line. None })
     (shown 0x1801 (Seen 0x285) (Seen 1 ∷ Seen 0x20010110 ∷ []) false ∷ []) 0x285 (0xE8 ∷ 0x03 ∷ [])
     ≡ codes "TPDO2 node 5 (mapping seen): 2001:01 (not in sheet)"
-unfolding claims_with sheets_claims sheet_claim shown_claim names_for pdos_text more_pdos pdo_text pdo_front data_in_force shown_text raw_text mapping_in_force words_in_force sheet_pdos data_text mapped_text parts_text more_parts part_text part_bytes short_text more_text filled entry_of known_text meaning_at entry_text value_text number_text digits digits_text is_utf8 chars encode
+unfolding claims_with sheets_claims sheet_claim shown_claim names_for pdos_text more_pdos pdo_text pdo_front data_in_force shown_text raw_text mapping_in_force words_in_force sheet_pdos data_text mapped_text parts_text more_parts part_text missing_text part_bytes short_text more_text filled entry_of known_text meaning_at entry_text value_text number_text digits digits_text is_utf8 chars encode
 no_sheet = refl
 
 no_data : said_with (record { sheet = None; only = None; originals = λ line. None }) (shown 0x1401 (Seen 0x305) [] false ∷ []) 0x305 []

@@ -2,4 +2,5 @@ pub mod Claims
 pub mod Examples
 pub mod NoClaims
 pub mod Parts
+pub mod Pieces
 pub mod Words

@@ -47,12 +47,16 @@ is_gap key = (nat_lt 0 key.index && nat_lt key.index 0x20) && (key.sub == 0)
 abbrev pub value_part : Names → ℕ → Key → List ℕ → ℕ → ℕ → Row → List ℕ
 value_part names node key bytes offset bits row = known_text names node key row bits (part_bytes bytes offset bits)
 
+-- an entry that the sheet lacks
+unfoldable pub missing_text : Key → List ℕ
+missing_text key = filled (codes "% (not in sheet)") (key_text key ∷ [])
+
 -- what a word says of the data from an offset on
 unfoldable pub part_text : Names → ℕ → List ℕ → ℕ → ℕ → List ℕ
 part_text names node bytes offset word =
     if is_gap (word_key word) then codes "-"
     else option_map_or (value_part names node (word_key word) bytes offset (word_bits word))
-    (entry_of names node (word_key word)) (filled (codes "% (not in sheet)") (key_text (word_key word) ∷ []))
+    (entry_of names node (word_key word)) (missing_text (word_key word))
 
 -- the parts one after another from an offset on, each after a semicolon
 unfoldable pub more_parts : Names → ℕ → List ℕ → ℕ → List ℕ → List ℕ
@@ -94,10 +98,13 @@ multiplexed_key bytes = record { index = unsigned_of (take 2 (drop 1 bytes)); su
 unfoldable pub addressing_word : ℕ → List ℕ
 addressing_word byte = if nat_lt byte 128 then codes "source" else codes "destination"
 
+-- which of the two, the node and the key
+unfoldable pub addressed_text : List ℕ → ℕ → Key → List ℕ
+addressed_text word node key = filled (codes "% node % % ") (word ∷ decimal node ∷ key_text key ∷ [])
+
 unfoldable pub multiplexed_text : List ℕ → List ℕ
 multiplexed_text bytes =
-    filled (codes "% node % % ")
-    (addressing_word (slice_index bytes 0) ∷ decimal (slice_index bytes 0 % 128) ∷ key_text (multiplexed_key bytes) ∷ [])
+    addressed_text (addressing_word (slice_index bytes 0)) (slice_index bytes 0 % 128) (multiplexed_key bytes)
     ++ flat_map byte_text (drop 4 bytes)
 
 -- the data of one

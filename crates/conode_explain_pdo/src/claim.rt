@@ -2,6 +2,7 @@
 
 ghost use Rattle.std.specs.Prelude.{◌≡◌, ◌++◌, [], OnOk, filter_map, map};
 ghost use Rattle.std.specs.List.{list_any};
+ghost use Rattle.std.specs.Option.{option_to_list};
 ghost use Rattle.co_sheet_changes.specs.Names.{names_view};
 ghost use Rattle.conode_explain_pdo.specs.Buses.{bus_view};
 ghost use Rattle.conode_explain_pdo.specs.Known.{known_view};
@@ -98,6 +99,18 @@ fn sheet_claim(
     claim_of(bus, earlier, pdo.index, node)
 }
 
+fn add_claim(claims: &mut Vec<Claim>, claim: Option<Claim>) -> Result<(), AllocError>
+    ensures { OnOk result (claims.new.items ≡ claims.old.items ++ option_to_list claim) }
+{
+    let Some(claim) = claim else {
+        return Ok(());
+    };
+    match claims.push(claim) {
+        Ok(()) => Ok(()),
+        Err(_) => Err(AllocError),
+    }
+}
+
 // adds the PDOs of a kind, of a sheet, that have an identifier
 fn add_pdos_of(
     claims: &mut Vec<Claim>,
@@ -113,9 +126,8 @@ fn add_pdos_of(
 {
     let pdos = sheet.pdos.as_slice();
     for pdo in pdos {
-        if let Some(claim) = sheet_claim(bus, earlier, sheet.names.only, range, id, pdo) {
-            claims.push(claim)?;
-        }
+        let claim = sheet_claim(bus, earlier, sheet.names.only, range, id, pdo);
+        attempt!(add_claim(claims, claim));
     }
     Ok(())
 }
@@ -202,9 +214,7 @@ fn add_shown(
 {
     let pdos = bus.entries.shown();
     for pdo in pdos {
-        if let Some(claim) = shown_claim(bus, range, id, pdo) {
-            claims.push(claim)?;
-        }
+        attempt!(add_claim(claims, shown_claim(bus, range, id, pdo)));
     }
     Ok(())
 }

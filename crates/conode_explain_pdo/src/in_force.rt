@@ -221,19 +221,34 @@ pub(crate) fn mapping_in_force(values: &[Value], sheet: Option<&Mapping>) -> Opt
 fn all_assumed(values: &[Value]) -> bool
     ensures { result ≡ list_all is_assumed values.now }
 {
-    values.iter().all(|value| is_assumed(*value))
+    for value in values {
+        if !is_assumed(*value) {
+            return false;
+        }
+    }
+    true
 }
 
 fn all_seen(values: &[Value]) -> bool
     ensures { result ≡ list_all is_seen values.now }
 {
-    values.iter().all(|value| is_seen(*value))
+    for value in values {
+        if !is_seen(*value) {
+            return false;
+        }
+    }
+    true
 }
 
 fn all_saved(values: &[Value]) -> bool
     ensures { result ≡ list_all is_saved values.now }
 {
-    values.iter().all(|value| is_saved(*value))
+    for value in values {
+        if !is_saved(*value) {
+            return false;
+        }
+    }
+    true
 }
 
 fn origin_words(values: &[Value]) -> &'static str

@@ -6,10 +6,12 @@ ghost use Rattle.co_value.specs.Numbers.{low_bytes, unsigned_of};
 ghost use Rattle.co_sheet_changes.specs.Names.{names_view};
 ghost use Rattle.conode_explain_values.specs.Values.{HasBits};
 ghost use Rattle.conode_explain_pdo.specs.Mappings.{
+  addressed_text,
   addressing_word,
   data_text,
   is_gap,
   mapped_text,
+  missing_text,
   more_parts,
   more_text,
   multiplexed_data,
@@ -121,6 +123,14 @@ pub(crate) fn part_bytes(bytes: &[u8], offset: usize, bits: usize) -> ArrayVec<u
     low_bytes(bits_from(unsigned_of(bytes), offset, bits), (bits + 7) / 8)
 }
 
+// an entry that the sheet lacks
+#[tactic(auto, unfolding(crate::specs::Mappings::missing_text))]
+fn push_missing(text: &mut String, key: Key) -> Result<(), AllocError>
+    ensures { OnOk result (string_bytes text.new ≡ string_bytes text.old ++ missing_text key) }
+{
+    push_filled(text, "% (not in sheet)", &[Value::Key(key)])
+}
+
 // what a word says of the data from an offset on
 #[tactic(auto, unfolding(crate::specs::Mappings::part_text))]
 fn push_part(
@@ -146,7 +156,7 @@ fn push_part(
             let part = part_bytes(bytes, offset, bits);
             push_known(text, names, node, key, row, bits, part.as_slice())
         }
-        None => push_filled(text, "% (not in sheet)", &[Value::Key(key)]),
+        None => push_missing(text, key),
     }
 }
 
@@ -273,20 +283,33 @@ fn addressing_word(byte: u8) -> &'static str
     if byte < 128 { "source" } else { "destination" }
 }
 
+#[tactic(auto, unfolding(crate::specs::Mappings::addressed_text))]
+fn push_addressed(text: &mut String, word: &str, node: u8, key: Key) -> Result<(), AllocError>
+    ensures { OnOk result
+        (string_bytes text.new ≡ string_bytes text.old ++ addressed_text word.now node key) }
+{
+    push_filled(
+        text,
+        "% node % % ",
+        &[
+            Value::Words(word),
+            Value::Number(node as u64),
+            Value::Key(key),
+        ],
+    )
+}
+
 #[tactic(auto, unfolding(crate::specs::Mappings::multiplexed_text))]
 fn push_multiplexed(text: &mut String, bytes: &[u8]) -> Result<(), AllocError>
     requires { length bytes.now ≡ 8 }
     ensures { OnOk result
         (string_bytes text.new ≡ string_bytes text.old ++ multiplexed_text bytes.now) }
 {
-    attempt!(push_filled(
+    attempt!(push_addressed(
         text,
-        "% node % % ",
-        &[
-            Value::Words(addressing_word(bytes[0])),
-            Value::Number((bytes[0] % 128) as u64),
-            Value::Key(multiplexed_key(bytes)),
-        ],
+        addressing_word(bytes[0]),
+        bytes[0] % 128,
+        multiplexed_key(bytes),
     ));
     push_bytes(text, &bytes[4..])
 }

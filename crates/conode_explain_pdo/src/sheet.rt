@@ -2,6 +2,7 @@
 
 ghost use Rattle.std.specs.Prelude.{◌≡◌, ◌≤◌, ◌++◌, IfOk, OnOk, true, filter_map, map};
 ghost use Rattle.std.specs.List.{AllPairs};
+ghost use Rattle.std.specs.Option.{option_to_list};
 ghost use Rattle.co_profile.specs.Indices.{is_within};
 ghost use Rattle.co_sheet.specs.SheetViews.{row_view};
 ghost use Rattle.co_sheet.specs.Views.{default_view};
@@ -111,6 +112,18 @@ fn pdo_of(rows: &[EntryRow<'_>], range: IndexRange, row: &EntryRow<'_>) -> Optio
     })
 }
 
+fn add_pdo(pdos: &mut Vec<SheetPdo>, pdo: Option<SheetPdo>) -> Result<(), AllocError>
+    ensures { OnOk result (pdos.new.items ≡ pdos.old.items ++ option_to_list pdo) }
+{
+    let Some(pdo) = pdo else {
+        return Ok(());
+    };
+    match pdos.push(pdo) {
+        Ok(()) => Ok(()),
+        Err(_) => Err(AllocError),
+    }
+}
+
 // adds the PDOs of a kind
 fn add_pdos(
     pdos: &mut Vec<SheetPdo>,
@@ -123,9 +136,7 @@ fn add_pdos(
         ++ filter_map (pdo_of (map row_view rows.now) range) (map row_view rows.now)) }
 {
     for row in rows {
-        if let Some(pdo) = pdo_of(rows, range, row) {
-            pdos.push(pdo)?;
-        }
+        attempt!(add_pdo(pdos, pdo_of(rows, range, row)));
     }
     Ok(())
 }
