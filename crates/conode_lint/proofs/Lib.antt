@@ -2,6 +2,7 @@ pub mod CutLemmas
 pub mod LoopLemmas
 mod FaultLemmas
 mod WordLemmas
+mod ReasonWordLemmas
 mod MarkLemmas
 mod BuildLaws
 mod FoundLaws

@@ -15,3 +15,10 @@ pub pushed_more : {X Y : Type 0} (f : X → Y) (xs : List X) (i : ℕ) (d : X) (
 pushed_more f xs i d base before after h so_far more =
     more ∙ ap (λ l. l ++ f (get_or xs i d) ∷ []) so_far ∙ append_assoc base (map f (take i xs)) (f (get_or xs i d) ∷ [])
     ∙ ap (λ l. base ++ l) (sym (map_more f xs i d h))
+
+-- of elements as contracts see them
+pub appended_view_more : {X Z Y : Type 0} (f : Z → List Y) (view : X → Z) (xs : List X) (i : ℕ) (d : X) (base before after : List Y) → i < length xs
+    → before ≡ base ++ flat_map f (map view (take i xs)) → after ≡ before ++ f (view (get_or xs i d)) → after ≡ base ++ flat_map f (map view (take (i + 1) xs))
+appended_view_more f view xs i d base before after h so_far more =
+    more ∙ ap (λ l. l ++ f (view (get_or xs i d))) so_far ∙ flat_map_more f base (map view (take i xs)) (view (get_or xs i d))
+    ∙ ap (λ l. base ++ flat_map f l) (sym (map_more view xs i d h))

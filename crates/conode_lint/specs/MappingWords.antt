@@ -46,3 +46,17 @@ mapping_fix WrongLength = codes "give 8 bits for each byte of the type of that e
 -- the subject of the standard
 abbrev pub mapping_subject : List ℕ
 mapping_subject = codes "CiA 301, PDO mapping parameter"
+
+-- the row of a reason in the tables of words
+abbrev pub reason_row : MappingReason → ℕ
+reason_row CountsMore = 0
+reason_row (TooLong bits) = 1
+reason_row Missing = 2
+reason_row Zero = 3
+reason_row NoEntry = 4
+reason_row NotMappable = 5
+reason_row NoNumber = 6
+reason_row BelowProfile = 7
+reason_row WrongAccess = 8
+reason_row OneBit = 9
+reason_row WrongLength = 10

@@ -1,8 +1,8 @@
 //! The names of findings that are allowed.
 
-ghost use Rattle.std.specs.Prelude.{◌≡◌, [], map, OnOk};
+ghost use Rattle.std.specs.Prelude.{◌≡◌, ◌++◌, [], map, option_to_list, OnOk};
 ghost use Rattle.std.specs.Option.{option_map};
-ghost use Rattle.conode_lint.specs.Allowed.{is_among, kept, name_in, names_in, passes_by};
+ghost use Rattle.conode_lint.specs.Allowed.{is_among, kept, kept_of, name_in, names_in, passes_by};
 
 use crate::mark::Mark;
 use crate::words::name_of;
@@ -29,6 +29,17 @@ fn name_in(line: &[u8]) -> Option<&[u8]>
     }
 }
 
+// adds the name that a line allows, if it allows one
+fn add_name<'a>(names: &mut Vec<&'a [u8]>, line: &'a [u8]) -> Result<(), AllocError>
+    ensures { OnOk result (map (λ name. name.now) names.new.items
+        ≡ map (λ name. name.now) names.old.items ++ option_to_list (name_in line.now)) }
+{
+    if let Some(name) = name_in(line) {
+        names.push(name)?;
+    }
+    Ok(())
+}
+
 /// Adds the names that the lines of a sheet allow to none. `Err`: out of memory.
 pub(crate) fn add_names<'a>(names: &mut Vec<&'a [u8]>, lines: &[&'a [u8]]) -> Result<(), AllocError>
     requires { names.old.items ≡ [] }
@@ -36,9 +47,7 @@ pub(crate) fn add_names<'a>(names: &mut Vec<&'a [u8]>, lines: &[&'a [u8]]) -> Re
         ≡ names_in (map (λ line. line.now) lines.now)) }
 {
     for line in lines {
-        if let Some(name) = name_in(line) {
-            names.push(name)?;
-        }
+        add_name(names, line)?;
     }
     Ok(())
 }
@@ -73,6 +82,23 @@ fn passes(name: &str, given: &[&str], in_sheet: &[&[u8]]) -> bool
     is_given(name, given) || is_among(name.as_bytes(), in_sheet)
 }
 
+// adds a mark that neither the command line nor the sheet allows
+fn add_if_kept(
+    left: &mut Vec<Mark>,
+    mark: Mark,
+    given: &[&str],
+    in_sheet: &[&[u8]],
+) -> Result<(), AllocError>
+    ensures { OnOk result (left.new.items ≡ left.old.items
+        ++ kept_of (passes_by (map (λ one. one.now) given.now) (map (λ one. one.now) in_sheet.now))
+        mark) }
+{
+    if !passes(name_of(mark.subject), given, in_sheet) {
+        left.push(mark)?;
+    }
+    Ok(())
+}
+
 /// Adds the marks that neither the command line nor the sheet allows to none. `Err`: out of memory.
 pub(crate) fn add_kept(
     left: &mut Vec<Mark>,
@@ -86,9 +112,7 @@ pub(crate) fn add_kept(
         marks.now) }
 {
     for mark in marks {
-        if !passes(name_of(mark.subject), given, in_sheet) {
-            left.push(*mark)?;
-        }
+        add_if_kept(left, *mark, given, in_sheet)?;
     }
     Ok(())
 }

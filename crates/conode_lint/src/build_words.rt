@@ -38,8 +38,8 @@ pub(crate) fn build_place(fault: BuildFault) -> Place
     }
 }
 
-// a text of a table, by its row
-fn text_at(texts: &[&'static str], row: usize) -> &'static str
+/// A text of a table, by its row.
+pub(crate) fn text_at(texts: &[&'static str], row: usize) -> &'static str
     requires { row < length texts.now }
     ensures { result.now ≡ get_or (map (λ text. text.now) texts.now) row [] }
 {

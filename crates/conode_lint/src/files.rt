@@ -10,7 +10,7 @@ use crate::report::{Counts, Form, Report};
 use crate::rules::unknown_name;
 use co_sheet::{StreamFault, read_text};
 use conode_io::{CmdFault, cannot_read, file_text, flushed, hand_over, stopped};
-use std::alloc::Global;
+use std::alloc::{AllocError, Global};
 use std::io::{Input, Write};
 use std::process::ExitCode;
 use std::rt::Files;
@@ -36,6 +36,23 @@ struct Session {
 }
 
 impl Session {
+    // lints a text, and adds what is found in it to the report
+    fn add_text(
+        &mut self,
+        alloc: Global,
+        name: &str,
+        text: &[u8],
+        options: &LintOptions<'_>,
+    ) -> Result<(), AllocError> {
+        match lint_text(alloc, text, &options.checks) {
+            Ok(linted) => {
+                self.counts.add(&linted);
+                self.report.add(alloc, name, &linted)
+            }
+            Err(fault) => Err(fault),
+        }
+    }
+
     // lints a text, and writes what is found in it
     fn take_text<O: Write>(
         &mut self,
@@ -45,16 +62,12 @@ impl Session {
         options: &LintOptions<'_>,
         out: &mut O,
     ) -> Result<(), CmdFault> {
-        match lint_text(alloc, text, &options.checks) {
-            Ok(linted) => {
-                self.counts.add(&linted);
-                self.report.add(alloc, name, &linted)?;
-            }
-            Err(_) => return Err(CmdFault::Memory),
+        if self.add_text(alloc, name, text, options).is_err() {
+            return Err(CmdFault::Memory);
         }
-        hand_over(self.report.lines().as_bytes(), out)?;
+        let handed = hand_over(self.report.lines().as_bytes(), out);
         self.report.drop_lines();
-        Ok(())
+        handed
     }
 
     // names a file or a folder that can't be read; ends if memory ran out

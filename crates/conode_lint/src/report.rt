@@ -193,19 +193,26 @@ impl Report {
             ..
         } = *counts;
         let mut report = self;
-        match report.form {
-            Form::Text { .. } => push_summary(&mut report.text, errors, warnings, files)?,
-            Form::Json => put_document_end(&mut report.document, errors, warnings),
-            Form::Sarif => put_log_end(&mut report.document),
-        }
+        let summed = match report.form {
+            Form::Text { .. } => push_summary(&mut report.text, errors, warnings, files),
+            Form::Json => {
+                put_document_end(&mut report.document, errors, warnings);
+                Ok(())
+            }
+            Form::Sarif => {
+                put_log_end(&mut report.document);
+                Ok(())
+            }
+        };
         let Report {
             form,
             text,
             document,
         } = report;
-        match form {
-            Form::Text { .. } => Ok(text.into_bytes()),
-            Form::Json | Form::Sarif => document.into_text(),
+        match (form, summed) {
+            (Form::Json | Form::Sarif, _) => document.into_text(),
+            (Form::Text { .. }, Ok(())) => Ok(text.into_bytes()),
+            (Form::Text { .. }, Err(fault)) => Err(fault),
         }
     }
 }

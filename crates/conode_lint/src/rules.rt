@@ -84,13 +84,9 @@ fn rule_fix(subject: Subject) -> &'static str {
     }
 }
 
-fn subjects() -> &'static [Subject] {
-    &SUBJECTS
-}
-
 /// Adds all kinds of findings. `Err`: out of memory.
 pub(crate) fn add_rules(rules: &mut Vec<Rule<'static>>) -> Result<(), AllocError> {
-    for subject in subjects() {
+    for subject in &SUBJECTS {
         rules.push(rule_of(*subject))?;
     }
     Ok(())
@@ -107,7 +103,7 @@ pub(crate) fn unknown_name<'a>(names: &[&'a str]) -> Option<&'a str> {
 }
 
 fn is_known(name: &str) -> bool {
-    for subject in subjects() {
+    for subject in &SUBJECTS {
         if name_of(*subject) == name {
             return true;
         }
