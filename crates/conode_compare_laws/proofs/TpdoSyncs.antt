@@ -1,7 +1,7 @@
 -- A synchronous TPDO of a device comes after a SYNC that compare has seen.
 use Rattle.std.proofs.Common.{◌≡◌, ℕ, ◌+◌, ◌<◌, ◌≤◌, Bool, true, false, List, [], ◌∷◌, ◌++◌, length, map, Option, Some, None, refl, ap, sym, ◌∙◌, subst, arith, ◌⊎◌, inl, inr}
 use Rattle.std.specs.Prelude.{if◌then◌else◌, ◌==◌, ◌&&◌, ◌||◌, nat_le, is_some, IfSome}
-use Rattle.std.proofs.lemmas.Bool.{and_parts, eq-eqb, eqb-true, ne_eqb, or_parts, or_right}
+use Rattle.std.proofs.lemmas.Bool.{and_parts, eq-eqb, eqb-true, false≢true, ne_eqb, or_parts, or_right}
 use Rattle.std.proofs.lemmas.Bool.Decides.{nat_tests}
 use Rattle.co_frame.specs.FrameContent.{FrameContent}
 use Rattle.co_dict.specs.CobIds.{identifier_of}
@@ -24,6 +24,7 @@ use Rattle.co_node_model.specs.Heartbeats.{life_frames}
 use Rattle.co_node_model.specs.Device.{contents_of, moment, moments, prescribed}
 use Rattle.co_node_model.specs.Inputs.{Applied, Framed, Inputs, InputView, Ticked}
 use Rattle.co_node_model.specs.Marks.{marked_sync}
+use Rattle.co_node_model.specs.Sync.{is_sync_id}
 use Rattle.co_node_model.specs.Moments.{Constants, Moment}
 use Rattle.co_node_model.specs.Nmt.{is_reset}
 use Rattle.co_node_model.specs.Tpdos.{schedule_log, tpdo_frame, turn_at}
@@ -40,12 +41,12 @@ use Rattle.conode_compare_rules.specs.declared.progress.Progress.{Progress}
 use Rattle.conode_compare_rules.specs.FrameKinds.{data_kind, length_of}
 use Rattle.conode_compare_rules.specs.Progresses.{after_process, begun, moment_at, process_findings}
 use Rattle.conode_compare_laws.specs.Differences.{differences_in}
-use Rattle.conode_compare_laws.specs.AnswerSenders.{AllSendOther}
+use Rattle.conode_compare_laws.specs.AnswerSenders.{AllSendOther, AreOther}
 use Rattle.conode_compare_laws.specs.Identifiers.{AllSendAside, AreElsewhere, AreNoSdo, IsElsewhere}
 use Rattle.conode_compare_laws.specs.Recordings.{frame_of, heard_at, heard_from, recording, Stamped}
 use Rattle.conode_compare_laws.specs.TpdoDifferences.{is_pdo_sync, tpdo_differences}
 use Rattle.conode_compare_laws.specs.TpdoFrames.{AllSendBesideTpdos, AreNoTpdos, IsNoTpdo, is_followed}
-use Rattle.conode_compare_laws.specs.TpdoParameters.{AllKeepTpdos, AreTpdosOf, IsTpdoOf, KeepsTpdos}
+use Rattle.conode_compare_laws.specs.TpdoParameters.{AllKeepTpdos, AreTpdosOf, IsTpdoOf, KeepsTpdos, NameNoTpdos}
 use Rattle.conode_compare_laws.proofs.Heard.{of_device}
 use Rattle.conode_compare_laws.proofs.Heartbeats as no_sdo
 use Rattle.conode_compare_laws.proofs.Heartbeats.{NoSdo}
@@ -53,7 +54,7 @@ use Rattle.conode_compare_laws.proofs.NamedKeys.{IsOpenOn, begun_open}
 use Rattle.conode_compare_laws.proofs.TpdoNamed.{NoTpdo, Unnamed, after_those, before_these, none_named}
 use Rattle.conode_compare_laws.proofs.Runs.{AllRun, joined}
 use Rattle.conode_compare_laws.proofs.TpdoDue.{IsAt, active, active_kept, alone, due_all, due_distinct, number_kept, tpdo_number}
-use Rattle.conode_compare_laws.proofs.TpdoInputs.{AllInputs, AreClear, all_clear, no_sdo_later, of_device_too, of_recording}
+use Rattle.conode_compare_laws.proofs.TpdoInputs.{AllInputs, AreClear, all_clear, named_later, no_sdo_later, of_device_too, of_recording}
 use Rattle.conode_compare_laws.proofs.TpdoKinds.{deviation_none, length_none, state_none, untimed}
 use Rattle.conode_compare_laws.proofs.TpdoOthers.{
   AreFine,
@@ -388,16 +389,15 @@ sync_comes subject rows micros frame due p kind off same h =
     one is_pdo_sync (HaveSync subject.facts.pdos true due) subject rows micros p frame (Process frame.id (length_of frame)) kind
     (sync_passes subject rows (begun subject p micros) micros frame.id (length_of frame) due (begun_newest subject p micros h.fresh) (begun_kept subject (Knows subject.facts.pdos) p micros (knows_kept subject.facts.pdos) h.kept) off same (begun_open NoTpdo subject p micros h.apart))
 
--- without SDO on the default channel no frame names an entry, and none of the device's own is on it
-none_in : (node : ℕ) (frames : List FrameContent) → NoSdo node frames → Unnamed node frames
-none_in node [] h = tt
-none_in node (frame ∷ frames) h = (λ id eight. absurd (h.0.1 id), none_in node frames h.1)
-
 -- ---- an input
+
+-- a SYNC that comes isn't on the default SDO channel
+abbrev SyncsOther : Constants → Inputs → Stamped → Type 0
+SyncsOther k before s = IsSync (contents_of k before) s.input → AreOther k.description.node (frame_of s.input)
 
 record IsMet (pdos : Pdos) (k : Constants) (before : Inputs) (s : Stamped) : Type 0 where
   clear : AreClear pdos k before s
-  sdo : NoSdo k.description.node (frame_of s.input)
+  sdo : SyncsOther k before s
   emergency : IsElsewhere (0x80 + k.description.node) s.input
   keeps : KeepsTpdos k (moment k (moments k before) s.input)
   sync : number_at (contents_of k before) sync_key ≡ number_at k.start sync_key
@@ -406,15 +406,15 @@ sent_id : (known : Option ℕ) (word id : ℕ) → IfSome known (λ n. identifie
 sent_id None word id h is = tt
 sent_id (Some n) word id h is = sym h ∙ is
 
-came_sync : (k : Constants) (subject : Subject) (rows : List Row) (before : Inputs) (s : Stamped) (due : List ℕ) (p : Progress) → AreTpdosOf k subject.facts.pdos → IsMet subject.facts.pdos k before s → NoSdo k.description.node (frame_of s.input)
+came_sync : (k : Constants) (subject : Subject) (rows : List Row) (before : Inputs) (s : Stamped) (due : List ℕ) (p : Progress) → AreTpdosOf k subject.facts.pdos → IsMet subject.facts.pdos k before s
     → IsSync (contents_of k before) s.input → Holds (Knows subject.facts.pdos) p
     → AllRun (tpdo_differences is_pdo_sync) (of_device k subject) rows s.micros p (frame_of s.input) (Holds (HaveSync subject.facts.pdos true due))
-came_sync k subject rows before s due p of met none is h = by s.input met.clear.control met.clear.foreign met.emergency none is
+came_sync k subject rows before s due p of met is h = by s.input met.clear.control met.clear.foreign met.emergency (met.sdo is) is
   where
     node : ℕ
     node = k.description.node
 
-    by : (input : InputView) → IsElsewhere (0x700 + node) input → IsNoTpdo subject.facts.pdos input → IsElsewhere (0x80 + node) input → NoSdo node (frame_of input) → IsSync (contents_of k before) input
+    by : (input : InputView) → IsElsewhere (0x700 + node) input → IsNoTpdo subject.facts.pdos input → IsElsewhere (0x80 + node) input → AreOther node (frame_of input) → IsSync (contents_of k before) input
         → AllRun (tpdo_differences is_pdo_sync) (of_device k subject) rows s.micros p (frame_of input) (Holds (HaveSync subject.facts.pdos true due))
     by (Framed frame) control foreign emergency sdo sync =
         let here : identifier_of (number_at (contents_of k before) sync_key) ≡ frame.id = eqb-true _ frame.id (and_parts _ _ sync.1).1 in
@@ -427,19 +427,19 @@ came_sync k subject rows before s due p of met none is h = by s.input met.clear.
 
 -- whether it is a SYNC to the schedule
 came_either : (k : Constants) (subject : Subject) (rows : List Row) (before : Inputs) (s : Stamped) (p : Progress) (synced : Bool) → is_sync_turn (turn_at (moment k (moments k before) s.input) (moments k before)) ≡ synced
-    → AreTpdosOf k subject.facts.pdos → IsMet subject.facts.pdos k before s → NoSdo k.description.node (frame_of s.input) → Holds (Knows subject.facts.pdos) p
+    → AreTpdosOf k subject.facts.pdos → IsMet subject.facts.pdos k before s → Unnamed k.description.node (frame_of s.input) → Holds (Knows subject.facts.pdos) p
     → AllRun (tpdo_differences is_pdo_sync) (of_device k subject) rows s.micros p (frame_of s.input) (Holds (HaveSync subject.facts.pdos synced (moment k (moments k before) s.input).due))
 came_either k subject rows before s p false is of met none h =
     let facts : Pdos = subject.facts.pdos in
     let due : List ℕ = (moment k (moments k before) s.input).due in
     weaken (tpdo_differences is_pdo_sync) (of_device k subject) rows s.micros (frame_of s.input) p (Holds (Knows facts)) (Holds (HaveSync facts false due))
     (λ q g. record { fresh = g.fresh; kept = none_synced facts due q.pdos g.kept; apart = g.apart })
-    (others is_pdo_sync (Knows facts) (of_device k subject) rows s.micros (frame_of s.input) p (knows_kept facts) (came_other facts k.description.node s.input (none_in k.description.node (frame_of s.input) none) met.clear.control met.clear.foreign) h)
+    (others is_pdo_sync (Knows facts) (of_device k subject) rows s.micros (frame_of s.input) p (knows_kept facts) (came_other facts k.description.node s.input none met.clear.control met.clear.foreign) h)
 came_either k subject rows before s p true is of met none h =
     let m : Moment = moment k (moments k before) s.input in
     elim (sync_or k (moments k before) s.input) [
       | inl off ↦ absurd (let no : is_sync_turn (turn_at m (moments k before)) ≡ false = no_sync_turn m (moments k before) off in cc)
-      | inr sync ↦ came_sync k subject rows before s m.due p of met none sync h
+      | inr sync ↦ came_sync k subject rows before s m.due p of met sync h
     ]
 
 -- at a SYNC no boot-up comes
@@ -471,7 +471,7 @@ input_runs k subject rows before last s p of met h =
     let ready : Progress → Type 0 = Holds (HaveSync facts synced m.due) in
     let after : Progress → Type 0 = Holds (Knows facts) in
     joined (tpdo_differences is_pdo_sync) subj rows s.micros came (more ++ map frame m.due) p ready after
-    (came_either k subject rows before s p synced refl of met met.sdo h)
+    (came_either k subject rows before s p synced refl of met (before_these n came (prescribed k before s.input) met.clear.sdo) h)
     (λ q g.
     joined (tpdo_differences is_pdo_sync) subj rows s.micros more (map frame m.due) q ready after
     (besides_run is_pdo_sync (HaveSync facts synced m.due) k subject rows s.micros before s.input q (sync_kept facts synced m.due) (begins_either k facts before s.input synced refl) met.clear.aside met.clear.beside
@@ -510,19 +510,53 @@ sent_other k (s ∷ later) before none =
       sent_other k later (s.input ∷ before) (no_sdo.last_part n (heard_at k before s) (heard_from k (s.input ∷ before) later) none),
     )
 
-all_met : (pdos : Pdos) (k : Constants) (inputs : List Stamped) (before : Inputs) (last : ℕ) → AllInputs (λ b l s. AreClear pdos k b s) before last inputs → AreNoSdo k.description.node (heard_from k before inputs) → AreElsewhere (0x80 + k.description.node) inputs → AllKeepTpdos k before inputs
+all_met : (pdos : Pdos) (k : Constants) (inputs : List Stamped) (before : Inputs) (last : ℕ) → AllInputs (λ b l s. AreClear pdos k b s) before last inputs → AllInputs (λ b l s. SyncsOther k b s) before last inputs → AreElsewhere (0x80 + k.description.node) inputs → AllKeepTpdos k before inputs
     → number_at (contents_of k before) sync_key ≡ number_at k.start sync_key → AllInputs (λ b l s. IsMet pdos k b s) before last inputs
 all_met pdos k [] before last clear none emergency keeps sync = tt
 all_met pdos k (s ∷ later) before last clear none emergency keeps sync = (
-  record { clear = clear.0; sdo = came_sdo k before s later none; emergency = emergency.0; keeps = keeps.0; sync = sync },
-  all_met pdos k later (s.input ∷ before) s.micros clear.1 (no_sdo.last_part k.description.node (heard_at k before s) (heard_from k (s.input ∷ before) later) none) emergency.1 keeps.1 (number_kept k (moment k (moments k before) s.input) sync_key keeps.0 refl),
+  record { clear = clear.0; sdo = none.0; emergency = emergency.0; keeps = keeps.0; sync = sync },
+  all_met pdos k later (s.input ∷ before) s.micros clear.1 none.1 emergency.1 keeps.1 (number_kept k (moment k (moments k before) s.input) sync_key keeps.0 refl),
 )
+
+-- without SDO on the default channel no SYNC is there
+all_quiet : (k : Constants) (inputs : List Stamped) (before : Inputs) (last : ℕ) → AreNoSdo k.description.node (heard_from k before inputs) → AllInputs (λ b l s. SyncsOther k b s) before last inputs
+all_quiet k [] before last none = tt
+all_quiet k (s ∷ later) before last none =
+    (λ sync. came_sdo k before s later none, all_quiet k later (s.input ∷ before) s.micros (no_sdo.last_part k.description.node (heard_at k before s) (heard_from k (s.input ∷ before) later) none))
+
+-- nor where no other node answers there, and SYNC isn't on the identifier of the requests
+other_sync : (k : Constants) (before : Inputs) (input : InputView) → IsElsewhere (0x580 + k.description.node) input → is_sync_id (contents_of k before) (0x600 + k.description.node) ≡ false
+    → IsSync (contents_of k before) input → AreOther k.description.node (frame_of input)
+other_sync k before (Framed frame) answers off sync = ((answers, λ same. false≢true (sym off ∙ subst (λ id. is_sync_id (contents_of k before) id ≡ true) same sync.1)), tt)
+other_sync k before Ticked answers off sync = tt
+other_sync k before (Applied event) answers off sync = tt
+
+all_other : (k : Constants) (inputs : List Stamped) (before : Inputs) (last : ℕ) → AreElsewhere (0x580 + k.description.node) inputs → ((all : Inputs) → is_sync_id (contents_of k all) (0x600 + k.description.node) ≡ false)
+    → AllInputs (λ b l s. SyncsOther k b s) before last inputs
+all_other k [] before last answers off = tt
+all_other k (s ∷ later) before last answers off = (other_sync k before s.input answers.0 (off before), all_other k later (s.input ∷ before) s.micros answers.1 off)
+
+none_with : (k : Constants) (subject : Subject) (rows : List Row) (inputs : List Stamped) → subject.node ≡ k.description.node → AreTpdosOf k subject.facts.pdos → AllKeepTpdos k [] inputs
+    → AreElsewhere (0x700 + k.description.node) inputs → AreElsewhere (0x80 + k.description.node) inputs → AreNoTpdos subject.facts.pdos inputs → AllSendAside k [] inputs → AllSendBesideTpdos subject.facts.pdos k [] inputs
+    → AllSendOther k [] inputs → NameNoTpdos k.description.node (recording k inputs) → ((last : ℕ) → AllInputs (λ b l s. SyncsOther k b s) [] last inputs)
+    → differences_in (tpdo_differences is_pdo_sync) subject rows (recording k inputs) ≡ []
+none_with k subject rows inputs is of keeps control emergency foreign aside beside other named sync =
+    let facts : Pdos = subject.facts.pdos in
+    of_device_too is_pdo_sync k subject rows inputs is
+    (of_recording is_pdo_sync k subject rows (λ b l s. IsMet facts k b s) (λ b l. Knows facts) (λ before last s p met h. input_runs k subject rows before last s p of met h) inputs (λ micros. knows_sheet facts)
+    (λ last. all_met facts k inputs [] last (all_clear facts k inputs [] last control foreign aside beside other (named_later k inputs named)) (sync last) emergency keeps refl))
 
 pub no_pdo_sync : (k : Constants) (subject : Subject) (rows : List Row) (inputs : List Stamped) → subject.node ≡ k.description.node → AreTpdosOf k subject.facts.pdos → AllKeepTpdos k [] inputs
     → AreElsewhere (0x700 + k.description.node) inputs → AreElsewhere (0x80 + k.description.node) inputs → AreNoTpdos subject.facts.pdos inputs → AllSendAside k [] inputs → AllSendBesideTpdos subject.facts.pdos k [] inputs
     → AreNoSdo k.description.node (recording k inputs) → differences_in (tpdo_differences is_pdo_sync) subject rows (recording k inputs) ≡ []
 no_pdo_sync k subject rows inputs is of keeps control emergency foreign aside beside none =
-    let facts : Pdos = subject.facts.pdos in
-    of_device_too is_pdo_sync k subject rows inputs is
-    (of_recording is_pdo_sync k subject rows (λ b l s. IsMet facts k b s) (λ b l. Knows facts) (λ before last s p met h. input_runs k subject rows before last s p of met h) inputs (λ micros. knows_sheet facts)
-    (λ last. all_met facts k inputs [] last (all_clear facts k inputs [] last control foreign aside beside (sent_other k inputs [] (no_sdo_later k inputs none)) (none_named k.description.node (heard_from k [] inputs) (no_sdo_later k inputs none))) (no_sdo_later k inputs none) emergency keeps refl))
+    let later : AreNoSdo k.description.node (heard_from k [] inputs) = no_sdo_later k inputs none in
+    none_with k subject rows inputs is of keeps control emergency foreign aside beside (sent_other k inputs [] later) (none_named k.description.node (recording k inputs) none) (λ last. all_quiet k inputs [] last later)
+
+-- with SDO on it
+pub no_pdo_sync_named : (k : Constants) (subject : Subject) (rows : List Row) (inputs : List Stamped) → subject.node ≡ k.description.node → AreTpdosOf k subject.facts.pdos → AllKeepTpdos k [] inputs
+    → AreElsewhere (0x700 + k.description.node) inputs → AreElsewhere (0x80 + k.description.node) inputs → AreNoTpdos subject.facts.pdos inputs → AllSendAside k [] inputs → AllSendBesideTpdos subject.facts.pdos k [] inputs
+    → AllSendOther k [] inputs → NameNoTpdos k.description.node (recording k inputs) → AreElsewhere (0x580 + k.description.node) inputs → ((all : Inputs) → is_sync_id (contents_of k all) (0x600 + k.description.node) ≡ false)
+    → differences_in (tpdo_differences is_pdo_sync) subject rows (recording k inputs) ≡ []
+no_pdo_sync_named k subject rows inputs is of keeps control emergency foreign aside beside other named answers off =
+    none_with k subject rows inputs is of keeps control emergency foreign aside beside other named (λ last. all_other k inputs [] last answers off)

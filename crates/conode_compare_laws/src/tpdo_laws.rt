@@ -3,6 +3,7 @@
 ghost use Rattle.std.specs.Prelude.{◌≡◌, ◌+◌, List, []};
 ghost use Rattle.co_value.specs.declared.key.Key.{Key};
 ghost use Rattle.co_sheet.specs.Content.{Row};
+ghost use Rattle.co_node_laws.specs.Apart.{BeginsApart};
 ghost use Rattle.co_node_model.specs.Moments.{Constants};
 ghost use Rattle.conode_compare_rules.specs.declared.limits.Subject.{Subject};
 ghost use Rattle.conode_compare_laws.specs.AnswerSenders.{AllSendOther};
@@ -31,6 +32,7 @@ ghost use Rattle.conode_compare_laws.specs.TpdoParameters.{
 };
 
 use crate::aside::sends_aside;
+use co_node_laws::stays_apart;
 
 /// A recording without frames of the default SDO channel meets what the laws ask of these: none of
 /// the device's own EMCY and TPDOs is there (`AllSendOther`), and no frame of a client names an
@@ -87,10 +89,12 @@ pub fn no_pdo_length()
 
 /// Nor has it a `pdo-sync` (CiA 301, 7.2.2.2.1): a TPDO of type 0 to 240 comes after a SYNC.
 /// Conditions as those of `no_pdo_length` but that of the entries, and that no other node sends on
-/// 80h + node-ID, not even SYNC (`AreElsewhere`); and no frame is one of the default SDO channel
-/// (`AreNoSdo`). This is a law: a call of it changes nothing.
+/// 80h + node-ID, not even SYNC (`AreElsewhere`). `quiet`: where no frame is one of the default SDO
+/// channel (`AreNoSdo`). `named`: with SDO on it, where no other node sends on the identifier of
+/// its answers, and SYNC is apart from it as the device is built (`BeginsApart`). This is a law: a
+/// call of it changes nothing.
 pub fn no_pdo_sync()
-    ensures { (k : Constants) (subject : Subject) (rows : List Row) (inputs : List Stamped) →
+    ensures quiet { (k : Constants) (subject : Subject) (rows : List Row) (inputs : List Stamped) →
         subject.node ≡ k.description.node → AreTpdosOf k subject.facts.pdos →
         AllKeepTpdos k [] inputs → AreElsewhere (0x700 + k.description.node) inputs →
         AreElsewhere (0x80 + k.description.node) inputs →
@@ -98,8 +102,18 @@ pub fn no_pdo_sync()
         AllSendBesideTpdos subject.facts.pdos k [] inputs →
         AreNoSdo k.description.node (recording k inputs) →
         differences_in (tpdo_differences is_pdo_sync) subject rows (recording k inputs) ≡ [] }
+    ensures named { (k : Constants) (subject : Subject) (rows : List Row) (inputs : List Stamped) →
+        subject.node ≡ k.description.node → AreTpdosOf k subject.facts.pdos →
+        AllKeepTpdos k [] inputs → AreElsewhere (0x700 + k.description.node) inputs →
+        AreElsewhere (0x80 + k.description.node) inputs →
+        AreElsewhere (0x580 + k.description.node) inputs →
+        AreNoTpdos subject.facts.pdos inputs → BeginsAside k → BeginsApart k →
+        AllSendBesideTpdos subject.facts.pdos k [] inputs → AllSendOther k [] inputs →
+        NameNoTpdos k.description.node (recording k inputs) →
+        differences_in (tpdo_differences is_pdo_sync) subject rows (recording k inputs) ≡ [] }
 {
     sends_aside();
+    stays_apart();
 }
 
 /// Nor has it a `pdo-inhibit` (CiA 301, 7.5.2.37), whatever the tolerance and the drift. Conditions
