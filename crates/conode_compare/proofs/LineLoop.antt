@@ -43,6 +43,12 @@ open_end : (byte : ℕ) (bytes : List ℕ) → has_line_feed (byte ∷ bytes) �
 open_end byte [] none = (neither (byte == 10) false none).0
 open_end byte (next ∷ more) none = open_end next more (neither (byte == 10) (has_line_feed (next ∷ more)) none).1
 
+few_bytes : (count : ℕ) → count ≤ 512 → ltb 512 count ≡ false
+few_bytes count few = grind (arith, nat_tests)
+
+many_bytes : (count : ℕ) → 512 < count → ltb 512 count ≡ true
+many_bytes count many = grind (arith, nat_tests)
+
 module _ (c : Comparison) where
   -- ---- lines
 
@@ -68,11 +74,11 @@ module _ (c : Comparison) where
 
   cut_off : (number : ℕ) (so_far : SoFar) (line : List ℕ) → length line ≤ 512 → compared_from c false number so_far (line ∷ []) ≡ []
   unfolding compared_from
-  cut_off number so_far line few = let short : ltb 512 (length line) ≡ false = grind (arith, nat_tests) in rw short refl
+  cut_off number so_far line few = rw (few_bytes (length line) few) refl
 
   cut_off_after : (so_far : SoFar) (line : List ℕ) → length line ≤ 512 → so_far_after c false so_far (line ∷ []) ≡ so_far
   unfolding so_far_after
-  cut_off_after so_far line few = let short : ltb 512 (length line) ≡ false = grind (arith, nat_tests) in rw short refl
+  cut_off_after so_far line few = rw (few_bytes (length line) few) refl
 
   -- a line that is too long
   abbrev with_long : SoFar → SoFar
@@ -80,28 +86,28 @@ module _ (c : Comparison) where
 
   short_lines : (number : ℕ) (so_far : SoFar) (line : List ℕ) → length line ≤ 512
       → line_lines c number so_far line ≡ said_lines c number (line_noted so_far.comparing line) (line_at so_far.log line)
-  short_lines number so_far line few = let short : ltb 512 (length line) ≡ false = grind (arith, nat_tests) in rw short refl
+  short_lines number so_far line few = rw (few_bytes (length line) few) refl
 
   short_with : (so_far : SoFar) (line : List ℕ) → length line ≤ 512
       → line_with c so_far line ≡ record { log = (says so_far.log line).0; comparing = said_with c (line_noted so_far.comparing line) (line_at so_far.log line) }
-  short_with so_far line few = let short : ltb 512 (length line) ≡ false = grind (arith, nat_tests) in rw short refl
+  short_with so_far line few = rw (few_bytes (length line) few) refl
 
   long_lines : (number : ℕ) (so_far : SoFar) (line : List ℕ) → 512 < length line → line_lines c number so_far line ≡ []
-  long_lines number so_far line many = let long : ltb 512 (length line) ≡ true = grind (arith, nat_tests) in rw long refl
+  long_lines number so_far line many = rw (many_bytes (length line) many) refl
 
   long_with : (so_far : SoFar) (line : List ℕ) → 512 < length line → line_with c so_far line ≡ with_long so_far
-  long_with so_far line many = let long : ltb 512 (length line) ≡ true = grind (arith, nat_tests) in rw long refl
+  long_with so_far line many = rw (many_bytes (length line) many) refl
 
   -- at the end
   long_last : (closed : Bool) (number : ℕ) (so_far : SoFar) (line : List ℕ) → 512 < length line → compared_from c closed number so_far (line ∷ []) ≡ []
   unfolding compared_from
   long_last true number so_far line many = long_lines number so_far line many
-  long_last false number so_far line many = let long : ltb 512 (length line) ≡ true = grind (arith, nat_tests) in rw long refl
+  long_last false number so_far line many = rw (many_bytes (length line) many) refl
 
   long_after : (closed : Bool) (so_far : SoFar) (line : List ℕ) → 512 < length line → so_far_after c closed so_far (line ∷ []) ≡ with_long so_far
   unfolding so_far_after
   long_after true so_far line many = long_with so_far line many
-  long_after false so_far line many = let long : ltb 512 (length line) ≡ true = grind (arith, nat_tests) in rw long refl
+  long_after false so_far line many = rw (many_bytes (length line) many) refl
 
   -- ---- what bytes give
 

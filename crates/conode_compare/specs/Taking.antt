@@ -1,8 +1,9 @@
 -- How far a recording is compared.
 use Rattle.std.specs.Prelude.{◌≡◌, ℕ, List, ◌++◌, Option, Some, None, ⊤}
+use Rattle.std.specs.Io.KnownBytes.{IsAtEnd}
 use Rattle.std.specs.Str.Lines.{lines}
 use Rattle.co_stream.specs.Founds.{is_closed}
-use Rattle.co_stream.specs.Held.{Held, to_come}
+use Rattle.co_stream.specs.Held.{Held, nothing_held, to_come}
 use Rattle.co_stream.specs.Readings.{Gave}
 use Rattle.conode_io.specs.Written.{WritesLines}
 use Rattle.conode_logs.specs.declared.log.Form.{Form}
@@ -26,6 +27,15 @@ pub record Takes (c : Comparison) (held holds : Held) (before after : Option (Li
   pub appended : WritesLines old new written
   pub gives : Gave held.ended holds.ended before after
       (λ had has. Gives c (to_come held had) (to_come holds has) number next first last written)
+
+-- All lines of a reader of which nothing was held were taken: these, and then no line is left.
+pub record TakesAll (c : Comparison) (before after : Option (List ℕ)) (first last : SoFar) (old new : Option (List ℕ)) : Type 0 where
+  pub holds : Held
+  pub left : Held
+  pub between : Option (List ℕ)
+  pub next : ℕ
+  pub taken : Takes c nothing_held holds before between 1 next first last old new
+  pub end : Gave holds.ended left.ended between after (λ had has. IsAtEnd (to_come holds had))
 
 -- all of a text is compared, and this is known at its end
 abbrev pub Compares : Comparison → Form → Option Kept → Option (List ℕ) → Option (List ℕ) → Comparing → List ℕ → Type 0

@@ -23,8 +23,8 @@ use conode_compare_rules::{Limits, Subject, facts_of};
 use conode_compare_text::Tally;
 use conode_compare_values::Rooms;
 use conode_io::{
-    CmdFault, cannot_read, faulty_sheet, file_text, flushed, no_node_id, no_text, out_of_memory,
-    stopped,
+    CmdFault, bad_word, cannot_read, faulty_sheet, file_text, flushed, no_node_id, no_text,
+    out_of_memory, stopped,
 };
 use conode_logs::Form;
 use std::alloc::Global;
@@ -96,7 +96,7 @@ fn verdict_status(tally: Tally, several: bool) -> u8
 // says on `err` why the status is 2, if it is
 fn say_why<E: Write>(node: u8, tally: Tally, several: bool, nodes: &NodesSeen, err: &mut E) {
     if several {
-        let _ = writeln!(err, "several interfaces: name one with --interface");
+        let _ = bad_word("several interfaces: name one with --interface", err);
     } else if no_frame(tally) {
         let _ = writeln!(err, "no frame of node {node}");
         nodes.name(err);
@@ -142,9 +142,9 @@ fn compare_and_write<R: Read, O: Write, E: Write>(
         (output wanted.now.format (comparison_view settings.now)
         wanted.now.version.now wanted.now.sheet.now form text))) }
 {
-    let report = new_report(alloc, settings, wanted.format)?;
-    let comparing = compare(alloc, input, settings, form, report, out, err)?;
-    write_end(alloc, settings, wanted, &comparing, out)?;
+    let report = attempt_in_memory!(new_report(alloc, settings, wanted.format));
+    let comparing = attempt!(compare(alloc, input, settings, form, report, out, err));
+    attempt!(write_end(alloc, settings, wanted, &comparing, out));
     let (tally, several) = comparing.ends();
     Ok((tally, several, comparing.nodes()))
 }
@@ -222,12 +222,14 @@ fn held_entries(rows: &[EntryRow<'_>], keys: Option<&str>) -> Result<HeldEntries
 fn bad_keys<E: Write>(fault: HeldFault, err: &mut E) -> ExitCode
     ensures { exit_status result ≡ 2 }
 {
-    let _ = match fault {
-        HeldFault::Word => writeln!(err, "--held: keys are wanted, as 2001:00,2010:00"),
-        HeldFault::Entry(key) => writeln!(err, "--held: the data sheet has no integer at {key}"),
-        HeldFault::TooMany => writeln!(err, "--held: more than 64 keys"),
-    };
-    ExitCode::from(NOT_COMPARED)
+    match fault {
+        HeldFault::Word => bad_word("--held: keys are wanted, as 2001:00,2010:00", err),
+        HeldFault::Entry(key) => {
+            let _ = writeln!(err, "--held: the data sheet has no integer at {key}");
+            ExitCode::from(NOT_COMPARED)
+        }
+        HeldFault::TooMany => bad_word("--held: more than 64 keys", err),
+    }
 }
 
 // compares the recording of a path with a data sheet, whose entries have these original data types,

@@ -1,10 +1,11 @@
 //! A recording compared with the data sheet of a device.
 
-ghost use Rattle.std.specs.Prelude.{◌≡◌, IfOk, IfSome, true};
+ghost use Rattle.std.specs.Prelude.{◌≡◌, IfOk, IfSome, OnOk, true};
 ghost use Rattle.std.specs.List.{AllPairs};
+ghost use Rattle.co_stream.specs.Held.{nothing_held};
 ghost use Rattle.co_value.specs.Keys.{is_key_before};
 ghost use Rattle.conode_io.specs.TraceTexts.{GaveText};
-ghost use Rattle.conode_compare.specs.Taking.{Compares};
+ghost use Rattle.conode_compare.specs.Taking.{Compares, TakesAll};
 ghost use Rattle.conode_compare.specs.Views.{comparison_view};
 
 use crate::comparing::Comparing;
@@ -15,6 +16,33 @@ use conode_io::CmdFault;
 use conode_logs::Form;
 use std::alloc::Global;
 use std::io::{Read, Write};
+
+// Takes all lines that a reader gives. Its caller owns them, so none of its ends drops them.
+fn take_lines<R: Read, W: Write, E: Write>(
+    lines: &mut Lines,
+    reader: &mut R,
+    settings: &Settings<'_, '_>,
+    out: &mut W,
+    err: &mut E,
+) -> Result<(), CmdFault>
+    requires rows { AllPairs (λ e f. is_key_before e.key f.key ≡ true) settings.now.rows.now }
+    requires held { lines.old.lines ≡ nothing_held }
+    ensures { OnOk result (TakesAll (comparison_view settings.now)
+        (R.remaining reader.old) (R.remaining reader.new)
+        (record { log = lines.old.log; comparing = lines.old.comparing })
+        (record { log = lines.new.log; comparing = lines.new.comparing })
+        (W.contents out.old) (W.contents out.new)) }
+{
+    for number in 1..u64::MAX {
+        attempt!(lines.let_out(out));
+        match lines.take_line(reader, settings, number, out, err) {
+            Ok(Some(())) => {}
+            Ok(None) => return Ok(()),
+            Err(fault) => return Err(fault),
+        }
+    }
+    Err(CmdFault::NeverEnds)
+}
 
 /// Compares a log of the form that is given, or that its first lines show, line by line and in
 /// constant memory: for each difference a line is written on `out`. A bad line, or one of more than
@@ -46,12 +74,8 @@ pub fn compare<R: Read, W: Write, E: Write>(
         (W.contents out.old) (W.contents out.new) comparing)) }
 {
     let mut lines = Lines::new(alloc, settings, form, report);
-    for number in 1..u64::MAX {
-        lines.let_out(out)?;
-        match lines.take_line(reader, settings, number, out, err)? {
-            Some(()) => {}
-            None => return Ok(lines.into_comparing()),
-        }
+    match take_lines(&mut lines, reader, settings, out, err) {
+        Ok(()) => Ok(lines.into_comparing()),
+        Err(fault) => Err(fault),
     }
-    Err(CmdFault::NeverEnds)
 }

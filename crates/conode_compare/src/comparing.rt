@@ -38,7 +38,6 @@ use std::alloc::{AllocError, Global};
 use std::io::Write;
 
 /// How far a recording is compared.
-#[derive(Drop)]
 pub struct Comparing {
     pub(crate) progress: Progress,
     /// What RPDOs write to the entries that are held.
@@ -54,6 +53,24 @@ pub struct Comparing {
     pub(crate) notes: Notes,
     /// What is kept for a document, if one is wanted.
     pub(crate) report: Option<Report>,
+}
+
+// One call wherever it is dropped, in place of a drop of each of its parts.
+impl Drop for Comparing {
+    fn drop(self) {
+        let Comparing {
+            progress: _,
+            receptions: _,
+            tally: _,
+            first: _,
+            several: _,
+            nodes: _,
+            notes,
+            report,
+        } = self;
+        drop(notes);
+        drop(report);
+    }
 }
 
 // whether a frame is of the interface that is compared: the one that is named, else that of the
@@ -88,14 +105,25 @@ fn take_kind(
             let before = report.before(progress, kind);
             let found = progress.take(&settings.subject, settings.rows, micros, kind);
             let state = progress.state();
-            report.take_frame(settings.rows, micros, kind, &before, state, &found)?;
+            attempt!(report.take_frame(settings.rows, micros, kind, &before, state, &found));
             if progress.is_number_kept(&settings.subject) {
                 report.pass(Kind::ValueHeld);
             }
-            note_findings(report, settings, micros, &found)?;
+            attempt!(note_findings(report, settings, micros, &found));
             Ok(found)
         }
         None => Ok(progress.take(&settings.subject, settings.rows, micros, kind)),
+    }
+}
+
+// notes the interface of the first frame
+fn note_first(first: &mut ArrayVec<u8, 15>, name: &[u8])
+    requires { length name.now ≤ 15 }
+    ensures { first.new ≡ first_with first.old name.now }
+{
+    if first.is_empty() {
+        first.clear();
+        first.try_extend_from_slice(name).unwrap();
     }
 }
 
@@ -127,10 +155,10 @@ impl Comparing {
     pub(crate) fn note_line(&mut self, line: &[u8]) -> Result<(), AllocError>
         ensures { OnOk result (self.new ≡ line_noted self.old line.now) }
     {
-        if let Some(report) = &mut self.report {
-            report.take_line(line)?;
+        match &mut self.report {
+            Some(report) => report.take_line(line),
+            None => Ok(()),
         }
-        Ok(())
     }
 
     /// The newest line is bad.
@@ -164,17 +192,6 @@ impl Comparing {
         &self.notes
     }
 
-    // notes the interface of the first frame
-    fn note_first(&mut self, name: &[u8])
-        requires { length name.now ≤ 15 }
-        ensures { self.new ≡ record self.old { first = first_with self.old.first name.now } }
-    {
-        if self.first.is_empty() {
-            self.first.clear();
-            self.first.try_extend_from_slice(name).unwrap();
-        }
-    }
-
     // notes a frame of another interface
     fn note_other(&mut self, interface: Option<&[u8]>)
         ensures { self.new ≡ other_seen (option_copied interface.entry) self.old }
@@ -202,17 +219,17 @@ impl Comparing {
         ensures next { OnOk result (self.new
             ≡ frame_taken (comparison_view settings.now) self.old frame.now kind.now) }
     {
-        let found = take_kind(
+        let found = attempt!(take_kind(
             &mut self.progress,
             &mut self.report,
             settings,
             frame.micros,
             kind,
-        )?;
+        ));
         self.tally.count(found.verdict);
-        self.note_first(frame.interface.bytes());
+        note_first(&mut self.first, frame.interface.bytes());
         self.nodes.note(frame);
-        let noted = self.notes.take(settings, kind, &self.progress)?;
+        let noted = attempt!(self.notes.take(settings, kind, &self.progress));
         self.receptions.take(
             &settings.subject,
             settings.rows,
@@ -250,7 +267,7 @@ impl Comparing {
         }
         let is_documented = self.report.is_some();
         let kind = kind_of(settings.subject.node, frame.id, &frame.content);
-        let (found, noted) = self.take(settings, frame, &kind)?;
+        let (found, noted) = attempt_in_memory!(self.take(settings, frame, &kind));
         if is_documented {
             return Ok(());
         }

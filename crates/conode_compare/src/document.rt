@@ -57,7 +57,7 @@ pub(crate) fn new_report(
     match format {
         Format::Text => Ok(None),
         Format::Json | Format::JUnit | Format::Html => {
-            let report = Report::new(alloc, settings.rows, settings.subject.node)?;
+            let report = attempt!(Report::new(alloc, settings.rows, settings.subject.node));
             Ok(Some(report))
         }
     }
@@ -120,15 +120,15 @@ pub(crate) fn write_document<O: Write>(
     match format {
         Format::Text => Ok(()),
         Format::Json => {
-            let text = json_document(alloc, about, report)?;
+            let text = attempt_in_memory!(json_document(alloc, about, report));
             hand_over(text.as_slice(), out)
         }
         Format::JUnit => {
-            let text = junit_document(alloc, about, report)?;
+            let text = attempt_in_memory!(junit_document(alloc, about, report));
             hand_over(text.as_bytes(), out)
         }
         Format::Html => {
-            let text = page(alloc, about, report)?;
+            let text = attempt_in_memory!(page(alloc, about, report));
             hand_over(text.as_bytes(), out)
         }
     }

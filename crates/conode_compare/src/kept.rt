@@ -40,8 +40,8 @@ pub(crate) fn note_findings(
     ensures { OnOk result
         (report.new ≡ findings_noted (comparison_view settings.now) micros found.now report.old) }
 {
-    note_finding(report, settings, micros, found.boot)?;
-    note_finding(report, settings, micros, found.heartbeat)?;
-    note_finding(report, settings, micros, found.answer)?;
+    attempt!(note_finding(report, settings, micros, found.boot));
+    attempt!(note_finding(report, settings, micros, found.heartbeat));
+    attempt!(note_finding(report, settings, micros, found.answer));
     note_finding(report, settings, micros, found.frame)
 }

@@ -32,9 +32,9 @@ fn write_summary<O: Write>(
     let node = settings.subject.node;
     let (tally, _) = comparing.ends();
     if settings.choices {
-        set_choices_summary(text, node, tally, comparing.notes().choices)?;
+        attempt_in_memory!(set_choices_summary(text, node, tally, comparing.notes().choices));
     } else {
-        set_summary(text, node, tally)?;
+        attempt_in_memory!(set_summary(text, node, tally));
     }
     hand_over(text.as_bytes(), out)
 }
@@ -63,7 +63,7 @@ fn write_value<O: Write>(
     let value_type = ValueType::of(settings.originals.at(row.line), row.data_type);
     let sheet = number_of(settings.subject.node, row.default);
     let name = shown_name(row);
-    set_learned_line(text, name, row.key, value_type, width, number, sheet)?;
+    attempt_in_memory!(set_learned_line(text, name, row.key, value_type, width, number, sheet));
     hand_over(text.as_bytes(), out)
 }
 
@@ -79,7 +79,7 @@ fn write_values<O: Write>(
         (map row_view settings.now.rows.now))) }
 {
     for row in settings.rows {
-        write_value(text, settings, row, learned, out)?;
+        attempt!(write_value(text, settings, row, learned, out));
     }
     Ok(())
 }
@@ -98,9 +98,9 @@ pub(crate) fn write_last_lines<O: Write>(
         (last_lines (comparison_view settings.now) comparing.now)) }
 {
     let mut text = String::new(alloc);
-    write_summary(&mut text, settings, comparing, out)?;
+    attempt!(write_summary(&mut text, settings, comparing, out));
     if settings.learned {
-        write_values(&mut text, settings, &comparing.notes().learned, out)?;
+        attempt!(write_values(&mut text, settings, &comparing.notes().learned, out));
     }
     Ok(())
 }

@@ -1,6 +1,26 @@
 //! A recording of a device compared with its data sheet.
 #![tactic(auto)]
 
+// As `?`, without a conversion of the error: a `match` is one step of a proof where `?` is three.
+macro_rules! attempt {
+    ($result:expr) => {
+        match $result {
+            Ok(value) => value,
+            Err(fault) => return Err(fault),
+        }
+    };
+}
+
+// The same of a result whose `Err` says that memory ran out, in a function that gives a `CmdFault`.
+macro_rules! attempt_in_memory {
+    ($result:expr) => {
+        match $result {
+            Ok(value) => value,
+            Err(_) => return Err(CmdFault::Memory),
+        }
+    };
+}
+
 mod compare_file;
 mod compared;
 mod comparing;

@@ -108,7 +108,7 @@ fn take_log_line<W: Write, E: Write>(
         Ok(LogLine::AsItIs) => take_record(comparing, text, settings, number, line, out, err),
         Ok(LogLine::Frame(frame)) => {
             room.clear();
-            add_frame(room, &frame)?;
+            attempt_in_memory!(add_frame(room, &frame));
             let line = room.as_slice();
             take_record(comparing, text, settings, number, line, out, err)
         }
@@ -146,7 +146,7 @@ impl Lines {
         ensures text { Keeps (W.contents out.old) (W.contents out.new) }
     {
         if !self.lines.has_line() {
-            flush(out)?;
+            attempt!(flush(out));
         }
         Ok(())
     }
@@ -179,14 +179,14 @@ impl Lines {
             Ok(Found::End) => Ok(None),
             Ok(Found::TooLong) => {
                 name_bad_line(number, TOO_LONG, err);
-                self.comparing.note_line(&[])?;
+                attempt_in_memory!(self.comparing.note_line(&[]));
                 self.comparing.note_bad_line();
                 Ok(Some(()))
             }
             Ok(Found::Line) => {
                 let line = self.lines.line();
-                self.comparing.note_line(line)?;
-                take_log_line(
+                attempt_in_memory!(self.comparing.note_line(line));
+                attempt!(take_log_line(
                     &mut self.comparing,
                     &mut self.log,
                     &mut self.text,
@@ -196,7 +196,7 @@ impl Lines {
                     line,
                     out,
                     err,
-                )?;
+                ));
                 Ok(Some(()))
             }
             // whoever stops a recording cuts its last line off

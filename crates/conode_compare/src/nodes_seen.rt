@@ -3,6 +3,7 @@
 ghost use Rattle.std.specs.Prelude.{◌≡◌, ◌<◌, IfSome};
 ghost use Rattle.conode_compare.specs.NodesSeen.{no_nodes, node_of, nodes_with};
 
+use conode_io::hand_over;
 use conode_record::{Content, Identifier, Record};
 use std::io::Write;
 
@@ -55,7 +56,7 @@ impl NodesSeen {
             }
         }
         if named {
-            let _ = writeln!(err);
+            let _ = hand_over(b"\n", err);
         }
     }
 }

@@ -90,7 +90,7 @@ pub(crate) fn write_choice<W: Write>(
 {
     match choice {
         Some(choice) => {
-            set_choice_line(text, recording, number, choice)?;
+            attempt_in_memory!(set_choice_line(text, recording, number, choice));
             hand_over(text.as_bytes(), out)
         }
         None => Ok(()),
@@ -131,9 +131,10 @@ impl Notes {
         }) }
     {
         if settings.learned {
-            self.learned.take(settings.rows, exchange)?;
+            self.learned.take(settings.rows, exchange)
+        } else {
+            Ok(())
         }
-        Ok(())
     }
 
     /// Takes a frame, by what it is to the device, and what the recording shows with it. Returns
@@ -155,9 +156,10 @@ impl Notes {
             (comparison_view settings.now).rows self.old kind.now progress.now) }
     {
         let stepped = stepped_back(self.newest, progress.newest);
-        let warning = self
-            .watched
-            .take(&settings.subject, settings.rows, kind, progress)?;
+        let warning = attempt!(
+            self.watched
+                .take(&settings.subject, settings.rows, kind, progress)
+        );
         self.newest = progress.newest;
         let choice = take_choice(
             settings.choices,
@@ -168,7 +170,7 @@ impl Notes {
             progress,
         );
         self.count(choice);
-        self.learn(settings, &progress.exchange)?;
+        attempt!(self.learn(settings, &progress.exchange));
         Ok(Noted {
             warning: stepped.or(warning),
             choice,

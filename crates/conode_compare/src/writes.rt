@@ -90,7 +90,13 @@ fn write_listed<W: Write>(
     match finding {
         Some(finding) => {
             let value_type = shown_type(settings, finding);
-            set_finding_line(text, settings.recording, number, value_type, finding)?;
+            attempt_in_memory!(set_finding_line(
+                text,
+                settings.recording,
+                number,
+                value_type,
+                finding
+            ));
             hand_over(text.as_bytes(), out)
         }
         None => Ok(()),
@@ -111,9 +117,9 @@ fn write_findings<W: Write>(
         (findings_lines (comparison_view settings.now) number found)) }
     ensures err { IfErr result (λ fault. (fault ≡ CmdFault.Write) ⊎ (fault ≡ CmdFault.Memory)) }
 {
-    write_listed(text, settings, number, found.boot, out)?;
-    write_listed(text, settings, number, found.heartbeat, out)?;
-    write_listed(text, settings, number, found.answer, out)?;
+    attempt!(write_listed(text, settings, number, found.boot, out));
+    attempt!(write_listed(text, settings, number, found.heartbeat, out));
+    attempt!(write_listed(text, settings, number, found.answer, out));
     write_listed(text, settings, number, found.frame, out)
 }
 
@@ -151,7 +157,13 @@ fn write_warning<W: Write>(
     match warning {
         Some(warning) => {
             let value_type = warned_type(settings, warning);
-            set_warning_line(text, settings.recording, number, value_type, warning)?;
+            attempt_in_memory!(set_warning_line(
+                text,
+                settings.recording,
+                number,
+                value_type,
+                warning
+            ));
             hand_over(text.as_bytes(), out)
         }
         None => Ok(()),
@@ -172,7 +184,7 @@ fn write_noted<W: Write>(
         (noted_lines (comparison_view settings.now) number noted)) }
     ensures err { IfErr result (λ fault. (fault ≡ CmdFault.Write) ⊎ (fault ≡ CmdFault.Memory)) }
 {
-    write_warning(text, settings, number, noted.warning, out)?;
+    attempt!(write_warning(text, settings, number, noted.warning, out));
     write_choice(text, settings.recording, number, noted.choice, out)
 }
 
@@ -191,6 +203,6 @@ pub(crate) fn write_shown<W: Write>(
         (shown_lines (comparison_view settings.now) number found noted)) }
     ensures err { IfErr result (λ fault. (fault ≡ CmdFault.Write) ⊎ (fault ≡ CmdFault.Memory)) }
 {
-    write_findings(text, settings, number, found, out)?;
+    attempt!(write_findings(text, settings, number, found, out));
     write_noted(text, settings, number, noted, out)
 }

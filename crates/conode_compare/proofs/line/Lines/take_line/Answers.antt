@@ -24,8 +24,8 @@ returns-in-Ok-End-clause-end g c =
       subst (λ (f : Found). Gave held.ended holds.ended before after (λ had has. Finds (to_come held had) (to_come holds has) holds.line f)) c.in-Ok-End.field-0-is c.in-Ok-End.ensures.found,
     )
 
-pub returns-in_ok-note_line-in-Ok-TooLong-clause-line : goal.returns-in_ok-note_line-in-Ok-TooLong-clause-line
-returns-in_ok-note_line-in-Ok-TooLong-clause-line g c =
+pub returns-in-Ok-clause-line : goal.returns-in-Ok-clause-line
+returns-in-Ok-clause-line g c =
     let before = g.R.Read.remaining c.args.reader.now in
     let after = g.R.Read.remaining c.advance.new.reader in
     let held = c.args.self.now.lines in
@@ -34,12 +34,12 @@ returns-in_ok-note_line-in-Ok-TooLong-clause-line g c =
     let log = c.args.self.now.log in
     let first = c.args.self.now.comparing in
     let found = subst (λ (f : Found). Gave held.ended holds.ended before after (λ had has. Finds (to_come held had) (to_come holds has) holds.line f)) c.in-Ok-TooLong.field-0-is c.in-Ok-TooLong.ensures.found in
-    let noted : c.note_bad_line.new.self ≡ long_noted first = c.note_bad_line.ensures ∙ ap bad_noted c.in_ok-note_line-in-Ok-TooLong.ensures in
+    let noted : c.note_bad_line.new.self ≡ long_noted first = c.note_bad_line.ensures ∙ ap bad_noted c.in-Ok.ensures in
     subst (λ (n : Comparing). Takes (comparison_view c.args.settings.now) held holds before after c.args.number (c.args.number + 1) (record { log = log; comparing = first }) (record { log = log; comparing = n }) out out) (sym noted)
     (takes_long (comparison_view c.args.settings.now) held holds before after c.args.number log first out out holds.line found refl)
 
-pub returns-in_ok-take_log_line-in-Ok-Line-clause-line : goal.returns-in_ok-take_log_line-in-Ok-Line-clause-line
-returns-in_ok-take_log_line-in-Ok-Line-clause-line g c =
+pub returns-in-Ok-take_log_line-clause-line : goal.returns-in-Ok-take_log_line-clause-line
+returns-in-Ok-take_log_line-clause-line g c =
     let before = g.R.Read.remaining c.args.reader.now in
     let after = g.R.Read.remaining c.advance.new.reader in
     let held = c.args.self.now.lines in
@@ -52,8 +52,8 @@ returns-in_ok-take_log_line-in-Ok-Line-clause-line g c =
     let first = c.args.self.now.comparing in
     let found = subst (λ (f : Found). Gave held.ended holds.ended before after (λ had has. Finds (to_come held had) (to_come holds has) holds.line f)) c.in-Ok-Line.field-0-is c.in-Ok-Line.ensures.found in
     let here = subst (λ (l : List ℕ). Gave held.ended holds.ended before after (λ had has. Finds (to_come held had) (to_come holds has) l Line)) (sym c.line-line.ensures) found in
-    let said = c.in_ok-take_log_line-in-Ok-Line.ensures in
-    let noted : c.note_line-in-Ok-Line.new.self ≡ line_noted first line = c.in_ok-note_line-in-Ok-Line.ensures in
+    let said = c.in-Ok-take_log_line.ensures in
+    let noted : c.note_line-in-Ok-Line.new.self ≡ line_noted first line = c.in-Ok-note_line.ensures in
     let next = subst (λ (n : Comparing). c.take_log_line.new.comparing ≡ said_with what n (line_at log line)) noted said.next in
     let lines = subst (λ (n : Comparing). WritesLines old new (said_lines what c.args.number n (line_at log line))) noted said.lines in
     takes_line what held holds before after c.args.number log first old new line c.take_log_line.new.log c.take_log_line.new.comparing said.log next lines here
