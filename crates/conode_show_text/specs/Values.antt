@@ -20,10 +20,14 @@ use Rattle.conode_show_text.specs.Texts.{plain_text}
 abbrev pub numeric_value : DataType → List ℕ → Default
 numeric_value t value = unwrap_or (result_ok (numeric_default t value)) absent
 
--- a sum with the node-ID as it is written, and its value for a given node, as `$NODEID+600h = 605h`
+-- a sum with the node-ID as it is written
+abbrev pub addend_text : ℕ → List ℕ
+addend_text addend = codes "$NODEID" ++ (if addend == 0 then [] else codes "+" ++ hex_text addend)
+
+-- the same, and its value for a given node, as `$NODEID+600h = 605h`
 unfoldable pub sum_text : Option ℕ → ℕ → List ℕ
 sum_text node addend =
-    codes "$NODEID" ++ (if addend == 0 then [] else codes "+" ++ hex_text addend)
+    addend_text addend
     ++ option_map_or (λ sum. codes " = " ++ hex_text sum) (option_and_then (λ id. if_small (addend + id)) node) []
 
 -- a numeric value of so many bytes; any other text is printed as it is

@@ -11,7 +11,7 @@ ghost use Rattle.conode_show_text.specs.CobIds.{
   use_name,
 };
 
-use crate::numbers::{push_hex_between, push_words};
+use crate::numbers::{push_words, words_if};
 use crate::values::Word;
 use std::alloc::AllocError;
 
@@ -41,13 +41,14 @@ fn frame_name(number: u64) -> &'static str
 }
 
 /// Appends an identifier, and words after it.
-#[tactic(auto, unfolding(crate::specs::CobIds::identifier_text))]
+#[tactic(auto, unfolding(crate::specs::CobIds::identifier_text, crate::specs::Numbers::hex_text))]
 pub(crate) fn push_identifier(text: &mut String, number: u64, end: &str) -> Result<(), AllocError>
     ensures { OnOk result (string_bytes text.new
         ≡ string_bytes text.old ++ identifier_text number ++ end.now) }
 {
-    push_hex_between(text, "", number % EXTENDED, frame_name(number))?;
-    push_words(text, end)
+    let identifier = number % EXTENDED;
+    let frame = frame_name(number);
+    write!(text, "{identifier:X}h{frame}{end}")
 }
 
 // whether it is identifier 0 of 11 bits, which is that of NMT
@@ -75,11 +76,10 @@ pub(crate) fn use_name(word: Word) -> &'static str
 pub(crate) fn push_pdo_cob_id(text: &mut String, word: Word) -> Result<(), AllocError>
     ensures { OnOk result (string_bytes text.new ≡ string_bytes text.old ++ pdo_cob_id_text word) }
 {
-    push_identifier(text, word.number, use_name(word))?;
-    if word.number / BIT_30 % 2 == 1 {
-        push_words(text, ", no RTR")
-    } else {
-        Ok(())
+    let rtr = words_if(word.number / BIT_30 % 2 == 1, ", no RTR");
+    match push_identifier(text, word.number, use_name(word)) {
+        Ok(()) => push_words(text, rtr),
+        Err(fault) => Err(fault),
     }
 }
 

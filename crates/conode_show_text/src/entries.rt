@@ -8,7 +8,6 @@ ghost use Rattle.conode_show_text.specs.Entries.{
   entry_type,
   has_sub_indices,
   is_mappable,
-  mappable_text,
   object_head,
   object_heading,
   section_text,
@@ -18,7 +17,7 @@ ghost use Rattle.conode_show_text.specs.Entries.{
 use crate::cells::{Cell, Content, push_line};
 use crate::format::Format;
 use crate::layout::push_cell;
-use crate::numbers::push_words;
+use crate::numbers::{push_words, words_if};
 use crate::sections::object_code;
 use crate::texts::{push_plain, push_property};
 use crate::type_names::push_type_name;
@@ -73,14 +72,7 @@ pub fn is_mappable(section: &TextSection<'_, '_>) -> bool
     !matches!(section.number_at(b"PDOMapping"), None | Some(0))
 }
 
-#[tactic(auto, unfolding(crate::specs::Entries::mappable_text))]
-fn mappable_word(section: &TextSection<'_, '_>) -> &'static str
-    ensures { result.now ≡ mappable_text (section_view section.now) }
-{
-    if is_mappable(section) { "PDO" } else { "" }
-}
-
-#[tactic(auto, unfolding(crate::specs::Entries::entry_line))]
+#[tactic(auto, unfolding(crate::specs::Entries::entry_line, crate::specs::Entries::mappable_text))]
 fn push_entry_line<'p>(
     text: &mut Vec<u8>,
     line: &mut Vec<u8>,
@@ -104,7 +96,7 @@ fn push_entry_line<'p>(
             Cell(8, Content::Property(b"ParameterName", section)),
             Cell(42, Content::TypeOf(section)),
             Cell(53, Content::Property(b"AccessType", section)),
-            Cell(60, Content::Words(mappable_word(section))),
+            Cell(60, Content::Words(words_if(is_mappable(section), "PDO"))),
             Cell(64, Content::Default(section)),
             Cell(87, Content::Limits(section)),
         ],

@@ -15,11 +15,12 @@ ghost use Rattle.conode_show_text.specs.Meanings.{
   time_text,
   transmission_name,
   transmission_text,
+  word_text,
 };
 
 use crate::cob_ids::{push_identifier, push_pdo_cob_id, sync_name, use_name};
 use crate::names::name_among;
-use crate::numbers::{push_between, push_words};
+use crate::numbers::{push_between, push_words, words_if};
 use crate::texts::push_plain;
 use crate::values::{Word, value_of, word_of};
 use co_sheet_text::TextSection;
@@ -79,8 +80,7 @@ fn push_transmission(text: &mut String, number: u64) -> Result<(), AllocError>
     if 240 < number {
         return push_between(text, "", number, ": reserved");
     }
-    push_between(text, "", number, ": every ")?;
-    push_between(text, "", number, " SYNCs")
+    write!(text, "{number}: every {number} SYNCs")
 }
 
 // a time after the words `before`, or the words `off` for 0; in ms, with tenths if the number is in
@@ -100,8 +100,9 @@ fn push_time(
         return push_words(text, off);
     }
     if in_tenths {
-        push_between(text, before, number / 10, ".")?;
-        push_between(text, "", number % 10, " ms")
+        let whole = number / 10;
+        let tenths = number % 10;
+        write!(text, "{before}{whole}.{tenths} ms")
     } else {
         push_between(text, before, number, " ms")
     }
@@ -133,9 +134,10 @@ fn push_consumer(text: &mut String, number: u64) -> Result<(), AllocError>
     if !is_consumer_used(number) {
         return push_words(text, "not used");
     }
-    push_between(text, "node ", number / 0x1_0000 % 0x100, ", within ")?;
-    push_between(text, "", number % 0x1_0000, " ms")?;
-    push_words(text, consumer_reserved(number))
+    let node = number / 0x1_0000 % 0x100;
+    let time = number % 0x1_0000;
+    let reserved = consumer_reserved(number);
+    write!(text, "node {node}, within {time} ms{reserved}")
 }
 
 /// The key that a word of a mapping names (CiA 301, 7.5.2.36).
@@ -153,8 +155,9 @@ fn push_mapped(text: &mut String, number: u64) -> Result<(), AllocError>
     ensures { OnOk result (string_bytes text.new ≡ string_bytes text.old ++ mapped_text number) }
 {
     let key = mapped_key(number).text();
-    push_words(text, key.as_str())?;
-    push_between(text, ", ", number % 0x100, " bits")
+    let key = key.as_str();
+    let bits = number % 0x100;
+    write!(text, "{key}, {bits} bits")
 }
 
 #[tactic(auto, unfolding(crate::specs::CobIds::cob_id_text, crate::specs::CobIds::sync_text))]
@@ -176,8 +179,20 @@ fn push_meaning(text: &mut String, meaning: Meaning, word: Word) -> Result<(), A
     }
 }
 
+// a number of the communication profile in words
+#[tactic(auto, unfolding(crate::specs::Meanings::word_text))]
+fn push_word(text: &mut String, meaning: Meaning, word: Word) -> Result<(), AllocError>
+    ensures { OnOk result
+        (string_bytes text.new ≡ string_bytes text.old ++ word_text meaning word) }
+{
+    match push_words(text, words_if(word.relative, "$NODEID+")) {
+        Ok(()) => push_meaning(text, meaning, word),
+        Err(fault) => Err(fault),
+    }
+}
+
 /// Appends the value of an entry in words; a text that is no number as it is.
-#[tactic(auto, unfolding(crate::specs::Meanings::said, crate::specs::Meanings::word_text))]
+#[tactic(auto, unfolding(crate::specs::Meanings::said))]
 pub(crate) fn push_said(
     text: &mut String,
     meaning: Meaning,
@@ -190,11 +205,8 @@ pub(crate) fn push_said(
     let Some(property) = value_of(section) else {
         return Ok(());
     };
-    let Some(word) = word_of(node, property.value) else {
-        return push_plain(text, property.value);
-    };
-    if word.relative {
-        push_words(text, "$NODEID+")?;
+    match word_of(node, property.value) {
+        Some(word) => push_word(text, meaning, word),
+        None => push_plain(text, property.value),
     }
-    push_meaning(text, meaning, word)
 }

@@ -1,7 +1,19 @@
 //! Numbers in both bases. Each function appends a text. `Err`: out of memory; a part of the text
 //! may be there.
 
-ghost use Rattle.std.specs.Prelude.{◌≡◌, ◌≤◌, ◌++◌, ◌*◌, ◌^◌, pos, decimal, OnOk, string_bytes};
+ghost use Rattle.std.specs.Prelude.{
+  ◌≡◌,
+  ◌≤◌,
+  ◌++◌,
+  ◌*◌,
+  ◌^◌,
+  [],
+  if◌then◌else◌,
+  pos,
+  decimal,
+  OnOk,
+  string_bytes,
+};
 ghost use Rattle.std.specs.Fmt.{signed_decimal};
 ghost use Rattle.co_value.specs.Numbers.{bits_of};
 ghost use Rattle.conode_show_text.specs.Numbers.{hex_text, if_small, is_one_digit, number_text};
@@ -12,6 +24,13 @@ pub(crate) fn push_words(text: &mut String, words: &str) -> Result<(), AllocErro
     ensures { OnOk result (string_bytes text.new ≡ string_bytes text.old ++ words.now) }
 {
     text.push_str(words)
+}
+
+/// These words if a test holds, else none.
+pub(crate) fn words_if(holds: bool, words: &'static str) -> &'static str
+    ensures { result.now ≡ (if holds then words.now else []) }
+{
+    if holds { words } else { "" }
 }
 
 /// Appends a number in decimal between two texts.
@@ -62,7 +81,7 @@ fn small_bits(width: usize, number: i128) -> Option<u64>
     if bits < 0 {
         return Some(0);
     }
-    if bits > i128::from(u64::MAX) {
+    if bits > u64::MAX as i128 {
         return None;
     }
     Some(bits as u64)
@@ -84,18 +103,17 @@ pub(crate) fn push_decimal_of(text: &mut String, number: i128) -> Result<(), All
 
 /// Appends a number of a type of `width` bytes: in decimal, and in hexadecimal digits if these
 /// differ.
-#[tactic(auto, unfolding(crate::specs::Numbers::number_text, crate::specs::Numbers::in_parentheses))]
+#[tactic(auto, unfolding(crate::specs::Numbers::number_text, crate::specs::Numbers::in_parentheses, crate::specs::Numbers::hex_text))]
 pub(crate) fn push_number(text: &mut String, width: usize, number: i128) -> Result<(), AllocError>
     requires { width ≤ 8 }
     ensures { OnOk result
         (string_bytes text.new ≡ string_bytes text.old ++ number_text width number) }
 {
-    push_decimal_of(text, number)?;
     if is_one_digit(number) {
-        return Ok(());
+        return push_decimal_of(text, number);
     }
-    let Some(bits) = small_bits(width, number) else {
-        return Ok(());
-    };
-    push_hex_between(text, " (", bits, ")")
+    match small_bits(width, number) {
+        Some(bits) => write!(text, "{number} ({bits:X}h)"),
+        None => push_decimal_of(text, number),
+    }
 }

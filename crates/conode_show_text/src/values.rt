@@ -15,6 +15,7 @@ ghost use Rattle.co_sheet_text.specs.Views.{property_view, section_view};
 ghost use Rattle.co_sheet.specs.Views.{default_view};
 ghost use Rattle.conode_show_text.specs.Numbers.{if_small};
 ghost use Rattle.conode_show_text.specs.Values.{
+  addend_text,
   default_text,
   known_text,
   limit_number,
@@ -33,7 +34,7 @@ ghost use Rattle.conode_show_text.specs.Values.{
   word_of,
 };
 
-use crate::numbers::{push_decimal_of, push_hex_between, push_number, push_words};
+use crate::numbers::{push_decimal_of, push_hex_between, push_number, push_words, words_if};
 use crate::texts::push_plain;
 use co_sheet::{data_type_with, numeric_default};
 use co_sheet_rows::Preset;
@@ -70,17 +71,24 @@ fn sum_of(node: Option<u8>, addend: u64) -> Option<u64>
     }
 }
 
+// a sum with the node-ID as it is written
+fn push_addend(text: &mut String, addend: u64) -> Result<(), AllocError>
+    ensures { OnOk result (string_bytes text.new ≡ string_bytes text.old ++ addend_text addend) }
+{
+    if addend == 0 {
+        push_words(text, "$NODEID")
+    } else {
+        push_hex_between(text, "$NODEID+", addend, "")
+    }
+}
+
 #[tactic(auto, unfolding(crate::specs::Values::sum_text))]
 fn push_sum(text: &mut String, node: Option<u8>, addend: u64) -> Result<(), AllocError>
     ensures { OnOk result (string_bytes text.new ≡ string_bytes text.old ++ sum_text node addend) }
 {
-    push_words(text, "$NODEID")?;
-    if addend != 0 {
-        push_hex_between(text, "+", addend, "")?;
-    }
-    match sum_of(node, addend) {
-        Some(sum) => push_hex_between(text, " = ", sum, ""),
-        None => Ok(()),
+    match (push_addend(text, addend), sum_of(node, addend)) {
+        (Ok(()), Some(sum)) => push_hex_between(text, " = ", sum, ""),
+        (added, _) => added,
     }
 }
 
@@ -126,7 +134,7 @@ fn number_for(node: Option<u8>, value: Preset<'static>) -> Option<i128>
 {
     match (value, node) {
         (Preset::Number(number), _) => Some(number),
-        (Preset::NodeId(addend), Some(node_id)) => Some(i128::from(addend) + i128::from(node_id)),
+        (Preset::NodeId(addend), Some(node_id)) => Some(addend as i128 + node_id as i128),
         _ => None,
     }
 }
@@ -191,10 +199,9 @@ pub(crate) fn push_default(
     let data_type = type_of(section);
     let value = section.property(b"ParameterValue");
     let default = section.property(b"DefaultValue");
+    let between = words_if(value.is_some() & default.is_some(), ", default ");
     push_value_of(text, node, data_type, value)?;
-    if value.is_some() && default.is_some() {
-        push_words(text, ", default ")?;
-    }
+    push_words(text, between)?;
     push_value_of(text, node, data_type, default)
 }
 
@@ -238,10 +245,9 @@ pub(crate) fn push_limits(
     let data_type = type_of(section);
     let low = section.property(b"LowLimit");
     let high = section.property(b"HighLimit");
+    let between = words_if(low.is_some() | high.is_some(), "..");
     push_limit(text, data_type, low)?;
-    if low.is_some() || high.is_some() {
-        push_words(text, "..")?;
-    }
+    push_words(text, between)?;
     push_limit(text, data_type, high)
 }
 
@@ -268,9 +274,9 @@ pub(crate) fn word_of(node: Option<u8>, value: &[u8]) -> Option<Word>
 {
     match (numeric_value(DataType::Unsigned32, value), node) {
         (Preset::Number(number), _) => word_from(false, number),
-        (Preset::NodeId(addend), None) => word_from(true, i128::from(addend)),
+        (Preset::NodeId(addend), None) => word_from(true, addend as i128),
         (Preset::NodeId(addend), Some(node_id)) => {
-            word_from(false, i128::from(addend) + i128::from(node_id))
+            word_from(false, addend as i128 + node_id as i128)
         }
         (Preset::Absent | Preset::Text(_) | Preset::Pairs(_), _) => None,
     }
