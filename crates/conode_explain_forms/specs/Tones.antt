@@ -68,12 +68,13 @@ ending_tone other = Bad
 
 -- ---- the line in it (ECMA-48, SGR)
 
-abbrev pub numbers_of : Tone → List ℕ
-numbers_of Plain = []
-numbers_of Bad = codes "31"
-numbers_of Odd = codes "33"
-numbers_of Good = codes "32"
-numbers_of Notable = codes "36"
+-- what begins a colour
+abbrev pub start_of : Tone → List ℕ
+start_of Plain = []
+start_of Bad = 27 ∷ codes "[31m"
+start_of Odd = 27 ∷ codes "[33m"
+start_of Good = 27 ∷ codes "[32m"
+start_of Notable = 27 ∷ codes "[36m"
 
 abbrev pub is_plain : Tone → Bool
 is_plain Plain = true
@@ -81,8 +82,7 @@ is_plain tone = false
 
 -- a line, whose last byte is its line feed, between the begin of a colour and its end
 abbrev pub in_colour : List ℕ → List ℕ → List ℕ
-in_colour numbers line =
-    27 ∷ codes "[" ++ numbers ++ codes "m" ++ take (length line - 1) line ++ 27 ∷ codes "[0m\n"
+in_colour start line = start ++ take (length line - 1) line ++ 27 ∷ codes "[0m\n"
 
 unfoldable pub toned : Bool → Tone → List ℕ → List ℕ
-toned colours tone line = if colours && not (is_plain tone) then in_colour (numbers_of tone) line else line
+toned colours tone line = if colours && not (is_plain tone) then in_colour (start_of tone) line else line

@@ -39,7 +39,12 @@ fn is_control(byte: u8) -> bool
 fn needs_quotes(field: &[u8]) -> bool
     ensures { result ≡ needs_quotes field.now }
 {
-    field.iter().any(|byte| (*byte == b'"' || *byte == b',') || is_control(*byte))
+    for byte in field {
+        if (*byte == b'"' || *byte == b',') || is_control(*byte) {
+            return true;
+        }
+    }
+    false
 }
 
 fn add_shown(line: &mut Vec<u8>, byte: u8) -> Result<(), AllocError>
@@ -218,7 +223,7 @@ fn add_columns(
 
 // `text` is scratch space
 #[tactic(auto, unfolding(crate::specs::Lines::header))]
-fn add_header_in(
+fn add_header(
     line: &mut Vec<u8>,
     text: &mut String,
     sheets: &[KnownSheet<'_, '_>],
@@ -230,19 +235,6 @@ fn add_header_in(
     attempt!(line.extend_from_slice(b"time"));
     attempt!(add_columns(line, text, sheets, signals));
     line.extend_from_slice(b"\n")
-}
-
-fn add_header(
-    alloc: Global,
-    line: &mut Vec<u8>,
-    sheets: &[KnownSheet<'_, '_>],
-    signals: &[Signal],
-) -> Result<(), AllocError>
-    ensures { OnOk result
-        (line.new.items ≡ line.old.items ++ header (map known_view sheets.now) signals.now) }
-{
-    let mut text = String::new(alloc);
-    add_header_in(line, &mut text, sheets, signals)
 }
 
 /// The first line of a table of the values of signals: `time`, and for each the node, the entry and
@@ -258,7 +250,8 @@ pub fn header(
     ensures { IfOk result (λ line.
         line.items ≡ header (map known_view sheets.now) signals.now) }
 {
+    let mut text = String::new(alloc);
     let mut line = Vec::new(alloc);
-    attempt!(add_header(alloc, &mut line, sheets, signals));
+    attempt!(add_header(&mut line, &mut text, sheets, signals));
     Ok(line)
 }

@@ -171,7 +171,7 @@ pub fn json_line(
 {
     let mut text = String::new(alloc);
     let mut writer = JsonWriter::new(alloc);
-    put_line(
+    attempt!(put_line(
         alloc,
         &mut writer,
         &mut text,
@@ -181,7 +181,7 @@ pub fn json_line(
         words,
         kind,
         node,
-    )?;
+    ));
     writer.into_text()
 }
 
@@ -229,7 +229,7 @@ pub fn own_json_line(
 {
     let mut text = String::new(alloc);
     let mut writer = JsonWriter::new(alloc);
-    put_own_line(
+    attempt!(put_own_line(
         alloc,
         &mut writer,
         &mut text,
@@ -240,6 +240,6 @@ pub fn own_json_line(
         words,
         kind,
         node,
-    )?;
+    ));
     writer.into_text()
 }

@@ -1,6 +1,7 @@
 //! Which SDO channel other than the default ones a frame is of.
 
 ghost use Rattle.std.specs.Prelude.{◌≡◌, ◌++◌, IfOk, IfSome, OnOk, filter_map, map};
+ghost use Rattle.std.specs.Option.{option_to_list};
 ghost use Rattle.co_sheet.specs.SheetViews.{row_view};
 ghost use Rattle.conode_record.specs.Grammar.{IsIdentifier};
 ghost use Rattle.conode_explain_pdo.specs.Buses.{bus_view};
@@ -147,6 +148,21 @@ fn channel_of(only: Option<u8>, row: &EntryRow<'_>) -> Option<SheetChannel>
     })
 }
 
+fn add_channel(
+    channels: &mut Vec<SheetChannel>,
+    channel: Option<SheetChannel>,
+) -> Result<(), AllocError>
+    ensures { OnOk result (channels.new.items ≡ channels.old.items ++ option_to_list channel) }
+{
+    let Some(channel) = channel else {
+        return Ok(());
+    };
+    match channels.push(channel) {
+        Ok(()) => Ok(()),
+        Err(_) => Err(AllocError),
+    }
+}
+
 // adds the COB-IDs of channels of a sheet's rows
 fn add_rows(
     channels: &mut Vec<SheetChannel>,
@@ -157,9 +173,7 @@ fn add_rows(
         ++ filter_map (channel_of only) (map row_view rows.now)) }
 {
     for row in rows {
-        if let Some(channel) = channel_of(only, row) {
-            channels.push(channel)?;
-        }
+        attempt!(add_channel(channels, channel_of(only, row)));
     }
     Ok(())
 }

@@ -68,7 +68,6 @@ impl Signal {
     }
 
     // Adds the signals that words name, where there are none yet.
-    #[tactic(auto, using(crate::proofs::Readings::goes_on, crate::proofs::Readings::fails_at, crate::proofs::Readings::ends, crate::proofs::Readings::fails_last, crate::proofs::Readings::onto_none))]
     fn add_all<'a>(signals: &mut Vec<Signal>, text: &'a str) -> Result<(), SignalFault<'a>>
         requires { signals.old.items ≡ [] }
         ensures ok { OnOk result (signals_in text.now ≡ Ok signals.new.items) }

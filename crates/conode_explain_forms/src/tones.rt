@@ -11,10 +11,10 @@ ghost use Rattle.conode_explain_forms.specs.Tones.{
   frame_tone,
   in_colour,
   is_plain,
-  numbers_of,
   odd_tone,
   or_odd,
   service_tone,
+  start_of,
   toned,
 };
 
@@ -153,15 +153,16 @@ pub fn ending_tone(ending: Ending) -> Tone
     }
 }
 
-fn numbers_of(tone: Tone) -> &'static str
-    ensures { result.now ≡ numbers_of tone }
+// what begins the colour of a tone
+fn start_of(tone: Tone) -> &'static str
+    ensures { result.now ≡ start_of tone }
 {
     match tone {
         Tone::Plain => "",
-        Tone::Bad => "31",
-        Tone::Odd => "33",
-        Tone::Good => "32",
-        Tone::Notable => "36",
+        Tone::Bad => "\x1b[31m",
+        Tone::Odd => "\x1b[33m",
+        Tone::Good => "\x1b[32m",
+        Tone::Notable => "\x1b[36m",
     }
 }
 
@@ -172,13 +173,11 @@ fn is_plain(tone: Tone) -> bool
 }
 
 // appends a line in a colour
-fn push_coloured(made: &mut Vec<u8>, numbers: &str, line: &[u8]) -> Result<(), AllocError>
-    ensures { OnOk result (made.new.items ≡ made.old.items ++ in_colour numbers.now line.now) }
+fn push_coloured(made: &mut Vec<u8>, start: &str, line: &[u8]) -> Result<(), AllocError>
+    ensures { OnOk result (made.new.items ≡ made.old.items ++ in_colour start.now line.now) }
 {
     let (text, _) = line.split_at(line.len().saturating_sub(1));
-    attempt!(made.extend_from_slice(b"\x1b["));
-    attempt!(made.extend_from_slice(numbers.as_bytes()));
-    attempt!(made.extend_from_slice(b"m"));
+    attempt!(made.extend_from_slice(start.as_bytes()));
     attempt!(made.extend_from_slice(text));
     made.extend_from_slice(b"\x1b[0m\n")
 }
@@ -198,8 +197,7 @@ pub fn put_tone(
         return Ok(());
     }
     let mut made = Vec::new(alloc);
-    let numbers = numbers_of(tone);
-    attempt!(push_coloured(&mut made, numbers, line.as_slice()));
+    attempt!(push_coloured(&mut made, start_of(tone), line.as_slice()));
     *line = made;
     Ok(())
 }
