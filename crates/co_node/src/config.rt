@@ -3,7 +3,7 @@
 use co_dict_build::Limits;
 
 /// The configuration of a device that its data sheet doesn't contain, besides the node-ID.
-#[derive(Clone, Copy, Debug, PartialEq, Eq)]
+#[derive(Clone, Copy)]
 pub struct Config<'a> {
     /// The capacities of strings and domains, in bytes.
     pub limits: Limits<'a>,
