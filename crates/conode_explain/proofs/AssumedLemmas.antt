@@ -1,9 +1,9 @@
 -- What a PDO of the pre-defined connection set says, of which no more is known.
 use Rattle.std.proofs.Common.{◌≡◌, ℕ, ◌-◌, ◌*◌, ◌/◌, ◌%◌, ◌<◌, ◌≤◌, true, false, List, [], ◌∷◌, ◌++◌, None, ltb, eqb, length, refl, sym, ap, ◌∙◌, append_assoc, arith}
-use Rattle.std.specs.Prelude.{◌&&◌, codes, decimal}
+use Rattle.std.specs.Prelude.{◌&&◌, codes, decimal, not}
 use Rattle.std.specs.Fmt.{digits}
 use Rattle.std.specs.Option.{option_map_or}
-use Rattle.std.proofs.lemmas.Bool.{eqb-true}
+use Rattle.std.proofs.lemmas.Bool.{and_parts, eqb-true, le-ltb, ltb-true, not-true}
 use Rattle.std.proofs.lemmas.Bool.Decides.{nat_tests}
 use Rattle.std.proofs.lemmas.List.{append-nil}
 use Rattle.co_text.proofs.Tests.{by_test}
@@ -16,53 +16,58 @@ use Rattle.conode_explain_pdo.specs.Buses.{Bus, names_at}
 use Rattle.conode_explain_services.specs.declared.last.Last.{Last}
 use Rattle.conode_explain_services.specs.Reserved.{is_reserved}
 use Rattle.conode_explain_services.specs.Services.{service_words, state_words}
-use Rattle.conode_explain.specs.AbortWords.{abort_words, is_sdo}
+use Rattle.conode_explain.specs.AbortWords.{abort_words}
 use Rattle.conode_explain.specs.FrameWords.{assumed_front, assumed_mark, assumed_words, frame_words, is_default_pdo, other_words, plain_words, served_words}
 use Rattle.conode_explain.specs.Transfers.{transfer_in, transfer_words}
 
--- it is no transfer
-no_transfer : (id : ℕ) (bytes : List ℕ) → is_default_pdo id ≡ true → transfer_in (record { id = id; bytes = bytes }) ≡ None
-unfolding transfer_in
-no_transfer id bytes is =
-    let request : (ltb 0x600 id && ltb id 0x680) ≡ false = grind (arith, nat_tests, is) in
-    let answer : (ltb 0x580 id && ltb id 0x600) ≡ false = grind (arith, nat_tests, is) in
-    rw (request, answer) refl
+-- it is between these numbers, and of a node
+above : (id : ℕ) → is_default_pdo id ≡ true → 0x180 < id
+above id is = ltb-true 0x180 id (and_parts (ltb 0x180 id) (ltb id 0x580) (and_parts (ltb 0x180 id && ltb id 0x580) (not (eqb (id % 0x80) 0)) is).0).0
 
--- it has no service of those that have words of their own
-no_service : (last : Last) (id : ℕ) (bytes : List ℕ) → is_default_pdo id ≡ true → service_words last (record { id = id; bytes = bytes }) ≡ None
-unfolding service_words
-no_service last id bytes is =
-    let emergency : (ltb 0x080 id && ltb id 0x100) ≡ false = grind (arith, nat_tests, is) in
-    let control : (ltb 0x700 id && ltb id 0x780) ≡ false = grind (arith, nat_tests, is) in
-    let time : eqb id 0x100 ≡ false = grind (arith, nat_tests, is) in
-    let request : eqb id 0x7E5 ≡ false = grind (arith, nat_tests, is) in
-    let answer : eqb id 0x7E4 ≡ false = grind (arith, nat_tests, is) in
-    let free : is_reserved id ≡ false = grind (arith, nat_tests, is) in
-    rw (emergency, control, time, free, request, answer) refl
+below : (id : ℕ) → is_default_pdo id ≡ true → id < 0x580
+below id is = ltb-true id 0x580 (and_parts (ltb 0x180 id) (ltb id 0x580) (and_parts (ltb 0x180 id && ltb id 0x580) (not (eqb (id % 0x80) 0)) is).0).1
 
-no_abort : (id : ℕ) (bytes : List ℕ) → is_default_pdo id ≡ true → abort_words (record { id = id; bytes = bytes }) ≡ []
-unfolding abort_words
-no_abort id bytes is =
-    let no : is_sdo id ≡ false = grind (arith, nat_tests, is) in
-    rw no refl
+of_node_there : (id : ℕ) → is_default_pdo id ≡ true → eqb (id % 128) 0 ≡ false
+of_node_there id is = not-true (eqb (id % 128) 0) (and_parts (ltb 0x180 id && ltb id 0x580) (not (eqb (id % 0x80) 0)) is).1
 
-no_state : (last : Last) (id : ℕ) (bytes : List ℕ) → is_default_pdo id ≡ true → state_words last (record { id = id; bytes = bytes }) ≡ []
-unfolding state_words
-no_state last id bytes is =
-    let command : eqb id 0 ≡ false = grind (arith, nat_tests, is) in
-    let control : (ltb 0x700 id && ltb id 0x780) ≡ false = grind (arith, nat_tests, is) in
-    rw (command, control) refl
+module _ (id : ℕ) (bytes : List ℕ) (low : 0x180 < id) (high : id < 0x580) where
+  -- it is no transfer
+  no_transfer : transfer_in (record { id = id; bytes = bytes }) ≡ None
+  unfolding transfer_in
+  no_transfer = rw (le-ltb 0x600 id (omega (arith, high)), le-ltb 0x580 id (omega (arith, high))) refl
 
--- its text is that of its service
-by_service : (names : Names) (id : ℕ) (bytes : List ℕ) → is_default_pdo id ≡ true
-    → text_of_frame names (record { id = id; bytes = bytes })
-    ≡ option_map_or (service_text names (id % 128) bytes) (service_at (id - id % 128)) unknown_text
-unfolding text_of_frame
-by_service names id bytes is =
-    let command : eqb id 0 ≡ false = grind (arith, nat_tests, is) in
-    let sync : eqb id 0x080 ≡ false = grind (arith, nat_tests, is) in
-    let node : eqb (id % 128) 0 ≡ false = grind (arith, nat_tests, is) in
-    rw (command, sync, node) refl
+  -- it has no service of those that have words of their own
+  no_service : (last : Last) → service_words last (record { id = id; bytes = bytes }) ≡ None
+  unfolding service_words
+  no_service last =
+      let emergency : (ltb 0x080 id && ltb id 0x100) ≡ false = grind (arith, nat_tests, low) in
+      let control : (ltb 0x700 id && ltb id 0x780) ≡ false = grind (arith, nat_tests, high) in
+      let time : eqb id 0x100 ≡ false = grind (arith, nat_tests, low) in
+      let request : eqb id 0x7E5 ≡ false = grind (arith, nat_tests, high) in
+      let answer : eqb id 0x7E4 ≡ false = grind (arith, nat_tests, high) in
+      let free : is_reserved id ≡ false = grind (arith, nat_tests, low, high) in
+      rw (emergency, control, time, free, request, answer) refl
+
+  no_abort : abort_words (record { id = id; bytes = bytes }) ≡ []
+  unfolding abort_words
+  no_abort = rw (le-ltb 0x580 id (omega (arith, high)), le-ltb 0x600 id (omega (arith, high))) refl
+
+  no_state : (last : Last) → state_words last (record { id = id; bytes = bytes }) ≡ []
+  unfolding state_words
+  no_state last =
+      let command : eqb id 0 ≡ false = grind (arith, nat_tests, low) in
+      let control : (ltb 0x700 id && ltb id 0x780) ≡ false = grind (arith, nat_tests, high) in
+      rw (command, control) refl
+
+  -- its text is that of its service
+  by_service : (names : Names) → eqb (id % 128) 0 ≡ false
+      → text_of_frame names (record { id = id; bytes = bytes })
+      ≡ option_map_or (service_text names (id % 128) bytes) (service_at (id - id % 128)) unknown_text
+  unfolding text_of_frame
+  by_service names node =
+      let command : eqb id 0 ≡ false = grind (arith, nat_tests, low) in
+      let sync : eqb id 0x080 ≡ false = grind (arith, nat_tests, low) in
+      rw (command, sync, node) refl
 
 -- which is a PDO's
 by_step : (names : Names) (node step : ℕ) (bytes : List ℕ) → 3 ≤ step → step ≤ 10
@@ -81,17 +86,19 @@ by_step names node step bytes low high =
 plain : (names : Names) (last : Last) (id : ℕ) (bytes : List ℕ) → is_default_pdo id ≡ true → plain_words names last (record { id = id; bytes = bytes }) ≡ assumed_words id
 unfolding assumed_words
 plain names last id bytes is =
-    let low : 3 ≤ id / 128 = grind (arith, nat_tests, is) in
-    let high : id / 128 ≤ 10 = grind (arith, nat_tests, is) in
+    let over = above id is in
+    let under = below id is in
+    let low : 3 ≤ id / 128 = omega (arith, over) in
+    let high : id / 128 ≤ 10 = omega (arith, under) in
     let base : id - id % 128 ≡ 128 * (id / 128) = omega arith in
     let frame : FrameContent = record { id = id; bytes = bytes } in
     let mark : assumed_mark id ≡ codes "~" = rw is refl in
     let rest : abort_words frame ++ state_words last frame ≡ [] =
-    ap (λ (words : List ℕ). words ++ state_words last frame) (no_abort id bytes is) ∙ no_state last id bytes is in
+    ap (λ (words : List ℕ). words ++ state_words last frame) (no_abort id bytes over under) ∙ no_state id bytes over under last in
     let text : text_of_frame names frame ++ (abort_words frame ++ state_words last frame) ≡ option_map_or (service_text names (id % 128) bytes) (service_at (128 * (id / 128))) unknown_text =
     ap (λ (words : List ℕ). text_of_frame names frame ++ words) rest
     ∙ append-nil (text_of_frame names frame)
-    ∙ by_service names id bytes is
+    ∙ by_service id bytes over under names (of_node_there id is)
     ∙ ap (λ (n : ℕ). option_map_or (service_text names (id % 128) bytes) (service_at n) unknown_text) base in
     append_assoc (assumed_mark id ++ text_of_frame names frame) (abort_words frame) (state_words last frame)
     ∙ append_assoc (assumed_mark id) (text_of_frame names frame) (abort_words frame ++ state_words last frame)
@@ -103,7 +110,7 @@ pub assumed : (bus : Bus) (last : Last) (id : ℕ) (bytes : List ℕ) → is_def
     → assumed_words id ≡ frame_words bus [] last (record { id = id; bytes = bytes })
 unfolding frame_words transfer_words other_words served_words
 assumed bus last id bytes is =
-    rw (no_transfer id bytes is, no_service last id bytes is) (sym (plain (names_at bus (id % 128)) last id bytes is))
+    rw (no_transfer id bytes (above id is) (below id is), no_service id bytes (above id is) (below id is) last) (sym (plain (names_at bus (id % 128)) last id bytes is))
 
 pub none_there : (claims : List Claim) → length claims < 1 → claims ≡ []
 none_there [] few = refl

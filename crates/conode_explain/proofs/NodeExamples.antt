@@ -9,7 +9,7 @@ use Rattle.conode_record.specs.declared.line.Record.{Record}
 use Rattle.conode_explain_services.specs.declared.guarding.Guarding.TheVariants.{NotSeen, Requested}
 use Rattle.conode_explain_services.specs.declared.nmt_state.KnownState.TheVariants.{Unknown}
 use Rattle.conode_explain_services.specs.Nodes.{last_in as last_of_node, last_of, new_node, nodes_after, nodes_asked, noted}
-use Rattle.conode_explain.specs.Nodes.{last_at, nodes_with}
+use Rattle.conode_explain.specs.Nodes.{nodes_with}
 
 abbrev frame : Identifier → Content → Record
 frame id content = record { micros = 5; interface = codes "can0"; id = id; content = content; direction = None }

@@ -14,6 +14,7 @@ use Rattle.conode_explain_entries.specs.declared.further.Place.{Place}
 use Rattle.conode_explain_pdo.specs.Known.{KnownSheet}
 use Rattle.conode_explain.specs.declared.progress.Layout.{Layout}
 use Rattle.conode_explain.specs.declared.progress.Progress.{Progress}
+use Rattle.conode_explain.specs.Nodes.{packed_of}
 use Rattle.conode_explain.specs.Explained.{frame_lines, heard_at, lines_by, may_be_told, place_for, progress_by, progress_with, telling_by, telling_in, telling_of, told_at}
 
 untold_data : (channels : List Track) (frame : Record) (id : ℕ) (bytes : List ℕ) → ltb 0x580 id ≡ false
@@ -25,7 +26,7 @@ untold_data channels frame id bytes is =
     rw (is, request, control) (rw control refl)
 
 untold_in : (channels : List Track) (frame : Record) (id : Identifier) (has : Content) → may_be_told id ≡ false
-    → telling_in channels frame id has ≡ record { told = None; tracks = channels }
+    → telling_in channels frame (packed_of id has) ≡ record { told = None; tracks = channels }
 untold_in channels frame (Base id) (Data bytes) is = untold_data channels frame id bytes is
 untold_in channels frame (Base id) (Remote count) is = refl
 untold_in channels frame (Base id) (Fd flags bytes) is = refl

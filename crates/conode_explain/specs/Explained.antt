@@ -8,8 +8,6 @@ use Rattle.co_stream.specs.Founds.{is_closed}
 use Rattle.conode_convert.specs.Converted.{at_start}
 use Rattle.conode_logs.specs.declared.log.Log.{Log}
 use Rattle.conode_logs.specs.Logs.{says}
-use Rattle.conode_record.specs.declared.content.Content.{Content}
-use Rattle.conode_record.specs.declared.content.Content.TheVariants.{Data}
 use Rattle.conode_record.specs.declared.fields.Identifier.{Identifier}
 use Rattle.conode_record.specs.declared.fields.Identifier.TheVariants.{Base}
 use Rattle.conode_record.specs.declared.line.Record.{Record}
@@ -42,7 +40,7 @@ use Rattle.conode_explain_filter.specs.declared.subject.Subject.{Subject}
 use Rattle.conode_explain_forms.specs.JsonLines.{json_line}
 use Rattle.conode_explain_forms.specs.Fields.{field_of}
 use Rattle.conode_explain_forms.specs.Lines.{has_one, header, signal_line}
-use Rattle.conode_explain_services.specs.declared.last.Last.{Last}
+use Rattle.conode_explain_services.specs.declared.node.Node.{Node}
 use Rattle.conode_explain_text.specs.Lines.{Part, line_parts, line_text, own_parts}
 use Rattle.conode_explain_text.specs.SoFar.{SoFar, nothing_seen, seen_with, shows_interface, times_at}
 use Rattle.conode_explain.specs.declared.progress.Progress.{Progress}
@@ -51,7 +49,7 @@ use Rattle.conode_explain.specs.declared.progress.LineFormat.{LineFormat}
 use Rattle.conode_explain.specs.declared.progress.LineFormat.TheVariants.{Text, Json}
 use Rattle.conode_explain.specs.LogLines.{line_at}
 use Rattle.conode_explain.specs.Filtered.{is_news, lasts_told, shows_end, shows_frame, subject_by}
-use Rattle.conode_explain.specs.Nodes.{last_at, nodes_with}
+use Rattle.conode_explain.specs.Nodes.{last_at, nodes_with, packed_of}
 use Rattle.conode_explain.specs.ToldWords.{ended_words, told_words}
 use Rattle.conode_explain_forms.specs.declared.tones.Tone.{Tone}
 use Rattle.conode_explain_forms.specs.Places.{place_of, read_as}
@@ -75,20 +73,20 @@ telling_by channels frame content =
 
 -- what is said about a frame, and the channels after it: only data frames with an identifier of 11
 -- bits are followed
-abbrev pub telling_in : List Track → Record → Identifier → Content → Telling
-telling_in channels frame (Base id) (Data bytes) = telling_by channels frame (record { id = id; bytes = bytes })
-telling_in channels frame _ _ = record { told = None; tracks = channels }
+abbrev pub telling_in : List Track → Record → Option FrameContent → Telling
+telling_in channels frame (Some content) = telling_by channels frame content
+telling_in channels frame None = record { told = None; tracks = channels }
 
 unfoldable pub telling_of : List Track → Record → Telling
-telling_of channels frame = telling_in channels frame frame.id frame.content
+telling_of channels frame = telling_in channels frame (packed_of frame.id frame.content)
 
 -- what is said about one of a channel other than a default one, and these channels after it
-abbrev pub further_in : List FurtherChannel → Record → Place → Identifier → Content → FurtherTelling
-further_in further frame place (Base id) (Data bytes) = further_telling further frame.interface place frame.micros bytes
-further_in further frame place _ _ = record { told = None; channels = further }
+abbrev pub further_in : List FurtherChannel → Record → Place → Option FrameContent → FurtherTelling
+further_in further frame place (Some content) = further_telling further frame.interface place frame.micros content.bytes
+further_in further frame place None = record { told = None; channels = further }
 
 unfoldable pub further_of : List FurtherChannel → Record → Place → FurtherTelling
-further_of further frame place = further_in further frame place frame.id frame.content
+further_of further frame place = further_in further frame place (packed_of frame.id frame.content)
 
 -- a channel may take a frame: its identifier is above those of PDOs
 abbrev pub may_be_told : Identifier → Bool
@@ -122,16 +120,6 @@ abbrev pub news_lines : Layout → SoFar → List Said → Subject → Record �
 news_lines form so_far lasts subject frame words =
     if is_news form lasts subject frame words then frame_line form so_far subject frame words ∷ [] else []
 
--- and is asked for
-unfoldable pub shown_lines : Layout → SoFar → List Said → Subject → Record → List ℕ → List (List ℕ)
-shown_lines form so_far lasts subject frame words =
-    if shows_frame form so_far subject frame.micros then news_lines form so_far lasts subject frame words else []
-
--- what was said last after it: a frame whose line isn't asked for doesn't count
-unfoldable pub lasts_after : Layout → SoFar → List Said → Subject → Record → List ℕ → List Said
-lasts_after form so_far lasts subject frame words =
-    if shows_frame form so_far subject frame.micros then lasts_told form lasts subject frame words else lasts
-
 -- the first line of a table of signals, where they are asked for
 abbrev pub header_lines : Layout → List KnownSheet → List (List ℕ)
 header_lines form sheets = if length form.signals.now == 0 then [] else header sheets form.signals.now ∷ []
@@ -143,22 +131,23 @@ signal_lines form so_far bus claims frame told =
     if has_one value form.signals.now
     then signal_line form.stamps (times_at so_far frame.micros) value form.signals.now ∷ [] else []
 
--- and is asked for
-abbrev pub shown_signals : Layout → SoFar → Bus → List Claim → Option Place → Record → Option Told → List (List ℕ)
-shown_signals form so_far bus claims place frame told =
-    if shows_frame form so_far (subject_by place claims frame) frame.micros
-    then signal_lines form so_far bus claims frame told else []
-
 -- what a frame says: on a channel other than a default one what it would on the default one
-abbrev pub words_at : Bus → List Claim → Option Place → Last → Record → Option Told → List ℕ
-words_at bus claims place last frame told = told_words bus claims last (read_as place frame.id) frame.content told
+abbrev pub words_at : Bus → List Claim → Option Place → List Node → Record → Option Told → List ℕ
+words_at bus claims place nodes frame told =
+    told_words bus claims (last_at nodes frame) (read_as place frame.id) frame.content told
 
 -- the line of a frame: of a table, where signals are asked for
-abbrev pub first_lines : Layout → Bus → List Claim → Option Place → Last → SoFar → List Said → Record → Option Told → List (List ℕ)
-first_lines form bus claims place last so_far lasts frame told =
+abbrev pub line_of : Layout → Bus → List Claim → Option Place → List Node → SoFar → List Said → Record → Option Told → List (List ℕ)
+line_of form bus claims place nodes so_far lasts frame told =
     if length form.signals.now == 0
-    then shown_lines form so_far lasts (subject_by place claims frame) frame (words_at bus claims place last frame told)
-    else shown_signals form so_far bus claims place frame told
+    then news_lines form so_far lasts (subject_by place claims frame) frame (words_at bus claims place nodes frame told)
+    else signal_lines form so_far bus claims frame told
+
+-- where it is asked for
+unfoldable pub first_lines : Layout → Bus → List Claim → Option Place → List Node → SoFar → List Said → Record → Option Told → List (List ℕ)
+first_lines form bus claims place nodes so_far lasts frame told =
+    if shows_frame form so_far (subject_by place claims frame) frame.micros
+    then line_of form bus claims place nodes so_far lasts frame told else []
 
 -- the line of a transfer of a node that ended, where one did and it is asked for
 unfoldable pub end_line : Layout → List KnownSheet → SoFar → ℕ → List ℕ → ℕ → Option ChannelIds → Ended → List ℕ
@@ -176,11 +165,6 @@ abbrev pub ids_of : Option Place → Option ChannelIds
 ids_of None = None
 ids_of (Some place) = Some place.ids
 
-abbrev pub told_lines : Layout → List KnownSheet → SoFar → Option Place → Record → Option Told → List (List ℕ)
-told_lines form sheets so_far place frame None = []
-told_lines form sheets so_far place frame (Some told) =
-    ended_lines form sheets so_far frame.micros frame.interface told.node (ids_of place) told.ended
-
 -- an open transfer is interrupted by a boot-up
 abbrev pub interrupted_at : Option Ended → Option Ended
 interrupted_at None = None
@@ -197,11 +181,14 @@ abbrev pub boot_lines : Layout → List KnownSheet → SoFar → List FurtherCha
 boot_lines form sheets so_far further frame node None = flat_map (interrupted_in form sheets so_far frame.micros frame.interface node) further
 boot_lines form sheets so_far further frame node (Some part) = []
 
-unfoldable pub interrupted_lines : Layout → List KnownSheet → SoFar → List FurtherChannel → Record → Option Told → List (List ℕ)
-interrupted_lines form sheets so_far further frame None = []
-interrupted_lines form sheets so_far further frame (Some told) = boot_lines form sheets so_far further frame told.node told.part
+-- what ended with a frame: the transfer of its channel, and of a boot-up those of the node's others
+unfoldable pub end_lines : Layout → List KnownSheet → SoFar → Option Place → List FurtherChannel → Record → Option Told → List (List ℕ)
+end_lines form sheets so_far place further frame None = []
+end_lines form sheets so_far place further frame (Some told) =
+    ended_lines form sheets so_far frame.micros frame.interface told.node (ids_of place) told.ended
+    ++ boot_lines form sheets so_far further frame told.node told.part
 
--- and these channels after it
+-- the other channels after a boot-up
 abbrev pub further_booted : List FurtherChannel → List ℕ → ℕ → Option Role → List FurtherChannel
 further_booted further interface node None = booted_all further interface node
 further_booted further interface node (Some part) = further
@@ -212,25 +199,30 @@ further_after further interface (Some told) = further_booted further interface t
 
 -- the lines of a frame on a bus that is these PDOs, by what its SDO channel says about it, where the
 -- last frames of its node had this
-abbrev pub lines_with : Layout → List KnownSheet → Bus → List Claim → Option Place → Last → SoFar → List Said → List FurtherChannel → Record → Option Told → List (List ℕ)
-lines_with form sheets bus claims place last so_far lasts further frame told =
-    first_lines form bus claims place last so_far lasts frame told
-    ++ (told_lines form sheets so_far place frame told ++ interrupted_lines form sheets so_far further frame told)
+abbrev pub lines_with : Layout → List KnownSheet → Bus → List Claim → Option Place → List Node → SoFar → List Said → List FurtherChannel → Record → Option Told → List (List ℕ)
+lines_with form sheets bus claims place nodes so_far lasts further frame told =
+    first_lines form bus claims place nodes so_far lasts frame told ++ end_lines form sheets so_far place further frame told
 
 -- and what was said last after it: in a table nothing is
-abbrev pub lasts_with : Layout → Bus → List Claim → Option Place → Last → SoFar → List Said → Record → Option Told → List Said
-lasts_with form bus claims place last so_far lasts frame told =
+abbrev pub lasts_of : Layout → Bus → List Claim → Option Place → List Node → List Said → Record → Option Told → List Said
+lasts_of form bus claims place nodes lasts frame told =
     if length form.signals.now == 0
-    then lasts_after form so_far lasts (subject_by place claims frame) frame (words_at bus claims place last frame told) else lasts
+    then lasts_told form lasts (subject_by place claims frame) frame (words_at bus claims place nodes frame told) else lasts
+
+-- a frame whose line isn't asked for doesn't count
+unfoldable pub lasts_with : Layout → Bus → List Claim → Option Place → List Node → SoFar → List Said → Record → Option Told → List Said
+lasts_with form bus claims place nodes so_far lasts frame told =
+    if shows_frame form so_far (subject_by place claims frame) frame.micros
+    then lasts_of form bus claims place nodes lasts frame told else lasts
 
 -- the lines of a frame of which its SDO channel says this
-abbrev pub lines_by : Layout → List KnownSheet → Progress → Option Place → Record → Option Told → List (List ℕ)
+unfoldable pub lines_by : Layout → List KnownSheet → Progress → Option Place → Record → Option Told → List (List ℕ)
 lines_by form sheets progress place frame told =
     let bus = bus_of sheets progress.entries frame in
-    lines_with form sheets bus (claims_at bus (read_as place frame.id)) place (last_at progress.nodes frame) progress.seen progress.lasts progress.further frame told
+    lines_with form sheets bus (claims_at bus (read_as place frame.id)) place progress.nodes progress.seen progress.lasts progress.further frame told
 
 -- how far it is after it, where the channels have it already
-abbrev pub progress_by : Layout → List KnownSheet → Progress → Option Place → Record → Option Told → Progress
+unfoldable pub progress_by : Layout → List KnownSheet → Progress → Option Place → Record → Option Told → Progress
 progress_by form sheets progress place frame told =
     let bus = bus_of sheets progress.entries frame in
     record {
@@ -238,7 +230,7 @@ progress_by form sheets progress place frame told =
       channels = progress.channels;
       further = further_after progress.further frame.interface told;
       nodes = nodes_with progress.nodes frame;
-      lasts = lasts_with form bus (claims_at bus (read_as place frame.id)) place (last_at progress.nodes frame) progress.seen progress.lasts frame told;
+      lasts = lasts_with form bus (claims_at bus (read_as place frame.id)) place progress.nodes progress.seen progress.lasts frame told;
       entries = entries_with progress.entries frame.interface told;
     }
 

@@ -1,5 +1,6 @@
 -- What the last frames of each node had, frame by frame of a recording.
-use Rattle.std.specs.Prelude.{ℕ, List}
+use Rattle.std.specs.Prelude.{ℕ, List, Option, Some, None}
+use Rattle.co_frame.specs.FrameContent.{FrameContent}
 use Rattle.conode_record.specs.declared.content.Content.{Content}
 use Rattle.conode_record.specs.declared.content.Content.TheVariants.{Data, Remote, Fd}
 use Rattle.conode_record.specs.declared.fields.Identifier.{Identifier}
@@ -9,13 +10,19 @@ use Rattle.conode_explain_services.specs.declared.last.Last.{Last}
 use Rattle.conode_explain_services.specs.declared.node.Node.{Node}
 use Rattle.conode_explain_services.specs.Nodes.{last_for, nodes_after, nodes_asked, nothing_seen}
 
--- what the last frames of the node of a frame had: of a data frame with an identifier of 11 bits
-abbrev pub last_in : List Node → List ℕ → Identifier → Content → Last
-last_in nodes interface (Base id) (Data bytes) = last_for nodes interface (record { id = id; bytes = bytes })
-last_in nodes interface id content = nothing_seen
+-- a data frame with an identifier of 11 bits: of no other one the node is known, and no other one is
+-- of an SDO channel
+abbrev pub packed_of : Identifier → Content → Option FrameContent
+packed_of (Base id) (Data bytes) = Some (record { id = id; bytes = bytes })
+packed_of id content = None
+
+-- what the last frames of the node of such a frame had
+abbrev pub last_in : List Node → List ℕ → Option FrameContent → Last
+last_in nodes interface (Some frame) = last_for nodes interface frame
+last_in nodes interface None = nothing_seen
 
 unfoldable pub last_at : List Node → Record → Last
-last_at nodes frame = last_in nodes frame.interface frame.id frame.content
+last_at nodes frame = last_in nodes frame.interface (packed_of frame.id frame.content)
 
 -- the nodes after a frame with an identifier of 11 bits: a CAN FD frame doesn't count
 abbrev pub nodes_of_base : List Node → List ℕ → ℕ → Content → List Node

@@ -1,6 +1,6 @@
 -- The data sheets by which a recording is explained.
-use Rattle.std.specs.Prelude.{ℕ, Bool, true, false, ◌&&◌, List, ◌++◌, filter, map, Option, Some, None, is_some}
-use Rattle.std.specs.Option.{option_copied}
+use Rattle.std.specs.Prelude.{ℕ, Bool, true, false, ◌&&◌, List, ◌++◌, filter, map, Option, Some, is_some}
+use Rattle.std.specs.Option.{option_copied, option_or}
 use Rattle.co_frame.specs.Segments.{same_bool}
 use Rattle.co_sheet_changes.specs.Names.{originals_in}
 use Rattle.conode_explain_pdo.specs.Known.{KnownSheet, known_sheet, known_view}
@@ -15,8 +15,7 @@ sheets_of settings = map known_view settings.sheets.now
 -- the node: the one that its word has, else the sheet's own, of a device configuration file; none
 -- where it is for all
 abbrev pub node_for : Option ℕ → Option ℕ → Option ℕ
-node_for (Some node) own = Some node
-node_for None own = own
+node_for word own = option_or word own
 
 -- a sheet that was read, with its PDOs
 abbrev pub read_view : ReadSheet → KnownSheet

@@ -1,19 +1,18 @@
 //! The lines of SDO transfers that ended.
 
-ghost use Rattle.std.specs.Prelude.{◌≡◌, ◌⊎◌, OnOk, IfErr};
+ghost use Rattle.std.specs.Prelude.{◌≡◌, OnOk, string_bytes};
 ghost use Rattle.std.specs.List.{flat_map};
 ghost use Rattle.conode_io.specs.Written.{WritesLines};
 ghost use Rattle.conode_explain_text.specs.Lines.{own_parts};
 ghost use Rattle.conode_explain_text.specs.SoFar.{shows_interface, times_at};
 ghost use Rattle.conode_explain.specs.Explained.{
+  boot_lines,
+  end_lines,
   ended_lines,
   interrupted_at,
   interrupted_in,
-  interrupted_lines,
   line_as,
-  told_lines,
   unfinished_in,
-  unfinished_lines,
   unfinished_on,
 };
 ghost use Rattle.conode_explain.specs.Sheets.{sheets_of};
@@ -31,38 +30,48 @@ use conode_explain_text::{Seen, set_own_line};
 use conode_explain_transfers::{Ended, Ending, Told};
 use conode_io::{CmdFault, hand_over};
 use conode_record::Record;
-use std::alloc::{AllocError, Global};
+use std::alloc::AllocError;
 use std::io::Write;
 
-// Sets `line` to the line of an ended transfer, with these words, in a tone.
+// Sets the line to that of an ended transfer, with the words that are said, in a tone.
 fn set_end_line(
-    alloc: Global,
-    line: &mut Vec<u8>,
-    text: &mut String,
+    room: &mut Room,
     seen: &Seen,
     form: &Layout<'_>,
     micros: u64,
     interface: &[u8],
     node: u8,
     tone: Tone,
-    words: &[u8],
 ) -> Result<(), AllocError>
-    ensures { OnOk result (line.new.items ≡ line_as form.now tone Kind.Sdo (Some node)
+    ensures { OnOk result (room.new.line.items ≡ line_as form.now tone Kind.Sdo (Some node)
         (own_parts form.now.stamps (times_at seen.now micros)
-        (shows_interface seen.now interface.now) interface.now words.now)) }
+        (shows_interface seen.now interface.now) interface.now (string_bytes room.old.said))) }
 {
     let times = seen.times(micros);
     let shows = seen.shows_interface(interface);
-    let stamps = form.stamps;
     match form.format {
         LineFormat::Text => {
-            attempt!(set_own_line(line, text, stamps, times, shows, interface, words));
-            put_tone(alloc, line, form.colours, tone)
+            attempt!(set_own_line(
+                &mut room.line,
+                &mut room.text,
+                form.stamps,
+                times,
+                shows,
+                interface,
+                room.said.as_bytes(),
+            ));
+            put_tone(room.alloc, &mut room.line, form.colours, tone)
         }
         LineFormat::Json => {
-            let (kind, of) = (Kind::Sdo, Some(node));
-            *line = attempt!(own_json_line(
-                alloc, stamps, times, shows, interface, words, kind, of
+            room.line = attempt_value!(own_json_line(
+                room.alloc,
+                form.stamps,
+                times,
+                shows,
+                interface,
+                room.said.as_bytes(),
+                Kind::Sdo,
+                Some(node),
             ));
             Ok(())
         }
@@ -86,7 +95,6 @@ fn write_end<W: Write>(
     ensures lines { OnOk result (WritesLines (W.contents out.old) (W.contents out.new)
         (ended_lines settings.now.form (sheets_of settings.now) seen.now micros
         interface.now node ids ended.now)) }
-    ensures err { IfErr result (λ fault. (fault ≡ CmdFault.Write) ⊎ (fault ≡ CmdFault.Memory)) }
 {
     let Some(ended) = ended else {
         return Ok(());
@@ -95,57 +103,17 @@ fn write_end<W: Write>(
         return Ok(());
     }
     let names = names_for(settings.sheets, interface, node);
-    let said = &mut room.said;
-    attempt_in_memory!(set_ended_words(said, names, node, ids, ended));
+    attempt_in_memory!(set_ended_words(&mut room.said, names, node, ids, ended));
     attempt_in_memory!(set_end_line(
-        room.alloc,
-        &mut room.line,
-        &mut room.text,
+        room,
         seen,
         &settings.form,
         micros,
         interface,
         node,
         ending_tone(ended.ending),
-        room.said.as_bytes(),
     ));
     hand_over(room.line.as_slice(), out)
-}
-
-/// Writes the line of the transfer that ended with a frame, if one did and it is asked for.
-pub(crate) fn write_told_end<W: Write>(
-    room: &mut Room,
-    seen: &Seen,
-    settings: &Settings<'_, '_, '_, '_>,
-    place: Option<Place>,
-    frame: &Record<'_>,
-    told: &Option<Told>,
-    out: &mut W,
-) -> Result<(), CmdFault>
-    ensures lines { OnOk result (WritesLines (W.contents out.old) (W.contents out.new)
-        (told_lines settings.now.form (sheets_of settings.now) seen.now place frame.now
-        told.now)) }
-    ensures err { IfErr result (λ fault. (fault ≡ CmdFault.Write) ⊎ (fault ≡ CmdFault.Memory)) }
-{
-    let Some(told) = told else {
-        return Ok(());
-    };
-    let name = frame.interface.bytes();
-    let ids = match place {
-        Some(place) => Some(place.ids),
-        None => None,
-    };
-    write_end(
-        room,
-        seen,
-        settings,
-        frame.micros,
-        name,
-        told.node,
-        ids,
-        &told.ended,
-        out,
-    )
 }
 
 // an open transfer, ended by a boot-up
@@ -174,50 +142,90 @@ fn write_interrupted<W: Write>(
     ensures lines { OnOk result (WritesLines (W.contents out.old) (W.contents out.new)
         (interrupted_in settings.now.form (sheets_of settings.now) seen.now micros
         interface.now node channel.now)) }
-    ensures err { IfErr result (λ fault. (fault ≡ CmdFault.Write) ⊎ (fault ≡ CmdFault.Memory)) }
 {
     if !channel.is_at(interface, node) {
         return Ok(());
     }
     let ended = interrupted(channel.channel.unfinished(micros));
-    let ids = Some(channel.ids);
     write_end(
-        room, seen, settings, micros, interface, node, ids, &ended, out,
+        room,
+        seen,
+        settings,
+        micros,
+        interface,
+        node,
+        Some(channel.ids),
+        &ended,
+        out,
     )
 }
 
-/// Of a frame that is a boot-up: writes the lines of the transfers that are open on the node's
-/// channels other than the default one.
-#[tactic(auto, unfolding(crate::specs::Explained::interrupted_lines))]
-pub(crate) fn write_boot_up<W: Write>(
+// Of a frame that is a boot-up: writes the lines of the transfers that are open on the node's
+// channels other than the default one.
+fn write_boot_up<W: Write>(
     room: &mut Room,
     seen: &Seen,
     settings: &Settings<'_, '_, '_, '_>,
     channels: &[FurtherChannel],
     frame: &Record<'_>,
-    told: &Option<Told>,
+    told: &Told,
     out: &mut W,
 ) -> Result<(), CmdFault>
-    ensures lines { OnOk result (WritesLines (W.contents out.old) (W.contents out.new)
-        (interrupted_lines settings.now.form (sheets_of settings.now) seen.now channels.now
-        frame.now told.now)) }
-    ensures err { IfErr result (λ fault. (fault ≡ CmdFault.Write) ⊎ (fault ≡ CmdFault.Memory)) }
+    ensures { OnOk result (WritesLines (W.contents out.old) (W.contents out.new)
+        (boot_lines settings.now.form (sheets_of settings.now) seen.now channels.now
+        frame.now told.now.node told.now.part)) }
 {
-    let Some(told) = told else {
-        return Ok(());
-    };
     if told.part.is_some() {
         return Ok(());
     }
-    let (micros, name, node) = (frame.micros, frame.interface.bytes(), told.node);
+    let micros = frame.micros;
+    let name = frame.interface.bytes();
+    let node = told.node;
     for channel in channels {
         attempt!(write_interrupted(room, seen, settings, micros, name, node, channel, out));
     }
     Ok(())
 }
 
-// writes the lines of the transfers that are open on channels other than the default ones
-fn write_unfinished_further<W: Write>(
+/// Writes the lines of the transfers that ended with a frame, those that are asked for.
+#[tactic(auto, unfolding(crate::specs::Explained::end_lines), using(conode_io::proofs::WriteLemmas::lines_after))]
+pub(crate) fn write_told_ends<W: Write>(
+    room: &mut Room,
+    seen: &Seen,
+    settings: &Settings<'_, '_, '_, '_>,
+    place: Option<Place>,
+    channels: &[FurtherChannel],
+    frame: &Record<'_>,
+    told: &Option<Told>,
+    out: &mut W,
+) -> Result<(), CmdFault>
+    ensures { OnOk result (WritesLines (W.contents out.old) (W.contents out.new)
+        (end_lines settings.now.form (sheets_of settings.now) seen.now place channels.now
+        frame.now told.now)) }
+{
+    let Some(told) = told else {
+        return Ok(());
+    };
+    let ids = match place {
+        Some(place) => Some(place.ids),
+        None => None,
+    };
+    attempt!(write_end(
+        room,
+        seen,
+        settings,
+        frame.micros,
+        frame.interface.bytes(),
+        told.node,
+        ids,
+        &told.ended,
+        out,
+    ));
+    write_boot_up(room, seen, settings, channels, frame, told, out)
+}
+
+/// Writes the lines of the transfers that are open on channels other than the default ones.
+pub(crate) fn write_unfinished_further<W: Write>(
     room: &mut Room,
     progress: &Progress,
     settings: &Settings<'_, '_, '_, '_>,
@@ -226,22 +234,29 @@ fn write_unfinished_further<W: Write>(
     ensures lines { OnOk result (WritesLines (W.contents out.old) (W.contents out.new)
         (flat_map (unfinished_on settings.now.form (sheets_of settings.now) progress.now.seen)
         progress.now.further)) }
-    ensures err { IfErr result (λ fault. (fault ≡ CmdFault.Write) ⊎ (fault ≡ CmdFault.Memory)) }
 {
     let seen = &progress.seen;
     let last = seen.last();
     let channels = progress.further.channels();
     for channel in channels {
         let ended = channel.channel.unfinished(last);
-        let (name, node) = (channel.interface.as_slice(), channel.node);
-        let ids = Some(channel.ids);
-        attempt!(write_end(room, seen, settings, last, name, node, ids, &ended, out));
+        attempt!(write_end(
+            room,
+            seen,
+            settings,
+            last,
+            channel.interface.as_slice(),
+            channel.node,
+            Some(channel.ids),
+            &ended,
+            out,
+        ));
     }
     Ok(())
 }
 
-// and on the default ones
-fn write_unfinished_default<W: Write>(
+/// Writes the lines of the transfers that are open on the default channels.
+pub(crate) fn write_unfinished_default<W: Write>(
     room: &mut Room,
     progress: &Progress,
     settings: &Settings<'_, '_, '_, '_>,
@@ -250,30 +265,22 @@ fn write_unfinished_default<W: Write>(
     ensures lines { OnOk result (WritesLines (W.contents out.old) (W.contents out.new)
         (flat_map (unfinished_in settings.now.form (sheets_of settings.now) progress.now.seen)
         progress.now.channels)) }
-    ensures err { IfErr result (λ fault. (fault ≡ CmdFault.Write) ⊎ (fault ≡ CmdFault.Memory)) }
 {
     let seen = &progress.seen;
     let last = seen.last();
     for track in progress.channels.tracks() {
         let ended = track.channel.unfinished(last);
-        let (name, node) = (track.interface.as_slice(), track.node);
-        attempt!(write_end(room, seen, settings, last, name, node, None, &ended, out));
+        attempt!(write_end(
+            room,
+            seen,
+            settings,
+            last,
+            track.interface.as_slice(),
+            track.node,
+            None,
+            &ended,
+            out,
+        ));
     }
     Ok(())
-}
-
-/// Writes the lines of the transfers that are open, at the end.
-#[tactic(auto, unfolding(crate::specs::Explained::unfinished_lines), using(conode_io::proofs::WriteLemmas::lines_after))]
-pub(crate) fn write_unfinished<W: Write>(
-    room: &mut Room,
-    progress: &Progress,
-    settings: &Settings<'_, '_, '_, '_>,
-    out: &mut W,
-) -> Result<(), CmdFault>
-    ensures lines { OnOk result (WritesLines (W.contents out.old) (W.contents out.new)
-        (unfinished_lines settings.now.form (sheets_of settings.now) progress.now)) }
-    ensures err { IfErr result (λ fault. (fault ≡ CmdFault.Write) ⊎ (fault ≡ CmdFault.Memory)) }
-{
-    attempt!(write_unfinished_default(room, progress, settings, out));
-    write_unfinished_further(room, progress, settings, out)
 }

@@ -6,17 +6,17 @@ ghost use Rattle.std.specs.Process.{exit_status};
 use crate::explained::explain;
 use crate::progress::{Layout, LineFormat};
 use crate::settings::Settings;
-use crate::sheets::{ReadSheet, known_sheets};
+use crate::sheets::{ReadSheet, add_in_order};
 use crate::writes::write_header;
-use co_sheet::{FaultKind, GREATEST_SIZE, SheetFault, read};
+use co_sheet::{FaultKind, SheetFault, read};
 use co_sheet_changes::{AdaptFault, Originals};
 use co_sheet_mend::readable;
-use conode_convert::{SheetText, SheetWord, bad_sheet, bad_sheet_word, sheet_words, texts_of};
+use conode_convert::{SheetText, bad_sheet, bad_sheet_word, sheet_words, texts_of};
 use conode_explain_filter::{Filter, FilterFault, FilterWords};
 use conode_explain_forms::{Signal, SignalFault, channels_of, first_missing};
 use conode_explain_pdo::KnownSheet;
 use conode_explain_text::StampForm;
-use conode_io::{CmdFault, cannot_read, flushed, stopped};
+use conode_io::{CmdFault, bad_word, cannot_read, flushed, stopped};
 use conode_logs::Form;
 use std::alloc::{AllocError, Global};
 use std::fs;
@@ -71,44 +71,18 @@ fn explain_path<R: Files + AllocGlobal + Input, O: Write, E: Write>(
     }
 }
 
-// the original data types of a sheet's entries, of a text that is one
-fn originals_in(alloc: Global, text: &[u8]) -> Result<Originals, SheetFault> {
-    if text.len() > GREATEST_SIZE {
-        return Err(SheetFault {
-            kind: FaultKind::TooLarge,
-            line: 0,
-        });
-    }
-    match Originals::in_text(alloc, text) {
-        Ok(originals) => Ok(originals),
-        Err(_) => Err(SheetFault {
-            kind: FaultKind::Memory,
-            line: 0,
-        }),
-    }
-}
-
-// explains the recording of a path by data sheets that are known, if they have all signals
-#[tactic(auto, using(crate::proofs::WriteLemmas::or_two))]
-fn explain_known<R: Files + AllocGlobal + Input, O: Write, E: Write>(
-    rt: &R,
-    path: &str,
-    settings: &Settings<'_, '_, '_, '_>,
-    out: &mut O,
-    err: &mut E,
-) -> ExitCode
-    ensures { (exit_status result ≡ 0) ⊎ ((exit_status result ≡ 1) ⊎ (exit_status result ≡ 2)) }
+// says which signal no data sheet has
+fn missing_signal<E: Write>(signal: Signal, err: &mut E) -> ExitCode
+    ensures { exit_status result ≡ 2 }
 {
-    if let Some(signal) = first_missing(settings.sheets, settings.form.signals) {
-        let (node, key) = (signal.node, signal.key);
-        let _ = writeln!(err, "--signal: no data sheet has {key} of node {node}");
-        return ExitCode::from(2);
-    }
-    explain_path(rt, path, settings, out, err)
+    let node = signal.node;
+    let key = signal.key;
+    let _ = writeln!(err, "--signal: no data sheet has {key} of node {node}");
+    ExitCode::from(2)
 }
 
-// explains the recording of a path by data sheets with their PDOs
-#[tactic(auto, using(crate::proofs::WriteLemmas::one_or_two))]
+// explains the recording of a path by data sheets with their PDOs, if they have all signals
+#[tactic(auto, using(crate::proofs::WriteLemmas::one_or_two, crate::proofs::WriteLemmas::or_two))]
 fn explain_with<R: Files + AllocGlobal + Input, O: Write, E: Write>(
     rt: &R,
     path: &str,
@@ -119,34 +93,35 @@ fn explain_with<R: Files + AllocGlobal + Input, O: Write, E: Write>(
 ) -> ExitCode
     ensures { (exit_status result ≡ 0) ⊎ ((exit_status result ≡ 1) ⊎ (exit_status result ≡ 2)) }
 {
-    match channels_of(rt.alloc(), sheets) {
-        Ok(channels) => {
-            let channels = channels.as_slice();
-            let settings = Settings {
-                form,
-                sheets,
-                channels,
-            };
-            explain_known(rt, path, &settings, out, err)
-        }
-        Err(_) => stopped(CmdFault::Memory, out, err).status(),
+    let Ok(channels) = channels_of(rt.alloc(), sheets) else {
+        return stopped(CmdFault::Memory, out, err).status();
+    };
+    if let Some(signal) = first_missing(sheets, form.signals) {
+        return missing_signal(signal, err);
     }
+    let settings = Settings {
+        form,
+        sheets,
+        channels: channels.as_slice(),
+    };
+    explain_path(rt, path, &settings, out, err)
 }
 
 // explains the recording of a path by data sheets
 #[tactic(auto, using(crate::proofs::WriteLemmas::one_or_two))]
-fn explain_by<R: Files + AllocGlobal + Input, O: Write, E: Write>(
+fn explain_by<'s, 't, R: Files + AllocGlobal + Input, O: Write, E: Write>(
     rt: &R,
     path: &str,
-    sheets: &[ReadSheet<'_>],
+    sheets: &'s [ReadSheet<'t>],
     form: Layout<'_>,
     out: &mut O,
     err: &mut E,
 ) -> ExitCode
     ensures { (exit_status result ≡ 0) ⊎ ((exit_status result ≡ 1) ⊎ (exit_status result ≡ 2)) }
 {
-    match known_sheets(rt.alloc(), sheets) {
-        Ok(known) => explain_with(rt, path, known.as_slice(), form, out, err),
+    let mut known: Vec<KnownSheet<'s, 't>> = Vec::new(rt.alloc());
+    match add_in_order(rt.alloc(), &mut known, sheets) {
+        Ok(()) => explain_with(rt, path, known.as_slice(), form, out, err),
         Err(_) => stopped(CmdFault::Memory, out, err).status(),
     }
 }
@@ -173,15 +148,29 @@ fn make_readable<E: Write>(
     Ok(())
 }
 
-// a data sheet, and its original data types
-fn sheet_in<'t>(alloc: Global, of: &'t SheetText<'_>) -> Result<ReadSheet<'t>, SheetFault> {
-    let sheet = attempt!(read(alloc, of.text.as_slice()));
-    let originals = attempt!(originals_in(alloc, of.text.as_slice()));
-    Ok(ReadSheet {
-        word: of.word,
-        sheet,
-        originals,
-    })
+// Adds the data sheet of a text, with its original data types, where there is memory for one more.
+// On an `Err` it is at fault, or memory ran out.
+fn add_sheet<'t>(
+    alloc: Global,
+    sheets: &mut Vec<ReadSheet<'t>>,
+    of: &'t SheetText<'_>,
+) -> Result<bool, SheetFault> {
+    let text = of.text.as_slice();
+    let sheet = attempt_value!(read(alloc, text));
+    match Originals::in_text(alloc, text) {
+        Ok(originals) => {
+            let made = ReadSheet {
+                word: of.word,
+                sheet,
+                originals,
+            };
+            Ok(sheets.push(made).is_ok())
+        }
+        Err(_) => Err(SheetFault {
+            kind: FaultKind::Memory,
+            line: 0,
+        }),
+    }
 }
 
 // Adds the data sheets of these texts. On an `Err` one is at fault, or memory ran out, and it is
@@ -196,12 +185,9 @@ fn add_sheets<'t, O: Write, E: Write>(
     ensures { IfErr result (λ status. exit_status status ≡ 1) }
 {
     for text in texts {
-        match sheet_in(alloc, text) {
-            Ok(sheet) => {
-                if sheets.push(sheet).is_err() {
-                    return Err(stopped(CmdFault::Memory, out, err).status());
-                }
-            }
+        match add_sheet(alloc, sheets, text) {
+            Ok(true) => {}
+            Ok(false) => return Err(stopped(CmdFault::Memory, out, err).status()),
             Err(fault) => {
                 return Err(bad_sheet(fault, text.word.path, texts.len() > 1, out, err));
             }
@@ -210,36 +196,29 @@ fn add_sheets<'t, O: Write, E: Write>(
     Ok(())
 }
 
-// explains the recording of a path by the data sheets that words name
-fn explain_named<R: Files + AllocGlobal + Input, O: Write, E: Write>(
+// explains the recording of a path by the data sheets of these texts
+fn explain_texts<R: Files + AllocGlobal + Input, O: Write, E: Write>(
     rt: &R,
     path: &str,
-    words: &[SheetWord<'_>],
+    texts: &[SheetText<'_>],
     form: Layout<'_>,
     out: &mut O,
     err: &mut E,
 ) -> ExitCode
     ensures { (exit_status result ≡ 0) ⊎ ((exit_status result ≡ 1) ⊎ (exit_status result ≡ 2)) }
 {
-    let mut texts = match texts_of(rt, words, out, err) {
-        Ok(texts) => texts,
-        Err(status) => return status,
-    };
-    if make_readable(rt.alloc(), texts.as_mut_slice(), err).is_err() {
-        return stopped(CmdFault::Memory, out, err).status();
-    }
     let mut sheets = Vec::new(rt.alloc());
-    if let Err(status) = add_sheets(rt.alloc(), &mut sheets, texts.as_slice(), out, err) {
-        return status;
+    match add_sheets(rt.alloc(), &mut sheets, texts, out, err) {
+        Ok(()) => explain_by(rt, path, sheets.as_slice(), form, out, err),
+        Err(status) => status,
     }
-    explain_by(rt, path, sheets.as_slice(), form, out, err)
 }
 
 // explains the recording of a path by the data sheets that the words of the command line name
 #[tactic(auto, using(crate::proofs::WriteLemmas::one_or_two))]
-fn explain_in<R: Files + AllocGlobal + Input, O: Write, E: Write>(
+fn explain_named<R: Files + AllocGlobal + Input, O: Write, E: Write>(
     rt: &R,
-    recording: &str,
+    path: &str,
     words: &[&str],
     form: Layout<'_>,
     out: &mut O,
@@ -247,9 +226,16 @@ fn explain_in<R: Files + AllocGlobal + Input, O: Write, E: Write>(
 ) -> ExitCode
     ensures { (exit_status result ≡ 0) ⊎ ((exit_status result ≡ 1) ⊎ (exit_status result ≡ 2)) }
 {
-    match sheet_words(rt.alloc(), words) {
-        Ok(named) => explain_named(rt, recording, named.as_slice(), form, out, err),
-        Err(fault) => bad_sheet_word(fault, out, err),
+    let named = match sheet_words(rt.alloc(), words) {
+        Ok(named) => named,
+        Err(fault) => return bad_sheet_word(fault, out, err),
+    };
+    match texts_of(rt, named.as_slice(), out, err) {
+        Ok(mut texts) => match make_readable(rt.alloc(), texts.as_mut_slice(), err) {
+            Ok(()) => explain_texts(rt, path, texts.as_slice(), form, out, err),
+            Err(_) => stopped(CmdFault::Memory, out, err).status(),
+        },
+        Err(status) => status,
     }
 }
 
@@ -278,20 +264,20 @@ pub struct ExplainOptions<'a> {
 }
 
 impl ExplainOptions<'_> {
-    // the option that asks for other lines than those of the table of signals that is asked for
+    // that an option asks for other lines than those of the table of signals that is asked for
     fn other_lines(&self) -> Option<&'static str> {
         if self.signals.is_none() {
             return None;
         }
         if self.transfers {
-            return Some("--transfers");
+            return Some("--signal: it can't be used with --transfers");
         }
         if self.changes {
-            return Some("--changes");
+            return Some("--signal: it can't be used with --changes");
         }
         match self.format {
             LineFormat::Text => None,
-            LineFormat::Json => Some("--format json"),
+            LineFormat::Json => Some("--signal: it can't be used with --format json"),
         }
     }
 }
@@ -333,38 +319,6 @@ fn signals_in<'a>(alloc: Global, text: Option<&'a str>) -> Result<Vec<Signal>, S
     }
 }
 
-// explains the recording of a path by a filter
-#[tactic(auto, using(crate::proofs::WriteLemmas::one_or_two))]
-fn explain_filtered<R: Files + AllocGlobal + Input, O: Write, E: Write>(
-    rt: &R,
-    recording: &str,
-    sheets: &[&str],
-    options: &ExplainOptions<'_>,
-    filter: &Filter,
-    out: &mut O,
-    err: &mut E,
-) -> ExitCode
-    ensures { (exit_status result ≡ 0) ⊎ ((exit_status result ≡ 1) ⊎ (exit_status result ≡ 2)) }
-{
-    match signals_in(rt.alloc(), options.signals) {
-        Ok(signals) => {
-            let form = Layout {
-                stamps: options.stamps,
-                transfers: options.transfers,
-                changes: options.changes,
-                stop: options.stop,
-                format: options.format,
-                colours: options.colours,
-                log: options.log,
-                filter,
-                signals: signals.as_slice(),
-            };
-            explain_in(rt, recording, sheets, form, out, err)
-        }
-        Err(fault) => bad_signal(fault, out, err),
-    }
-}
-
 /// Explains the recording of a path, or of standard input where that is `-`, by the data sheets
 /// that words name, each `[INTERFACE:][NODE=]FILE`. The words of the filter are read first, then
 /// those of signals, and then those of the sheets: the first that its option doesn't have is named
@@ -384,12 +338,28 @@ pub fn explain_files<R: Files + AllocGlobal + Input, O: Write, E: Write>(
 ) -> ExitCode
     ensures { (exit_status result ≡ 0) ⊎ ((exit_status result ≡ 1) ⊎ (exit_status result ≡ 2)) }
 {
-    if let Some(other) = options.other_lines() {
-        let _ = writeln!(err, "--signal: it can't be used with {other}");
-        return ExitCode::from(2);
+    if let Some(what) = options.other_lines() {
+        return bad_word(what, err);
     }
-    match Filter::read(rt.alloc(), &options.filter) {
-        Ok(filter) => explain_filtered(rt, recording, sheets, options, &filter, out, err),
-        Err(fault) => bad_filter(fault, out, err),
+    let filter = match Filter::read(rt.alloc(), &options.filter) {
+        Ok(filter) => filter,
+        Err(fault) => return bad_filter(fault, out, err),
+    };
+    match signals_in(rt.alloc(), options.signals) {
+        Ok(signals) => {
+            let form = Layout {
+                stamps: options.stamps,
+                transfers: options.transfers,
+                changes: options.changes,
+                stop: options.stop,
+                format: options.format,
+                colours: options.colours,
+                log: options.log,
+                filter: &filter,
+                signals: signals.as_slice(),
+            };
+            explain_named(rt, recording, sheets, form, out, err)
+        }
+        Err(fault) => bad_signal(fault, out, err),
     }
 }

@@ -43,17 +43,17 @@ fn explain_all<R: Read, W: Write, E: Write>(
 {
     let mut bad: u64 = 0;
     for number in 1..u64::MAX {
-        explaining.let_out(out)?;
-        match explaining.take_line(reader, settings, number, out, err)? {
+        attempt!(explaining.let_out(out));
+        match attempt_value!(explaining.take_line(reader, settings, number, out, err)) {
             Some(more) => {
                 bad += more;
                 if ends(&settings.form, more) {
-                    explaining.finish(settings, out)?;
+                    attempt!(explaining.finish(settings, out));
                     return Ok(bad);
                 }
             }
             None => {
-                explaining.finish(settings, out)?;
+                attempt!(explaining.finish(settings, out));
                 return Ok(bad);
             }
         }

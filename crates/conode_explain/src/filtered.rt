@@ -37,7 +37,6 @@ fn first_node(claims: &[Claim]) -> Option<u8>
 
 /// The kind and the node of a frame that is these PDOs; on an SDO channel other than a default one
 /// of its server.
-#[inline(always)]
 pub(crate) fn subject_by(place: Option<Place>, claims: &[Claim], frame: &Record<'_>) -> Subject
     requires { IsIdentifier frame.now.id }
     ensures { result ≡ subject_by place claims.now frame.now }
@@ -51,20 +50,39 @@ pub(crate) fn subject_by(place: Option<Place>, claims: &[Claim], frame: &Record<
 }
 
 #[tactic(auto, unfolding(crate::specs::Filtered::passes_frame))]
-fn passes_frame(form: &Layout<'_>, seen: &Seen, subject: &Subject, micros: u64) -> bool
-    ensures { result ≡ passes_frame form.now seen.now subject.now micros }
+fn passes_frame(
+    form: &Layout<'_>,
+    seen: &Seen,
+    place: Option<Place>,
+    claims: &[Claim],
+    frame: &Record<'_>,
+) -> bool
+    requires { IsIdentifier frame.now.id }
+    ensures { result ≡ passes_frame form.now seen.now
+        (subject_by place claims.now frame.now) frame.now.micros }
 {
+    // in most cases there is none, and nothing of the frame is looked at
     if form.filter.is_open() {
         return true;
     }
-    form.filter.passes(subject, seen.times(micros))
+    let subject = subject_by(place, claims, frame);
+    form.filter.passes(&subject, seen.times(frame.micros))
 }
 
-/// Whether the line of a frame is printed.
-pub(crate) fn shows_frame(form: &Layout<'_>, seen: &Seen, subject: &Subject, micros: u64) -> bool
-    ensures { result ≡ shows_frame form.now seen.now subject.now micros }
+/// Whether the line of a frame that is these PDOs is printed; `place` is its SDO channel, where
+/// that isn't a default one.
+pub(crate) fn shows_frame(
+    form: &Layout<'_>,
+    seen: &Seen,
+    place: Option<Place>,
+    claims: &[Claim],
+    frame: &Record<'_>,
+) -> bool
+    requires { IsIdentifier frame.now.id }
+    ensures { result ≡ shows_frame form.now seen.now
+        (subject_by place claims.now frame.now) frame.now.micros }
 {
-    !form.transfers && passes_frame(form, seen, subject, micros)
+    !form.transfers && passes_frame(form, seen, place, claims, frame)
 }
 
 // whether a filter passes a frame with an identifier of an SDO channel other than a default one
@@ -115,31 +133,40 @@ fn repeats(kind: Kind) -> bool
     matches!(kind, Kind::Pdo | Kind::Heartbeat | Kind::Sync)
 }
 
-fn is_repeating(form: &Layout<'_>, subject: &Subject) -> bool
-    ensures { result ≡ is_repeating form.now subject.now }
+fn is_repeating(
+    form: &Layout<'_>,
+    place: Option<Place>,
+    claims: &[Claim],
+    frame: &Record<'_>,
+) -> bool
+    requires { IsIdentifier frame.now.id }
+    ensures { result ≡ is_repeating form.now (subject_by place claims.now frame.now) }
 {
-    form.changes && repeats(subject.kind)
+    form.changes && repeats(subject_by(place, claims, frame).kind)
 }
 
-/// Whether a frame that says these words has a line. Where only changes are asked for, a PDO, a
-/// heartbeat or a SYNC has one only if it says something new, and its words are kept. On an `Err`
-/// memory ran out.
+/// Whether a frame that is these PDOs and says these words has a line. Where only changes are asked
+/// for, a PDO, a heartbeat or a SYNC has one only if it says something new, and its words are kept.
+/// On an `Err` memory ran out.
 #[tactic(auto, unfolding(crate::specs::Filtered::is_news, crate::specs::Filtered::lasts_told))]
 pub(crate) fn is_news(
     lasts: &mut Lasts,
     form: &Layout<'_>,
-    subject: &Subject,
+    place: Option<Place>,
+    claims: &[Claim],
     frame: &Record<'_>,
     words: &[u8],
 ) -> Result<bool, AllocError>
-    ensures news { IfOk result
-        (λ news. news ≡ is_news form.now lasts.old subject.now frame.now words.now) }
-    ensures lasts { OnOk result
-        (lasts.new ≡ lasts_told form.now lasts.old subject.now frame.now words.now) }
+    requires { IsIdentifier frame.now.id }
+    ensures news { IfOk result (λ news. news ≡ is_news form.now lasts.old
+        (subject_by place claims.now frame.now) frame.now words.now) }
+    ensures lasts { OnOk result (lasts.new ≡ lasts_told form.now lasts.old
+        (subject_by place claims.now frame.now) frame.now words.now) }
 {
-    if !is_repeating(form, subject) {
+    if !is_repeating(form, place, claims, frame) {
         return Ok(true);
     }
+    let subject = subject_by(place, claims, frame);
     let data = data_of(&frame.content);
     lasts.take(
         frame.interface.bytes(),

@@ -4,21 +4,20 @@ ghost use Rattle.std.specs.Prelude.{◌≡◌, ◌++◌, ◌<◌, true, OnOk, st
 ghost use Rattle.co_sheet_changes.specs.Names.{names_view};
 ghost use Rattle.conode_explain_pdo.specs.Buses.{bus_view};
 ghost use Rattle.conode_record.specs.Grammar.{IsIdentifier};
+ghost use Rattle.conode_explain.specs.Nodes.{last_at};
 ghost use Rattle.conode_explain.specs.FrameWords.{
   assumed_front,
-  assumed_mark,
   assumed_words,
-  data_words,
   frame_words,
   is_default_pdo,
   other_words,
   plain_words,
-  remote_content,
   served_words,
   words_of_content,
 };
 
 use crate::abort_words::push_abort_words;
+use crate::progress::last_of;
 use crate::transfer::{push_transfer, transfer_in};
 use co_frame::Frame;
 use co_sheet_changes::Names;
@@ -26,24 +25,14 @@ use co_text::push_decimal;
 use co_value::PackedBytes;
 use conode_decode::push_text;
 use conode_explain_pdo::{Bus, Claim, push_pdos};
-use conode_explain_services::{Last, push_remote, push_service, push_state};
-use conode_record::{Content, Identifier};
+use conode_explain_services::{Last, Nodes, push_remote, push_service, push_state};
+use conode_record::{Content, Identifier, Record};
 use std::alloc::AllocError;
 
 fn is_default_pdo(id: u16) -> bool
     ensures { result ≡ is_default_pdo id }
 {
     (0x180 < id && id < 0x580) && id % 0x80 != 0
-}
-
-fn push_assumed_mark(said: &mut String, id: u16) -> Result<(), AllocError>
-    ensures { OnOk result (string_bytes said.new ≡ string_bytes said.old ++ assumed_mark id) }
-{
-    if is_default_pdo(id) {
-        said.push_str("~")
-    } else {
-        Ok(())
-    }
 }
 
 // the text of a frame, what an abort's code means, and the NMT state of its node
@@ -56,7 +45,7 @@ fn push_plain_words(
     ensures { OnOk result (string_bytes said.new
         ≡ string_bytes said.old ++ plain_words (names_view names.entry) last.now frame.now) }
 {
-    attempt!(push_assumed_mark(said, frame.id()));
+    attempt!(said.push_str(if is_default_pdo(frame.id()) { "~" } else { "" }));
     attempt!(push_text(said, names, frame));
     attempt!(push_abort_words(said, frame));
     push_state(said, *last, frame)
@@ -73,7 +62,7 @@ fn push_served_words(
     ensures { OnOk result (string_bytes said.new
         ≡ string_bytes said.old ++ served_words (names_view names.entry) last.now frame.now) }
 {
-    if attempt!(push_service(said, *last, frame)) {
+    if attempt_value!(push_service(said, *last, frame)) {
         return Ok(());
     }
     push_plain_words(said, names, last, frame)
@@ -142,75 +131,64 @@ fn push_assumed_words(said: &mut String, id: u16) -> Result<(), AllocError>
     push_decimal(said, (id % 128) as u64)
 }
 
-// what data with an identifier of 11 bits say
+// what data with an identifier of 11 bits say, of this frame
 fn push_base_words(
     said: &mut String,
     bus: Bus<'_, '_, '_, '_, '_>,
     claims: &[Claim],
-    last: &Last,
+    nodes: &Nodes,
     id: u16,
     bytes: &PackedBytes,
+    frame: &Record<'_>,
 ) -> Result<(), AllocError>
-    requires { id < 2048 }
+    requires id { id < 2048 }
+    requires of { IsIdentifier frame.now.id }
     ensures { OnOk result (string_bytes said.new ≡ string_bytes said.old
-        ++ frame_words (bus_view bus.entry) claims.now last.now
+        ++ frame_words (bus_view bus.entry) claims.now (last_at nodes.now frame.now)
         (record { id = id; bytes = bytes.now })) }
 {
     match claims {
         // most frames of most recordings
         [] if is_default_pdo(id) => push_assumed_words(said, id),
-        _ => push_frame_words(said, bus, claims, last, &Frame::packed(id, bytes)),
+        _ => {
+            let last = last_of(nodes, frame);
+            push_frame_words(said, bus, claims, &last, &Frame::packed(id, bytes))
+        }
     }
 }
 
-fn push_data_words(
-    said: &mut String,
-    bus: Bus<'_, '_, '_, '_, '_>,
-    claims: &[Claim],
-    last: &Last,
-    id: Identifier,
-    bytes: &PackedBytes,
-) -> Result<(), AllocError>
-    requires { IsIdentifier id }
-    ensures { OnOk result (string_bytes said.new
-        ≡ string_bytes said.old ++ data_words (bus_view bus.entry) claims.now last.now id bytes.now) }
-{
-    match id {
-        Identifier::Base(id) => push_base_words(said, bus, claims, last, id, bytes),
-        Identifier::Extended(_) => said.push_str("frame with an identifier of 29 bits"),
-        Identifier::Error(_) => said.push_str("error frame"),
-    }
-}
-
-fn push_remote_words(said: &mut String, id: Identifier) -> Result<(), AllocError>
-    requires { IsIdentifier id }
-    ensures { OnOk result (string_bytes said.new ≡ string_bytes said.old ++ remote_content id) }
-{
-    match id {
-        Identifier::Base(id) => push_remote(said, id),
-        Identifier::Extended(_) | Identifier::Error(_) => said.push_str("remote frame"),
-    }
-}
-
-/// Sets `said` to what a frame says; `claims` are the PDOs that it is, `last` is what the last
-/// frames of its node had. On an `Err` memory ran out, and it is incomplete.
+/// Sets `said` to what a frame says that is read as one with this identifier; `claims` are the PDOs
+/// that it is, `nodes` have what the last frames of its node had. On an `Err` memory ran out, and
+/// it is incomplete.
+// inlined, so that no copy of `bus` is made for the words of most frames, which don't look at it
+#[inline(always)]
 #[tactic(auto, unfolding(crate::specs::FrameWords::words_of_content))]
 pub(crate) fn set_words(
     said: &mut String,
     bus: Bus<'_, '_, '_, '_, '_>,
     claims: &[Claim],
-    last: &Last,
+    nodes: &Nodes,
     id: Identifier,
-    content: &Content<'_>,
+    frame: &Record<'_>,
 ) -> Result<(), AllocError>
-    requires { IsIdentifier id }
-    ensures { OnOk result (string_bytes said.new
-        ≡ words_of_content (bus_view bus.entry) claims.now last.now id content.now) }
+    requires id { IsIdentifier id }
+    requires of { IsIdentifier frame.now.id }
+    ensures { OnOk result (string_bytes said.new ≡ words_of_content (bus_view bus.entry)
+        claims.now (last_at nodes.now frame.now) id frame.now.content) }
 {
     said.clear();
-    match content {
-        Content::Data(bytes) => push_data_words(said, bus, claims, last, id, bytes),
-        Content::Remote(_) => push_remote_words(said, id),
-        Content::Fd(_, _) => said.push_str("CAN FD frame"),
+    match (&frame.content, id) {
+        (Content::Data(bytes), Identifier::Base(id)) => {
+            push_base_words(said, bus, claims, nodes, id, bytes, frame)
+        }
+        (Content::Data(_), Identifier::Extended(_)) => {
+            said.push_str("frame with an identifier of 29 bits")
+        }
+        (Content::Data(_), Identifier::Error(_)) => said.push_str("error frame"),
+        (Content::Remote(_), Identifier::Base(id)) => push_remote(said, id),
+        (Content::Remote(_), Identifier::Extended(_) | Identifier::Error(_)) => {
+            said.push_str("remote frame")
+        }
+        (Content::Fd(_, _), _) => said.push_str("CAN FD frame"),
     }
 }

@@ -2,8 +2,19 @@
 //! line is named, and the rest goes on.
 #![tactic(auto)]
 
-// As `?`, without a conversion of the error: a `match` is one step of a proof where `?` is three.
+// As `?` of a result without a value, and without a conversion of the error: a `match` is one step
+// of a proof where `?` is three.
 macro_rules! attempt {
+    ($result:expr) => {
+        match $result {
+            Ok(()) => {}
+            Err(fault) => return Err(fault),
+        }
+    };
+}
+
+// The same of a result with a value.
+macro_rules! attempt_value {
     ($result:expr) => {
         match $result {
             Ok(value) => value,
@@ -12,8 +23,17 @@ macro_rules! attempt {
     };
 }
 
-// The same of a result whose `Err` says that memory ran out, in a function that gives a `CmdFault`.
+// The same of results whose `Err` says that memory ran out, in a function that gives a `CmdFault`.
 macro_rules! attempt_in_memory {
+    ($result:expr) => {
+        match $result {
+            Ok(()) => {}
+            Err(_) => return Err(CmdFault::Memory),
+        }
+    };
+}
+
+macro_rules! attempt_value_in_memory {
     ($result:expr) => {
         match $result {
             Ok(value) => value,

@@ -15,7 +15,7 @@ ghost use Rattle.conode_explain.specs.Explained.{
   telling_of,
   told_at,
 };
-ghost use Rattle.conode_explain.specs.Nodes.{last_at, nodes_with};
+ghost use Rattle.conode_explain.specs.Nodes.{last_at, nodes_with, packed_of};
 
 use co_frame::Frame;
 use conode_explain_entries::{Entries, FurtherChannels, Place};
@@ -135,6 +135,66 @@ fn or_boot_up(frame: &Frame, told: Option<Told>) -> Option<Told>
     })
 }
 
+// a data frame with an identifier of 11 bits
+fn packed(frame: &Record<'_>) -> Option<Frame>
+    requires { IsIdentifier frame.now.id }
+    ensures { result ≡ packed_of frame.now.id frame.now.content }
+{
+    match (frame.id, &frame.content) {
+        (Identifier::Base(id), Content::Data(bytes)) => Some(Frame::packed(id, bytes)),
+        _ => None,
+    }
+}
+
+/// What the last frames of the node of a data frame had; nothing where its identifier has 29 bits,
+/// and of every other frame.
+#[tactic(auto, unfolding(crate::specs::Nodes::last_at))]
+pub(crate) fn last_of(nodes: &Nodes, frame: &Record<'_>) -> Last
+    requires { IsIdentifier frame.now.id }
+    ensures { result ≡ last_at nodes.now frame.now }
+{
+    match packed(frame) {
+        Some(packed) => nodes.last_for(frame.interface.bytes(), &packed),
+        None => Last::new(),
+    }
+}
+
+// Takes a data frame with an identifier of 11 bits into its default SDO channel. Returns what it is
+// there; `None` for every other frame. On an `Err` memory ran out.
+#[tactic(auto, unfolding(crate::specs::Explained::telling_of))]
+fn tell(channels: &mut Channels, frame: &Record<'_>) -> Result<Option<Told>, AllocError>
+    requires { IsIdentifier frame.now.id }
+    ensures told { IfOk result (λ told. told ≡ (telling_of channels.old frame.now).told) }
+    ensures channels { OnOk result
+        (channels.new ≡ (telling_of channels.old frame.now).tracks) }
+{
+    let Some(packed) = packed(frame) else {
+        return Ok(None);
+    };
+    let name = frame.interface.bytes();
+    let told = attempt_value!(channels.take(name, frame.micros, &packed));
+    Ok(or_boot_up(&packed, told))
+}
+
+// Takes a data frame into its SDO channel other than a default one. Returns what it is there. On an
+// `Err` memory ran out.
+#[tactic(auto, unfolding(crate::specs::Explained::further_of))]
+fn tell_further(
+    further: &mut FurtherChannels,
+    frame: &Record<'_>,
+    place: Place,
+) -> Result<Option<Told>, AllocError>
+    requires { IsIdentifier frame.now.id }
+    ensures told { IfOk result (λ told. told ≡ (further_of further.old frame.now place).told) }
+    ensures channels { OnOk result
+        (further.new ≡ (further_of further.old frame.now place).channels) }
+{
+    let Some(packed) = packed(frame) else {
+        return Ok(None);
+    };
+    further.take(frame.interface.bytes(), place, frame.micros, &packed)
+}
+
 impl Progress {
     /// Nothing came.
     pub(crate) fn new(alloc: Global) -> Progress
@@ -148,59 +208,6 @@ impl Progress {
             nodes: Nodes::new(alloc),
             lasts: Lasts::new(alloc),
         }
-    }
-
-    // Takes a data frame with an identifier of 11 bits into its default SDO channel. Returns what
-    // it is there; `None` for every other frame. On an `Err` memory ran out.
-    #[tactic(auto, unfolding(crate::specs::Explained::telling_of))]
-    fn tell(&mut self, frame: &Record<'_>) -> Result<Option<Told>, AllocError>
-        requires { IsIdentifier frame.now.id }
-        ensures told { IfOk result
-            (λ told. told ≡ (telling_of self.old.channels frame.now).told) }
-        ensures channels { OnOk result
-            (self.new.channels ≡ (telling_of self.old.channels frame.now).tracks) }
-        ensures further { self.new.further ≡ self.old.further }
-        ensures seen { self.new.seen ≡ self.old.seen }
-        ensures entries { self.new.entries ≡ self.old.entries }
-        ensures nodes { self.new.nodes ≡ self.old.nodes }
-        ensures lasts { self.new.lasts ≡ self.old.lasts }
-    {
-        let Identifier::Base(id) = frame.id else {
-            return Ok(None);
-        };
-        let Content::Data(bytes) = &frame.content else {
-            return Ok(None);
-        };
-        let name = frame.interface.bytes();
-        let packed = Frame::packed(id, bytes);
-        let told = attempt!(self.channels.take(name, frame.micros, &packed));
-        Ok(or_boot_up(&packed, told))
-    }
-
-    // Takes a data frame into its SDO channel other than a default one. Returns what it is there.
-    // On an `Err` memory ran out.
-    #[tactic(auto, unfolding(crate::specs::Explained::further_of))]
-    fn tell_further(&mut self, frame: &Record<'_>, place: Place) -> Result<Option<Told>, AllocError>
-        requires { IsIdentifier frame.now.id }
-        ensures told { IfOk result
-            (λ told. told ≡ (further_of self.old.further frame.now place).told) }
-        ensures further { OnOk result
-            (self.new.further ≡ (further_of self.old.further frame.now place).channels) }
-        ensures seen { self.new.seen ≡ self.old.seen }
-        ensures channels { self.new.channels ≡ self.old.channels }
-        ensures entries { self.new.entries ≡ self.old.entries }
-        ensures nodes { self.new.nodes ≡ self.old.nodes }
-        ensures lasts { self.new.lasts ≡ self.old.lasts }
-    {
-        let Identifier::Base(id) = frame.id else {
-            return Ok(None);
-        };
-        let Content::Data(bytes) = &frame.content else {
-            return Ok(None);
-        };
-        let name = frame.interface.bytes();
-        self.further
-            .take(name, place, frame.micros, &Frame::packed(id, bytes))
     }
 
     /// Takes a frame into its SDO channel: that of a place, or a default one. Returns what it is
@@ -222,26 +229,9 @@ impl Progress {
         ensures lasts { self.new.lasts ≡ (heard_at self.old frame.now place).lasts }
     {
         match place {
-            Some(place) => self.tell_further(frame, place),
-            None => self.tell(frame),
+            Some(place) => tell_further(&mut self.further, frame, place),
+            None => tell(&mut self.channels, frame),
         }
-    }
-
-    /// What the last frames of the node of a data frame had; nothing where its identifier has 29
-    /// bits, and of every other frame.
-    #[tactic(auto, unfolding(crate::specs::Nodes::last_at))]
-    pub(crate) fn last(&self, frame: &Record<'_>) -> Last
-        requires { IsIdentifier frame.now.id }
-        ensures { result ≡ last_at self.now.nodes frame.now }
-    {
-        let Identifier::Base(id) = frame.id else {
-            return Last::new();
-        };
-        let Content::Data(bytes) = &frame.content else {
-            return Last::new();
-        };
-        let name = frame.interface.bytes();
-        self.nodes.last_for(name, &Frame::packed(id, bytes))
     }
 
     /// Adds a frame: its stamp, its interface, what it has of its node, and what it shows of

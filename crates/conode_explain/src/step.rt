@@ -1,6 +1,6 @@
 //! One line of a log after another.
 
-ghost use Rattle.std.specs.Prelude.{◌≡◌, ◌⊎◌, ◌≤◌, ◌==◌, ◌&&◌, OnOk, IfOk, IfErr, IfSome, IfNone};
+ghost use Rattle.std.specs.Prelude.{◌≡◌, ◌≤◌, ◌==◌, ◌&&◌, OnOk, IfOk, IfSome, IfNone};
 ghost use Rattle.std.specs.Io.KnownBytes.{Keeps, IsAtEnd};
 ghost use Rattle.co_stream.specs.Held.{nothing_held, to_come};
 ghost use Rattle.co_stream.specs.Readings.{Gave};
@@ -19,13 +19,13 @@ ghost use Rattle.conode_explain.specs.LogLines.{good, line_at};
 ghost use Rattle.conode_explain.specs.Taking.{Takes};
 ghost use Rattle.conode_explain.specs.Sheets.{sheets_of};
 
-use crate::bad_words::{TOO_LONG, bad_words};
-use crate::ends::write_unfinished;
+use crate::bad_words::bad_words;
+use crate::ends::{write_unfinished_default, write_unfinished_further};
 use crate::progress::Progress;
 use crate::settings::Settings;
 use crate::writes::{Room, write_frame};
-use co_stream::{BoundedLines, Found, ReadFault};
-use conode_convert::add_frame;
+use co_stream::{BoundedLines, Found};
+use conode_convert::{TOO_LONG, add_frame, name_bad_line, read_fault};
 use conode_explain_pdo::Claim;
 use conode_io::{CmdFault, flush};
 use conode_logs::{Form, Log};
@@ -42,19 +42,6 @@ pub(crate) struct Explaining {
     room: Room,
     frame: Vec<u8>,
     claims: Vec<Claim>,
-}
-
-// Names a bad line on `err`. If that can't be written, only the exit status shows it.
-fn name_bad_line<E: Write>(number: u64, words: &str, err: &mut E) {
-    let _ = writeln!(err, "line {number}: {words}");
-}
-
-// why the next line can't be read
-fn read_fault(fault: ReadFault) -> CmdFault {
-    match fault {
-        ReadFault::Read => CmdFault::Read,
-        ReadFault::NeverEnds => CmdFault::NeverEnds,
-    }
 }
 
 // Takes a line in the form of `candump -L`, and writes the line of its frame, if it has one.
@@ -77,7 +64,6 @@ fn explain_record<W: Write, E: Write>(
         (progress.new ≡ progress_after settings.now.form (sheets_of settings.now)
         progress.old (good (line_in line.now))) }
     ensures bad { IfOk result (λ bad. bad ≡ faults_in (good (line_in line.now))) }
-    ensures err { IfErr result (λ fault. (fault ≡ CmdFault.Write) ⊎ (fault ≡ CmdFault.Memory)) }
 {
     match RecordLine::read(line) {
         Ok(RecordLine::Skipped) => Ok(0),
@@ -92,8 +78,9 @@ fn explain_record<W: Write, E: Write>(
     }
 }
 
-// Takes a line of a log of any form, and writes the line of its frame, if it has one. Returns 1 for a
-// bad line, which it names, else 0. Apart from `explain_line`, since a line of other forms is large.
+// Takes a line of a log of any form, and writes the line of its frame, if it has one. Returns 1 for
+// a bad line, which it names, else 0. Apart from `explain_line`, since a line of other forms is
+// large.
 #[inline(never)]
 #[tactic(auto, unfolding(crate::specs::LogLines::line_at))]
 fn explain_any<W: Write, E: Write>(
@@ -116,7 +103,6 @@ fn explain_any<W: Write, E: Write>(
         (progress.new ≡ progress_after settings.now.form (sheets_of settings.now)
         progress.old (line_at log.old line.now)) }
     ensures bad { IfOk result (λ bad. bad ≡ faults_in (line_at log.old line.now)) }
-    ensures err { IfErr result (λ fault. (fault ≡ CmdFault.Write) ⊎ (fault ≡ CmdFault.Memory)) }
 {
     match log.read(line) {
         Ok(LogLine::Skipped) => Ok(0),
@@ -136,39 +122,6 @@ fn explain_any<W: Write, E: Write>(
     }
 }
 
-// Takes a line of the log, and writes the line of its frame, if it has one. Returns 1 for a bad
-// line, which it names, else 0.
-#[tactic(auto, using(crate::proofs::LogLemmas::candump_line, crate::proofs::LogLemmas::candump_log))]
-fn explain_line<W: Write, E: Write>(
-    room: &mut Room,
-    claims: &mut Vec<Claim>,
-    text: &mut Vec<u8>,
-    log: &mut Log,
-    progress: &mut Progress,
-    settings: &Settings<'_, '_, '_, '_>,
-    number: u64,
-    line: &[u8],
-    out: &mut W,
-    err: &mut E,
-) -> Result<u64, CmdFault>
-    ensures lines { OnOk result (WritesLines (W.contents out.old) (W.contents out.new)
-        (said_lines settings.now.form (sheets_of settings.now) progress.old
-        (line_at log.old line.now))) }
-    ensures log { OnOk result (log.new ≡ (says log.old line.now).0) }
-    ensures progress { OnOk result
-        (progress.new ≡ progress_after settings.now.form (sheets_of settings.now)
-        progress.old (line_at log.old line.now)) }
-    ensures bad { IfOk result (λ bad. bad ≡ faults_in (line_at log.old line.now)) }
-    ensures err { IfErr result (λ fault. (fault ≡ CmdFault.Write) ⊎ (fault ≡ CmdFault.Memory)) }
-{
-    if let Form::Candump = log.form {
-        return explain_record(room, claims, progress, settings, number, line, out, err);
-    }
-    explain_any(
-        room, claims, text, log, progress, settings, number, line, out, err,
-    )
-}
-
 impl Explaining {
     /// No line was taken.
     pub(crate) fn new(alloc: Global, form: Form) -> Explaining
@@ -180,7 +133,12 @@ impl Explaining {
             lines: BoundedLines::new(),
             log: Log { form, clock: 0 },
             progress: Progress::new(alloc),
-            room: Room::new(alloc),
+            room: Room {
+                alloc,
+                said: String::new(alloc),
+                text: String::new(alloc),
+                line: Vec::new(alloc),
+            },
             frame: Vec::new(alloc),
             claims: Vec::new(alloc),
         }
@@ -190,10 +148,59 @@ impl Explaining {
     pub(crate) fn let_out<W: Write>(&self, out: &mut W) -> Result<(), CmdFault>
         ensures text { Keeps (W.contents out.old) (W.contents out.new) }
     {
-        if !self.lines.has_line() {
-            attempt!(flush(out));
+        if self.lines.has_line() {
+            return Ok(());
         }
+        attempt_value!(flush(out));
         Ok(())
+    }
+
+    // Takes the line that was found, and writes the line of its frame, if it has one. Returns 1 for
+    // a bad line, which it names, else 0.
+    #[tactic(auto, using(crate::proofs::LogLemmas::candump_line, crate::proofs::LogLemmas::candump_log))]
+    fn explain_line<W: Write, E: Write>(
+        &mut self,
+        settings: &Settings<'_, '_, '_, '_>,
+        number: u64,
+        out: &mut W,
+        err: &mut E,
+    ) -> Result<u64, CmdFault>
+        ensures lines { OnOk result (WritesLines (W.contents out.old) (W.contents out.new)
+            (said_lines settings.now.form (sheets_of settings.now) self.old.progress
+            (line_at self.old.log self.old.lines.line))) }
+        ensures log { OnOk result (self.new.log ≡ (says self.old.log self.old.lines.line).0) }
+        ensures progress { OnOk result (self.new.progress
+            ≡ progress_after settings.now.form (sheets_of settings.now)
+            self.old.progress (line_at self.old.log self.old.lines.line)) }
+        ensures bad { IfOk result
+            (λ bad. bad ≡ faults_in (line_at self.old.log self.old.lines.line)) }
+        ensures held { self.new.lines ≡ self.old.lines }
+    {
+        let line = self.lines.line();
+        if let Form::Candump = self.log.form {
+            return explain_record(
+                &mut self.room,
+                &mut self.claims,
+                &mut self.progress,
+                settings,
+                number,
+                line,
+                out,
+                err,
+            );
+        }
+        explain_any(
+            &mut self.room,
+            &mut self.claims,
+            &mut self.frame,
+            &mut self.log,
+            &mut self.progress,
+            settings,
+            number,
+            line,
+            out,
+            err,
+        )
     }
 
     /// Takes the next line: writes the line of its frame, if it has one, or names a bad line.
@@ -228,35 +235,11 @@ impl Explaining {
                 Ok(Some(1))
             }
             Ok(Found::Line) => {
-                let line = self.lines.line();
-                let bad = explain_line(
-                    &mut self.room,
-                    &mut self.claims,
-                    &mut self.frame,
-                    &mut self.log,
-                    &mut self.progress,
-                    settings,
-                    number,
-                    line,
-                    out,
-                    err,
-                )?;
+                let bad = attempt_value!(self.explain_line(settings, number, out, err));
                 Ok(Some(bad))
             }
             Ok(Found::Last) => {
-                let line = self.lines.line();
-                explain_line(
-                    &mut self.room,
-                    &mut self.claims,
-                    &mut self.frame,
-                    &mut self.log,
-                    &mut self.progress,
-                    settings,
-                    number,
-                    line,
-                    out,
-                    err,
-                )?;
+                attempt_value!(self.explain_line(settings, number, out, err));
                 Ok(Some(0))
             }
             Err(fault) => Err(read_fault(fault)),
@@ -264,6 +247,7 @@ impl Explaining {
     }
 
     /// Writes the lines of the transfers that are open where the recording ends.
+    #[tactic(auto, unfolding(crate::specs::Explained::unfinished_lines), using(conode_io::proofs::WriteLemmas::lines_after))]
     pub(crate) fn finish<W: Write>(
         &mut self,
         settings: &Settings<'_, '_, '_, '_>,
@@ -272,9 +256,9 @@ impl Explaining {
         ensures lines { OnOk result (WritesLines (W.contents out.old) (W.contents out.new)
             (unfinished_lines settings.now.form (sheets_of settings.now)
             self.old.progress)) }
-        ensures err { IfErr result
-            (λ fault. (fault ≡ CmdFault.Write) ⊎ (fault ≡ CmdFault.Memory)) }
     {
-        write_unfinished(&mut self.room, &self.progress, settings, out)
+        let room = &mut self.room;
+        attempt!(write_unfinished_default(room, &self.progress, settings, out));
+        write_unfinished_further(room, &self.progress, settings, out)
     }
 }

@@ -5,12 +5,12 @@ ghost use Rattle.co_sheet_changes.specs.Names.{names_view};
 ghost use Rattle.conode_explain_pdo.specs.Buses.{bus_view};
 ghost use Rattle.conode_record.specs.Grammar.{IsIdentifier};
 ghost use Rattle.co_text.specs.Printed.{digits_text};
+ghost use Rattle.conode_explain.specs.Nodes.{last_at};
 ghost use Rattle.conode_explain.specs.ToldWords.{
   channel_words,
   ended_words,
   ending_words,
   name_bytes,
-  part_front,
   part_words,
   name_in,
   told_words,
@@ -23,10 +23,10 @@ use co_text::{push_byte, push_decimal, push_digit};
 use co_value::Key;
 use conode_explain_entries::ChannelIds;
 use conode_explain_pdo::{Bus, Claim};
-use conode_explain_services::Last;
+use conode_explain_services::Nodes;
 use conode_explain_transfer_text::{push_after, push_end, push_segment, segment_number};
-use conode_explain_transfers::{Ended, Ending, Part, Side, Told};
-use conode_record::{Content, Identifier};
+use conode_explain_transfers::{Ended, Ending, Part, Told};
+use conode_record::{Identifier, Record};
 use std::alloc::AllocError;
 
 // the name of a node's entry; empty where it has none
@@ -52,78 +52,58 @@ fn name_in<'s>(names: Names<'s, '_>, node: u8, of: Option<Key>) -> &'s str
     }
 }
 
-fn set_part_front(
-    said: &mut String,
-    bus: Bus<'_, '_, '_, '_, '_>,
-    claims: &[Claim],
-    last: &Last,
-    id: Identifier,
-    content: &Content<'_>,
-    node: u8,
-    side: Side,
-    number: Option<u8>,
-) -> Result<(), AllocError>
-    requires { IsIdentifier id }
-    ensures { OnOk result (string_bytes said.new
-        ≡ part_front (bus_view bus.entry) claims.now last.now id content.now node side number) }
-{
-    let Some(number) = number else {
-        return set_words(said, bus, claims, last, id, content);
-    };
-    said.clear();
-    push_segment(said, side, node, number)
-}
-
 #[tactic(auto, unfolding(crate::specs::ToldWords::part_words))]
 fn set_part_words(
     said: &mut String,
     bus: Bus<'_, '_, '_, '_, '_>,
     claims: &[Claim],
-    last: &Last,
+    nodes: &Nodes,
     id: Identifier,
-    content: &Content<'_>,
+    frame: &Record<'_>,
     node: u8,
     part: Part,
 ) -> Result<(), AllocError>
-    requires { IsIdentifier id }
+    requires id { IsIdentifier id }
+    requires of { IsIdentifier frame.now.id }
     ensures { OnOk result (string_bytes said.new
-        ≡ part_words (bus_view bus.entry) claims.now last.now id content.now node part) }
+        ≡ part_words (bus_view bus.entry) claims.now (last_at nodes.now frame.now) id
+        frame.now.content node part) }
 {
-    let number = segment_number(part.what);
-    attempt!(set_part_front(
-        said, bus, claims, last, id, content, node, part.side, number,
-    ));
-    push_after(
-        said,
-        part.what,
-        part.of,
-        name_in(bus.names(node), node, part.of),
-    )
+    let name = name_in(bus.names(node), node, part.of);
+    let Some(number) = segment_number(part.what) else {
+        attempt!(set_words(said, bus, claims, nodes, id, frame));
+        return push_after(said, part.what, part.of, name);
+    };
+    said.clear();
+    attempt!(push_segment(said, part.side, node, number));
+    push_after(said, part.what, part.of, name)
 }
 
 /// Sets `said` to what a frame says that is read as one with this identifier; `claims` are the PDOs
-/// that it is, `last` is what the last frames of its node had, `told` what its SDO channel says
-/// about it. On an `Err` memory ran out, and it is incomplete.
+/// that it is, `nodes` have what the last frames of its node had, `told` is what its SDO channel
+/// says about it. On an `Err` memory ran out, and it is incomplete.
 pub(crate) fn set_told_words(
     said: &mut String,
     bus: Bus<'_, '_, '_, '_, '_>,
     claims: &[Claim],
-    last: &Last,
+    nodes: &Nodes,
     id: Identifier,
-    content: &Content<'_>,
+    frame: &Record<'_>,
     told: &Option<Told>,
 ) -> Result<(), AllocError>
-    requires { IsIdentifier id }
+    requires id { IsIdentifier id }
+    requires of { IsIdentifier frame.now.id }
     ensures { OnOk result (string_bytes said.new
-        ≡ told_words (bus_view bus.entry) claims.now last.now id content.now told.now) }
+        ≡ told_words (bus_view bus.entry) claims.now (last_at nodes.now frame.now) id
+        frame.now.content told.now) }
 {
     let Some(told) = told else {
-        return set_words(said, bus, claims, last, id, content);
+        return set_words(said, bus, claims, nodes, id, frame);
     };
     let Some(part) = told.part else {
-        return set_words(said, bus, claims, last, id, content);
+        return set_words(said, bus, claims, nodes, id, frame);
     };
-    set_part_words(said, bus, claims, last, id, content, told.node, part)
+    set_part_words(said, bus, claims, nodes, id, frame, told.node, part)
 }
 
 // what the code of an abort means

@@ -145,6 +145,13 @@ pub(crate) fn push_transfer(
 {
     let bytes = value_bytes(row.data_type, &transfer.content);
     attempt!(push_front(text, transfer));
-    let (node, key) = (transfer.node, transfer.key);
-    push_known(text, names, node, key, row, 8 * bytes.len(), bytes)
+    push_known(
+        text,
+        names,
+        transfer.node,
+        transfer.key,
+        row,
+        8 * bytes.len(),
+        bytes,
+    )
 }

@@ -33,10 +33,10 @@ returns-in-None-clause-known g c =
     let so_far = c.loop-number.explaining in
     let bad = c.loop-number.bad in
     let taken = takes_flushed form sheets nothing_held so_far.lines before between (at_start form.log) so_far.log nothing_known so_far.progress old now bad c.loop-number.invariant.taken out c.let_out.ensures.text in
-    let ended = rw c.in-None.is at c.in_ok-more.ensures.end in
-    let same = rw c.in-None.is at c.in_ok-more.ensures.progress_kept in
+    let ended = rw c.in-None.is at c.in-Ok-take_line.ensures.end in
+    let same = rw c.in-None.is at c.in-Ok-take_line.ensures.progress_kept in
     let last = g.W.Write.contents c.finish-in-None.new.out in
-    let rest = rw (ended.0, same) at c.in_ok-finish-in-None.ensures.lines in
+    let rest = rw (ended.0, same) at c.in-Ok-finish-2.ensures.lines in
     explained_known form sheets so_far.lines c.take_line.new.self.lines before between after so_far.log so_far.progress old out last bad taken c.loop-number.invariant.none rest ended.1
 
 pub returns-in-None-clause-any_reader : goal.returns-in-None-clause-any_reader
@@ -52,10 +52,10 @@ returns-in-None-clause-any_reader g c =
     let so_far = c.loop-number.explaining in
     let bad = c.loop-number.bad in
     let taken = takes_flushed form sheets nothing_held so_far.lines before between (at_start form.log) so_far.log nothing_known so_far.progress old now bad c.loop-number.invariant.taken out c.let_out.ensures.text in
-    let ended = rw c.in-None.is at c.in_ok-more.ensures.end in
-    let same = rw c.in-None.is at c.in_ok-more.ensures.progress_kept in
+    let ended = rw c.in-None.is at c.in-Ok-take_line.ensures.end in
+    let same = rw c.in-None.is at c.in-Ok-take_line.ensures.progress_kept in
     let last = g.W.Write.contents c.finish-in-None.new.out in
-    let rest = rw (ended.0, same) at c.in_ok-finish-in-None.ensures.lines in
+    let rest = rw (ended.0, same) at c.in-Ok-finish-2.ensures.lines in
     explained_any form sheets so_far.lines c.take_line.new.self.lines before between after so_far.log so_far.progress old out last bad taken c.loop-number.invariant.none rest ended.1
 
 pub loop-number-preserved : goal.loop-number-preserved
@@ -73,8 +73,8 @@ loop-number-preserved g c =
     let next = c.take_line.new.self in
     let bad = c.loop-number.bad in
     let taken = takes_flushed form sheets nothing_held so_far.lines before between (at_start form.log) so_far.log nothing_known so_far.progress old now bad c.loop-number.invariant.taken out c.let_out.ensures.text in
-    let line = rw c.in-Some.is at c.in_ok-more.ensures.line in
-    let one = rw c.in-Some.is at c.in_ok-more.ensures.few in
+    let line = rw c.in-Some.is at c.in-Ok-take_line.ensures.line in
+    let one = rw c.in-Some.is at c.in-Ok-take_line.ensures.few in
     let more = c.in-Some.more in
     let goes : (form.stop && (more == 1)) ≡ false = sym c.ends.ensures ∙ c.if-ends.false in
     let goes_past = subst (λ (stopped : Bool). Takes form sheets so_far.lines next.lines between after so_far.log next.log so_far.progress next.progress out new more stopped) goes line in
@@ -101,7 +101,7 @@ returns-then-ends-clause-known g c =
     let next = c.take_line.new.self in
     let bad = c.loop-number.bad in
     let taken = takes_flushed form sheets nothing_held so_far.lines before between (at_start form.log) so_far.log nothing_known so_far.progress old now bad c.loop-number.invariant.taken out c.let_out.ensures.text in
-    let line = rw c.in-Some.is at c.in_ok-more.ensures.line in
+    let line = rw c.in-Some.is at c.in-Ok-take_line.ensures.line in
     let more = c.in-Some.more in
     let ended : (form.stop && (more == 1)) ≡ true = sym c.ends.ensures ∙ c.if-ends.true in
     let up_to = subst (λ (stopped : Bool). Takes form sheets so_far.lines next.lines between after so_far.log next.log so_far.progress next.progress out new more stopped) ended line in
@@ -109,7 +109,7 @@ returns-then-ends-clause-known g c =
     let none : bad ≡ 0 = c.loop-number.invariant.none is.0 in
     stopped_known form sheets next.lines before after next.log next.progress old new last (bad + more)
     (takes_more form sheets nothing_held so_far.lines before between (at_start form.log) so_far.log nothing_known so_far.progress old out bad taken next.lines after next.log next.progress new more true up_to)
-    is.0 (omega (arith, none, is.1)) c.in_ok-finish-in-Some.ensures.lines
+    is.0 (omega (arith, none, is.1)) c.in-Ok-finish.ensures.lines
 
 pub returns-then-ends-clause-any_reader : goal.returns-then-ends-clause-any_reader
 returns-then-ends-clause-any_reader g c =
@@ -127,7 +127,7 @@ returns-then-ends-clause-any_reader g c =
     let next = c.take_line.new.self in
     let bad = c.loop-number.bad in
     let taken = takes_flushed form sheets nothing_held so_far.lines before between (at_start form.log) so_far.log nothing_known so_far.progress old now bad c.loop-number.invariant.taken out c.let_out.ensures.text in
-    let line = rw c.in-Some.is at c.in_ok-more.ensures.line in
+    let line = rw c.in-Some.is at c.in-Ok-take_line.ensures.line in
     let more = c.in-Some.more in
     let ended : (form.stop && (more == 1)) ≡ true = sym c.ends.ensures ∙ c.if-ends.true in
     let up_to = subst (λ (stopped : Bool). Takes form sheets so_far.lines next.lines between after so_far.log next.log so_far.progress next.progress out new more stopped) ended line in
@@ -135,4 +135,4 @@ returns-then-ends-clause-any_reader g c =
     let none : bad ≡ 0 = c.loop-number.invariant.none is.0 in
     stopped_any form sheets next.lines before after next.log next.progress old new last (bad + more)
     (takes_more form sheets nothing_held so_far.lines before between (at_start form.log) so_far.log nothing_known so_far.progress old out bad taken next.lines after next.log next.progress new more true up_to)
-    is.0 (omega (arith, none, is.1)) c.in_ok-finish-in-Some.ensures.lines
+    is.0 (omega (arith, none, is.1)) c.in-Ok-finish.ensures.lines

@@ -1,7 +1,6 @@
 -- What is found next, and what is written of it.
-use Rattle.std.proofs.Common.{ℕ, List, refl, sym, subst}
+use Rattle.std.proofs.Common.{refl, subst}
 use Rattle.co_stream.specs.declared.bounded_lines.Found.{Found}
-use Rattle.co_stream.specs.declared.bounded_lines.Found.TheVariants.{Line, Last}
 use Rattle.co_stream.specs.Founds.{Finds}
 use Rattle.co_stream.specs.Held.{to_come}
 use Rattle.co_stream.specs.Readings.{Gave}
@@ -29,30 +28,26 @@ returns-in-Ok-TooLong-clause-line g c =
     let found = subst (λ (f : Found). Gave held.ended holds.ended before after (λ had has. Finds (to_come held had) (to_come holds has) holds.line f)) c.in-Ok-TooLong.field-0-is c.in-Ok-TooLong.ensures.found in
     takes_long c.args.settings.now.form (sheets_of c.args.settings.now) held holds before after c.args.self.now.log c.args.self.now.progress out out holds.line found refl
 
-pub returns-in_ok-bad-in-Ok-Line-clause-line : goal.returns-in_ok-bad-in-Ok-Line-clause-line
-returns-in_ok-bad-in-Ok-Line-clause-line g c =
+pub returns-in-Ok-clause-line : goal.returns-in-Ok-clause-line
+returns-in-Ok-clause-line g c =
     let before = g.R.Read.remaining c.args.reader.now in
     let after = g.R.Read.remaining c.advance.new.reader in
     let held = c.args.self.now.lines in
     let holds = c.advance.new.self in
     let old = g.W.Write.contents c.args.out.now in
     let new = g.W.Write.contents c.explain_line.new.out in
-    let line = c.line-line.result.now in
     let found = subst (λ (f : Found). Gave held.ended holds.ended before after (λ had has. Finds (to_come held had) (to_come holds has) holds.line f)) c.in-Ok-Line.field-0-is c.in-Ok-Line.ensures.found in
-    let here = subst (λ (l : List ℕ). Gave held.ended holds.ended before after (λ had has. Finds (to_come held had) (to_come holds has) l Line)) (sym c.line-line.ensures) found in
-    let said = c.in_ok-bad-in-Ok-Line.ensures in
-    takes_line c.args.settings.now.form (sheets_of c.args.settings.now) held holds before after c.args.self.now.log c.args.self.now.progress old new line c.explain_line.new.log c.explain_line.new.progress said.log said.progress said.lines c.in_ok-bad-in-Ok-Line.bad said.bad here
+    let said = c.in-Ok.ensures in
+    rw said.held (takes_line c.args.settings.now.form (sheets_of c.args.settings.now) held holds before after c.args.self.now.log c.args.self.now.progress old new holds.line c.explain_line.new.self.log c.explain_line.new.self.progress said.log said.progress said.lines c.in-Ok.value said.bad found)
 
-pub returns-in_ok-explain_line-in-Ok-Last-clause-line : goal.returns-in_ok-explain_line-in-Ok-Last-clause-line
-returns-in_ok-explain_line-in-Ok-Last-clause-line g c =
+pub returns-in-Ok-explain_line-clause-line : goal.returns-in-Ok-explain_line-clause-line
+returns-in-Ok-explain_line-clause-line g c =
     let before = g.R.Read.remaining c.args.reader.now in
     let after = g.R.Read.remaining c.advance.new.reader in
     let held = c.args.self.now.lines in
     let holds = c.advance.new.self in
     let old = g.W.Write.contents c.args.out.now in
     let new = g.W.Write.contents c.explain_line-in-Ok-Last.new.out in
-    let line = c.line-line-in-Ok-Last.result.now in
     let found = subst (λ (f : Found). Gave held.ended holds.ended before after (λ had has. Finds (to_come held had) (to_come holds has) holds.line f)) c.in-Ok-Last.field-0-is c.in-Ok-Last.ensures.found in
-    let here = subst (λ (l : List ℕ). Gave held.ended holds.ended before after (λ had has. Finds (to_come held had) (to_come holds has) l Last)) (sym c.line-line-in-Ok-Last.ensures) found in
-    let said = c.in_ok-explain_line-in-Ok-Last.ensures in
-    takes_last c.args.settings.now.form (sheets_of c.args.settings.now) held holds before after c.args.self.now.log c.args.self.now.progress old new line c.explain_line-in-Ok-Last.new.log c.explain_line-in-Ok-Last.new.progress said.log said.progress said.lines here
+    let said = c.in-Ok-explain_line.ensures in
+    rw said.held (takes_last c.args.settings.now.form (sheets_of c.args.settings.now) held holds before after c.args.self.now.log c.args.self.now.progress old new holds.line c.explain_line-in-Ok-Last.new.self.log c.explain_line-in-Ok-Last.new.self.progress said.log said.progress said.lines found)
