@@ -42,7 +42,8 @@ use crate::json_form::{json_document, json_reason};
 use crate::retyped::{Retyped, all_retyped, sections_in as retyped_sections};
 use co_sheet::GREATEST_SIZE;
 use co_sheet_changes::Originals;
-use co_sheet_text::{ParsedText, SectionKind, TextSection, all_sections_in};
+use co_sheet_faults::read_sections;
+use co_sheet_text::{ParsedText, SectionKind, TextSection};
 use conode_io::{CmdFault, file_text, flushed, hand_over, no_text, out_of_memory, stopped};
 use conode_lint::{OtherFormat, format_meaning, text_format};
 use conode_show_text::{document, node_for, order};
@@ -124,8 +125,10 @@ fn document_of(
     requires { length text.now ≤ 1048576 }
     ensures { IfOk result (λ made. made.items ≡ document_of form node (sections_of text.now)) }
 {
-    let (parsed, _faults) = all_sections_in(alloc, text)?;
-    document_parsed(alloc, form, node, text, &parsed)
+    match read_sections(alloc, text) {
+        Ok(parsed) => document_parsed(alloc, form, node, text, &parsed),
+        Err(fault) => Err(fault),
+    }
 }
 
 fn is_of_object(kind: SectionKind) -> bool
@@ -148,8 +151,10 @@ fn has_object_among(sections: &[TextSection]) -> bool
 fn has_object_in(alloc: Global, parsed: &ParsedText) -> Result<bool, AllocError>
     ensures { IfOk result (λ has. has ≡ has_object parsed.now) }
 {
-    let sections = parsed.sections(alloc)?;
-    Ok(has_object_among(sections.as_slice()))
+    match parsed.sections(alloc) {
+        Ok(sections) => Ok(has_object_among(sections.as_slice())),
+        Err(fault) => Err(fault),
+    }
 }
 
 // whether a section of a text is that of an object or a sub-index
@@ -157,8 +162,10 @@ fn has_object(alloc: Global, text: &[u8]) -> Result<bool, AllocError>
     requires { length text.now ≤ 1048576 }
     ensures { IfOk result (λ has. has ≡ has_object (sections_read (lines_of text.now))) }
 {
-    let (parsed, _faults) = all_sections_in(alloc, text)?;
-    has_object_in(alloc, &parsed)
+    match read_sections(alloc, text) {
+        Ok(parsed) => has_object_in(alloc, &parsed),
+        Err(fault) => Err(fault),
+    }
 }
 
 // why a text that is too large isn't shown
@@ -221,8 +228,14 @@ fn shown(
     ensures readable { IfOk result (λ made. made.1 ≡ is_none (reason text.now)) }
 {
     match reason(alloc, text)? {
-        Some(words) => Ok((reason_in(alloc, form, words)?, false)),
-        None => Ok((document_of(alloc, form, node, text)?, true)),
+        Some(words) => match reason_in(alloc, form, words) {
+            Ok(made) => Ok((made, false)),
+            Err(fault) => Err(fault),
+        },
+        None => match document_of(alloc, form, node, text) {
+            Ok(made) => Ok((made, true)),
+            Err(fault) => Err(fault),
+        },
     }
 }
 
@@ -251,9 +264,13 @@ pub fn show<W: Write>(
         Keeps (W.contents writer.old) (W.contents writer.new) }
     ensures err { IfErr result (λ fault. (fault ≡ CmdFault.Write) ⊎ (fault ≡ CmdFault.Memory)) }
 {
-    let (document, is_shown) = shown(alloc, form, node, text)?;
-    hand_over(document.as_slice(), writer)?;
-    Ok(is_shown)
+    match shown(alloc, form, node, text) {
+        Ok((document, is_shown)) => match hand_over(document.as_slice(), writer) {
+            Ok(()) => Ok(is_shown),
+            Err(fault) => Err(fault),
+        },
+        Err(_) => Err(CmdFault::Memory),
+    }
 }
 
 // the status of what was shown; if not all of it could be written, `out` has why, or `err`
