@@ -1,7 +1,6 @@
 -- What the laws about lengths, SYNC and times of TPDOs ask of a device, and of its data sheet.
-use Rattle.std.specs.Prelude.{◌≡◌, ℕ, ◌+◌, ◌==◌, ◌&&◌, ◌||◌, not, nat_le, Bool, true, false, List, [], ◌∷◌, length, Option, Some, None, IfSome}
-use Rattle.std.specs.List.{AllByRecursion, list_all}
-use Rattle.co_frame.specs.SdoFields.{key_in}
+use Rattle.std.specs.Prelude.{◌≡◌, ℕ, ◌==◌, ◌&&◌, ◌||◌, not, nat_le, Bool, true, false, List, [], ◌∷◌, Option, Some, None, IfSome}
+use Rattle.std.specs.List.{list_all}
 use Rattle.co_profile.specs.Keys.{sync_key}
 use Rattle.co_value.specs.declared.key.Key.{Key}
 use Rattle.co_dict.specs.CobIds.{identifier_of}
@@ -17,7 +16,7 @@ use Rattle.co_node_model.specs.Moments.{Constants, Moment}
 use Rattle.conode_compare_pdos.specs.declared.pdos.Pdos.{Pdos}
 use Rattle.conode_compare_pdos.specs.declared.tpdo.Tpdo.{Tpdo}
 use Rattle.conode_compare_pdos.specs.Tpdos.{is_id}
-use Rattle.conode_compare_laws.specs.Recordings.{Recorded, Stamped}
+use Rattle.conode_compare_laws.specs.Recordings.{Stamped}
 use Rattle.conode_compare_laws.specs.TpdoFrames.{is_followed}
 
 -- ---- a device
@@ -25,13 +24,6 @@ use Rattle.conode_compare_laws.specs.TpdoFrames.{is_followed}
 -- the COB-ID of SYNC, 1005h, and the parameters of TPDOs, 1800h to 1BFFh
 abbrev pub is_tpdo_parameter : Key → Bool
 is_tpdo_parameter key = (key.index == 0x1005) || (nat_le 0x1800 key.index && nat_le key.index 0x1BFF)
-
--- a frame of a recording names none of these on the device's default SDO channel, as `IsUnnamedAt`
-abbrev pub NamesNoTpdo : ℕ → Recorded → Type 0
-NamesNoTpdo node r = r.frame.id ≡ 0x600 + node → length r.frame.bytes ≡ 8 → is_tpdo_parameter (key_in r.frame.bytes) ≡ false
-
-abbrev pub NameNoTpdos : ℕ → List Recorded → Type 0
-NameNoTpdos node recorded = AllByRecursion (NamesNoTpdo node) recorded
 
 -- one of these was written
 abbrev pub is_tpdo_set : Option Key → Bool

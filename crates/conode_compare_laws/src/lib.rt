@@ -31,6 +31,4 @@ pub use late_heartbeats::no_late_heartbeats;
 pub use rooms::rooms_of_device;
 pub use states::no_state_differences;
 pub use tpdo_built::{built_no_pdo_length, keeps_tpdos, tpdos_of_sheet};
-pub use tpdo_laws::{
-    no_pdo_inhibit, no_pdo_late, no_pdo_length, no_pdo_state, no_pdo_sync, without_sdo,
-};
+pub use tpdo_laws::{no_pdo_inhibit, no_pdo_late, no_pdo_length, no_pdo_state, no_pdo_sync};

@@ -11,18 +11,13 @@ ghost use Rattle.conode_compare_pdos.specs.Followed.{pdos_of};
 ghost use Rattle.conode_compare_rules.specs.declared.limits.Subject.{Subject};
 ghost use Rattle.conode_compare_laws.specs.Differences.{differences_in};
 ghost use Rattle.conode_compare_laws.specs.Identifiers.{AreElsewhere};
+ghost use Rattle.conode_compare_laws.specs.NamedTpdos.{NameNoTpdos};
 ghost use Rattle.conode_compare_laws.specs.Recordings.{Stamped, recording};
 ghost use Rattle.conode_compare_laws.specs.TpdoDifferences.{is_pdo_length, tpdo_differences};
 ghost use Rattle.conode_compare_laws.specs.TpdoFrames.{AllSendBesideTpdos, AreNoTpdos};
-ghost use Rattle.conode_compare_laws.specs.TpdoParameters.{
-  AllKeepTpdos,
-  AllWriteNone,
-  AreTpdosOf,
-  NameNoTpdos,
-};
+ghost use Rattle.conode_compare_laws.specs.TpdoParameters.{AllKeepTpdos, AllWriteNone, AreTpdosOf};
 ghost use Rattle.conode_compare_laws.specs.TpdoSheets.{AreOnTheirOwn};
 
-use crate::answer_laws::{begins_other, sends_other};
 use crate::aside::sends_aside;
 use crate::built_devices::begins_aside;
 use co_dict::{invalid_pdo_law, own_rule_law};
@@ -60,8 +55,8 @@ pub fn tpdos_of_sheet()
 /// them fits. Conditions: the rows are those of a sheet that was read (`IsSheetRow`); `compare` has
 /// the device's node-ID; what it has of the TPDOs is what the device was built with (`AreTpdosOf`,
 /// as by `tpdos_of_sheet`); no SDO channel and no event of the application writes a parameter of a
-/// TPDO, nor 1005h (`AllWriteNone`); and those of `no_pdo_length` on the frames but `AllSendOther`,
-/// which it meets. This is a law: a call of it changes nothing.
+/// TPDO, nor 1005h (`AllWriteNone`); and those of `no_pdo_length` on the frames. This is a law: a
+/// call of it changes nothing.
 pub fn built_no_pdo_length()
     ensures { (plan : Plan) (k : Constants) (subject : Subject) (rows : List Row)
         (inputs : List Stamped) → IsBuilt plan k → All IsSheetRow plan.rows →
@@ -74,8 +69,6 @@ pub fn built_no_pdo_length()
 {
     Bank::set_is_permitted();
     begins_aside();
-    begins_other();
     keeps_tpdos();
     sends_aside();
-    sends_other();
 }
