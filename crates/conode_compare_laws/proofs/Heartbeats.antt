@@ -1,7 +1,6 @@
 -- The heartbeats that a device sends, over all its inputs: none is late by what compare knows of them.
-use Rattle.std.proofs.Common.{◌≡◌, ◌≢◌, ℕ, ◌+◌, ◌*◌, ◌%◌, ◌<◌, ◌≤◌, Bool, true, false, List, [], ◌∷◌, ◌++◌, map, Some, None, refl, sym, ap, ◌∙◌, subst, arith, ◌⊎◌, inl, inr}
+use Rattle.std.proofs.Common.{◌≡◌, ℕ, ◌+◌, ◌*◌, ◌%◌, ◌<◌, ◌≤◌, Bool, true, false, List, [], ◌∷◌, ◌++◌, map, Some, None, refl, sym, ap, ◌∙◌, subst, arith, ◌⊎◌, inl, inr}
 use Rattle.std.specs.Prelude.{if◌then◌else◌, ◌==◌, ◌&&◌, ◌||◌, nat_lt}
-use Rattle.std.specs.List.{AllByRecursion}
 use Rattle.std.proofs.Math.Nat.{mod-lt}
 use Rattle.std.proofs.lemmas.Bool.{lt-ltb}
 use Rattle.co_frame.specs.FrameContent.{FrameContent}
@@ -27,7 +26,7 @@ use Rattle.conode_compare_rules.specs.declared.limits.Subject.{Subject}
 use Rattle.conode_compare_rules.specs.declared.progress.Progress.{Progress}
 use Rattle.conode_compare_rules.specs.Progresses.{before_recording}
 use Rattle.conode_compare_laws.specs.Differences.{differences_from, differences_in, late_differences}
-use Rattle.conode_compare_laws.specs.Identifiers.{AllSendAside, AreAside, AreElsewhere, AreNoSdo, AreWithout, IsElsewhere, IsUnnamed, IsUnnamedAt, SendsAside}
+use Rattle.conode_compare_laws.specs.Identifiers.{AllSendAside, AreAside, AreElsewhere, AreWithout, IsElsewhere, IsUnnamed, IsUnnamedAt, SendsAside}
 use Rattle.conode_compare_laws.specs.Periods.{AllKeepPeriod, KeepsPeriod, KnowsPeriod}
 use Rattle.conode_compare_laws.specs.Recordings.{AreInTime, AreTimed, Recorded, Stamped, elapsed, frame_of, heard_from, recording, stamped}
 use Rattle.conode_compare_laws.proofs.Beats.{Beats, all_others, later, life_runs, more_ago, next_rest}
@@ -36,30 +35,6 @@ use Rattle.conode_compare_laws.proofs.Heard.{of_device}
 use Rattle.conode_compare_laws.proofs.NamedKeys.{AllName, And, Differs, Names, all_open, first_of, last_of, others_named}
 
 -- ---- which frames these are
-
--- no frame of a recording is one of the default SDO channel: so none of those that it is made of
-pub first_part : (node : ℕ) (xs ys : List Recorded) → AreNoSdo node (xs ++ ys) → AreNoSdo node xs
-first_part node [] ys h = tt
-first_part node (x ∷ xs) ys h = (h.0, first_part node xs ys h.1)
-
-pub last_part : (node : ℕ) (xs ys : List Recorded) → AreNoSdo node (xs ++ ys) → AreNoSdo node ys
-last_part node [] ys h = h
-last_part node (x ∷ xs) ys h = last_part node xs ys h.1
-
-abbrev pub NoSdo : ℕ → List FrameContent → Type 0
-NoSdo node frames = AllByRecursion (λ frame. (frame.id ≢ 0x580 + node) × (frame.id ≢ 0x600 + node)) frames
-
-pub unstamped : (node micros : ℕ) (frames : List FrameContent) → AreNoSdo node (stamped micros frames) → NoSdo node frames
-unstamped node micros [] h = tt
-unstamped node micros (frame ∷ frames) h = (h.0, unstamped node micros frames h.1)
-
-pub before_these : (node : ℕ) (xs ys : List FrameContent) → NoSdo node (xs ++ ys) → NoSdo node xs
-before_these node [] ys h = tt
-before_these node (x ∷ xs) ys h = (h.0, before_these node xs ys h.1)
-
-pub after_those : (node : ℕ) (xs ys : List FrameContent) → NoSdo node (xs ++ ys) → NoSdo node ys
-after_those node [] ys h = h
-after_those node (x ∷ xs) ys h = after_those node xs ys h.1
 
 -- none of these is one of error control
 pub uncontrolled : (node : ℕ) (frames : List FrameContent) → AreAside node frames → AreWithout (0x700 + node) frames

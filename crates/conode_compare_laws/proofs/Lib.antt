@@ -46,6 +46,7 @@ pub mod AnswerToggles
 pub mod AnswerToggleRuns
 mod AnswerExamples
 mod Examples
+pub mod TpdoNames
 pub mod TpdoOthers
 pub mod TpdoParts
 pub mod TpdoKinds

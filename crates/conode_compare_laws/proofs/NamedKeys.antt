@@ -1,5 +1,5 @@
 -- Of which entries explain's transfers are: of those that frames of clients name, the open one and each that ends.
-use Rattle.std.proofs.Common.{◌≡◌, ◌≢◌, ℕ, ◌+◌, Bool, true, false, List, [], ◌∷◌, ◌++◌, length, Option, Some, None, refl, sym, subst}
+use Rattle.std.proofs.Common.{◌≡◌, ◌≢◌, ℕ, ◌+◌, Bool, true, false, List, [], ◌∷◌, ◌++◌, length, Option, Some, None, refl, sym, ◌∙◌, subst}
 use Rattle.std.specs.Prelude.{if◌then◌else◌, ◌==◌, nat_le, is_some, slice_index, IfSome}
 use Rattle.std.specs.List.{AllByRecursion}
 use Rattle.std.proofs.lemmas.Bool.{eqb-true, false≢true}
@@ -25,14 +25,14 @@ use Rattle.conode_explain_transfers.specs.declared.kinds.Side.TheVariants.{Clien
 use Rattle.conode_explain_transfers.specs.declared.kinds.What.{What}
 use Rattle.conode_explain_transfers.specs.declared.kinds.What.TheVariants as what
 use Rattle.conode_explain_transfers.specs.declared.transfer.Transfer.{Transfer}
-use Rattle.conode_explain_transfers.specs.Followed.{Followed, Following, followed, turns_at, with_frame}
+use Rattle.conode_explain_transfers.specs.Followed.{Followed, Following, followed, stray, turns_at, with_frame}
 use Rattle.conode_explain_transfers.specs.Readings.{awaits_segment}
 use Rattle.conode_explain_transfers.specs.Stages.{confirmed_with}
 use Rattle.conode_explain_transfers.specs.Transfers.{after}
 use Rattle.conode_explain_laws.proofs.Begins.{HasKey, has_key}
 use Rattle.conode_explain_laws.proofs.Readings.{Reading, Segment, Begin, Abort, Request, Response, Nothing, beginning, follows_by, reading_of, request_reading, segment_reading, turn_of, same as same_reading}
 use Rattle.conode_explain_laws.proofs.Views.{is_begin, server_no_begin}
-use Rattle.conode_compare_transfers.specs.Dialogues.{dialogue_heard, exchange_in, given_up, interrupted}
+use Rattle.conode_compare_transfers.specs.Dialogues.{dialogue_heard, exchange_in, given_up, interrupted, is_initiate}
 use Rattle.conode_compare_rules.specs.declared.finding.Finding.{Finding}
 use Rattle.conode_compare_rules.specs.declared.kind.FrameKind.{FrameKind}
 use Rattle.conode_compare_rules.specs.declared.kind.FrameKind.TheVariants.{Command, CommandToAll, Guarding, Control, OddControl, Emergency as Emcy, OddEmergency, Sdo, Process, Polled, Fault, Other}
@@ -65,7 +65,7 @@ use Rattle.conode_compare_rules.specs.Progresses.{
 use Rattle.conode_compare_laws.specs.Identifiers.{AreNoSdo, IsUnnamed}
 use Rattle.conode_compare_laws.specs.Recordings.{Recorded, stamped}
 use Rattle.conode_compare_laws.proofs.AnswerFollowed.{reads}
-use Rattle.conode_compare_laws.proofs.AnswerKeys.{kept}
+use Rattle.conode_compare_laws.proofs.AnswerKeys.{kept, uninitiated}
 use Rattle.conode_compare_laws.proofs.Runs.{AllRun}
 
 -- ---- which frames these are
@@ -208,6 +208,36 @@ followed_such P following micros side bytes n h =
       ended = subst (λ (x : Followed). IfSome x.says.ended (λ e. P e.key)) (sym s) f.ended;
       next = subst (λ (x : Followed). IfSome x.next.transfer (λ t. P t.key)) (sym s) f.next;
     }
+
+-- ---- an initiate request
+
+-- a frame that is taken for one is one of a client, of eight bytes
+module _ (X : Type 0) (heard : Bool) (micros : ℕ) (side : Side) (bytes : List ℕ) where
+  turned_by : (x : Option (Option ℕ)) (w : What) (u : Transfer) → is_initiate w ≡ false → is_initiate (turns_at x heard w u micros side).says.what ≡ false
+  turned_by (Some crc) w u h = h
+  turned_by None w u h = h
+
+  no_begin_asks : (t : Transfer) (reading : Reading) → is_initiate (turns_at (confirmed_with (turn_of t reading bytes).transfer.stage) heard (turn_of t reading bytes).what (after t (turn_of t reading bytes)) micros side).says.what ≡ true → X
+  no_begin_asks t reading on =
+      absurd (false≢true (sym (turned_by (confirmed_with (turn_of t reading bytes).transfer.stage) (turn_of t reading bytes).what (after t (turn_of t reading bytes)) (uninitiated t reading bytes)) ∙ on))
+
+  stray_asks : (b : Bool) → is_initiate (stray b) ≡ true → X
+  stray_asks true on = absurd (false≢true on)
+  stray_asks false on = absurd (false≢true on)
+
+  asks : (current : Option Transfer) (reading : Reading) → BeginsSuch (λ key. X) reading → is_initiate (follows_by heard current reading micros side bytes).says.what ≡ true → X
+  asks current (Begin new) b on = b
+  asks None _ b on = stray_asks heard on
+  asks (Some t) (Abort code) b on = absurd (false≢true on)
+  asks (Some t) (Segment segment) b on = no_begin_asks t (Segment segment) on
+  asks (Some t) (Request request) b on = no_begin_asks t (Request request) on
+  asks (Some t) (Response response) b on = no_begin_asks t (Response response) on
+  asks (Some t) Nothing b on = no_begin_asks t Nothing on
+
+pub initiated : (X : Type 0) (following : Following) (micros : ℕ) (side : Side) (bytes : List ℕ) → NamesBy (λ key. X) side bytes → is_initiate (followed following micros side bytes).says.what ≡ true → X
+initiated X following micros side bytes n on =
+    asks X following.heard micros side bytes following.transfer (reading_of following.transfer side micros bytes) (reading_begins (λ key. X) following.transfer side micros bytes n)
+    (subst (λ (x : Followed). is_initiate x.says.what ≡ true) (same_reading following.heard following.transfer micros side bytes bytes).followed on)
 
 -- ---- what compare has
 

@@ -1,6 +1,9 @@
 -- That the conditions of the laws about TPDOs are needed: what compare finds where the device itself uses the identifier of a TPDO, or
 -- that of its EMCY, a second time. CiA 301 doesn't restrict these, and the dictionary permits them.
-use Rattle.std.proofs.Common.{◌≡◌, ℕ, Bool, true, false, List, [], ◌∷◌, Some, None, refl}
+use Rattle.std.proofs.Common.{◌≡◌, ℕ, Bool, true, false, List, [], ◌∷◌, Some, None, refl, sym, map, arith}
+use Rattle.std.proofs.lemmas.Bool.{false≢true}
+use Rattle.co_frame.specs.SdoRequests.{request_row_in}
+use Rattle.co_frame.specs.SdoResponses.{response_row_in}
 use Rattle.co_profile.specs.declared.access.Access.TheVariants.{Rw}
 use Rattle.co_dict.specs.FreeIds.{is_good_sync_word, is_good_word}
 use Rattle.co_node_model.proofs.ExampleNode.{came, device, device_with, event, frame, raise, searches, start, u32, u8}
@@ -9,17 +12,38 @@ use Rattle.conode_compare_pdos.specs.declared.deviation.Deviation.TheVariants.{L
 use Rattle.conode_compare_pdos.specs.declared.parameters.Parameters.{Parameters}
 use Rattle.conode_compare_pdos.specs.declared.pdos.Pdos.{Pdos}
 use Rattle.conode_compare_pdos.specs.Deviations.{deviation_at, time_deviation}
-use Rattle.conode_compare_pdos.specs.Followed.{framed, sighting, unknown_pdos}
+use Rattle.conode_compare_pdos.specs.Followed.{framed, sighting, transferred, unknown_pdos}
 use Rattle.conode_compare_pdos.specs.Tpdos.{booted_tpdo}
 use Rattle.conode_compare_rules.specs.declared.entries.Entries.{Entries}
 use Rattle.conode_compare_rules.specs.declared.finding.Finding.{Finding}
 use Rattle.conode_compare_rules.specs.declared.finding.Finding.TheVariants.{Pdo}
 use Rattle.conode_compare_rules.specs.declared.limits.Subject.{Subject}
-use Rattle.conode_compare_rules.specs.Progresses.{after_command, after_emergency, after_process, begun, booted, findings_at, moment_at, process_findings, progress_with}
+use Rattle.conode_compare_rules.specs.Answers.{confirmed_finding}
+use Rattle.conode_compare_rules.specs.EntriesInForce.{asked_to_write, shown_inhibit, shown_period}
+use Rattle.conode_compare_rules.specs.Heartbeats.{late_finding, overdue_by}
+use Rattle.conode_compare_rules.specs.Progresses.{
+  after_command,
+  after_emergency,
+  after_process,
+  answer_findings,
+  begun,
+  booted,
+  channel_heard,
+  exchange_at,
+  exchange_noted,
+  findings_at,
+  late_noted,
+  moment_at,
+  process_findings,
+  progress_with,
+  request_findings,
+}
 use Rattle.conode_compare_rules.specs.States as states
-use Rattle.conode_compare_rules.specs.States.{after_boot_up, control_finding, is_settled, second_boot_up}
+use Rattle.conode_compare_rules.specs.States.{after_boot_up, awaits_boot_up, boot_finding, control_finding, is_settled, second_boot_up}
 use Rattle.conode_compare_rules.specs.Verdicts.{found}
+use Rattle.conode_compare_transfers.specs.Dialogues.{dialogue_heard, exchange_in, is_certain}
 use Rattle.conode_compare_laws.specs.Differences.{differences_in}
+use Rattle.conode_compare_laws.specs.NamedTpdos.{NameNoTpdos, NamesNoTpdo}
 use Rattle.conode_compare_laws.specs.Recordings.{Recorded, Stamped, recording, with_stamp}
 use Rattle.conode_compare_laws.specs.TpdoDifferences.{is_pdo_length, is_pdo_state, is_pdo_sync, tpdo_differences}
 use Rattle.conode_compare_laws.specs.TpdoParameters.{AreTpdosOf, is_alone}
@@ -121,3 +145,59 @@ meets = record {
 not_alone : is_alone (device_with (u32 Rw 0x1801 1 0x185 ∷ [])).start 0 (booted_tpdo first) ≡ false
 unfolding searches is_alone
 not_alone = refl
+
+-- ---- parameters of TPDOs that a client names
+
+-- by a request to upload 1800:02, by an abort of it, and by a request to download to 1803:05
+upload_names : NamesNoTpdo 5 (frame 0x605 8 0x4000_1802_0000_0000) → ⊥
+upload_names h = false≢true (sym (h refl refl).communication)
+
+abort_names : NamesNoTpdo 5 (frame 0x605 8 0x8000_1802_0000_0008) → ⊥
+abort_names h = false≢true (sym (h refl refl).communication)
+
+download_names : NamesNoTpdo 5 (frame 0x605 8 0x2B03_1805_6400_0000) → ⊥
+download_names h = false≢true (sym (h refl refl).communication)
+
+-- by a request to write 1A00:01, and 1005:00 in blocks
+mapping_written : NamesNoTpdo 5 (frame 0x605 8 0x2300_1A01_0800_0020) → ⊥
+mapping_written h = false≢true (sym ((h refl refl).written refl))
+
+sync_written : NamesNoTpdo 5 (frame 0x605 8 0xC205_1000_0400_0000) → ⊥
+sync_written h = false≢true (sym ((h refl refl).written refl))
+
+-- not by a request to upload these, nor to write 1804:02, 1A04:01 or 1006:00
+none_named : NameNoTpdos 5 (map (with_stamp 0)
+    (frame 0x605 8 0x4000_1A01_0000_0000 ∷ frame 0x605 8 0x4005_1000_0000_0000 ∷ frame 0x605 8 0x2F04_1802_FF00_0000 ∷ frame 0x605 8 0x2304_1A01_0800_0020 ∷ frame 0x605 8 0x2306_1000_0000_0000 ∷ []))
+none_named = (
+  (λ id eight. record { communication = refl; written = λ on. absurd (false≢true on) }),
+  (
+    (λ id eight. record { communication = refl; written = λ on. absurd (false≢true on) }),
+    (
+      (λ id eight. record { communication = refl; written = λ on. refl }),
+      ((λ id eight. record { communication = refl; written = λ on. refl }), ((λ id eight. record { communication = refl; written = λ on. refl }), tt)),
+    ),
+  ),
+)
+
+-- nor by a frame of another node's client, of seven bytes, or by an answer
+none_of_client : NameNoTpdos 5 (map (with_stamp 0) (frame 0x606 8 0x4000_1802_0000_0000 ∷ frame 0x605 7 0x4000_1802_0000_00 ∷ frame 0x585 8 0x4F00_1802_FF00_0000 ∷ []))
+none_of_client = (
+  (λ id eight. absurd (let identifier : 0x606 ≡ 0x605 = id in omega arith)),
+  ((λ id eight. absurd (let seven : 7 ≡ 8 = eight in omega arith)), ((λ id eight. absurd (let identifier : 0x585 ≡ 0x605 = id in omega arith)), tt)),
+)
+
+-- the answer of another device may show another identifier then: what is sent there is taken for the first TPDO
+abbrev shown : ℕ → ℕ → List Finding
+shown request response = found_in is_pdo_state subject
+    (with_stamp 0 (frame 0x705 1 0) ∷ with_stamp 20000 (frame 0x605 8 request) ∷ with_stamp 20000 (frame 0x585 8 response) ∷ with_stamp 40000 (frame 0x385 4 0) ∷ [])
+
+shown_otherwise : shown 0x4000_1801_0000_0000 0x4300_1801_8503_0000 ≡ Pdo 1 NotOperational ∷ []
+unfolding findings_at progress_with begun booted found control_finding second_boot_up states.after_control after_boot_up states.after_other awaits_boot_up boot_finding process_findings moment_at sighting deviation_at time_deviation is_settled after_process framed
+    channel_heard exchange_at exchange_noted late_noted request_findings confirmed_finding answer_findings dialogue_heard exchange_in is_certain shown_period shown_inhibit asked_to_write request_row_in response_row_in transferred late_finding overdue_by
+shown_otherwise = refl
+
+-- not by an upload of 1A00:01
+not_shown : shown 0x4000_1A01_0000_0000 0x4300_1A01_0800_0020 ≡ []
+unfolding findings_at progress_with begun booted found control_finding second_boot_up states.after_control after_boot_up states.after_other awaits_boot_up boot_finding process_findings moment_at sighting deviation_at time_deviation is_settled after_process framed
+    channel_heard exchange_at exchange_noted late_noted request_findings confirmed_finding answer_findings dialogue_heard exchange_in is_certain shown_period shown_inhibit asked_to_write request_row_in response_row_in transferred late_finding overdue_by
+not_shown = refl

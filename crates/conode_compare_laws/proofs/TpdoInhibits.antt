@@ -30,18 +30,20 @@ use Rattle.conode_compare_rules.specs.declared.progress.Progress.{Progress}
 use Rattle.conode_compare_rules.specs.FrameKinds.{length_of}
 use Rattle.conode_compare_rules.specs.Progresses.{moment_at}
 use Rattle.conode_compare_laws.specs.Differences.{differences_in}
-use Rattle.conode_compare_laws.specs.Identifiers.{AllSendAside, AreElsewhere, AreNoSdo}
+use Rattle.conode_compare_laws.specs.Identifiers.{AllSendAside, AreElsewhere}
+use Rattle.conode_compare_laws.specs.NamedTpdos.{NameNoTpdos, NamesNoTpdo}
 use Rattle.conode_compare_laws.specs.Recordings.{AreSpaced, AreUnhurried, Stamped, elapsed, frame_of, recording}
 use Rattle.conode_compare_laws.specs.TpdoDifferences.{is_pdo_inhibit, tpdo_differences}
 use Rattle.conode_compare_laws.specs.TpdoFrames.{AllSendBesideTpdos, AreNoTpdos}
 use Rattle.conode_compare_laws.specs.TpdoParameters.{AllKeepTpdos, AreTpdosOf, IsTpdoOf, KeepsTpdos}
 use Rattle.conode_compare_laws.proofs.Heard.{of_device}
-use Rattle.conode_compare_laws.proofs.Heartbeats.{NoSdo, after_those, before_these}
+use Rattle.conode_compare_laws.proofs.NamedKeys.{first_of, last_of}
 use Rattle.conode_compare_laws.proofs.Runs.{AllRun, joined}
 use Rattle.conode_compare_laws.proofs.TpdoDue.{IsAt, active, alone, active_kept, due_all, due_distinct, tpdo_number}
-use Rattle.conode_compare_laws.proofs.TpdoInputs.{AllInputs, AreClear, all_clear, no_sdo_later, of_device_too, of_recording}
+use Rattle.conode_compare_laws.proofs.TpdoInputs.{AllInputs, AreClear, all_clear, names_later, of_device_too, of_recording}
 use Rattle.conode_compare_laws.proofs.TpdoKinds.{deviation_none, length_none, state_none, sync_none, time_none, timer_none}
 use Rattle.conode_compare_laws.proofs.TpdoLogs.{ages_at, ages_of, ages_then, log_is, next_ages, over, then_at}
+use Rattle.conode_compare_laws.proofs.TpdoNames.{AllNameNone}
 use Rattle.conode_compare_laws.proofs.TpdoOthers.{Holds, is_of, others}
 use Rattle.conode_compare_laws.proofs.TpdoParts.{Walk, Walked, besides, besides_run, came_other, tpdo_ids, walks, weaken}
 use Rattle.conode_compare_laws.proofs.TpdoStarts.{command_comes, is_start_all, is_tick_turn, start_commanded, takes_a_tick}
@@ -189,18 +191,18 @@ abbrev Between : Constants → Pdos → Inputs → ℕ → Pdos → Type 0
 Between k facts before last = AreTimed Since k.description.node (ids k) facts last (λ n. ages_of k n before)
 
 came : (k : Constants) (subject : Subject) (rows : List Row) (before : Inputs) (last : ℕ) (s : Stamped) (p : Progress) (b : Bool) → is_start_all (turn_at (moment k (moments k before) s.input) (moments k before)) ≡ b
-    → IsMet subject.facts.pdos k before last s → NoSdo k.description.node (frame_of s.input) → Holds (Between k subject.facts.pdos before last) p
+    → IsMet subject.facts.pdos k before last s → AllNameNone k.description.node (frame_of s.input) → Holds (Between k subject.facts.pdos before last) p
     → AllRun (tpdo_differences is_pdo_inhibit) (of_device k subject) rows s.micros p (frame_of s.input)
     (Holds (AreTimed Since k.description.node (ids k) subject.facts.pdos s.micros (olds k before (turn_at (moment k (moments k before) s.input) (moments k before)))))
 came k subject rows before last s p true is met none h =
     let t : Turn = turn_at (moment k (moments k before) s.input) (moments k before) in
-    command_comes is_pdo_inhibit Since (ids k) (olds k before t) (of_device k subject) rows s.micros s.input p (start_commanded k (moments k before) s.input is) (record { fresh = h.fresh; kept = h.kept.knows })
+    command_comes is_pdo_inhibit Since (ids k) (olds k before t) (of_device k subject) rows s.micros s.input p (start_commanded k (moments k before) s.input is) (record { fresh = h.fresh; kept = h.kept.knows; opened = h.opened })
 came k subject rows before last s p false is met none h =
     let facts : Pdos = subject.facts.pdos in
     let t : Turn = turn_at (moment k (moments k before) s.input) (moments k before) in
     others is_pdo_inhibit (AreTimed Since k.description.node (ids k) facts s.micros (olds k before t)) (of_device k subject) rows s.micros (frame_of s.input) p (timed_kept Since k.description.node (ids k) facts s.micros (olds k before t))
     (came_other facts k.description.node s.input none met.clear.control met.clear.foreign)
-    (record { fresh = h.fresh; kept = changed Since Since k.description.node (ids k) facts last s.micros (λ n. ages_of k n before) (olds k before t) p.pdos (passes k before last s is met.time) h.kept })
+    (record { fresh = h.fresh; kept = changed Since Since k.description.node (ids k) facts last s.micros (λ n. ages_of k n before) (olds k before t) p.pdos (passes k before last s is met.time) h.kept; opened = h.opened })
 
 input_runs : (k : Constants) (subject : Subject) (rows : List Row) (before : Inputs) (last : ℕ) (s : Stamped) (p : Progress) → AreTpdosOf k subject.facts.pdos → IsMet subject.facts.pdos k before last s
     → Holds (Between k subject.facts.pdos before last) p
@@ -215,28 +217,30 @@ input_runs k subject rows before last s p of met h =
     let frames : ℕ → FrameContent = tpdo_frame k.description m.contents in
     let first : List FrameContent = frame_of s.input in
     let more : List FrameContent = besides k m in
-    let sent : NoSdo n (more ++ map frames m.due) = after_those n first (prescribed k before s.input) met.clear.sdo in
+    let N : FrameContent → Type 0 = NamesNoTpdo n in
+    let sent : AllNameNone n (more ++ map frames m.due) = last_of N first (prescribed k before s.input) met.clear.sdo in
     let old : ℕ → List ℕ = olds k before t in
     let waits : Pdos → Type 0 = AreTimed Since k.description.node (ids k) facts s.micros old in
     let J : List ℕ → Pdos → Type 0 = λ due. AreTimed Since k.description.node (ids k) facts s.micros (ages_before m.due old due) in
     let after : Progress → Type 0 = Holds (Between k facts (s.input ∷ before) s.micros) in
     joined (tpdo_differences is_pdo_inhibit) subj rows s.micros first (more ++ map frames m.due) p (Holds waits) after
-    (came k subject rows before last s p (is_start_all t) refl met (before_these n first (prescribed k before s.input) met.clear.sdo) h)
+    (came k subject rows before last s p (is_start_all t) refl met (first_of N first (prescribed k before s.input) met.clear.sdo) h)
     (λ q g.
     joined (tpdo_differences is_pdo_inhibit) subj rows s.micros more (map frames m.due) q (Holds waits) after
     (besides_run is_pdo_inhibit waits k subject rows s.micros before s.input q (timed_kept Since k.description.node (ids k) facts s.micros old) (λ reset. begins_timed Since k.description.node (ids k) k facts s.micros old of) met.clear.aside met.clear.beside
-    (before_these n more (map frames m.due) sent) g)
+    (first_of N more (map frames m.due) sent) g)
     (λ r f. weaken (tpdo_differences is_pdo_inhibit) subj rows s.micros (map frames m.due) r (Walked (J []) (λ x. Unit {0})) after
     (λ x e. record {
       fresh = e.holds.fresh;
       kept = changed_below Since Since k.description.node (ids k) facts s.micros s.micros (ages_before m.due old []) (λ i. ages_of k i (s.input ∷ before)) x.pdos
           (λ i less a now. subst (λ l. Since s.micros a l) (sym (next_ages k i before s.input less met.keeps)) now) e.holds.kept;
+      opened = e.holds.opened;
     })
     (walks is_pdo_inhibit (AreOwn is_pdo_inhibit Since subj s.micros frames (ids k) m.due old facts) J (λ x. Unit {0}) subj rows s.micros frames m.due r (inhibit_walk k subj s.micros frames m.due old of)
-    (tpdo_ids n frames m.due met.clear.aside.tpdos (after_those n more (map frames m.due) sent))
+    (tpdo_ids n frames m.due met.clear.aside.tpdos (last_of N more (map frames m.due) sent))
     (due_all (AreOwn is_pdo_inhibit Since subj s.micros frames (ids k) m.due old facts) k.description t m.contents schedule (λ i o less at due among. all_own k subj s.micros before m t met.keeps o i of less at due among))
     (due_distinct k.description t m.contents schedule)
-    (record { fresh = f.fresh; kept = changed Since Since k.description.node (ids k) facts s.micros s.micros old (ages_before m.due old m.due) r.pdos (λ i a now. subst (λ l. Since s.micros a l) (sym (at_first m.due old i)) now) f.kept })
+    (record { fresh = f.fresh; kept = changed Since Since k.description.node (ids k) facts s.micros s.micros old (ages_before m.due old m.due) r.pdos (λ i a now. subst (λ l. Since s.micros a l) (sym (at_first m.due old i)) now) f.kept; opened = f.opened })
     tt)))
 
 -- ---- all inputs
@@ -254,10 +258,10 @@ first_met pdos k (s ∷ later) last clear keeps time = (record { clear = clear.0
 
 pub no_pdo_inhibit : (k : Constants) (subject : Subject) (rows : List Row) (inputs : List Stamped) → subject.node ≡ k.description.node → AreTpdosOf k subject.facts.pdos → AllKeepTpdos k [] inputs → AreUnhurried inputs
     → AreElsewhere (0x700 + k.description.node) inputs → AreNoTpdos subject.facts.pdos inputs → AllSendAside k [] inputs → AllSendBesideTpdos subject.facts.pdos k [] inputs
-    → AreNoSdo k.description.node (recording k inputs) → differences_in (tpdo_differences is_pdo_inhibit) subject rows (recording k inputs) ≡ []
+    → NameNoTpdos k.description.node (recording k inputs) → differences_in (tpdo_differences is_pdo_inhibit) subject rows (recording k inputs) ≡ []
 no_pdo_inhibit k subject rows inputs is of keeps time control foreign aside beside none =
     let facts : Pdos = subject.facts.pdos in
     of_device_too is_pdo_inhibit k subject rows inputs is
     (of_recording is_pdo_inhibit k subject rows (λ b l s. IsMet facts k b l s) (Between k facts) (λ before last s p met h. input_runs k subject rows before last s p of met h) inputs
     (λ micros. begins_timed Since k.description.node (ids k) k facts micros (λ n. ages_of k n []) of)
-    (λ last. first_met facts k inputs last (all_clear facts k inputs [] last control foreign aside beside (no_sdo_later k inputs none)) keeps time))
+    (λ last. first_met facts k inputs last (all_clear facts k inputs [] last control foreign aside beside (names_later k inputs none)) keeps time))

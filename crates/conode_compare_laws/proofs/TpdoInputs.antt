@@ -12,13 +12,15 @@ use Rattle.conode_compare_rules.specs.declared.limits.Subject.{Subject}
 use Rattle.conode_compare_rules.specs.declared.progress.Progress.{Progress}
 use Rattle.conode_compare_rules.specs.Progresses.{before_recording}
 use Rattle.conode_compare_laws.specs.Differences.{differences_from, differences_in}
-use Rattle.conode_compare_laws.specs.Identifiers.{AllSendAside, AreElsewhere, AreNoSdo, IsElsewhere, SendsAside}
+use Rattle.conode_compare_laws.specs.Identifiers.{AllSendAside, AreElsewhere, IsElsewhere, SendsAside}
+use Rattle.conode_compare_laws.specs.NamedTpdos.{NameNoTpdos, NamesNoTpdo}
 use Rattle.conode_compare_laws.specs.Recordings.{Recorded, Stamped, frame_of, heard_from, recording, stamped}
 use Rattle.conode_compare_laws.specs.TpdoDifferences.{tpdo_differences}
 use Rattle.conode_compare_laws.specs.TpdoFrames.{AllSendBesideTpdos, AreNoTpdos, IsNoTpdo, SendsBesideTpdos}
 use Rattle.conode_compare_laws.proofs.Heard.{of_device}
-use Rattle.conode_compare_laws.proofs.Heartbeats.{NoSdo, first_part, last_part, unstamped}
+use Rattle.conode_compare_laws.proofs.NamedKeys.{first_of, last_of}
 use Rattle.conode_compare_laws.proofs.Runs.{AllRun, then_none}
+use Rattle.conode_compare_laws.proofs.TpdoNames.{AllNameNone, unstamped_names}
 use Rattle.conode_compare_laws.proofs.TpdoOthers.{Holds, boots}
 
 -- something holds of each input, of those before it, and of the stamp before it
@@ -37,22 +39,23 @@ pub record AreClear (pdos : Pdos) (k : Constants) (before : Inputs) (s : Stamped
   pub foreign : IsNoTpdo pdos s.input
   pub aside : SendsAside k (moment k (moments k before) s.input)
   pub beside : SendsBesideTpdos pdos k (moment k (moments k before) s.input)
-  pub sdo : NoSdo k.description.node (frame_of s.input ++ prescribed k before s.input)
+  pub sdo : AllNameNone k.description.node (frame_of s.input ++ prescribed k before s.input)
 
 pub all_clear : (pdos : Pdos) (k : Constants) (inputs : List Stamped) (before : Inputs) (last : ℕ) → AreElsewhere (0x700 + k.description.node) inputs → AreNoTpdos pdos inputs → AllSendAside k before inputs
-    → AllSendBesideTpdos pdos k before inputs → AreNoSdo k.description.node (heard_from k before inputs) → AllInputs (λ b l s. AreClear pdos k b s) before last inputs
+    → AllSendBesideTpdos pdos k before inputs → NameNoTpdos k.description.node (heard_from k before inputs) → AllInputs (λ b l s. AreClear pdos k b s) before last inputs
 all_clear pdos k [] before last control foreign aside beside none = tt
 all_clear pdos k (s ∷ later) before last control foreign aside beside none =
     let frames : List FrameContent = frame_of s.input ++ prescribed k before s.input in
-    let rest : List Recorded = heard_from k (s.input ∷ before) later in (
+    let rest : List Recorded = heard_from k (s.input ∷ before) later in
+    let N : Recorded → Type 0 = λ r. NamesNoTpdo k.description.node r.frame in (
       record {
         control = control.0;
         foreign = foreign.0;
         aside = aside.0;
         beside = beside.0;
-        sdo = unstamped k.description.node s.micros frames (first_part k.description.node (stamped s.micros frames) rest none);
+        sdo = unstamped_names k.description.node s.micros frames (first_of N (stamped s.micros frames) rest none);
       },
-      all_clear pdos k later (s.input ∷ before) s.micros control.1 foreign.1 aside.1 beside.1 (last_part k.description.node (stamped s.micros frames) rest none),
+      all_clear pdos k later (s.input ∷ before) s.micros control.1 foreign.1 aside.1 beside.1 (last_of N (stamped s.micros frames) rest none),
     )
 
 -- ---- by one input
@@ -73,13 +76,13 @@ module _ (is : Deviation → Bool) (k : Constants) (subject : Subject) (rows : L
   of_recording (s ∷ later) begins all =
       let subj : Subject = of_device k subject in
       then_none (tpdo_differences is) subj rows s.micros (boot_up k ∷ []) (heard_from k [] (s ∷ later)) (before_recording subj) (Holds (I [] s.micros))
-      (boots is (I [] s.micros) subj rows s.micros (before_recording subj) (begins s.micros) tt)
+      (boots is (I [] s.micros) subj rows s.micros (before_recording subj) (begins s.micros) tt tt)
       (λ q g. all_none (s ∷ later) [] s.micros q (all s.micros) g)
 
 pub of_device_too : (is : Deviation → Bool) (k : Constants) (subject : Subject) (rows : List Row) (inputs : List Stamped) → subject.node ≡ k.description.node
     → differences_in (tpdo_differences is) (of_device k subject) rows (recording k inputs) ≡ [] → differences_in (tpdo_differences is) subject rows (recording k inputs) ≡ []
 of_device_too is k subject rows inputs same h = subst (λ n. differences_in (tpdo_differences is) (record subject { node = n }) rows (recording k inputs) ≡ []) (sym same) h
 
-pub no_sdo_later : (k : Constants) (inputs : List Stamped) → AreNoSdo k.description.node (recording k inputs) → AreNoSdo k.description.node (heard_from k [] inputs)
-no_sdo_later k [] none = tt
-no_sdo_later k (s ∷ later) none = none.1
+pub names_later : (k : Constants) (inputs : List Stamped) → NameNoTpdos k.description.node (recording k inputs) → NameNoTpdos k.description.node (heard_from k [] inputs)
+names_later k [] none = tt
+names_later k (s ∷ later) none = none.1

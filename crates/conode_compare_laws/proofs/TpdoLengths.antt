@@ -23,7 +23,8 @@ use Rattle.conode_compare_rules.specs.declared.progress.Progress.{Progress}
 use Rattle.conode_compare_rules.specs.FrameKinds.{length_of}
 use Rattle.conode_compare_rules.specs.Progresses.{moment_at}
 use Rattle.conode_compare_laws.specs.Differences.{differences_in}
-use Rattle.conode_compare_laws.specs.Identifiers.{AllSendAside, AreElsewhere, AreNoSdo}
+use Rattle.conode_compare_laws.specs.Identifiers.{AllSendAside, AreElsewhere}
+use Rattle.conode_compare_laws.specs.NamedTpdos.{NameNoTpdos, NamesNoTpdo}
 use Rattle.conode_compare_laws.specs.Recordings.{Stamped, frame_of, recording}
 use Rattle.conode_compare_laws.specs.TpdoDifferences.{is_pdo_length, tpdo_differences}
 use Rattle.conode_compare_laws.specs.TpdoFrames.{AllSendBesideTpdos, AreNoTpdos}
@@ -31,12 +32,13 @@ use Rattle.conode_compare_laws.specs.TpdoParameters.{AllKeepTpdos, AreTpdosOf, I
 use Rattle.conode_compare_laws.proofs.AlwaysFitted.{AllAreFitted}
 use Rattle.conode_compare_laws.proofs.Fitting.{AreFitted}
 use Rattle.conode_compare_laws.proofs.Heard.{of_device}
-use Rattle.conode_compare_laws.proofs.Heartbeats.{NoSdo, after_those, before_these}
+use Rattle.conode_compare_laws.proofs.NamedKeys.{first_of, last_of}
 use Rattle.conode_compare_laws.proofs.Runs.{AllRun, joined}
 use Rattle.conode_compare_laws.proofs.TpdoDue.{active, active_kept, alone, due_all, due_distinct, tpdo_number}
 use Rattle.conode_compare_laws.proofs.TpdoImages.{mapping_kept, tpdo_wide}
-use Rattle.conode_compare_laws.proofs.TpdoInputs.{AllInputs, AreClear, all_clear, no_sdo_later, of_device_too, of_recording}
+use Rattle.conode_compare_laws.proofs.TpdoInputs.{AllInputs, AreClear, all_clear, names_later, of_device_too, of_recording}
 use Rattle.conode_compare_laws.proofs.TpdoKinds.{deviation_none, state_none, sync_none, untimed}
+use Rattle.conode_compare_laws.proofs.TpdoNames.{AllNameNone}
 use Rattle.conode_compare_laws.proofs.TpdoOthers.{AreFine, Holds, IsOf, Knows, is_of, knows_framed, knows_kept, knows_sheet, others}
 use Rattle.conode_compare_laws.proofs.TpdoParts.{Walk, Walked, besides, besides_run, came_other, tpdo_ids, walks, weaken}
 
@@ -130,16 +132,17 @@ input_runs k subject rows before last s p of met h =
     let frame : ℕ → FrameContent = tpdo_frame k.description m.contents in
     let came : List FrameContent = frame_of s.input in
     let more : List FrameContent = besides k m in
-    let sent : NoSdo n (more ++ map frame m.due) = after_those n came (prescribed k before s.input) met.clear.sdo in
+    let N : FrameContent → Type 0 = NamesNoTpdo n in
+    let sent : AllNameNone n (more ++ map frame m.due) = last_of N came (prescribed k before s.input) met.clear.sdo in
     let I : Progress → Type 0 = Holds (Knows facts) in
     joined (tpdo_differences is_pdo_length) subj rows s.micros came (more ++ map frame m.due) p I I
-    (others is_pdo_length (Knows facts) subj rows s.micros came p (knows_kept facts) (came_other facts n s.input (before_these n came (prescribed k before s.input) met.clear.sdo) met.clear.control met.clear.foreign) h)
+    (others is_pdo_length (Knows facts) subj rows s.micros came p (knows_kept facts) (came_other facts n s.input (first_of N came (prescribed k before s.input) met.clear.sdo) met.clear.control met.clear.foreign) h)
     (λ q g.
     joined (tpdo_differences is_pdo_length) subj rows s.micros more (map frame m.due) q I I
-    (besides_run is_pdo_length (Knows facts) k subject rows s.micros before s.input q (knows_kept facts) (λ reset. knows_sheet facts) met.clear.aside met.clear.beside (before_these n more (map frame m.due) sent) g)
+    (besides_run is_pdo_length (Knows facts) k subject rows s.micros before s.input q (knows_kept facts) (λ reset. knows_sheet facts) met.clear.aside met.clear.beside (first_of N more (map frame m.due) sent) g)
     (λ r f. weaken (tpdo_differences is_pdo_length) subj rows s.micros (map frame m.due) r (Walked (Knows facts) (λ x. Unit {0})) I (λ x e. e.holds)
     (walks is_pdo_length (λ i. HaveBytes facts (frame i).id (length_of (frame i))) (λ due. Knows facts) (λ x. Unit {0}) subj rows s.micros frame m.due r (length_walk subj s.micros frame)
-    (tpdo_ids n frame m.due met.clear.aside.tpdos (after_those n more (map frame m.due) sent))
+    (tpdo_ids n frame m.due met.clear.aside.tpdos (last_of N more (map frame m.due) sent))
     (due_all (λ i. HaveBytes facts (frame i).id (length_of (frame i))) k.description (turn_at m (moments k before)) m.contents (schedule_log k (moments k before))
     (λ i o less at due sent. all_have k m facts i of met.keeps met.filled less (active m.contents (schedule_log k (moments k before)) o i due)))
     (due_distinct k.description (turn_at m (moments k before)) m.contents (schedule_log k (moments k before))) f tt)))
@@ -153,9 +156,9 @@ all_met pdos k (s ∷ later) before last clear keeps filled = (record { clear = 
 
 pub no_pdo_length : (k : Constants) (subject : Subject) (rows : List Row) (inputs : List Stamped) → subject.node ≡ k.description.node → AreTpdosOf k subject.facts.pdos → AllKeepTpdos k [] inputs → AllAreFitted k [] inputs
     → AreElsewhere (0x700 + k.description.node) inputs → AreNoTpdos subject.facts.pdos inputs → AllSendAside k [] inputs → AllSendBesideTpdos subject.facts.pdos k [] inputs
-    → AreNoSdo k.description.node (recording k inputs) → differences_in (tpdo_differences is_pdo_length) subject rows (recording k inputs) ≡ []
+    → NameNoTpdos k.description.node (recording k inputs) → differences_in (tpdo_differences is_pdo_length) subject rows (recording k inputs) ≡ []
 no_pdo_length k subject rows inputs is of keeps filled control foreign aside beside none =
     let facts : Pdos = subject.facts.pdos in
     of_device_too is_pdo_length k subject rows inputs is
     (of_recording is_pdo_length k subject rows (λ b l s. IsMet facts k b s) (λ b l. Knows facts) (λ before last s p met h. input_runs k subject rows before last s p of met h) inputs (λ micros. knows_sheet facts)
-    (λ last. all_met facts k inputs [] last (all_clear facts k inputs [] last control foreign aside beside (no_sdo_later k inputs none)) keeps filled))
+    (λ last. all_met facts k inputs [] last (all_clear facts k inputs [] last control foreign aside beside (names_later k inputs none)) keeps filled))

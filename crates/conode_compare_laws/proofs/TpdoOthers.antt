@@ -2,7 +2,7 @@
 use Rattle.std.proofs.Common.{◌≡◌, ◌≢◌, ℕ, ◌+◌, ◌-◌, ◌≤◌, Bool, true, false, List, [], ◌∷◌, length, Option, Some, None, refl, sym, ap, ◌∙◌, subst, arith, ◌⊎◌, inl, inr}
 use Rattle.std.specs.Prelude.{if◌then◌else◌, ◌==◌, nat_lt, is_some, option_map, IfSome}
 use Rattle.std.specs.List.{AllByRecursion}
-use Rattle.std.proofs.lemmas.Bool.{ltb-false, ne_eqb, or_parts}
+use Rattle.std.proofs.lemmas.Bool.{eqb-true, ltb-false, ne_eqb, or_parts}
 use Rattle.co_frame.specs.FrameContent.{FrameContent}
 use Rattle.co_frame.specs.Emergencies.{emergency_in}
 use Rattle.co_frame.specs.Heartbeats.{heartbeat_bytes, state_byte}
@@ -17,6 +17,7 @@ use Rattle.co_node_model.specs.Heartbeats.{life_frames}
 use Rattle.co_node_parts.specs.NmtStates.{heartbeat_of}
 use Rattle.co_node_parts.specs.declared.nmt_state.NodeState.{NodeState}
 use Rattle.co_node_parts.specs.declared.nmt_state.NodeState.TheVariants as node
+use Rattle.conode_explain_transfers.specs.declared.kinds.Side.{Side}
 use Rattle.conode_explain_transfers.specs.declared.kinds.Side.TheVariants.{Client, Server}
 use Rattle.conode_compare_pdos.specs.declared.deviation.Deviation.{Deviation}
 use Rattle.conode_compare_pdos.specs.declared.deviation.Moment.{Moment}
@@ -41,13 +42,18 @@ use Rattle.conode_compare_rules.specs.Progresses.{
   after_emergency,
   after_frame,
   after_process,
+  after_sdo,
+  answer_noted,
   anew_after,
   begins_anew,
   begun,
   booted,
+  channel_heard,
+  exchange_noted,
   findings_at,
   findings_in,
   free_at,
+  late_noted,
   moment_at,
   process_findings,
   progress_with,
@@ -58,8 +64,11 @@ use Rattle.conode_compare_rules.specs.Progresses.{
 use Rattle.conode_compare_rules.specs.Verdicts.{found}
 use Rattle.conode_compare_laws.specs.TpdoDifferences.{of_kind, tpdo_differences}
 use Rattle.conode_compare_laws.specs.TpdoFrames.{is_followed}
+use Rattle.conode_compare_laws.specs.NamedTpdos.{NamesNoTpdo}
 use Rattle.conode_compare_laws.proofs.Frames.{life_kind}
+use Rattle.conode_compare_laws.proofs.NamedKeys.{IsOpenOn, begun_open, noted_open, stays_open}
 use Rattle.conode_compare_laws.proofs.Runs.{AllRun}
+use Rattle.conode_compare_laws.proofs.TpdoNames.{IsApart, NamesNoneBy, heard_same, names_apart}
 
 -- ---- what compare has of TPDOs
 
@@ -241,35 +250,70 @@ begun_kept subject I p micros kept h = by (begins_anew subject.limits p micros) 
 
 -- ---- one frame
 
--- what holds after it
+-- what holds after it of the newest frame and of TPDOs
+pub record Stays (I : Pdos → Type 0) (p : Progress) : Type 0 where
+  pub fresh : IsFresh p
+  pub kept : I p.pdos
+
+-- and of the open transfer: it isn't of a communication parameter of these TPDOs
 pub record Holds (I : Pdos → Type 0) (p : Progress) : Type 0 where
   pub fresh : IsFresh p
   pub kept : I p.pdos
+  pub opened : IsOpenOn IsApart p
 
 -- nothing of these kinds is found at it, and what holds then
 pub record Passes (is : Deviation → Bool) (I : Pdos → Type 0) (subject : Subject) (rows : List Row) (p : Progress) (micros : ℕ) (kind : FrameKind) : Type 0 where
   pub none : tpdo_differences is kind (findings_in subject rows p micros kind) ≡ []
-  pub after : Holds I (after_frame subject p micros kind)
+  pub after : Stays I (after_frame subject p micros kind)
+
+now_holds : (I : Pdos → Type 0) (subject : Subject) (p : Progress) (micros : ℕ) (frame : FrameContent) → NamesNoTpdo subject.node frame → IsOpenOn IsApart p
+    → Stays I (after_frame subject (begun subject p micros) micros (data_kind subject.node frame)) → Holds I (progress_with subject p micros (data_kind subject.node frame))
+unfolding progress_with
+now_holds I subject p micros frame names opened stays =
+    record { fresh = stays.fresh; kept = stays.kept; opened = stays_open IsApart subject p micros frame (names_apart subject.node frame names) opened }
 
 pub one : (is : Deviation → Bool) (I : Pdos → Type 0) (subject : Subject) (rows : List Row) (micros : ℕ) (p : Progress) (frame : FrameContent) (kind : FrameKind) → data_kind subject.node frame ≡ kind
-    → Passes is I subject rows (begun subject p micros) micros kind → AllRun (tpdo_differences is) subject rows micros p (frame ∷ []) (Holds I)
-unfolding findings_at progress_with
-one is I subject rows micros p frame kind same h =
+    → NamesNoTpdo subject.node frame → IsOpenOn IsApart p → Passes is I subject rows (begun subject p micros) micros kind → AllRun (tpdo_differences is) subject rows micros p (frame ∷ []) (Holds I)
+unfolding findings_at
+one is I subject rows micros p frame kind same names opened h =
     let pass : Passes is I subject rows (begun subject p micros) micros (data_kind subject.node frame) = subst (λ other. Passes is I subject rows (begun subject p micros) micros other) (sym same) h in
-    (pass.none, pass.after)
+    (pass.none, now_holds I subject p micros frame names opened pass.after)
 
--- ---- frames that are neither SDO, nor error control, nor TPDOs
+-- ---- frames of the default SDO channel
+
+sdo_newest : (subject : Subject) (p : Progress) (micros : ℕ) (side : Side) (frame : FrameContent) → IsNewest micros p → IsNewest micros (after_sdo subject p micros side frame)
+unfolding channel_heard exchange_noted
+sdo_newest subject p micros side frame new = record { free = new.free; newest = new.newest }
+
+sdo_stays : (I : Pdos → Type 0) (subject : Subject) (p : Progress) (micros : ℕ) (side : Side) (frame : FrameContent) → NamesNoneBy side frame → IsOpenOn IsApart p → IsNewest micros p → I p.pdos
+    → Stays I (after_sdo subject p micros side frame)
+sdo_stays I subject p micros side frame names opened new h = record {
+  fresh = fresh micros (after_sdo subject p micros side frame) (sdo_newest subject p micros side frame new);
+  kept = subst I (sym (heard_same subject p micros side frame names opened)) h;
+}
+
+pub sdo_passes : (is : Deviation → Bool) (I : Pdos → Type 0) (subject : Subject) (rows : List Row) (p : Progress) (micros : ℕ) (side : Side) (frame : FrameContent) → NamesNoneBy side frame → IsOpenOn IsApart p → IsNewest micros p → I p.pdos
+    → Passes is I subject rows p micros (Sdo side frame)
+unfolding late_noted
+sdo_passes is I subject rows p micros Client frame names opened new h = record { none = refl; after = sdo_stays I subject p micros Client frame names opened new h }
+sdo_passes is I subject rows p micros Server frame names opened new h = record {
+  none = refl;
+  after = sdo_stays I subject (answer_noted subject p micros) micros Server frame names (noted_open IsApart subject p micros opened) (record { free = new.free; newest = new.newest }) h;
+}
+
+-- ---- frames that are neither error control nor TPDOs
 
 abbrev IsOtherKind : Pdos → FrameKind → Type 0
 IsOtherKind facts (Command service) = Unit {0}
 IsOtherKind facts (CommandToAll service) = Unit {0}
 IsOtherKind facts (Emcy code register) = Unit {0}
 IsOtherKind facts (OddEmergency length) = Unit {0}
+IsOtherKind facts (Sdo side frame) = NamesNoneBy side frame
 IsOtherKind facts (Process id length) = is_followed facts id ≡ false
 IsOtherKind facts Other = Unit {0}
 IsOtherKind facts _ = ⊥
 
-command_holds : (facts : Pdos) (I : Pdos → Type 0) (p : Progress) (micros : ℕ) (service : NmtService) (own : Bool) → IsKept facts I → IsNewest micros p → I p.pdos → Holds I (after_command p service own micros)
+command_holds : (facts : Pdos) (I : Pdos → Type 0) (p : Progress) (micros : ℕ) (service : NmtService) (own : Bool) → IsKept facts I → IsNewest micros p → I p.pdos → Stays I (after_command p service own micros)
 unfolding after_command with_gap
 command_holds facts I p micros Start own kept new h = record { fresh = fresh micros p new; kept = kept.command p.pdos h }
 command_holds facts I p micros Stop own kept new h = record { fresh = fresh micros p new; kept = kept.command p.pdos h }
@@ -278,19 +322,20 @@ command_holds facts I p micros ResetNode own kept new h = record { fresh = fresh
 command_holds facts I p micros ResetCommunication own kept new h = record { fresh = fresh micros p new; kept = kept.unknown }
 
 other_passes : (is : Deviation → Bool) (I : Pdos → Type 0) (subject : Subject) (rows : List Row) (p : Progress) (micros : ℕ) (kind : FrameKind) → IsKept subject.facts.pdos I → IsOtherKind subject.facts.pdos kind
-    → IsNewest micros p → I p.pdos → Passes is I subject rows p micros kind
+    → IsOpenOn IsApart p → IsNewest micros p → I p.pdos → Passes is I subject rows p micros kind
 unfolding after_emergency process_findings after_process
-other_passes is I subject rows p micros (Command service) kept other new h = record { none = refl; after = command_holds subject.facts.pdos I p micros service false kept new h }
-other_passes is I subject rows p micros (CommandToAll service) kept other new h = record { none = refl; after = command_holds subject.facts.pdos I p micros service subject.facts.starts_itself kept new h }
-other_passes is I subject rows p micros (Emcy code register) kept other new h = record { none = refl; after = record { fresh = fresh micros p new; kept = h } }
-other_passes is I subject rows p micros (OddEmergency length) kept other new h = record { none = refl; after = record { fresh = fresh micros p new; kept = h } }
-other_passes is I subject rows p micros (Process id length) kept other new h = record {
+other_passes is I subject rows p micros (Command service) kept other opened new h = record { none = refl; after = command_holds subject.facts.pdos I p micros service false kept new h }
+other_passes is I subject rows p micros (CommandToAll service) kept other opened new h = record { none = refl; after = command_holds subject.facts.pdos I p micros service subject.facts.starts_itself kept new h }
+other_passes is I subject rows p micros (Emcy code register) kept other opened new h = record { none = refl; after = record { fresh = fresh micros p new; kept = h } }
+other_passes is I subject rows p micros (OddEmergency length) kept other opened new h = record { none = refl; after = record { fresh = fresh micros p new; kept = h } }
+other_passes is I subject rows p micros (Process id length) kept other opened new h = record {
   none = sighted_none is id length (sighting (moment_at subject p micros) p.pdos id length)
       (all_fine is (moment_at subject p micros) p.pdos id length (unseen is (moment_at subject p micros) subject.facts.pdos p.pdos id length (kept.knows p.pdos h) other));
   after = record { fresh = fresh micros p new; kept = kept.other p.pdos (moment_at subject p micros) id other h };
 }
-other_passes is I subject rows p micros Other kept other new h = record { none = refl; after = record { fresh = fresh micros p new; kept = h } }
-other_passes is I subject rows p micros _ kept other new h = absurd other
+other_passes is I subject rows p micros (Sdo side frame) kept other opened new h = sdo_passes is I subject rows p micros side frame other opened new h
+other_passes is I subject rows p micros Other kept other opened new h = record { none = refl; after = record { fresh = fresh micros p new; kept = h } }
+other_passes is I subject rows p micros _ kept other opened new h = absurd other
 
 other_command : (facts : Pdos) (node : ℕ) (command : Option NmtCommand) → IsOtherKind facts (command_to node command)
 other_command facts node None = tt
@@ -305,36 +350,36 @@ other_emergency : (facts : Pdos) (length : ℕ) (o : Option Emergency) → IsOth
 other_emergency facts length None = tt
 other_emergency facts length (Some emergency) = tt
 
--- frames of other services than SDO and error control, and none that is taken for a TPDO
-abbrev pub IsOther : Pdos → ℕ → ℕ → Type 0
-IsOther facts node id = (id ≢ 0x580 + node) × (id ≢ 0x600 + node) × (id ≢ 0x700 + node) × (is_followed facts id ≡ false)
+-- frames of other services than error control, and none that is taken for a TPDO
+abbrev pub IsOther : Pdos → ℕ → FrameContent → Type 0
+IsOther facts node frame = (frame.id ≢ 0x700 + node) × (is_followed facts frame.id ≡ false) × NamesNoTpdo node frame
 
-other_kind : (facts : Pdos) (node : ℕ) (frame : FrameContent) → IsOther facts node frame.id → IsOtherKind facts (data_kind node frame)
+other_kind : (facts : Pdos) (node : ℕ) (frame : FrameContent) → IsOther facts node frame → IsOtherKind facts (data_kind node frame)
 other_kind facts node frame h =
     by (frame.id == 0) (frame.id == 0x80 + node) (frame.id == 0x580 + node) (frame.id == 0x600 + node) (frame.id == 0x700 + node)
-    (ne_eqb frame.id (0x580 + node) h.0) (ne_eqb frame.id (0x600 + node) h.1) (ne_eqb frame.id (0x700 + node) h.2)
+    (λ e. h.2 (eqb-true frame.id (0x600 + node) e)) (ne_eqb frame.id (0x700 + node) h.0)
   where
-    by : (a b c d e : Bool) → c ≡ false → d ≡ false → e ≡ false
+    by : (a b c d e : Bool) → (d ≡ true → NamesNoneBy Client frame) → e ≡ false
         → IsOtherKind facts (if a then command_kind node frame
         else (if b then emergency_kind frame
         else (if c then Sdo Server frame
         else (if d then Sdo Client frame
         else (if e then control_kind frame else Process frame.id (length_of frame))))))
-    by true b c d e p q r = other_command facts node (nmt_command_in frame)
-    by false true c d e p q r = other_emergency facts (length_of frame) (emergency_in frame.bytes)
-    by false false true d e p q r = absurd (cc)
-    by false false false true e p q r = absurd (cc)
-    by false false false false true p q r = absurd (cc)
-    by false false false false false p q r = h.3
+    by true b c d e q r = other_command facts node (nmt_command_in frame)
+    by false true c d e q r = other_emergency facts (length_of frame) (emergency_in frame.bytes)
+    by false false true d e q r = tt
+    by false false false true e q r = q refl
+    by false false false false true q r = absurd (cc)
+    by false false false false false q r = h.1
 
 pub others : (is : Deviation → Bool) (I : Pdos → Type 0) (subject : Subject) (rows : List Row) (micros : ℕ) (frames : List FrameContent) (p : Progress) → IsKept subject.facts.pdos I
-    → AllByRecursion (λ frame. IsOther subject.facts.pdos subject.node frame.id) frames → Holds I p → AllRun (tpdo_differences is) subject rows micros p frames (Holds I)
+    → AllByRecursion (λ frame. IsOther subject.facts.pdos subject.node frame) frames → Holds I p → AllRun (tpdo_differences is) subject rows micros p frames (Holds I)
 others is I subject rows micros [] p kept are h = h
 others is I subject rows micros (frame ∷ later) p kept are h =
     let first : AllRun (tpdo_differences is) subject rows micros p (frame ∷ []) (Holds I) =
-    one is I subject rows micros p frame (data_kind subject.node frame) refl
+    one is I subject rows micros p frame (data_kind subject.node frame) refl are.0.2 h.opened
     (other_passes is I subject rows (begun subject p micros) micros (data_kind subject.node frame) kept (other_kind subject.facts.pdos subject.node frame are.0)
-    (begun_newest subject p micros h.fresh) (begun_kept subject I p micros kept h.kept)) in
+    (begun_open IsApart subject p micros h.opened) (begun_newest subject p micros h.fresh) (begun_kept subject I p micros kept h.kept)) in
     (first.0, others is I subject rows micros later (progress_with subject p micros (data_kind subject.node frame)) kept are.1 first.1)
 
 -- ---- the boot-up, and heartbeats
@@ -343,11 +388,15 @@ boot_passes : (is : Deviation → Bool) (I : Pdos → Type 0) (subject : Subject
 unfolding booted
 boot_passes is I subject rows p micros begins new = record { none = refl; after = record { fresh = fresh micros p new; kept = begins } }
 
+-- frames of error control are none of a client
+life_names : (node : ℕ) (bytes : List ℕ) → NamesNoTpdo node (record { id = 0x700 + node; bytes = bytes })
+life_names node bytes = λ id eight. absurd (let same : 0x700 + node ≡ 0x600 + node = id in omega arith)
+
 -- whatever held before it
-pub boots : (is : Deviation → Bool) (I : Pdos → Type 0) (subject : Subject) (rows : List Row) (micros : ℕ) (p : Progress) → I subject.facts.pdos → IsFresh p
+pub boots : (is : Deviation → Bool) (I : Pdos → Type 0) (subject : Subject) (rows : List Row) (micros : ℕ) (p : Progress) → I subject.facts.pdos → IsFresh p → IsOpenOn IsApart p
     → AllRun (tpdo_differences is) subject rows micros p (record { id = 0x700 + subject.node; bytes = heartbeat_bytes BootUp } ∷ []) (Holds I)
-boots is I subject rows micros p begins h =
-    one is I subject rows micros p (record { id = 0x700 + subject.node; bytes = heartbeat_bytes BootUp }) (Control 0) (life_kind subject.node BootUp)
+boots is I subject rows micros p begins h opened =
+    one is I subject rows micros p (record { id = 0x700 + subject.node; bytes = heartbeat_bytes BootUp }) (Control 0) (life_kind subject.node BootUp) (life_names subject.node (heartbeat_bytes BootUp)) opened
     (boot_passes is I subject rows (begun subject p micros) micros begins (begun_newest subject p micros h))
 
 either_kept : (I : Pdos → Type 0) (b : Bool) (x y : Pdos) → I x → I y → I (if b then x else y)
@@ -365,8 +414,9 @@ heartbeat_passes is I subject rows p micros node.Stopped kept new h = record { n
 pub lives : (is : Deviation → Bool) (I : Pdos → Type 0) (subject : Subject) (rows : List Row) (micros : ℕ) (p : Progress) (reset due : Bool) (final : NodeState) → IsKept subject.facts.pdos I
     → (reset ≡ true → I subject.facts.pdos) → Holds I p
     → AllRun (tpdo_differences is) subject rows micros p (life_frames subject.node (if reset then Some BootUp else (if due then Some (heartbeat_of final) else None))) (Holds I)
-lives is I subject rows micros p true due final kept begins h = boots is I subject rows micros p (begins refl) h.fresh
+lives is I subject rows micros p true due final kept begins h = boots is I subject rows micros p (begins refl) h.fresh h.opened
 lives is I subject rows micros p false false final kept begins h = h
 lives is I subject rows micros p false true final kept begins h =
     one is I subject rows micros p (record { id = 0x700 + subject.node; bytes = heartbeat_bytes (heartbeat_of final) }) (Control (state_byte (heartbeat_of final))) (life_kind subject.node (heartbeat_of final))
+    (life_names subject.node (heartbeat_bytes (heartbeat_of final))) h.opened
     (heartbeat_passes is I subject rows (begun subject p micros) micros final kept (begun_newest subject p micros h.fresh) (begun_kept subject I p micros kept h.kept))

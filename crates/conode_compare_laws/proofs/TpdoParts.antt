@@ -1,8 +1,8 @@
 -- The frames of an input: those besides TPDOs, and then the TPDOs one after another.
 use Rattle.std.proofs.Common.{◌≡◌, ◌≢◌, ℕ, ◌+◌, Bool, true, false, List, [], ◌∷◌, ◌++◌, map, Option, Some, None, refl}
-use Rattle.std.specs.Prelude.{if◌then◌else◌, ◌==◌}
+use Rattle.std.specs.Prelude.{if◌then◌else◌, ◌==◌, ◌||◌}
 use Rattle.std.specs.List.{AllByRecursion}
-use Rattle.std.proofs.lemmas.Bool.{ne_eqb}
+use Rattle.std.proofs.lemmas.Bool.{eqb-true, ne_eqb}
 use Rattle.co_frame.specs.FrameContent.{FrameContent}
 use Rattle.co_frame.specs.Emergencies.{emergency_in}
 use Rattle.co_frame.specs.declared.emergency.Emergency.{Emergency}
@@ -30,23 +30,25 @@ use Rattle.conode_compare_rules.specs.declared.verdict.Findings.{Findings}
 use Rattle.conode_compare_rules.specs.FrameKinds.{command_kind, control_kind, data_kind, emergency_kind, emergency_with, length_of}
 use Rattle.conode_compare_rules.specs.Progresses.{after_emergency, after_process, begun, moment_at, process_findings, progress_with}
 use Rattle.conode_compare_laws.specs.Identifiers.{AreAside, IsElsewhere, SendsAside}
+use Rattle.conode_compare_laws.specs.NamedTpdos.{NamesNoTpdo}
 use Rattle.conode_compare_laws.specs.Recordings.{frame_of}
 use Rattle.conode_compare_laws.specs.TpdoDifferences.{tpdo_differences}
 use Rattle.conode_compare_laws.specs.TpdoFrames.{AreUnfollowed, IsNoTpdo, SendsBesideTpdos}
 use Rattle.conode_compare_laws.proofs.Heard.{of_device}
-use Rattle.conode_compare_laws.proofs.Heartbeats.{NoSdo, after_those, before_these}
+use Rattle.conode_compare_laws.proofs.NamedKeys.{IsOpenOn, begun_open, first_of, last_of}
 use Rattle.conode_compare_laws.proofs.Runs.{AllRun, joined}
 use Rattle.conode_compare_laws.proofs.TpdoDue.{AreDistinct}
-use Rattle.conode_compare_laws.proofs.TpdoOthers.{AreFine, Holds, IsKept, IsNewest, IsOther, Passes, all_fine, begun_kept, begun_newest, fresh, lives, one, others, sighted_none}
+use Rattle.conode_compare_laws.proofs.TpdoNames.{AllNameNone, IsApart, NamesNoneBy}
+use Rattle.conode_compare_laws.proofs.TpdoOthers.{AreFine, Holds, IsKept, IsNewest, IsOther, Passes, all_fine, begun_kept, begun_newest, fresh, lives, one, others, sdo_passes, sighted_none}
 
 -- ---- which frames these are
 
-pub others_of : (facts : Pdos) (node : ℕ) (frames : List FrameContent) → NoSdo node frames → AreAside node frames → AreUnfollowed facts frames → AllByRecursion (λ frame. IsOther facts node frame.id) frames
+pub others_of : (facts : Pdos) (node : ℕ) (frames : List FrameContent) → AllNameNone node frames → AreAside node frames → AreUnfollowed facts frames → AllByRecursion (λ frame. IsOther facts node frame) frames
 others_of facts node [] none aside off = tt
-others_of facts node (frame ∷ frames) none aside off = ((none.0.0, none.0.1, aside.0.1, off.0), others_of facts node frames none.1 aside.1 off.1)
+others_of facts node (frame ∷ frames) none aside off = ((aside.0.1, off.0, none.0), others_of facts node frames none.1 aside.1 off.1)
 
-pub came_other : (facts : Pdos) (node : ℕ) (input : InputView) → NoSdo node (frame_of input) → IsElsewhere (0x700 + node) input → IsNoTpdo facts input → AllByRecursion (λ frame. IsOther facts node frame.id) (frame_of input)
-came_other facts node (Framed frame) none control off = ((none.0.0, none.0.1, control, off), tt)
+pub came_other : (facts : Pdos) (node : ℕ) (input : InputView) → AllNameNone node (frame_of input) → IsElsewhere (0x700 + node) input → IsNoTpdo facts input → AllByRecursion (λ frame. IsOther facts node frame) (frame_of input)
+came_other facts node (Framed frame) none control off = ((control, off, none.0), tt)
 came_other facts node Ticked none control off = tt
 came_other facts node (Applied event) none control off = tt
 
@@ -57,7 +59,7 @@ besides k m = frames_at m.exchange ++ frames_at m.timed_out ++ emergency_frames 
 
 pub besides_run : (is : Deviation → Bool) (I : Pdos → Type 0) (k : Constants) (subject : Subject) (rows : List Row) (micros : ℕ) (before : Inputs) (input : InputView) (p : Progress) → IsKept subject.facts.pdos I
     → (is_reset (moment k (moments k before) input).mark ≡ true → I subject.facts.pdos) → SendsAside k (moment k (moments k before) input) → SendsBesideTpdos subject.facts.pdos k (moment k (moments k before) input)
-    → NoSdo k.description.node (besides k (moment k (moments k before) input)) → Holds I p
+    → AllNameNone k.description.node (besides k (moment k (moments k before) input)) → Holds I p
     → AllRun (tpdo_differences is) (of_device k subject) rows micros p (besides k (moment k (moments k before) input)) (Holds I)
 besides_run is I k subject rows micros before input p kept begins aside off none h =
     let s : Subject = of_device k subject in
@@ -70,27 +72,33 @@ besides_run is I k subject rows micros before input p kept begins aside off none
     let b : List FrameContent = frames_at m.timed_out in
     let c : List FrameContent = emergency_frames m.contents m.emergency in
     let d : List FrameContent = life_frames n m.life in
-    let none_c : NoSdo n (a ++ b ++ c) = before_these n (a ++ b ++ c) d none in
-    let none_b : NoSdo n (a ++ b) = before_these n (a ++ b) c none_c in
+    let N : FrameContent → Type 0 = NamesNoTpdo n in
+    let none_c : AllNameNone n (a ++ b ++ c) = first_of N (a ++ b ++ c) d none in
+    let none_b : AllNameNone n (a ++ b) = first_of N (a ++ b) c none_c in
     joined (tpdo_differences is) s rows micros (a ++ b ++ c) d p (Holds I) (Holds I)
     (joined (tpdo_differences is) s rows micros (a ++ b) c p (Holds I) (Holds I)
     (joined (tpdo_differences is) s rows micros a b p (Holds I) (Holds I)
-    (others is I s rows micros a p kept (others_of facts n a (before_these n a b none_b) aside.answers off.answers) h)
-    (λ q g. others is I s rows micros b q kept (others_of facts n b (after_those n a b none_b) aside.time_out off.time_out) g))
-    (λ q g. others is I s rows micros c q kept (others_of facts n c (after_those n (a ++ b) c none_c) aside.emergency off.emergency) g))
+    (others is I s rows micros a p kept (others_of facts n a (first_of N a b none_b) aside.answers off.answers) h)
+    (λ q g. others is I s rows micros b q kept (others_of facts n b (last_of N a b none_b) aside.time_out off.time_out) g))
+    (λ q g. others is I s rows micros c q kept (others_of facts n c (last_of N (a ++ b) c none_c) aside.emergency off.emergency) g))
     (λ q g. lives is I s rows micros q (is_reset m.mark) due final kept begins g)
 
 -- ---- one TPDO
 
--- identifiers that a TPDO of the device may have
-abbrev pub IsTpdoId : ℕ → ℕ → Type 0
-IsTpdoId node id = (id ≢ 0) × (id ≢ 0x580 + node) × (id ≢ 0x600 + node) × (id ≢ 0x700 + node)
+-- what is asked of a TPDO of the device: it has the identifier of neither a command nor error control, and what it names, if it is
+-- taken for a frame of a client
+abbrev pub IsTpdoFrame : ℕ → FrameContent → Type 0
+IsTpdoFrame node frame = (frame.id ≢ 0) × (frame.id ≢ 0x700 + node) × NamesNoTpdo node frame
 
--- it is as it should be, and what holds then; and what, where it is taken for an EMCY
+-- with the identifier of EMCY, or of the default SDO channel, it isn't taken for a TPDO
+abbrev pub is_unwatched : ℕ → ℕ → Bool
+is_unwatched node id = (id == 0x80 + node) || ((id == 0x580 + node) || (id == 0x600 + node))
+
+-- it is as it should be, and what holds then; and what, where it isn't taken for a TPDO
 pub record Step (is : Deviation → Bool) (J : Pdos → Type 0) (subject : Subject) (p : Progress) (micros id length : ℕ) : Type 0 where
   pub fine : AreFine is (moment_at subject p micros) p.pdos id length
-  pub kept : (id == 0x80 + subject.node) ≡ false → J (framed p.pdos (moment_at subject p micros) id)
-  pub unseen : (id == 0x80 + subject.node) ≡ true → J p.pdos
+  pub kept : is_unwatched subject.node id ≡ false → J (framed p.pdos (moment_at subject p micros) id)
+  pub unseen : is_unwatched subject.node id ≡ true → J p.pdos
 
 emergency_passes : (is : Deviation → Bool) (J : Pdos → Type 0) (subject : Subject) (rows : List Row) (p : Progress) (micros length : ℕ) (o : Option Emergency) → IsNewest micros p → J p.pdos
     → Passes is J subject rows p micros (emergency_with length o)
@@ -98,7 +106,7 @@ unfolding after_emergency
 emergency_passes is J subject rows p micros length None new h = record { none = refl; after = record { fresh = fresh micros p new; kept = h } }
 emergency_passes is J subject rows p micros length (Some emergency) new h = record { none = refl; after = record { fresh = fresh micros p new; kept = h } }
 
-process_passes : (is : Deviation → Bool) (J : Pdos → Type 0) (subject : Subject) (rows : List Row) (p : Progress) (micros id length : ℕ) → (id == 0x80 + subject.node) ≡ false → IsNewest micros p → Step is J subject p micros id length
+process_passes : (is : Deviation → Bool) (J : Pdos → Type 0) (subject : Subject) (rows : List Row) (p : Progress) (micros id length : ℕ) → is_unwatched subject.node id ≡ false → IsNewest micros p → Step is J subject p micros id length
     → Passes is J subject rows p micros (Process id length)
 unfolding process_findings after_process
 process_passes is J subject rows p micros id length other new step = record {
@@ -106,24 +114,24 @@ process_passes is J subject rows p micros id length other new step = record {
   after = record { fresh = fresh micros p new; kept = step.kept other };
 }
 
-tpdo_passes : (is : Deviation → Bool) (J : Pdos → Type 0) (subject : Subject) (rows : List Row) (p : Progress) (micros : ℕ) (frame : FrameContent) → IsTpdoId subject.node frame.id → IsNewest micros p
+tpdo_passes : (is : Deviation → Bool) (J : Pdos → Type 0) (subject : Subject) (rows : List Row) (p : Progress) (micros : ℕ) (frame : FrameContent) → IsTpdoFrame subject.node frame → IsOpenOn IsApart p → IsNewest micros p
     → Step is J subject p micros frame.id (length_of frame) → Passes is J subject rows p micros (data_kind subject.node frame)
-tpdo_passes is J subject rows p micros frame id new step =
+tpdo_passes is J subject rows p micros frame id opened new step =
     by (frame.id == 0) (frame.id == 0x80 + subject.node) (frame.id == 0x580 + subject.node) (frame.id == 0x600 + subject.node) (frame.id == 0x700 + subject.node)
-    (ne_eqb frame.id 0 id.0) refl (ne_eqb frame.id (0x580 + subject.node) id.1) (ne_eqb frame.id (0x600 + subject.node) id.2) (ne_eqb frame.id (0x700 + subject.node) id.3)
+    (ne_eqb frame.id 0 id.0) refl (λ e. id.2 (eqb-true frame.id (0x600 + subject.node) e)) (ne_eqb frame.id (0x700 + subject.node) id.1)
   where
-    by : (a b c d e : Bool) → a ≡ false → (frame.id == 0x80 + subject.node) ≡ b → c ≡ false → d ≡ false → e ≡ false
+    by : (a b c d e : Bool) → a ≡ false → is_unwatched subject.node frame.id ≡ b || (c || d) → (d ≡ true → NamesNoneBy Client frame) → e ≡ false
         → Passes is J subject rows p micros (if a then command_kind subject.node frame
         else (if b then emergency_kind frame
         else (if c then Sdo Server frame
         else (if d then Sdo Client frame
         else (if e then control_kind frame else Process frame.id (length_of frame))))))
-    by true b c d e o emergency q r s = absurd (cc)
-    by false true c d e o emergency q r s = emergency_passes is J subject rows p micros (length_of frame) (emergency_in frame.bytes) new (step.unseen emergency)
-    by false false true d e o emergency q r s = absurd (cc)
-    by false false false true e o emergency q r s = absurd (cc)
-    by false false false false true o emergency q r s = absurd (cc)
-    by false false false false false o emergency q r s = process_passes is J subject rows p micros frame.id (length_of frame) emergency new step
+    by true b c d e o other q s = absurd (cc)
+    by false true c d e o other q s = emergency_passes is J subject rows p micros (length_of frame) (emergency_in frame.bytes) new (step.unseen other)
+    by false false true d e o other q s = sdo_passes is J subject rows p micros Server frame tt opened new (step.unseen other)
+    by false false false true e o other q s = sdo_passes is J subject rows p micros Client frame (q refl) opened new (step.unseen other)
+    by false false false false true o other q s = absurd (cc)
+    by false false false false false o other q s = process_passes is J subject rows p micros frame.id (length_of frame) other new step
 
 -- ---- the TPDOs that are due, one after another
 
@@ -131,7 +139,7 @@ tpdo_passes is J subject rows p micros frame id new step =
 pub record Walk (is : Deviation → Bool) (Ok : ℕ → Type 0) (J : List ℕ → Pdos → Type 0) (Q : Progress → Type 0) (subject : Subject) (micros : ℕ) (frame : ℕ → FrameContent) : Type 0 where
   pub kept : (due : List ℕ) → IsKept subject.facts.pdos (J due)
   pub begins : (p : Progress) → Q p → Q (begun subject p micros)
-  pub goes_on : (p : Progress) (n : ℕ) → IsTpdoId subject.node (frame n).id → Q p → Q (progress_with subject p micros (data_kind subject.node (frame n)))
+  pub goes_on : (p : Progress) (n : ℕ) → IsTpdoFrame subject.node (frame n) → Q p → Q (progress_with subject p micros (data_kind subject.node (frame n)))
   pub step : (n : ℕ) (later : List ℕ) (p : Progress) → IsNewest micros p → Ok n → is_among n later ≡ false → Q p → J (n ∷ later) p.pdos → Step is (J later) subject p micros (frame n).id (length_of (frame n))
 
 -- what holds after the last one
@@ -140,7 +148,7 @@ pub record Walked (J : Pdos → Type 0) (Q : Progress → Type 0) (p : Progress)
   pub besides : Q p
 
 pub walks : (is : Deviation → Bool) (Ok : ℕ → Type 0) (J : List ℕ → Pdos → Type 0) (Q : Progress → Type 0) (subject : Subject) (rows : List Row) (micros : ℕ) (frame : ℕ → FrameContent) (due : List ℕ) (p : Progress)
-    → Walk is Ok J Q subject micros frame → AllByRecursion (λ n. IsTpdoId subject.node (frame n).id) due → AllByRecursion Ok due → AreDistinct due → Holds (J due) p → Q p
+    → Walk is Ok J Q subject micros frame → AllByRecursion (λ n. IsTpdoFrame subject.node (frame n)) due → AllByRecursion Ok due → AreDistinct due → Holds (J due) p → Q p
     → AllRun (tpdo_differences is) subject rows micros p (map frame due) (Walked (J []) Q)
 walks is Ok J Q subject rows micros frame [] p walk ids oks once h g = record { holds = h; besides = g }
 walks is Ok J Q subject rows micros frame (n ∷ later) p walk ids oks once h g =
@@ -148,12 +156,13 @@ walks is Ok J Q subject rows micros frame (n ∷ later) p walk ids oks once h g 
     let step : Step is (J later) subject (begun subject p micros) micros (frame n).id (length_of (frame n)) =
     walk.step n later (begun subject p micros) new oks.0 once.0 (walk.begins p g) (begun_kept subject (J (n ∷ later)) p micros (walk.kept (n ∷ later)) h.kept) in
     let first : AllRun (tpdo_differences is) subject rows micros p (frame n ∷ []) (Holds (J later)) =
-    one is (J later) subject rows micros p (frame n) (data_kind subject.node (frame n)) refl (tpdo_passes is (J later) subject rows (begun subject p micros) micros (frame n) ids.0 new step) in
+    one is (J later) subject rows micros p (frame n) (data_kind subject.node (frame n)) refl ids.0.2 h.opened
+    (tpdo_passes is (J later) subject rows (begun subject p micros) micros (frame n) ids.0 (begun_open IsApart subject p micros h.opened) new step) in
     (first.0, walks is Ok J Q subject rows micros frame later (progress_with subject p micros (data_kind subject.node (frame n))) walk ids.1 oks.1 once.1 first.1 (walk.goes_on p n ids.0 g))
 
-pub tpdo_ids : (node : ℕ) (frame : ℕ → FrameContent) (due : List ℕ) → AreAside node (map frame due) → NoSdo node (map frame due) → AllByRecursion (λ n. IsTpdoId node (frame n).id) due
+pub tpdo_ids : (node : ℕ) (frame : ℕ → FrameContent) (due : List ℕ) → AreAside node (map frame due) → AllNameNone node (map frame due) → AllByRecursion (λ n. IsTpdoFrame node (frame n)) due
 tpdo_ids node frame [] aside none = tt
-tpdo_ids node frame (n ∷ due) aside none = ((aside.0.0, none.0.0, none.0.1, aside.0.1), tpdo_ids node frame due aside.1 none.1)
+tpdo_ids node frame (n ∷ due) aside none = ((aside.0.0, aside.0.1, none.0), tpdo_ids node frame due aside.1 none.1)
 
 -- what holds after the last one gives something else
 pub weaken : (these : FrameKind → Findings → List Finding) (subject : Subject) (rows : List Row) (micros : ℕ) (frames : List FrameContent) (p : Progress) (A B : Progress → Type 0) → ((q : Progress) → A q → B q)

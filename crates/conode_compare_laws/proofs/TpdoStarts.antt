@@ -1,7 +1,9 @@
 -- The frame that an input is, to the times of TPDOs: as operational is entered a command comes, and they count anew.
-use Rattle.std.proofs.Common.{◌≡◌, ℕ, ◌-◌, ◌≤◌, Bool, true, false, List, [], ◌∷◌, Option, Some, None, refl, sym, subst, arith}
+use Rattle.std.proofs.Common.{◌≡◌, ℕ, ◌+◌, ◌-◌, ◌≤◌, Bool, true, false, List, [], ◌∷◌, Option, Some, None, refl, sym, subst, arith}
 use Rattle.std.specs.Prelude.{if◌then◌else◌, ◌==◌, ◌||◌, not, is_some}
+use Rattle.std.proofs.lemmas.Bool.{eqb-true}
 use Rattle.co_value.specs.declared.key.Key.{Key}
+use Rattle.co_frame.specs.FrameContent.{FrameContent}
 use Rattle.co_frame.specs.Nmt.{nmt_command_in}
 use Rattle.co_frame.specs.declared.nmt.NmtCommand.{NmtCommand}
 use Rattle.co_frame.specs.declared.nmt.NmtService.{NmtService}
@@ -31,6 +33,7 @@ use Rattle.conode_compare_rules.specs.declared.limits.Subject.{Subject}
 use Rattle.conode_compare_rules.specs.declared.progress.Progress.{Progress}
 use Rattle.conode_compare_rules.specs.FrameKinds.{command_to}
 use Rattle.conode_compare_rules.specs.Progresses.{after_command, begun, with_gap}
+use Rattle.conode_compare_laws.specs.NamedTpdos.{NamesNoTpdo}
 use Rattle.conode_compare_laws.specs.Recordings.{elapsed, frame_of}
 use Rattle.conode_compare_laws.specs.TpdoDifferences.{tpdo_differences}
 use Rattle.conode_compare_laws.proofs.Frames.{nmt_kind}
@@ -38,7 +41,7 @@ use Rattle.conode_compare_laws.proofs.Inputs.{command_in, end_shown, state_by}
 use Rattle.conode_compare_laws.proofs.Pausing.{took}
 use Rattle.conode_compare_laws.proofs.Runs.{AllRun}
 use Rattle.conode_compare_laws.proofs.Shown.{is_shown}
-use Rattle.conode_compare_laws.proofs.TpdoOthers.{Holds, IsNewest, Knows, Passes, begun_kept, begun_newest, fresh, knows_kept, one}
+use Rattle.conode_compare_laws.proofs.TpdoOthers.{Holds, IsNewest, Knows, Passes, Stays, begun_kept, begun_newest, fresh, knows_kept, one}
 use Rattle.conode_compare_laws.proofs.TpdoTimes.{AreTimed, commanded_timed, unknown_timed}
 
 -- ---- turns
@@ -171,7 +174,7 @@ module _ (is : Deviation → Bool) (R : ℕ → Sent → List ℕ → Type 0) (i
   abbrev pub I : Pdos → Type 0
   I = AreTimed R subject.node ids subject.facts.pdos micros ages
 
-  command_holds : (p : Progress) (service : NmtService) (own : Bool) → IsNewest micros p → Knows subject.facts.pdos p.pdos → Holds I (after_command p service own micros)
+  command_holds : (p : Progress) (service : NmtService) (own : Bool) → IsNewest micros p → Knows subject.facts.pdos p.pdos → Stays I (after_command p service own micros)
   unfolding after_command with_gap
   command_holds p Start own new h = record { fresh = fresh micros p new; kept = commanded_timed R subject.node ids subject.facts.pdos micros ages p.pdos h }
   command_holds p Stop own new h = record { fresh = fresh micros p new; kept = commanded_timed R subject.node ids subject.facts.pdos micros ages p.pdos h }
@@ -189,6 +192,10 @@ module _ (is : Deviation → Bool) (R : ℕ → Sent → List ℕ → Type 0) (i
       by false true g = record { none = refl; after = command_holds p command.service false new h }
       by false false g = absurd (cc)
 
+  -- it is none of a client
+  command_names : (frame : FrameContent) → (frame.id == 0) ≡ true → NamesNoTpdo subject.node frame
+  command_names frame zero = λ id eight. absurd (let none : frame.id ≡ 0 = eqb-true frame.id 0 zero in let some : frame.id ≡ 0x600 + subject.node = id in omega arith)
+
   pub command_comes : (input : InputView) (p : Progress) → is_some (command_in subject.node input) ≡ true → Holds (Knows subject.facts.pdos) p → AllRun (tpdo_differences is) subject rows micros p (frame_of input) (Holds I)
   command_comes Ticked p on h = absurd (cc)
   command_comes (Applied event) p on h = absurd (cc)
@@ -196,6 +203,6 @@ module _ (is : Deviation → Bool) (R : ℕ → Sent → List ℕ → Type 0) (i
     where
       by : (b : Bool) → (frame.id == 0) ≡ b → is_some (if b then service_for subject.node (nmt_command_in frame) else None) ≡ true → AllRun (tpdo_differences is) subject rows micros p (frame ∷ []) (Holds I)
       by true zero g =
-          one is I subject rows micros p frame (command_to subject.node (nmt_command_in frame)) (nmt_kind subject.node frame zero)
+          one is I subject rows micros p frame (command_to subject.node (nmt_command_in frame)) (nmt_kind subject.node frame zero) (command_names frame zero) h.opened
           (command_passes (begun subject p micros) (nmt_command_in frame) g (begun_newest subject p micros h.fresh) (begun_kept subject (Knows subject.facts.pdos) p micros (knows_kept subject.facts.pdos) h.kept))
       by false zero g = absurd (cc)

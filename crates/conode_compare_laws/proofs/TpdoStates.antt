@@ -35,7 +35,8 @@ use Rattle.conode_compare_rules.specs.declared.verdict.Findings.{Findings}
 use Rattle.conode_compare_rules.specs.FrameKinds.{data_kind, length_of}
 use Rattle.conode_compare_rules.specs.Progresses.{before_recording, is_idle, moment_at, progress_with, settled_when_free}
 use Rattle.conode_compare_laws.specs.Differences.{differences_from, differences_in, state_differences}
-use Rattle.conode_compare_laws.specs.Identifiers.{AllSendAside, AreElsewhere, AreNoSdo, IsElsewhere, SendsAside}
+use Rattle.conode_compare_laws.specs.Identifiers.{AllSendAside, AreElsewhere, IsElsewhere, SendsAside}
+use Rattle.conode_compare_laws.specs.NamedTpdos.{NameNoTpdos, NamesNoTpdo}
 use Rattle.conode_compare_laws.specs.Recordings.{Recorded, Stamped, frame_of, heard_from, recording, stamped}
 use Rattle.conode_compare_laws.specs.TpdoDifferences.{is_pdo_state, tpdo_differences}
 use Rattle.conode_compare_laws.specs.TpdoFrames.{AllSendBesideTpdos, AreNoTpdos, IsNoTpdo, SendsBesideTpdos}
@@ -43,15 +44,16 @@ use Rattle.conode_compare_laws.proofs.Along as along
 use Rattle.conode_compare_laws.proofs.Along.{AllGo, Goes}
 use Rattle.conode_compare_laws.proofs.Frames.{FitsAt, begun_fits}
 use Rattle.conode_compare_laws.proofs.Heard.{Ends, aside_goes, asides, before_sending, boot_goes, life_goes, of_device, received, stage_at}
-use Rattle.conode_compare_laws.proofs.Heartbeats.{NoSdo, after_those, before_these, first_part, last_part, unstamped}
 use Rattle.conode_compare_laws.proofs.Inputs.{command_in, command_is, end_shown, state_by}
+use Rattle.conode_compare_laws.proofs.NamedKeys.{first_of, last_of}
 use Rattle.conode_compare_laws.proofs.Runs.{AllRun, joined, then_none}
 use Rattle.conode_compare_laws.proofs.Shown.{Stage, boots, fits_nothing, is_shown, runs, stage_after}
 use Rattle.conode_compare_laws.proofs.TpdoDue.{AreDistinct, due_distinct}
 use Rattle.conode_compare_laws.proofs.TpdoKinds.{deviation_none, length_none, sync_none, untimed}
+use Rattle.conode_compare_laws.proofs.TpdoNames.{AllNameNone, unstamped_names}
 use Rattle.conode_compare_laws.proofs.TpdoOthers as others
 use Rattle.conode_compare_laws.proofs.TpdoOthers.{AreFine, Holds, Knows, is_of, knows_framed, knows_kept, knows_sheet}
-use Rattle.conode_compare_laws.proofs.TpdoParts.{IsTpdoId, Walk, Walked, besides, besides_run, came_other, tpdo_ids, walks}
+use Rattle.conode_compare_laws.proofs.TpdoParts.{IsTpdoFrame, Walk, Walked, besides, besides_run, came_other, tpdo_ids, walks}
 
 -- ---- one TPDO
 
@@ -89,7 +91,7 @@ state_walk : (subject : Subject) (rows : List Row) (micros : ℕ) (frame : ℕ �
 state_walk subject rows micros frame = record {
   kept = λ due. knows_kept subject.facts.pdos;
   begins = λ p h. begun_fits subject p micros micros (runs node.Operational) h;
-  goes_on = λ p n id h. (aside_goes subject rows micros p (frame n) (runs node.Operational) (ne_eqb (frame n).id 0 id.0) (ne_eqb (frame n).id (0x700 + subject.node) id.3) h).fits;
+  goes_on = λ p n id h. (aside_goes subject rows micros p (frame n) (runs node.Operational) (ne_eqb (frame n).id 0 id.0) (ne_eqb (frame n).id (0x700 + subject.node) id.1) h).fits;
   step = λ n later p new ok once fits h. record {
     fine = all_fine subject p micros (frame n).id (length_of (frame n)) fits;
     kept = λ other. knows_framed subject.facts.pdos p.pdos (moment_at subject p micros) (frame n).id h;
@@ -116,7 +118,7 @@ all_units : (numbers : List ℕ) → AllByRecursion (λ n. Unit {0}) numbers
 all_units [] = tt
 all_units (n ∷ numbers) = (tt, all_units numbers)
 
-tpdos_run : (subject : Subject) (rows : List Row) (micros : ℕ) (frame : ℕ → FrameContent) (due : List ℕ) (final : NodeState) (p : Progress) → (due ≡ []) ⊎ (final ≡ node.Operational) → AllByRecursion (λ n. IsTpdoId subject.node (frame n).id) due → AreDistinct due
+tpdos_run : (subject : Subject) (rows : List Row) (micros : ℕ) (frame : ℕ → FrameContent) (due : List ℕ) (final : NodeState) (p : Progress) → (due ≡ []) ⊎ (final ≡ node.Operational) → AllByRecursion (λ n. IsTpdoFrame subject.node (frame n)) due → AreDistinct due
     → Holds (Knows subject.facts.pdos) p → FitsAt micros (runs final) p → AllRun (tpdo_differences is_pdo_state) subject rows micros p (map frame due) (Walked (Knows subject.facts.pdos) (FitsAt micros (runs final)))
 tpdos_run subject rows micros frame due final p (inl none) ids once h g =
     subst (λ numbers. AllRun (tpdo_differences is_pdo_state) subject rows micros p (map frame numbers) (Walked (Knows subject.facts.pdos) (FitsAt micros (runs final)))) (sym none)
@@ -161,7 +163,7 @@ record IsShown (facts : Pdos) (actual : NodeState) (p : Progress) : Type 0 where
   state : is_shown p.nmt.state actual ≡ true
 
 input_runs : (k : Constants) (subject : Subject) (rows : List Row) (micros : ℕ) (before : Inputs) (input : InputView) (p : Progress) → IsElsewhere (0x700 + k.description.node) input → IsNoTpdo subject.facts.pdos input
-    → SendsAside k (moment k (moments k before) input) → SendsBesideTpdos subject.facts.pdos k (moment k (moments k before) input) → NoSdo k.description.node (frame_of input ++ prescribed k before input)
+    → SendsAside k (moment k (moments k before) input) → SendsBesideTpdos subject.facts.pdos k (moment k (moments k before) input) → AllNameNone k.description.node (frame_of input ++ prescribed k before input)
     → IsShown subject.facts.pdos (state_of k before) p
     → AllRun (tpdo_differences is_pdo_state) (of_device k subject) rows micros p (frame_of input ++ prescribed k before input) (Walked (Knows subject.facts.pdos) (FitsAt micros (runs (state_of k (input ∷ before)))))
 input_runs k subject rows micros before input p control no_tpdo aside off none h =
@@ -175,38 +177,40 @@ input_runs k subject rows micros before input p control no_tpdo aside off none h
     let stage : Stage = stage_after (command_in n input) (state_of k before) in
     let came : List FrameContent = frame_of input in
     let more : List FrameContent = besides k m in
-    let sent : NoSdo n (more ++ map frame m.due) = after_those n came (prescribed k before input) none in
+    let N : FrameContent → Type 0 = NamesNoTpdo n in
+    let sent : AllNameNone n (more ++ map frame m.due) = last_of N came (prescribed k before input) none in
     let after_came : Progress → Type 0 = λ q. FitsAt micros stage q × Holds (Knows facts) q in
     let after_more : Progress → Type 0 = λ q. FitsAt micros (runs final) q × Holds (Knows facts) q in
     let after : Progress → Type 0 = Walked (Knows facts) (FitsAt micros (runs final)) in
     joined these s rows micros came (more ++ map frame m.due) p after_came after
     (with_fits these s rows micros came p stage (Holds (Knows facts)) (received s rows micros input p (state_of k before) control h.state)
-    (others.others is_pdo_state (Knows facts) s rows micros came p (knows_kept facts) (came_other facts n input (before_these n came (prescribed k before input) none) control no_tpdo) h.holds))
+    (others.others is_pdo_state (Knows facts) s rows micros came p (knows_kept facts) (came_other facts n input (first_of N came (prescribed k before input) none) control no_tpdo) h.holds))
     (λ q g.
     joined these s rows micros more (map frame m.due) q after_more after
     (with_fits these s rows micros more q (runs final) (Holds (Knows facts))
     (fits_besides k subject rows micros before input q aside
     (subst (λ c. FitsAt micros (stage_at c final) q) (sym (command_is k (moments k before) input))
     (before_sending micros (command_in n input) (state_of k before) final q (λ state shown. end_shown k (moments k before) input state shown) g.0)))
-    (besides_run is_pdo_state (Knows facts) k subject rows micros before input q (knows_kept facts) (λ reset. knows_sheet facts) aside off (before_these n more (map frame m.due) sent) g.1))
-    (λ r f. tpdos_run s rows micros frame m.due final r (due_operational k before input) (tpdo_ids n frame m.due aside.tpdos (after_those n more (map frame m.due) sent))
+    (besides_run is_pdo_state (Knows facts) k subject rows micros before input q (knows_kept facts) (λ reset. knows_sheet facts) aside off (first_of N more (map frame m.due) sent) g.1))
+    (λ r f. tpdos_run s rows micros frame m.due final r (due_operational k before input) (tpdo_ids n frame m.due aside.tpdos (last_of N more (map frame m.due) sent))
     (due_distinct k.description (turn_at m (moments k before)) m.contents (schedule_log k (moments k before))) f.1 f.0))
 
 -- ---- all inputs
 
 all_none : (k : Constants) (subject : Subject) (rows : List Row) (inputs : List Stamped) (before : Inputs) (p : Progress) → AreElsewhere (0x700 + k.description.node) inputs → AreNoTpdos subject.facts.pdos inputs
-    → AllSendAside k before inputs → AllSendBesideTpdos subject.facts.pdos k before inputs → AreNoSdo k.description.node (heard_from k before inputs) → IsShown subject.facts.pdos (state_of k before) p
+    → AllSendAside k before inputs → AllSendBesideTpdos subject.facts.pdos k before inputs → NameNoTpdos k.description.node (heard_from k before inputs) → IsShown subject.facts.pdos (state_of k before) p
     → differences_from (tpdo_differences is_pdo_state) (of_device k subject) rows p (heard_from k before inputs) ≡ []
 all_none k subject rows [] before p control no_tpdos aside off none h = refl
 all_none k subject rows (s ∷ later) before p control no_tpdos aside off none h =
     let frames : List FrameContent = frame_of s.input ++ prescribed k before s.input in
     let rest : List Recorded = heard_from k (s.input ∷ before) later in
+    let N : Recorded → Type 0 = λ r. NamesNoTpdo k.description.node r.frame in
     then_none (tpdo_differences is_pdo_state) (of_device k subject) rows s.micros frames rest p (Walked (Knows subject.facts.pdos) (FitsAt s.micros (runs (state_of k (s.input ∷ before)))))
-    (input_runs k subject rows s.micros before s.input p control.0 no_tpdos.0 aside.0 off.0 (unstamped k.description.node s.micros frames (first_part k.description.node (stamped s.micros frames) rest none)) h)
-    (λ q g. all_none k subject rows later (s.input ∷ before) q control.1 no_tpdos.1 aside.1 off.1 (last_part k.description.node (stamped s.micros frames) rest none) (record { holds = g.holds; state = g.besides }))
+    (input_runs k subject rows s.micros before s.input p control.0 no_tpdos.0 aside.0 off.0 (unstamped_names k.description.node s.micros frames (first_of N (stamped s.micros frames) rest none)) h)
+    (λ q g. all_none k subject rows later (s.input ∷ before) q control.1 no_tpdos.1 aside.1 off.1 (last_of N (stamped s.micros frames) rest none) (record { holds = g.holds; state = g.besides }))
 
 of_recording : (k : Constants) (subject : Subject) (rows : List Row) (inputs : List Stamped) → AreElsewhere (0x700 + k.description.node) inputs → AreNoTpdos subject.facts.pdos inputs
-    → AllSendAside k [] inputs → AllSendBesideTpdos subject.facts.pdos k [] inputs → AreNoSdo k.description.node (recording k inputs)
+    → AllSendAside k [] inputs → AllSendBesideTpdos subject.facts.pdos k [] inputs → NameNoTpdos k.description.node (recording k inputs)
     → differences_in (tpdo_differences is_pdo_state) (of_device k subject) rows (recording k inputs) ≡ []
 of_recording k subject rows [] control no_tpdos aside off none = refl
 of_recording k subject rows (s ∷ later) control no_tpdos aside off none =
@@ -216,11 +220,11 @@ of_recording k subject rows (s ∷ later) control no_tpdos aside off none =
     boot_goes subj rows s.micros (before_recording subj) (fits_nothing s.micros boots) in
     then_none these subj rows s.micros (boot_up k ∷ []) (heard_from k [] (s ∷ later)) (before_recording subj) (λ q. FitsAt s.micros (runs node.PreOperational) q × Holds (Knows subject.facts.pdos) q)
     (with_fits these subj rows s.micros (boot_up k ∷ []) (before_recording subj) (runs node.PreOperational) (Holds (Knows subject.facts.pdos)) (g.none, g.fits)
-    (others.boots is_pdo_state (Knows subject.facts.pdos) subj rows s.micros (before_recording subj) (knows_sheet subject.facts.pdos) tt))
+    (others.boots is_pdo_state (Knows subject.facts.pdos) subj rows s.micros (before_recording subj) (knows_sheet subject.facts.pdos) tt tt))
     (λ q h. all_none k subject rows (s ∷ later) [] q control no_tpdos aside off none.1 (record { holds = h.1; state = h.0 }))
 
 pub no_pdo_state : (k : Constants) (subject : Subject) (rows : List Row) (inputs : List Stamped) → subject.node ≡ k.description.node → AreElsewhere (0x700 + k.description.node) inputs → AreNoTpdos subject.facts.pdos inputs
-    → AllSendAside k [] inputs → AllSendBesideTpdos subject.facts.pdos k [] inputs → AreNoSdo k.description.node (recording k inputs)
+    → AllSendAside k [] inputs → AllSendBesideTpdos subject.facts.pdos k [] inputs → NameNoTpdos k.description.node (recording k inputs)
     → differences_in (tpdo_differences is_pdo_state) subject rows (recording k inputs) ≡ []
 no_pdo_state k subject rows inputs is control no_tpdos aside off none =
     subst (λ n. differences_in (tpdo_differences is_pdo_state) (record subject { node = n }) rows (recording k inputs) ≡ []) (sym is)

@@ -1,6 +1,7 @@
 -- A synchronous TPDO of a device comes after a SYNC that compare has seen.
-use Rattle.std.proofs.Common.{◌≡◌, ℕ, ◌+◌, ◌<◌, ◌≤◌, Bool, true, false, List, [], ◌∷◌, ◌++◌, length, map, Option, Some, None, refl, ap, sym, ◌∙◌, subst, arith, ◌⊎◌, inl, inr}
+use Rattle.std.proofs.Common.{◌≡◌, ◌≢◌, ℕ, ◌+◌, ◌<◌, ◌≤◌, Bool, true, false, List, [], ◌∷◌, ◌++◌, length, map, Option, Some, None, refl, ap, sym, ◌∙◌, subst, arith, ◌⊎◌, inl, inr}
 use Rattle.std.specs.Prelude.{if◌then◌else◌, ◌==◌, ◌&&◌, ◌||◌, nat_le, is_some, IfSome}
+use Rattle.std.specs.List.{AllByRecursion}
 use Rattle.std.proofs.lemmas.Bool.{and_parts, eq-eqb, eqb-true, ne_eqb, or_parts, or_right}
 use Rattle.std.proofs.lemmas.Bool.Decides.{nat_tests}
 use Rattle.co_frame.specs.FrameContent.{FrameContent}
@@ -37,17 +38,19 @@ use Rattle.conode_compare_rules.specs.declared.progress.Progress.{Progress}
 use Rattle.conode_compare_rules.specs.FrameKinds.{data_kind, length_of}
 use Rattle.conode_compare_rules.specs.Progresses.{after_process, begun, moment_at, process_findings}
 use Rattle.conode_compare_laws.specs.Differences.{differences_in}
-use Rattle.conode_compare_laws.specs.Identifiers.{AllSendAside, AreElsewhere, AreNoSdo, IsElsewhere}
-use Rattle.conode_compare_laws.specs.Recordings.{Stamped, frame_of, recording}
+use Rattle.conode_compare_laws.specs.Identifiers.{AllSendAside, AreElsewhere, IsElsewhere}
+use Rattle.conode_compare_laws.specs.NamedTpdos.{AreNoSdoSyncs, IsNoSdoSync, NameNoTpdos, NamesNoTpdo}
+use Rattle.conode_compare_laws.specs.Recordings.{Recorded, Stamped, frame_of, heard_from, recording, stamped}
 use Rattle.conode_compare_laws.specs.TpdoDifferences.{is_pdo_sync, tpdo_differences}
 use Rattle.conode_compare_laws.specs.TpdoFrames.{AllSendBesideTpdos, AreNoTpdos, IsNoTpdo, is_followed}
 use Rattle.conode_compare_laws.specs.TpdoParameters.{AllKeepTpdos, AreTpdosOf, IsTpdoOf, KeepsTpdos}
 use Rattle.conode_compare_laws.proofs.Heard.{of_device}
-use Rattle.conode_compare_laws.proofs.Heartbeats.{NoSdo, after_those, before_these}
+use Rattle.conode_compare_laws.proofs.NamedKeys.{first_of, last_of}
 use Rattle.conode_compare_laws.proofs.Runs.{AllRun, joined}
 use Rattle.conode_compare_laws.proofs.TpdoDue.{IsAt, active, active_kept, alone, due_all, due_distinct, number_kept, tpdo_number}
-use Rattle.conode_compare_laws.proofs.TpdoInputs.{AllInputs, AreClear, all_clear, no_sdo_later, of_device_too, of_recording}
+use Rattle.conode_compare_laws.proofs.TpdoInputs.{AllInputs, AreClear, all_clear, names_later, of_device_too, of_recording}
 use Rattle.conode_compare_laws.proofs.TpdoKinds.{deviation_none, length_none, state_none, untimed}
+use Rattle.conode_compare_laws.proofs.TpdoNames.{AllNameNone}
 use Rattle.conode_compare_laws.proofs.TpdoOthers.{
   AreFine,
   Holds,
@@ -167,6 +170,19 @@ none_synced facts due pdos knows = record {
   third = λ on has is. absurd (cc);
   fourth = λ on has is. absurd (cc);
 }
+
+-- nor where its identifier isn't known
+unknown_synced : (facts : Pdos) (due : List ℕ) (pdos : Pdos) → facts.sync ≡ None → Knows facts pdos → HaveSync facts true due pdos
+unknown_synced facts due pdos none knows =
+    let unknown : pdos.sync ≡ None = elim knows.sync [ inl is ↦ is | inr same ↦ same ∙ none ] in
+    let never : (is_some pdos.sync ≡ true) → ⊥ = λ on. absurd (let off : is_some pdos.sync ≡ false = ap is_some unknown in cc) in
+    record {
+      knows = knows;
+      first = λ on has is. absurd (never has);
+      second = λ on has is. absurd (never has);
+      third = λ on has is. absurd (never has);
+      fourth = λ on has is. absurd (never has);
+    }
 
 -- ---- one TPDO
 
@@ -374,10 +390,10 @@ sync_passes subject rows p micros id length due new knows off same = record {
   };
 }
 
-sync_comes : (subject : Subject) (rows : List Row) (micros : ℕ) (frame : FrameContent) (due : List ℕ) (p : Progress) → data_kind subject.node frame ≡ Process frame.id (length_of frame) → is_followed subject.facts.pdos frame.id ≡ false
+sync_comes : (subject : Subject) (rows : List Row) (micros : ℕ) (frame : FrameContent) (due : List ℕ) (p : Progress) → data_kind subject.node frame ≡ Process frame.id (length_of frame) → NamesNoTpdo subject.node frame → is_followed subject.facts.pdos frame.id ≡ false
     → IfSome subject.facts.pdos.sync (λ known. known ≡ frame.id) → Holds (Knows subject.facts.pdos) p → AllRun (tpdo_differences is_pdo_sync) subject rows micros p (frame ∷ []) (Holds (HaveSync subject.facts.pdos true due))
-sync_comes subject rows micros frame due p kind off same h =
-    one is_pdo_sync (HaveSync subject.facts.pdos true due) subject rows micros p frame (Process frame.id (length_of frame)) kind
+sync_comes subject rows micros frame due p kind names off same h =
+    one is_pdo_sync (HaveSync subject.facts.pdos true due) subject rows micros p frame (Process frame.id (length_of frame)) kind names h.opened
     (sync_passes subject rows (begun subject p micros) micros frame.id (length_of frame) due (begun_newest subject p micros h.fresh) (begun_kept subject (Knows subject.facts.pdos) p micros (knows_kept subject.facts.pdos) h.kept) off same)
 
 -- ---- an input
@@ -385,6 +401,7 @@ sync_comes subject rows micros frame due p kind off same h =
 record IsMet (pdos : Pdos) (k : Constants) (before : Inputs) (s : Stamped) : Type 0 where
   clear : AreClear pdos k before s
   emergency : IsElsewhere (0x80 + k.description.node) s.input
+  apart : AllByRecursion (IsNoSdoSync pdos k.description.node) (frame_of s.input)
   keeps : KeepsTpdos k (moment k (moments k before) s.input)
   sync : number_at (contents_of k before) sync_key ≡ number_at k.start sync_key
 
@@ -392,34 +409,50 @@ sent_id : (known : Option ℕ) (word id : ℕ) → IfSome known (λ n. identifie
 sent_id None word id h is = tt
 sent_id (Some n) word id h is = sym h ∙ is
 
-came_sync : (k : Constants) (subject : Subject) (rows : List Row) (before : Inputs) (s : Stamped) (due : List ℕ) (p : Progress) → AreTpdosOf k subject.facts.pdos → IsMet subject.facts.pdos k before s → NoSdo k.description.node (frame_of s.input)
+-- a frame that is a SYNC to the device
+framed_sync : (subject : Subject) (rows : List Row) (micros : ℕ) (frame : FrameContent) (due : List ℕ) (p : Progress) (sync : Option ℕ) → subject.facts.pdos.sync ≡ sync → IfSome sync (λ known. known ≡ frame.id) → (frame.id == 0) ≡ false → frame.id ≢ 0x700 + subject.node
+    → is_followed subject.facts.pdos frame.id ≡ false → frame.id ≢ 0x80 + subject.node → NamesNoTpdo subject.node frame → IsNoSdoSync subject.facts.pdos subject.node frame → Holds (Knows subject.facts.pdos) p
+    → AllRun (tpdo_differences is_pdo_sync) subject rows micros p (frame ∷ []) (Holds (HaveSync subject.facts.pdos true due))
+framed_sync subject rows micros frame due p None is same command control foreign emergency names apart h =
+    let facts : Pdos = subject.facts.pdos in
+    weaken (tpdo_differences is_pdo_sync) subject rows micros (frame ∷ []) p (Holds (Knows facts)) (Holds (HaveSync facts true due))
+    (λ q g. record { fresh = g.fresh; kept = unknown_synced facts due q.pdos is g.kept; opened = g.opened })
+    (others is_pdo_sync (Knows facts) subject rows micros (frame ∷ []) p (knows_kept facts) ((control, foreign, names), tt) h)
+framed_sync subject rows micros frame due p (Some known) is same command control foreign emergency names apart h =
+    let node : ℕ = subject.node in
+    let sdo : (frame.id ≢ 0x580 + node) × (frame.id ≢ 0x600 + node) = apart (ap (λ o. is_id o frame.id) is ∙ eq-eqb known frame.id same) in
+    sync_comes subject rows micros frame due p
+    (process_kind node frame command (ne_eqb frame.id (0x80 + node) emergency) (ne_eqb frame.id (0x580 + node) sdo.0) (ne_eqb frame.id (0x600 + node) sdo.1) (ne_eqb frame.id (0x700 + node) control))
+    names foreign (subst (λ o. IfSome o (λ n. n ≡ frame.id)) (sym is) same) h
+
+came_sync : (k : Constants) (subject : Subject) (rows : List Row) (before : Inputs) (s : Stamped) (due : List ℕ) (p : Progress) → AreTpdosOf k subject.facts.pdos → IsMet subject.facts.pdos k before s → AllNameNone k.description.node (frame_of s.input)
     → IsSync (contents_of k before) s.input → Holds (Knows subject.facts.pdos) p
     → AllRun (tpdo_differences is_pdo_sync) (of_device k subject) rows s.micros p (frame_of s.input) (Holds (HaveSync subject.facts.pdos true due))
-came_sync k subject rows before s due p of met none is h = by s.input met.clear.control met.clear.foreign met.emergency none is
+came_sync k subject rows before s due p of met none is h = by s.input met.clear.control met.clear.foreign met.emergency none met.apart is
   where
     node : ℕ
     node = k.description.node
 
-    by : (input : InputView) → IsElsewhere (0x700 + node) input → IsNoTpdo subject.facts.pdos input → IsElsewhere (0x80 + node) input → NoSdo node (frame_of input) → IsSync (contents_of k before) input
+    by : (input : InputView) → IsElsewhere (0x700 + node) input → IsNoTpdo subject.facts.pdos input → IsElsewhere (0x80 + node) input → AllNameNone node (frame_of input) → AllByRecursion (IsNoSdoSync subject.facts.pdos node) (frame_of input)
+        → IsSync (contents_of k before) input
         → AllRun (tpdo_differences is_pdo_sync) (of_device k subject) rows s.micros p (frame_of input) (Holds (HaveSync subject.facts.pdos true due))
-    by (Framed frame) control foreign emergency sdo sync =
+    by (Framed frame) control foreign emergency names apart sync =
         let here : identifier_of (number_at (contents_of k before) sync_key) ≡ frame.id = eqb-true _ frame.id (and_parts _ _ sync.1).1 in
         let id : identifier_of (number_at k.start sync_key) ≡ frame.id = ap identifier_of (sym met.sync) ∙ here in
-        sync_comes (of_device k subject) rows s.micros frame due p
-        (process_kind node frame sync.0 (ne_eqb frame.id (0x80 + node) emergency) (ne_eqb frame.id (0x580 + node) sdo.0.0) (ne_eqb frame.id (0x600 + node) sdo.0.1) (ne_eqb frame.id (0x700 + node) control))
-        foreign (sent_id subject.facts.pdos.sync (number_at k.start sync_key) frame.id of.sync id) h
-    by Ticked control foreign emergency sdo sync = absurd sync
-    by (Applied event) control foreign emergency sdo sync = absurd sync
+        framed_sync (of_device k subject) rows s.micros frame due p subject.facts.pdos.sync refl (sent_id subject.facts.pdos.sync (number_at k.start sync_key) frame.id of.sync id)
+        sync.0 control foreign emergency names.0 apart.0 h
+    by Ticked control foreign emergency names apart sync = absurd sync
+    by (Applied event) control foreign emergency names apart sync = absurd sync
 
 -- whether it is a SYNC to the schedule
 came_either : (k : Constants) (subject : Subject) (rows : List Row) (before : Inputs) (s : Stamped) (p : Progress) (synced : Bool) → is_sync_turn (turn_at (moment k (moments k before) s.input) (moments k before)) ≡ synced
-    → AreTpdosOf k subject.facts.pdos → IsMet subject.facts.pdos k before s → NoSdo k.description.node (frame_of s.input) → Holds (Knows subject.facts.pdos) p
+    → AreTpdosOf k subject.facts.pdos → IsMet subject.facts.pdos k before s → AllNameNone k.description.node (frame_of s.input) → Holds (Knows subject.facts.pdos) p
     → AllRun (tpdo_differences is_pdo_sync) (of_device k subject) rows s.micros p (frame_of s.input) (Holds (HaveSync subject.facts.pdos synced (moment k (moments k before) s.input).due))
 came_either k subject rows before s p false is of met none h =
     let facts : Pdos = subject.facts.pdos in
     let due : List ℕ = (moment k (moments k before) s.input).due in
     weaken (tpdo_differences is_pdo_sync) (of_device k subject) rows s.micros (frame_of s.input) p (Holds (Knows facts)) (Holds (HaveSync facts false due))
-    (λ q g. record { fresh = g.fresh; kept = none_synced facts due q.pdos g.kept })
+    (λ q g. record { fresh = g.fresh; kept = none_synced facts due q.pdos g.kept; opened = g.opened })
     (others is_pdo_sync (Knows facts) (of_device k subject) rows s.micros (frame_of s.input) p (knows_kept facts) (came_other facts k.description.node s.input none met.clear.control met.clear.foreign) h)
 came_either k subject rows before s p true is of met none h =
     let m : Moment = moment k (moments k before) s.input in
@@ -453,37 +486,57 @@ input_runs k subject rows before last s p of met h =
     let frame : ℕ → FrameContent = tpdo_frame k.description m.contents in
     let came : List FrameContent = frame_of s.input in
     let more : List FrameContent = besides k m in
-    let sent : NoSdo n (more ++ map frame m.due) = after_those n came (prescribed k before s.input) met.clear.sdo in
+    let N : FrameContent → Type 0 = NamesNoTpdo n in
+    let sent : AllNameNone n (more ++ map frame m.due) = last_of N came (prescribed k before s.input) met.clear.sdo in
     let ready : Progress → Type 0 = Holds (HaveSync facts synced m.due) in
     let after : Progress → Type 0 = Holds (Knows facts) in
     joined (tpdo_differences is_pdo_sync) subj rows s.micros came (more ++ map frame m.due) p ready after
-    (came_either k subject rows before s p synced refl of met (before_these n came (prescribed k before s.input) met.clear.sdo) h)
+    (came_either k subject rows before s p synced refl of met (first_of N came (prescribed k before s.input) met.clear.sdo) h)
     (λ q g.
     joined (tpdo_differences is_pdo_sync) subj rows s.micros more (map frame m.due) q ready after
     (besides_run is_pdo_sync (HaveSync facts synced m.due) k subject rows s.micros before s.input q (sync_kept facts synced m.due) (begins_either k facts before s.input synced refl) met.clear.aside met.clear.beside
-    (before_these n more (map frame m.due) sent) g)
+    (first_of N more (map frame m.due) sent) g)
     (λ r f. weaken (tpdo_differences is_pdo_sync) subj rows s.micros (map frame m.due) r (Walked (HaveSync facts synced []) (λ x. Unit {0})) after
-    (λ x e. record { fresh = e.holds.fresh; kept = e.holds.kept.knows })
+    (λ x e. record { fresh = e.holds.fresh; kept = e.holds.kept.knows; opened = e.holds.opened })
     (walks is_pdo_sync (λ i. AreSynced facts synced i (frame i).id) (HaveSync facts synced) (λ x. Unit {0}) subj rows s.micros frame m.due r (sync_walk subj s.micros synced frame)
-    (tpdo_ids n frame m.due met.clear.aside.tpdos (after_those n more (map frame m.due) sent))
+    (tpdo_ids n frame m.due met.clear.aside.tpdos (last_of N more (map frame m.due) sent))
     (due_all (λ i. AreSynced facts synced i (frame i).id) k.description t m.contents schedule (λ i o less at due sent. all_synced k m facts t schedule o i of met.keeps less at due))
     (due_distinct k.description t m.contents schedule) f tt)))
 
 -- ---- all inputs
 
-all_met : (pdos : Pdos) (k : Constants) (inputs : List Stamped) (before : Inputs) (last : ℕ) → AllInputs (λ b l s. AreClear pdos k b s) before last inputs → AreElsewhere (0x80 + k.description.node) inputs → AllKeepTpdos k before inputs
+unstamped_syncs : (pdos : Pdos) (node micros : ℕ) (frames : List FrameContent) → AreNoSdoSyncs pdos node (stamped micros frames) → AllByRecursion (IsNoSdoSync pdos node) frames
+unstamped_syncs pdos node micros [] h = tt
+unstamped_syncs pdos node micros (frame ∷ frames) h = (h.0, unstamped_syncs pdos node micros frames h.1)
+
+syncs_later : (pdos : Pdos) (k : Constants) (inputs : List Stamped) → AreNoSdoSyncs pdos k.description.node (recording k inputs) → AreNoSdoSyncs pdos k.description.node (heard_from k [] inputs)
+syncs_later pdos k [] apart = tt
+syncs_later pdos k (s ∷ later) apart = apart.1
+
+all_met : (pdos : Pdos) (k : Constants) (inputs : List Stamped) (before : Inputs) (last : ℕ) → AllInputs (λ b l s. AreClear pdos k b s) before last inputs → AreElsewhere (0x80 + k.description.node) inputs → AreNoSdoSyncs pdos k.description.node (heard_from k before inputs) → AllKeepTpdos k before inputs
     → number_at (contents_of k before) sync_key ≡ number_at k.start sync_key → AllInputs (λ b l s. IsMet pdos k b s) before last inputs
-all_met pdos k [] before last clear emergency keeps sync = tt
-all_met pdos k (s ∷ later) before last clear emergency keeps sync = (
-  record { clear = clear.0; emergency = emergency.0; keeps = keeps.0; sync = sync },
-  all_met pdos k later (s.input ∷ before) s.micros clear.1 emergency.1 keeps.1 (number_kept k (moment k (moments k before) s.input) sync_key keeps.0 refl),
-)
+all_met pdos k [] before last clear emergency apart keeps sync = tt
+all_met pdos k (s ∷ later) before last clear emergency apart keeps sync =
+    let node : ℕ = k.description.node in
+    let frames : List FrameContent = frame_of s.input ++ prescribed k before s.input in
+    let rest : List Recorded = heard_from k (s.input ∷ before) later in
+    let N : Recorded → Type 0 = λ r. IsNoSdoSync pdos node r.frame in (
+      record {
+        clear = clear.0;
+        emergency = emergency.0;
+        apart = first_of (IsNoSdoSync pdos node) (frame_of s.input) (prescribed k before s.input) (unstamped_syncs pdos node s.micros frames (first_of N (stamped s.micros frames) rest apart));
+        keeps = keeps.0;
+        sync = sync;
+      },
+      all_met pdos k later (s.input ∷ before) s.micros clear.1 emergency.1 (last_of N (stamped s.micros frames) rest apart) keeps.1 (number_kept k (moment k (moments k before) s.input) sync_key keeps.0 refl),
+    )
 
 pub no_pdo_sync : (k : Constants) (subject : Subject) (rows : List Row) (inputs : List Stamped) → subject.node ≡ k.description.node → AreTpdosOf k subject.facts.pdos → AllKeepTpdos k [] inputs
     → AreElsewhere (0x700 + k.description.node) inputs → AreElsewhere (0x80 + k.description.node) inputs → AreNoTpdos subject.facts.pdos inputs → AllSendAside k [] inputs → AllSendBesideTpdos subject.facts.pdos k [] inputs
-    → AreNoSdo k.description.node (recording k inputs) → differences_in (tpdo_differences is_pdo_sync) subject rows (recording k inputs) ≡ []
-no_pdo_sync k subject rows inputs is of keeps control emergency foreign aside beside none =
+    → NameNoTpdos k.description.node (recording k inputs) → AreNoSdoSyncs subject.facts.pdos k.description.node (recording k inputs)
+    → differences_in (tpdo_differences is_pdo_sync) subject rows (recording k inputs) ≡ []
+no_pdo_sync k subject rows inputs is of keeps control emergency foreign aside beside none apart =
     let facts : Pdos = subject.facts.pdos in
     of_device_too is_pdo_sync k subject rows inputs is
     (of_recording is_pdo_sync k subject rows (λ b l s. IsMet facts k b s) (λ b l. Knows facts) (λ before last s p met h. input_runs k subject rows before last s p of met h) inputs (λ micros. knows_sheet facts)
-    (λ last. all_met facts k inputs [] last (all_clear facts k inputs [] last control foreign aside beside (no_sdo_later k inputs none)) emergency keeps refl))
+    (λ last. all_met facts k inputs [] last (all_clear facts k inputs [] last control foreign aside beside (names_later k inputs none)) emergency (syncs_later facts k inputs apart) keeps refl))

@@ -1,5 +1,5 @@
 -- The newest frame of each TPDO that compare has, beside how long ago the device sent it: what a law says of both.
-use Rattle.std.proofs.Common.{◌≡◌, ℕ, ◌+◌, ◌<◌, ◌≤◌, Bool, true, false, List, ◌∷◌, Option, Some, None, refl, ap, sym, ◌∙◌, subst, arith, ◌⊎◌, inl, inr}
+use Rattle.std.proofs.Common.{◌≡◌, ℕ, ◌<◌, ◌≤◌, Bool, true, false, List, ◌∷◌, Option, Some, None, refl, ap, sym, ◌∙◌, subst, arith, ◌⊎◌, inl, inr}
 use Rattle.std.specs.Prelude.{if◌then◌else◌, ◌==◌, ◌||◌, is_some, IfSome}
 use Rattle.std.proofs.lemmas.Bool.{eq-eqb, eqb-true, or_parts}
 use Rattle.co_frame.specs.FrameContent.{FrameContent}
@@ -21,11 +21,11 @@ use Rattle.conode_compare_laws.specs.TpdoFrames.{is_followed}
 use Rattle.conode_compare_laws.specs.TpdoParameters.{AreTpdosOf}
 use Rattle.conode_compare_laws.proofs.TpdoLogs.{and_sent}
 use Rattle.conode_compare_laws.proofs.TpdoOthers.{IsKept, IsNewest, IsOf, Knows, is_of, knows_commanded, knows_framed, knows_interrupted, knows_sheet, knows_unknown, other_id}
-use Rattle.conode_compare_laws.proofs.TpdoParts.{Step}
+use Rattle.conode_compare_laws.proofs.TpdoParts.{Step, is_unwatched}
 
--- it is seen: it comes on the identifier that compare has for it, which isn't that of EMCY
+-- it is seen: it comes on the identifier that compare has for it, which isn't that of EMCY or SDO
 abbrev pub IsSeen : ℕ → ℕ → Tpdo → Type 0
-IsSeen node id pdo = (is_id pdo.parameters.id id ≡ true) × ((id == 0x80 + node) ≡ false)
+IsSeen node id pdo = (is_id pdo.parameters.id id ≡ true) × (is_unwatched node id ≡ false)
 
 -- what holds of its newest frame
 abbrev pub IsTimed : (ℕ → Sent → List ℕ → Type 0) → ℕ → ℕ → ℕ → List ℕ → Tpdo → Type 0
@@ -191,11 +191,11 @@ module _ (is : Deviation → Bool) (R : ℕ → Sent → List ℕ → Type 0) (s
 
   -- a frame that isn't seen
   abbrev IsHidden : Tpdo → ℕ → Type 0
-  IsHidden pdo n = (is_id pdo.parameters.id (ids n) ≡ false) ⊎ ((ids n == 0x80 + node) ≡ true)
+  IsHidden pdo n = (is_id pdo.parameters.id (ids n) ≡ false) ⊎ (is_unwatched node (ids n) ≡ true)
 
   never_seen : (pdo : Tpdo) (n number : ℕ) → n ≡ number → IsHidden pdo n → IsSeen node (ids number) pdo → ⊥
   never_seen pdo n number same (inl off) seen = absurd (let on : is_id pdo.parameters.id (ids n) ≡ true = ap (λ i. is_id pdo.parameters.id (ids i)) same ∙ seen.0 in cc)
-  never_seen pdo n number same (inr on) seen = absurd (let off : (ids n == 0x80 + node) ≡ false = ap (λ i. ids i == 0x80 + node) same ∙ seen.1 in cc)
+  never_seen pdo n number same (inr on) seen = absurd (let off : is_unwatched node (ids n) ≡ false = ap (λ i. is_unwatched node (ids i)) same ∙ seen.1 in cc)
 
   unseen_timed : (n number : ℕ) (later : List ℕ) (pdo : Tpdo) → IsHidden pdo n → IsTimed R node micros (ids number) (ages (n ∷ later) number) pdo → IsTimed R node micros (ids number) (ages later number) pdo
   unseen_timed n number later pdo off h = by (n == number) refl
@@ -228,7 +228,7 @@ module _ (is : Deviation → Bool) (R : ℕ → Sent → List ℕ → Type 0) (s
   abbrev pub IsJustNow : Type 0
   IsJustNow = (free : ℕ) (a : List ℕ) → free ≤ micros → R micros (record { free = free; micros = micros }) (0 ∷ a)
 
-  sent_timed : IsJustNow → (p : Progress) (sheet pdo : Tpdo) (number n : ℕ) (later : List ℕ) → ((frame n).id == 0x80 + node) ≡ false → IsNewest micros p → IsOwn sheet number n → (frame n).id ≡ ids n → is_among n later ≡ false → is_among n all ≡ true → IsOf sheet pdo
+  sent_timed : IsJustNow → (p : Progress) (sheet pdo : Tpdo) (number n : ℕ) (later : List ℕ) → is_unwatched node (frame n).id ≡ false → IsNewest micros p → IsOwn sheet number n → (frame n).id ≡ ids n → is_among n later ≡ false → is_among n all ≡ true → IsOf sheet pdo
       → IsTimed R node micros (ids number) (ages (n ∷ later) number) pdo → IsTimed R node micros (ids number) (ages later number) (after_tpdo (moment_at subject p micros) (frame n).id pdo)
   unfolding moment_at
   sent_timed just_now p sheet pdo number n later other new ok id once sent of h = by (is_id pdo.parameters.id (frame n).id) refl
@@ -238,7 +238,7 @@ module _ (is : Deviation → Bool) (R : ℕ → Sent → List ℕ → Type 0) (s
           let same : n ≡ number = ok.own (of_own sheet pdo (frame n).id of on).1 in
           let now : ages later number ≡ 0 ∷ old number = now_sent n number later same once sent in
           let here : is_id pdo.parameters.id (ids number) ≡ true = ap (λ i. is_id pdo.parameters.id i) (ap ids (sym same) ∙ sym id) ∙ on in
-          let apart : (ids number == 0x80 + node) ≡ false = ap (λ i. i == 0x80 + node) (ap ids (sym same) ∙ sym id) ∙ other in
+          let apart : is_unwatched node (ids number) ≡ false = ap (λ i. is_unwatched node i) (ap ids (sym same) ∙ sym id) ∙ other in
           rw on (subst (λ a. R micros (record { free = p.free; micros = micros }) a) (sym now) (just_now p.free (old number) new.free), (here, apart))
       by false off =
           rw off (unseen_timed n number later pdo (inl (ap (λ i. is_id pdo.parameters.id i) (sym id) ∙ off)) h)
@@ -291,5 +291,5 @@ module _ (is : Deviation → Bool) (R : ℕ → Sent → List ℕ → Type 0) (s
             (λ off. sent_timed just_now p facts.second pdos.second 1 n later other new ok.second ok.id once ok.sent h.knows.second h.second)
             (λ off. sent_timed just_now p facts.third pdos.third 2 n later other new ok.third ok.id once ok.sent h.knows.third h.third)
             (λ off. sent_timed just_now p facts.fourth pdos.fourth 3 n later other new ok.fourth ok.id once ok.sent h.knows.fourth h.fourth);
-        unseen = λ on. all_hidden facts pdos n later (λ pdo. inr (ap (λ i. i == 0x80 + node) (sym ok.id) ∙ on)) h;
+        unseen = λ on. all_hidden facts pdos n later (λ pdo. inr (ap (λ i. is_unwatched node i) (sym ok.id) ∙ on)) h;
       }

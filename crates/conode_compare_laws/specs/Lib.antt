@@ -6,6 +6,7 @@ pub mod TpdoDifferences
 pub mod RpdoDifferences
 pub mod TpdoFrames
 pub mod TpdoParameters
+pub mod NamedTpdos
 pub mod TpdoSheets
 pub mod AnswerFindings
 pub mod AnswerSenders

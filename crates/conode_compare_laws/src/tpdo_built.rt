@@ -10,7 +10,8 @@ ghost use Rattle.co_sheet.specs.SheetLaws.{IsSheetRow};
 ghost use Rattle.conode_compare_pdos.specs.Followed.{pdos_of};
 ghost use Rattle.conode_compare_rules.specs.declared.limits.Subject.{Subject};
 ghost use Rattle.conode_compare_laws.specs.Differences.{differences_in};
-ghost use Rattle.conode_compare_laws.specs.Identifiers.{AreElsewhere, AreNoSdo};
+ghost use Rattle.conode_compare_laws.specs.Identifiers.{AreElsewhere};
+ghost use Rattle.conode_compare_laws.specs.NamedTpdos.{NameNoTpdos};
 ghost use Rattle.conode_compare_laws.specs.Recordings.{Stamped, recording};
 ghost use Rattle.conode_compare_laws.specs.TpdoDifferences.{is_pdo_length, tpdo_differences};
 ghost use Rattle.conode_compare_laws.specs.TpdoFrames.{AllSendBesideTpdos, AreNoTpdos};
@@ -63,7 +64,7 @@ pub fn built_no_pdo_length()
         AllWriteNone k [] inputs → AreElsewhere (0x700 + k.description.node) inputs →
         AreNoTpdos subject.facts.pdos inputs →
         AllSendBesideTpdos subject.facts.pdos k [] inputs →
-        AreNoSdo k.description.node (recording k inputs) →
+        NameNoTpdos k.description.node (recording k inputs) →
         differences_in (tpdo_differences is_pdo_length) subject rows (recording k inputs) ≡ [] }
 {
     Bank::set_is_permitted();

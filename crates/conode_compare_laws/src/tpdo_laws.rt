@@ -5,7 +5,8 @@ ghost use Rattle.co_sheet.specs.Content.{Row};
 ghost use Rattle.co_node_model.specs.Moments.{Constants};
 ghost use Rattle.conode_compare_rules.specs.declared.limits.Subject.{Subject};
 ghost use Rattle.conode_compare_laws.specs.Differences.{differences_in};
-ghost use Rattle.conode_compare_laws.specs.Identifiers.{AreElsewhere, AreNoSdo, BeginsAside};
+ghost use Rattle.conode_compare_laws.specs.Identifiers.{AreElsewhere, BeginsAside};
+ghost use Rattle.conode_compare_laws.specs.NamedTpdos.{AreNoSdoSyncs, NameNoTpdos};
 ghost use Rattle.conode_compare_laws.specs.Recordings.{AreTimed, AreUnhurried, Stamped, recording};
 ghost use Rattle.conode_compare_laws.specs.TpdoDifferences.{
   is_pdo_inhibit,
@@ -20,19 +21,20 @@ ghost use Rattle.conode_compare_laws.specs.TpdoParameters.{AllAreFilled, AllKeep
 
 use crate::aside::sends_aside;
 
-/// The recording of a device without transfers on its default SDO channel has no `pdo-state` (CiA
-/// 301, 7.3.2.2.3): it sends TPDOs while operational alone, over whatever inputs with whatever
-/// stamps, events of the application and writes on other channels too. Conditions: `compare` has
-/// its node-ID; no other node sends on the identifier of its error control (`AreElsewhere`), and
-/// neither another node nor the device's own SDO and EMCY on one that `compare` has for a TPDO by
-/// the data sheet (`AreNoTpdos`, `AllSendBesideTpdos`); and no frame is one of its default SDO
-/// channel (`AreNoSdo`). This is a law: a call of it changes nothing.
+/// The recording of a device has no `pdo-state` (CiA 301, 7.3.2.2.3): it sends TPDOs while
+/// operational alone, over whatever inputs with whatever stamps, events of the application and
+/// writes on other channels too, and whatever transfers there are on its default SDO channel but of
+/// TPDOs. Conditions: `compare` has its node-ID; no other node sends on the identifier of its error
+/// control (`AreElsewhere`), and neither another node nor the device's own SDO and EMCY on one that
+/// `compare` has for a TPDO by the data sheet (`AreNoTpdos`, `AllSendBesideTpdos`); and on its
+/// default SDO channel no frame of a client names 1800h to 1803h, and none asks to write 1A00h to
+/// 1A03h or 1005:00 (`NameNoTpdos`). This is a law: a call of it changes nothing.
 pub fn no_pdo_state()
     ensures { (k : Constants) (subject : Subject) (rows : List Row) (inputs : List Stamped) →
         subject.node ≡ k.description.node → AreElsewhere (0x700 + k.description.node) inputs →
         AreNoTpdos subject.facts.pdos inputs → BeginsAside k →
         AllSendBesideTpdos subject.facts.pdos k [] inputs →
-        AreNoSdo k.description.node (recording k inputs) →
+        NameNoTpdos k.description.node (recording k inputs) →
         differences_in (tpdo_differences is_pdo_state) subject rows (recording k inputs) ≡ [] }
 {
     sends_aside();
@@ -50,15 +52,17 @@ pub fn no_pdo_length()
         AreElsewhere (0x700 + k.description.node) inputs →
         AreNoTpdos subject.facts.pdos inputs → BeginsAside k →
         AllSendBesideTpdos subject.facts.pdos k [] inputs →
-        AreNoSdo k.description.node (recording k inputs) →
+        NameNoTpdos k.description.node (recording k inputs) →
         differences_in (tpdo_differences is_pdo_length) subject rows (recording k inputs) ≡ [] }
 {
     sends_aside();
 }
 
 /// Nor has it a `pdo-sync` (CiA 301, 7.2.2.2.1): a TPDO of type 0 to 240 comes after a SYNC.
-/// Conditions as those of `no_pdo_length` but that of the entries, and that no other node sends on
-/// 80h + node-ID, not even SYNC (`AreElsewhere`). This is a law: a call of it changes nothing.
+/// Conditions as those of `no_pdo_length` but that of the entries; that no other node sends on 80h +
+/// node-ID, not even SYNC (`AreElsewhere`); and that SYNC, as far as `compare` knows its identifier,
+/// doesn't come on the default SDO channel (`AreNoSdoSyncs`). This is a law: a call of it changes
+/// nothing.
 pub fn no_pdo_sync()
     ensures { (k : Constants) (subject : Subject) (rows : List Row) (inputs : List Stamped) →
         subject.node ≡ k.description.node → AreTpdosOf k subject.facts.pdos →
@@ -66,7 +70,8 @@ pub fn no_pdo_sync()
         AreElsewhere (0x80 + k.description.node) inputs →
         AreNoTpdos subject.facts.pdos inputs → BeginsAside k →
         AllSendBesideTpdos subject.facts.pdos k [] inputs →
-        AreNoSdo k.description.node (recording k inputs) →
+        NameNoTpdos k.description.node (recording k inputs) →
+        AreNoSdoSyncs subject.facts.pdos k.description.node (recording k inputs) →
         differences_in (tpdo_differences is_pdo_sync) subject rows (recording k inputs) ≡ [] }
 {
     sends_aside();
@@ -82,7 +87,7 @@ pub fn no_pdo_inhibit()
         AreElsewhere (0x700 + k.description.node) inputs →
         AreNoTpdos subject.facts.pdos inputs → BeginsAside k →
         AllSendBesideTpdos subject.facts.pdos k [] inputs →
-        AreNoSdo k.description.node (recording k inputs) →
+        NameNoTpdos k.description.node (recording k inputs) →
         differences_in (tpdo_differences is_pdo_inhibit) subject rows (recording k inputs) ≡ [] }
 {
     sends_aside();
@@ -98,7 +103,7 @@ pub fn no_pdo_late()
         AreElsewhere (0x700 + k.description.node) inputs →
         AreNoTpdos subject.facts.pdos inputs → BeginsAside k →
         AllSendBesideTpdos subject.facts.pdos k [] inputs →
-        AreNoSdo k.description.node (recording k inputs) →
+        NameNoTpdos k.description.node (recording k inputs) →
         differences_in (tpdo_differences is_pdo_late) subject rows (recording k inputs) ≡ [] }
 {
     sends_aside();
