@@ -1,7 +1,8 @@
 -- Of the findings at a frame of the channel those within its transfer: at an answer, and at a request, which may confirm a block upload.
-use Rattle.std.proofs.Common.{◌≡◌, ℕ, ◌-◌, Bool, true, false, List, [], Option, Some, None, refl}
+use Rattle.std.proofs.Common.{◌≡◌, ℕ, ◌-◌, Bool, true, false, List, [], Option, Some, None, refl, sym}
 use Rattle.std.specs.Prelude.{◌&&◌, if◌then◌else◌, option_map, option_and_then}
 use Rattle.std.specs.Option.{option_or}
+use Rattle.std.proofs.lemmas.Bool.{false≢true}
 use Rattle.co_frame.specs.FrameContent.{FrameContent}
 use Rattle.co_sheet.specs.Content.{Row}
 use Rattle.co_value.specs.declared.key.Key.{Key}
@@ -40,8 +41,13 @@ is_breach (Transfer (Early key waited time)) = false
 is_breach (Transfer breach) = true
 is_breach _ = false
 
+-- a difference within a transfer
+abbrev pub is_within : Finding → Bool
+is_within (Transfer breach) = true
+is_within _ = false
+
 -- these are some of them
-module _ (only : Option Finding → List Finding) (nothing : only None ≡ []) (others : (finding : Finding) → is_breach finding ≡ false → only (Some finding) ≡ []) where
+module _ (only : Option Finding → List Finding) (nothing : only None ≡ []) (others : (finding : Finding) → is_within finding ≡ false → only (Some finding) ≡ []) where
   only_or : (x y : Option Finding) → only x ≡ [] → only y ≡ [] → only (option_or x y) ≡ []
   only_or None y p q = q
   only_or (Some finding) y p q = p
@@ -85,7 +91,7 @@ module _ (only : Option Finding → List Finding) (nothing : only None ≡ []) (
   overdue_none : (limits : Limits) (x : Exchange) (micros : ℕ) → only (overdue_answer limits x micros) ≡ []
   overdue_none limits x micros = either x.owed (late_answer limits x.asked micros) (late_none limits x.asked micros)
 
-  asked_none : (f : Asked → Finding) (o : Option Asked) → ((a : Asked) → is_breach (f a) ≡ false) → only (option_map f o) ≡ []
+  asked_none : (f : Asked → Finding) (o : Option Asked) → ((a : Asked) → is_within (f a) ≡ false) → only (option_map f o) ≡ []
   asked_none f None h = nothing
   asked_none f (Some a) h = others (f a) (h a)
 
@@ -100,6 +106,60 @@ module _ (only : Option Finding → List Finding) (nothing : only None ≡ []) (
   unfolding what_finding
   what_none subject rows x frame = what_by subject rows x frame x.heard.what
 
+  answer_none : (subject : Subject) (rows : List Row) (micros : ℕ) (x : Exchange) (frame : FrameContent) → (x.certain ≡ true → only (breach_finding (transfer_breach subject.limits x)) ≡ [])
+      → only (answer_finding subject rows micros x frame) ≡ []
+  unfolding answer_finding
+  answer_none subject rows micros x frame h = by x.certain h
+    where
+      by : (certain : Bool) → (certain ≡ true → only (breach_finding (transfer_breach subject.limits x)) ≡ [])
+          → only (if certain then option_or (overdue_answer subject.limits x micros) (known_answer subject rows x frame) else None) ≡ []
+      by false h = nothing
+      by true h =
+          only_or (overdue_answer subject.limits x micros) (known_answer subject rows x frame) (overdue_none subject.limits x micros)
+          (only_or (what_finding subject rows x frame) (breach_finding (transfer_breach subject.limits x)) (what_none subject rows x frame) (h refl))
+
+  -- an answer
+  pub server_found_within : (subject : Subject) (rows : List Row) (p : Progress) (micros : ℕ) (frame : FrameContent)
+      → ((exchange_in subject.limits.answer p.started p.dialogue micros Server frame).certain ≡ true → only (breach_finding (transfer_breach subject.limits (exchange_in subject.limits.answer p.started p.dialogue micros Server frame))) ≡ [])
+      → only (findings_in subject rows p micros (Sdo Server frame)).frame ≡ []
+  unfolding answer_findings found exchange_at late_noted
+  server_found_within subject rows p micros frame h =
+      let x : Exchange = exchange_in subject.limits.answer p.started p.dialogue micros Server frame in
+      only_or (stopped_finding subject.limits p.started (answer_noted subject p micros).nmt x) _ (stopped_none subject.limits p.started (answer_noted subject p micros).nmt x)
+      (only_or (answer_finding subject rows micros x frame) (held_finding subject p.written x) (answer_none subject rows micros x frame h) (held_none subject p.written x))
+
+  confirmed_none : (o : Option Finding) → only o ≡ [] → only (confirmed_findings o).frame ≡ []
+  unfolding found
+  confirmed_none None h = h
+  confirmed_none (Some finding) h = h
+
+  -- a request
+  pub client_found_within : (subject : Subject) (rows : List Row) (p : Progress) (micros : ℕ) (frame : FrameContent)
+      → ((exchange_in subject.limits.answer p.started p.dialogue micros Client frame).certain ≡ true → only (breach_finding (exchange_in subject.limits.answer p.started p.dialogue micros Client frame).breach) ≡ [])
+      → only (findings_in subject rows p micros (Sdo Client frame)).frame ≡ []
+  unfolding request_findings confirmed_finding exchange_at
+  client_found_within subject rows p micros frame h = by (exchange_in subject.limits.answer p.started p.dialogue micros Client frame).certain h
+    where
+      x : Exchange
+      x = exchange_in subject.limits.answer p.started p.dialogue micros Client frame
+
+      by : (certain : Bool) → (certain ≡ true → only (breach_finding (exchange_in subject.limits.answer p.started p.dialogue micros Client frame).breach) ≡ [])
+          → only (confirmed_findings (if certain
+          then option_or (breach_finding (exchange_in subject.limits.answer p.started p.dialogue micros Client frame).breach) (option_or (ended_finding subject rows frame (exchange_in subject.limits.answer p.started p.dialogue micros Client frame).heard.ended) (held_finding subject p.written (exchange_in subject.limits.answer p.started p.dialogue micros Client frame)))
+          else None)).frame ≡ []
+      by true h =
+          confirmed_none _
+          (only_or (breach_finding x.breach) (option_or (ended_finding subject rows frame x.heard.ended) (held_finding subject p.written x)) (h refl)
+          (only_or (ended_finding subject rows frame x.heard.ended) (held_finding subject p.written x) (no_end subject rows frame x.heard.ended) (held_none subject p.written x)))
+      by false h = confirmed_none None nothing
+
+-- ---- where none of these is that the device times out early
+
+outside : (finding : Finding) → is_within finding ≡ false → is_breach finding ≡ false
+outside (Transfer breach) off = absurd (false≢true (sym off))
+outside _ off = refl
+
+module _ (only : Option Finding → List Finding) (nothing : only None ≡ []) (others : (finding : Finding) → is_breach finding ≡ false → only (Some finding) ≡ []) where
   early_if : (b : Bool) (key : Key) (waited time : ℕ) → only (breach_finding (if b then Some (Early key waited time) else None)) ≡ []
   early_if true key waited time = others _ refl
   early_if false key waited time = nothing
@@ -129,49 +189,14 @@ module _ (only : Option Finding → List Finding) (nothing : only None ≡ []) (
       breach_or x.breach (early_abort limits.tolerance limits.drift limits.time x) h
       (early_of limits.tolerance limits.drift limits.time x.awaited x.heard.ended)
 
-  answer_none : (subject : Subject) (rows : List Row) (micros : ℕ) (x : Exchange) (frame : FrameContent) → (x.certain ≡ true → only (breach_finding x.breach) ≡ []) → only (answer_finding subject rows micros x frame) ≡ []
-  unfolding answer_finding
-  answer_none subject rows micros x frame h = by x.certain h
-    where
-      by : (certain : Bool) → (certain ≡ true → only (breach_finding x.breach) ≡ [])
-          → only (if certain then option_or (overdue_answer subject.limits x micros) (known_answer subject rows x frame) else None) ≡ []
-      by false h = nothing
-      by true h =
-          only_or (overdue_answer subject.limits x micros) (known_answer subject rows x frame) (overdue_none subject.limits x micros)
-          (only_or (what_finding subject rows x frame) (breach_finding (transfer_breach subject.limits x)) (what_none subject rows x frame)
-          (within_none subject.limits x (h refl)))
-
-  -- an answer
   pub server_found : (subject : Subject) (rows : List Row) (p : Progress) (micros : ℕ) (frame : FrameContent)
       → ((exchange_in subject.limits.answer p.started p.dialogue micros Server frame).certain ≡ true → only (breach_finding (exchange_in subject.limits.answer p.started p.dialogue micros Server frame).breach) ≡ [])
       → only (findings_in subject rows p micros (Sdo Server frame)).frame ≡ []
-  unfolding answer_findings found exchange_at late_noted
   server_found subject rows p micros frame h =
-      let x : Exchange = exchange_in subject.limits.answer p.started p.dialogue micros Server frame in
-      only_or (stopped_finding subject.limits p.started (answer_noted subject p micros).nmt x) _ (stopped_none subject.limits p.started (answer_noted subject p micros).nmt x)
-      (only_or (answer_finding subject rows micros x frame) (held_finding subject p.written x) (answer_none subject rows micros x frame h) (held_none subject p.written x))
+      server_found_within only nothing (λ finding off. others finding (outside finding off)) subject rows p micros frame
+      (λ c. within_none subject.limits (exchange_in subject.limits.answer p.started p.dialogue micros Server frame) (h c))
 
-  confirmed_none : (o : Option Finding) → only o ≡ [] → only (confirmed_findings o).frame ≡ []
-  unfolding found
-  confirmed_none None h = h
-  confirmed_none (Some finding) h = h
-
-  -- a request
   pub client_found : (subject : Subject) (rows : List Row) (p : Progress) (micros : ℕ) (frame : FrameContent)
       → ((exchange_in subject.limits.answer p.started p.dialogue micros Client frame).certain ≡ true → only (breach_finding (exchange_in subject.limits.answer p.started p.dialogue micros Client frame).breach) ≡ [])
       → only (findings_in subject rows p micros (Sdo Client frame)).frame ≡ []
-  unfolding request_findings confirmed_finding exchange_at
-  client_found subject rows p micros frame h = by (exchange_in subject.limits.answer p.started p.dialogue micros Client frame).certain h
-    where
-      x : Exchange
-      x = exchange_in subject.limits.answer p.started p.dialogue micros Client frame
-
-      by : (certain : Bool) → (certain ≡ true → only (breach_finding (exchange_in subject.limits.answer p.started p.dialogue micros Client frame).breach) ≡ [])
-          → only (confirmed_findings (if certain
-          then option_or (breach_finding (exchange_in subject.limits.answer p.started p.dialogue micros Client frame).breach) (option_or (ended_finding subject rows frame (exchange_in subject.limits.answer p.started p.dialogue micros Client frame).heard.ended) (held_finding subject p.written (exchange_in subject.limits.answer p.started p.dialogue micros Client frame)))
-          else None)).frame ≡ []
-      by true h =
-          confirmed_none _
-          (only_or (breach_finding x.breach) (option_or (ended_finding subject rows frame x.heard.ended) (held_finding subject p.written x)) (h refl)
-          (only_or (ended_finding subject rows frame x.heard.ended) (held_finding subject p.written x) (no_end subject rows frame x.heard.ended) (held_none subject p.written x)))
-      by false h = confirmed_none None nothing
+  client_found subject rows p micros frame h = client_found_within only nothing (λ finding off. others finding (outside finding off)) subject rows p micros frame h

@@ -193,7 +193,7 @@ none_comes certain (what.Segment number) frame newest n = absurd (false≢true (
 none_comes certain (what.OutOfSequence number awaited) frame newest n = absurd (false≢true (sym n))
 none_comes certain _ frame newest n = refl
 
-newest_stays : (answer started : ℕ) (d : Dialogue) (micros : ℕ) (frame : FrameContent) → d.newest ≡ None → (dialogue_heard answer started d micros Server frame).newest ≡ None
+pub newest_stays : (answer started : ℕ) (d : Dialogue) (micros : ℕ) (frame : FrameContent) → d.newest ≡ None → (dialogue_heard answer started d micros Server frame).newest ≡ None
 unfolding dialogue_heard
 newest_stays answer started d micros frame none = none_after _ (followed d.channel micros Server frame.bytes).says.what frame d.newest none
 
@@ -203,7 +203,7 @@ newest_gone answer started d micros frame n = none_comes _ (followed d.channel m
 
 -- ---- frames one after another
 
-sdo_after : (subject : Subject) (p : Progress) (micros : ℕ) (side : Side) (frame : FrameContent) (After : Option ℕ → Dialogue → Type 0) → After p.newest (dialogue_heard subject.limits.answer p.started p.dialogue micros side frame)
+pub sdo_after : (subject : Subject) (p : Progress) (micros : ℕ) (side : Side) (frame : FrameContent) (After : Option ℕ → Dialogue → Type 0) → After p.newest (dialogue_heard subject.limits.answer p.started p.dialogue micros side frame)
     → After (after_frame subject p micros (Sdo side frame)).newest (after_frame subject p micros (Sdo side frame)).dialogue
 unfolding channel_heard exchange_noted late_noted
 sdo_after subject p micros Server frame After h = h
@@ -225,7 +225,7 @@ abbrev Any : Progress → Type 0
 Any q = Unit {0}
 
 -- no transfer is known, or it is in blocks, or none is open
-abbrev Quiet : Dialogue → Type 0
+abbrev pub Quiet : Dialogue → Type 0
 Quiet d = (d.newest ≡ None) ⊎ AreBlocks d.channel.transfer
 
 quiet_once : (d : Dialogue) (micros : ℕ) (bytes : List ℕ) → Quiet d → IsOnce micros d bytes
@@ -341,7 +341,7 @@ pub data Ready (r : Option SdoRequest) (d : Dialogue) : Type 0 where
   awaits_done : (toggle last : Bool) (items : ArrayVec ℕ) → r ≡ Some (DownloadSegment toggle items last) → IfSome d.channel.transfer (λ u. u.stage ≡ DownloadSent toggle last) → Ready r d
   awaits_next : (toggle : Bool) → r ≡ Some (NextSegment toggle) → IfSome d.channel.transfer (λ u. u.stage ≡ UploadAsked toggle) → Ready r d
 
-ready : (answer started : ℕ) (d : Dialogue) (micros : ℕ) (frame : FrameContent) → Ready (request_in frame.bytes) (dialogue_heard answer started d micros Client frame)
+pub ready : (answer started : ℕ) (d : Dialogue) (micros : ℕ) (frame : FrameContent) → Ready (request_in frame.bytes) (dialogue_heard answer started d micros Client frame)
 ready answer started d micros frame = by (client_heard d.channel micros frame.bytes)
   where
     same : (dialogue_heard answer started d micros Client frame).channel ≡ (reads d.channel micros Client frame.bytes).next

@@ -44,6 +44,11 @@ pub mod AnswerDataExchange
 pub mod AnswerDataInputs
 pub mod AnswerToggles
 pub mod AnswerToggleRuns
+pub mod AbortOthers
+pub mod AbortFrames
+pub mod AbortBursts
+pub mod AbortInputs
+mod AbortExamples
 mod AnswerExamples
 mod Examples
 pub mod TpdoNames

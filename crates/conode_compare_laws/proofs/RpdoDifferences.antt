@@ -54,7 +54,7 @@ use Rattle.conode_compare_rules.specs.States.{is_reset}
 use Rattle.conode_compare_rules.specs.Verdicts.{found}
 use Rattle.conode_compare_receptions.specs.declared.receptions.Receptions.{Receptions}
 use Rattle.conode_compare_receptions.specs.Receptions.{holds_none, no_receptions, with_receptions}
-use Rattle.conode_compare_laws.specs.AnswerFindings.{of_answers, of_data, of_toggles, of_transfers}
+use Rattle.conode_compare_laws.specs.AnswerFindings.{of_answers, of_data, of_timeouts, of_toggles, of_transfers}
 use Rattle.conode_compare_laws.specs.Differences.{differences_from, differences_in, kind_in}
 use Rattle.conode_compare_laws.specs.Recordings.{Recorded}
 use Rattle.conode_compare_laws.specs.RpdoDifferences.{
@@ -264,6 +264,7 @@ laws_pick = record {
   transfers = λ side frame f. pick_same of_transfers (λ m. refl) f.frame;
   uploads = λ side frame f. pick_same of_data (λ m. refl) f.frame;
   toggles = λ side frame f. pick_same of_toggles (λ m. refl) f.frame;
+  timeouts = λ side frame f. pick_same of_timeouts (λ m. refl) f.frame;
 }
 
 pub all_pick : PicksNoHeld all_besides_held

@@ -2,7 +2,7 @@
 use Rattle.std.specs.Prelude.{List, [], ◌∷◌, ◌++◌, Option, Some}
 use Rattle.std.specs.Option.{option_to_list}
 use Rattle.conode_compare_rules.specs.declared.finding.Finding.{Finding}
-use Rattle.conode_compare_transfers.specs.declared.breach.Breach.TheVariants.{Toggle, Form, AbortKey, Size, Crc}
+use Rattle.conode_compare_transfers.specs.declared.breach.Breach.TheVariants.{Toggle, Form, AbortKey, Size, Crc, Early}
 use Rattle.conode_compare_rules.specs.declared.finding.Finding.TheVariants.{NoAnswer, Unasked, AnswerKey, AnswerForm, AnswerStopped, Transfer}
 use Rattle.conode_compare_rules.specs.declared.kind.FrameKind.{FrameKind}
 use Rattle.conode_compare_rules.specs.declared.kind.FrameKind.TheVariants.{Sdo}
@@ -59,3 +59,14 @@ of_toggles finding = []
 abbrev pub toggle_differences : FrameKind → Findings → List Finding
 toggle_differences (Sdo side frame) found = of_toggles found.frame
 toggle_differences kind found = []
+
+-- ---- of its timeout
+
+-- `abort-early`
+abbrev pub of_timeouts : Option Finding → List Finding
+of_timeouts (Some (Transfer (Early key waited time))) = Transfer (Early key waited time) ∷ []
+of_timeouts finding = []
+
+abbrev pub timeout_differences : FrameKind → Findings → List Finding
+timeout_differences (Sdo side frame) found = of_timeouts found.frame
+timeout_differences kind found = []

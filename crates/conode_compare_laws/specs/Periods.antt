@@ -1,4 +1,5 @@
--- Heartbeats of one period, and EMCY of one inhibit time: what the laws about them ask of a device and of its data sheet.
+-- Heartbeats of one period, EMCY of one inhibit time, and the SDO timeout: what the laws about them ask of a device, of its data sheet,
+-- and of the limits.
 use Rattle.std.specs.Prelude.{◌≡◌, ℕ, false, List, [], ◌∷◌, IfSome}
 use Rattle.co_profile.specs.Keys.{emergency_inhibit_key, producer_key}
 use Rattle.co_dict.specs.Rows.{number_at}
@@ -37,3 +38,9 @@ AllHaveInhibit inhibit k before (s ∷ later) =
 pub record KnowsInhibit (inhibit : ℕ) (subject : Subject) : Type 0 where
   pub before : IfSome subject.facts.before.inhibit (λ known. known ≡ inhibit)
   pub booted : IfSome subject.facts.booted.inhibit (λ known. known ≡ inhibit)
+
+-- ---- the time after which the SDO server times out
+
+-- what is said of it is nothing, or the device's own, in ms; with 0 it never does
+abbrev pub KnowsTimeout : Constants → Subject → Type 0
+KnowsTimeout k subject = IfSome subject.limits.time (λ time. time ≡ k.time)

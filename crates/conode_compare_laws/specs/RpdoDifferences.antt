@@ -19,7 +19,7 @@ use Rattle.conode_compare_rules.specs.FrameKinds.{kind_of}
 use Rattle.conode_compare_rules.specs.Progresses.{before_recording, findings_at, progress_with}
 use Rattle.conode_compare_receptions.specs.declared.receptions.Receptions.{Receptions}
 use Rattle.conode_compare_receptions.specs.Receptions.{no_receptions, receptions_with, with_receptions}
-use Rattle.conode_compare_laws.specs.AnswerFindings.{answer_differences, data_differences, toggle_differences, transfer_differences}
+use Rattle.conode_compare_laws.specs.AnswerFindings.{answer_differences, data_differences, timeout_differences, toggle_differences, transfer_differences}
 use Rattle.conode_compare_laws.specs.Differences.{emergency_differences, inhibit_differences, late_differences, state_differences}
 use Rattle.conode_compare_laws.specs.Recordings.{Recorded}
 use Rattle.conode_compare_laws.specs.TpdoDifferences.{tpdo_differences}
@@ -97,3 +97,4 @@ pub record LawsPickNoHeld : Type 0 where
   pub transfers : PicksNoHeld transfer_differences
   pub uploads : PicksNoHeld data_differences
   pub toggles : PicksNoHeld toggle_differences
+  pub timeouts : PicksNoHeld timeout_differences

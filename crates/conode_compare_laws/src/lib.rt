@@ -5,6 +5,7 @@
 mod answer_laws;
 mod aside;
 mod built_devices;
+mod early_aborts;
 mod early_emergencies;
 mod emergencies;
 mod entries;
@@ -23,6 +24,7 @@ pub use answer_laws::{
 };
 pub use aside::sends_aside;
 pub use built_devices::{begins_aside, built_no_state_differences};
+pub use early_aborts::{built_no_early_aborts, no_early_aborts};
 pub use early_emergencies::no_early_emergencies;
 pub use emergencies::no_emergency_differences;
 pub use entries::stays_dictionary;
