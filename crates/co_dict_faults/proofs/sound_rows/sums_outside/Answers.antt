@@ -3,7 +3,7 @@ use Rattle.co_sheet_rows.specs.declared.entry.EntryRow.{EntryRow}
 use Rattle.co_sheet.specs.SheetViews.{row_view}
 use Rattle.co_dict_build.specs.BuildFaults.{is_sum_outside}
 use Rattle.co_dict_faults.specs.SoundPlans.{sums_outside}
-use Rattle.co_dict_faults.proofs.PieceLemmas.{kept-turn, passed-turn}
+use Rattle.co_dict_faults.proofs.PieceLemmas.{kept-turn, passed-turn, pieces-end}
 use Rattle.co_dict_faults.proofs.sound_rows.sums_outside.Goals.{then-is_sum_outside+in_ok-push, else-is_sum_outside}
 use Rattle.co_dict_faults.proofs.sound_rows.sums_outside.Goals as goal
 
@@ -20,3 +20,7 @@ loop-row-preserved c =
           rw w.keys-is (passed-turn sums is_outside (λ row. row.key) (λ row rows. refl) c.args.rows.now c.loop-row.row-index _ (sym c.is_sum_outside.ensures ∙ w.if-is_sum_outside.false)
           c.loop-row.keys.items _ c.loop-row-test.true c.loop-row.invariant)
     ]
+
+pub returns : goal.returns
+returns c =
+    pieces-end (λ (rows : List EntryRow). sums_outside c.args.node_id (map row_view rows)) refl c.args.rows.now c.loop-row.row-index _ _ c.loop-row-test.false c.loop-row.invariant
