@@ -46,12 +46,24 @@ fn properties_with<'a>(
 }
 
 /// A section with properties of its own.
-#[derive(Drop)]
 pub(crate) struct Retyped<'a> {
     pub(crate) kind: SectionKind,
     pub(crate) name: &'a [u8],
     pub(crate) line: usize,
     pub(crate) properties: Vec<Property<'a>>,
+}
+
+// One call wherever it is dropped, in place of a drop of its list.
+impl Drop for Retyped<'_> {
+    fn drop(self) {
+        let Retyped {
+            kind: _,
+            name: _,
+            line: _,
+            properties,
+        } = self;
+        drop(properties);
+    }
 }
 
 impl<'a> Retyped<'a> {
