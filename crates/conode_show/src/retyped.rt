@@ -1,6 +1,6 @@
 //! The sections of a sheet, with their original types if the sheet was adapted.
 
-ghost use Rattle.std.specs.Prelude.{◌≡◌, map, IfOk, OnOk};
+ghost use Rattle.std.specs.Prelude.{◌≡◌, [], ◌∷◌, ◌++◌, map, IfOk, OnOk};
 ghost use Rattle.std.specs.Option.{option_copied};
 ghost use Rattle.co_sheet_changes.specs.Originals.{original_at};
 ghost use Rattle.co_sheet_changes.specs.Views.{text_at};
@@ -67,23 +67,6 @@ impl Drop for Retyped<'_> {
 }
 
 impl<'a> Retyped<'a> {
-    fn of(
-        alloc: Global,
-        originals: &Originals,
-        section: &TextSection<'_, 'a>,
-    ) -> Result<Retyped<'a>, AllocError>
-        ensures { IfOk result (λ made. retyped_view made
-            ≡ retyped (text_at originals.now) (section_view section.now)) }
-    {
-        let code = originals.at(section.line);
-        Ok(Retyped {
-            kind: section.kind,
-            name: section.name,
-            line: section.line,
-            properties: properties_with(alloc, code, section.properties)?,
-        })
-    }
-
     fn section(&self) -> TextSection<'_, 'a>
         ensures { section_view result ≡ retyped_view self.now }
     {
@@ -93,6 +76,30 @@ impl<'a> Retyped<'a> {
             line: self.line,
             properties: self.properties.as_slice(),
         }
+    }
+}
+
+// appends a section with its original type
+fn push_retyped<'a>(
+    made: &mut Vec<Retyped<'a>>,
+    alloc: Global,
+    originals: &Originals,
+    section: &TextSection<'_, 'a>,
+) -> Result<(), AllocError>
+    ensures { OnOk result (map retyped_view made.new.items ≡ map retyped_view made.old.items
+        ++ retyped (text_at originals.now) (section_view section.now) ∷ []) }
+{
+    match properties_with(alloc, originals.at(section.line), section.properties) {
+        Ok(properties) => {
+            made.push(Retyped {
+                kind: section.kind,
+                name: section.name,
+                line: section.line,
+                properties,
+            })?;
+            Ok(())
+        }
+        Err(fault) => Err(fault),
     }
 }
 
@@ -107,7 +114,7 @@ pub(crate) fn all_retyped<'a>(
 {
     let mut made = Vec::new(alloc);
     for section in sections {
-        made.push(Retyped::of(alloc, originals, section)?)?;
+        push_retyped(&mut made, alloc, originals, section)?;
     }
     Ok(made)
 }
