@@ -1,31 +1,28 @@
 //! SYNC, EMCY, heartbeats and SDO channels as objects of JSON.
 
 ghost use Rattle.co_sheet_text.specs.Views.{section_view};
-ghost use Rattle.conode_show.specs.JsonForm.{service_of_section};
+ghost use Rattle.conode_show.specs.JsonForm.{service_of_section, service_tokens};
 ghost use Rattle.conode_text.specs.Appended.{Appended};
 
 use crate::member::Member;
 use crate::parts::{Part, word_number};
 use co_sheet_text::TextSection;
+use co_value::Key;
 use conode_json::Document;
 use conode_show_text::{Content, Service, key_of};
 
-/// Appends an entry of a service; nothing for any other section.
-#[tactic(auto, unfolding(crate::specs::JsonForm::service_tokens), using(conode_text::proofs::Appending::nothing))]
-pub(crate) fn put_service<'p>(
+// an entry of a service
+#[tactic(auto, unfolding(crate::specs::JsonForm::service_tokens))]
+fn put_service_tokens<'p>(
     document: &mut Document,
     node: Option<u8>,
     section: &'p TextSection<'p, 'p>,
+    key: Key,
+    service: Service,
 )
-    ensures { Appended document.old (service_of_section node (section_view section.entry.now))
-        document.new }
+    ensures { Appended document.old
+        (service_tokens node (section_view section.entry.now) key service) document.new }
 {
-    let Some(key) = key_of(section.kind) else {
-        return;
-    };
-    let Some(service) = Service::of(key) else {
-        return;
-    };
     document.put(&[
         Part::BeginObject,
         Part::Number(Member::Index, Some(key.index as i128)),
@@ -39,4 +36,22 @@ pub(crate) fn put_service<'p>(
         ),
         Part::EndObject,
     ]);
+}
+
+/// Appends an entry of a service; nothing for any other section.
+#[tactic(auto, using(conode_text::proofs::Appending::nothing))]
+pub(crate) fn put_service<'p>(
+    document: &mut Document,
+    node: Option<u8>,
+    section: &'p TextSection<'p, 'p>,
+)
+    ensures { Appended document.old (service_of_section node (section_view section.entry.now))
+        document.new }
+{
+    let Some(key) = key_of(section.kind) else {
+        return;
+    };
+    if let Some(service) = Service::of(key) {
+        put_service_tokens(document, node, section, key, service);
+    }
 }

@@ -166,8 +166,10 @@ fn put_shown(
         ++ text_member (member_name member) (cell_text node content.now)) }
 {
     let mut text = String::new(alloc);
-    push_content(&mut text, node, content)?;
-    writer.put_text(member.name(), text.as_str())
+    match push_content(&mut text, node, content) {
+        Ok(()) => writer.put_text(member.name(), text.as_str()),
+        Err(fault) => Err(fault),
+    }
 }
 
 #[tactic(auto, unfolding(crate::specs::JsonForm::said_member))]

@@ -1,6 +1,6 @@
 //! The sections of a sheet, with their original types if the sheet was adapted.
 
-ghost use Rattle.std.specs.Prelude.{◌≡◌, map, IfOk, OnOk};
+ghost use Rattle.std.specs.Prelude.{◌≡◌, [], ◌∷◌, ◌++◌, map, IfOk, OnOk};
 ghost use Rattle.std.specs.Option.{option_copied};
 ghost use Rattle.co_sheet_changes.specs.Originals.{original_at};
 ghost use Rattle.co_sheet_changes.specs.Views.{text_at};
@@ -46,7 +46,6 @@ fn properties_with<'a>(
 }
 
 /// A section with properties of its own.
-#[derive(Drop)]
 pub(crate) struct Retyped<'a> {
     pub(crate) kind: SectionKind,
     pub(crate) name: &'a [u8],
@@ -54,24 +53,20 @@ pub(crate) struct Retyped<'a> {
     pub(crate) properties: Vec<Property<'a>>,
 }
 
-impl<'a> Retyped<'a> {
-    fn of(
-        alloc: Global,
-        originals: &Originals,
-        section: &TextSection<'_, 'a>,
-    ) -> Result<Retyped<'a>, AllocError>
-        ensures { IfOk result (λ made. retyped_view made
-            ≡ retyped (text_at originals.now) (section_view section.now)) }
-    {
-        let code = originals.at(section.line);
-        Ok(Retyped {
-            kind: section.kind,
-            name: section.name,
-            line: section.line,
-            properties: properties_with(alloc, code, section.properties)?,
-        })
+// One call wherever it is dropped, in place of a drop of its list.
+impl Drop for Retyped<'_> {
+    fn drop(self) {
+        let Retyped {
+            kind: _,
+            name: _,
+            line: _,
+            properties,
+        } = self;
+        drop(properties);
     }
+}
 
+impl<'a> Retyped<'a> {
     fn section(&self) -> TextSection<'_, 'a>
         ensures { section_view result ≡ retyped_view self.now }
     {
@@ -81,6 +76,30 @@ impl<'a> Retyped<'a> {
             line: self.line,
             properties: self.properties.as_slice(),
         }
+    }
+}
+
+// appends a section with its original type
+fn push_retyped<'a>(
+    made: &mut Vec<Retyped<'a>>,
+    alloc: Global,
+    originals: &Originals,
+    section: &TextSection<'_, 'a>,
+) -> Result<(), AllocError>
+    ensures { OnOk result (map retyped_view made.new.items ≡ map retyped_view made.old.items
+        ++ retyped (text_at originals.now) (section_view section.now) ∷ []) }
+{
+    match properties_with(alloc, originals.at(section.line), section.properties) {
+        Ok(properties) => {
+            made.push(Retyped {
+                kind: section.kind,
+                name: section.name,
+                line: section.line,
+                properties,
+            })?;
+            Ok(())
+        }
+        Err(fault) => Err(fault),
     }
 }
 
@@ -95,7 +114,7 @@ pub(crate) fn all_retyped<'a>(
 {
     let mut made = Vec::new(alloc);
     for section in sections {
-        made.push(Retyped::of(alloc, originals, section)?)?;
+        push_retyped(&mut made, alloc, originals, section)?;
     }
     Ok(made)
 }

@@ -92,9 +92,13 @@ fn retyped_in<'a>(
     requires parsed { parsed.now ≡ sections_read (lines_of text.now) }
     ensures { IfOk result (λ made. map retyped_view made.items ≡ sections_of text.now) }
 {
-    let given = parsed.sections(alloc)?;
-    let originals = Originals::in_text(alloc, text)?;
-    all_retyped(alloc, &originals, given.as_slice())
+    match parsed.sections(alloc) {
+        Ok(given) => match Originals::in_text(alloc, text) {
+            Ok(originals) => all_retyped(alloc, &originals, given.as_slice()),
+            Err(fault) => Err(fault),
+        },
+        Err(fault) => Err(fault),
+    }
 }
 
 // the document of a parsed text's sections
@@ -109,10 +113,16 @@ fn document_parsed(
     requires parsed { parsed.now ≡ sections_read (lines_of text.now) }
     ensures { IfOk result (λ made. made.items ≡ document_of form node (sections_of text.now)) }
 {
-    let retyped = retyped_in(alloc, text, parsed)?;
-    let mut sections = retyped_sections(alloc, retyped.as_slice())?;
-    let node = node_for(node, sections.as_slice());
-    ordered_document(alloc, form, node, sections.as_mut_slice())
+    match retyped_in(alloc, text, parsed) {
+        Ok(retyped) => match retyped_sections(alloc, retyped.as_slice()) {
+            Ok(mut sections) => {
+                let node = node_for(node, sections.as_slice());
+                ordered_document(alloc, form, node, sections.as_mut_slice())
+            }
+            Err(fault) => Err(fault),
+        },
+        Err(fault) => Err(fault),
+    }
 }
 
 // the document of a text's sections
@@ -203,8 +213,10 @@ fn reason(alloc: Global, text: &[u8]) -> Result<Option<&'static str>, AllocError
 fn reason_line(alloc: Global, words: &str) -> Result<Vec<u8>, AllocError>
     ensures { IfOk result (λ text. text.items ≡ words.now ++ 10 ∷ []) }
 {
-    let text = format!(in alloc; "{words}\n")?;
-    Ok(text.into_bytes())
+    match format!(in alloc; "{words}\n") {
+        Ok(text) => Ok(text.into_bytes()),
+        Err(fault) => Err(fault),
+    }
 }
 
 fn reason_in(alloc: Global, form: Form, words: &str) -> Result<Vec<u8>, AllocError>
