@@ -1,7 +1,9 @@
 -- A step of a loop that appends what each element gives.
-use Rattle.std.proofs.Common.{◌≡◌, ◌∙◌, ℕ, ◌+◌, ◌<◌, List, [], ◌∷◌, ◌++◌, map, length, take, get_or, append_assoc, ap, sym}
+use Rattle.std.proofs.Common.{◌≡◌, ◌∙◌, ℕ, ◌+◌, ◌<◌, suc, Bool, true, false, cond, Option, Some, List, [], ◌∷◌, ◌++◌, map, length, take, drop, drop-cons, add-one, get_or, append_assoc, refl, ap, sym, arith}
 use Rattle.std.specs.List.{flat_map}
-use Rattle.std.proofs.lemmas.List.{flat_map_more, map_more, take_more}
+use Rattle.std.specs.Prelude.{◌==◌}
+use Rattle.std.proofs.lemmas.Bool.Decides.{nat_tests}
+use Rattle.std.proofs.lemmas.List.{flat_map_more, map-append, map_more, take_more}
 
 pub appended_more : {X Y : Type 0} (f : X → List Y) (xs : List X) (i : ℕ) (d : X) (base before after : List Y) → i < length xs
     → before ≡ base ++ flat_map f (take i xs) → after ≡ before ++ f (get_or xs i d) → after ≡ base ++ flat_map f (take (i + 1) xs)
@@ -22,3 +24,39 @@ pub appended_view_more : {X Z Y : Type 0} (f : Z → List Y) (view : X → Z) (x
 appended_view_more f view xs i d base before after h so_far more =
     more ∙ ap (λ l. l ++ f (view (get_or xs i d))) so_far ∙ flat_map_more f base (map view (take i xs)) (view (get_or xs i d))
     ∙ ap (λ l. base ++ flat_map f l) (sym (map_more view xs i d h))
+
+-- what is made of each, seen as contracts see it
+pub pushed_seen_more : {X Z Y : Type 0} (f : X → Y) (view : Z → Y) (xs : List X) (i : ℕ) (d : X) (before after : List Z) (z : Z) → i < length xs
+    → map view before ≡ map f (take i xs) → after ≡ before ++ z ∷ [] → view z ≡ f (get_or xs i d) → map view after ≡ map f (take (i + 1) xs)
+pushed_seen_more f view xs i d before after z h so_far more is =
+    ap (map view) more ∙ map-append view before (z ∷ []) ∙ ap (λ l. l ++ view z ∷ []) so_far ∙ ap (λ y. map f (take i xs) ++ y ∷ []) is
+    ∙ sym (map_more f xs i d h)
+
+-- A step of a search: an element that fails the test is passed over.
+pub passed_more : {X Y : Type 0} (F : List X → Y) (test : X → Bool) (step : X → Bool → Y → Y) → ((x : X) (xs : List X) → F (x ∷ xs) ≡ step x (test x) (F xs)) → ((x : X) (y : Y) → step x false y ≡ y)
+    → (xs : List X) (i : ℕ) (d : X) (all : Y) → i < length xs → test (get_or xs i d) ≡ false → F (drop i xs) ≡ all → F (drop (i + 1) xs) ≡ all
+passed_more F test step cut past xs i d all inside fails invariant =
+    let x = get_or xs i d in
+    let rest = F (drop (suc i) xs) in
+    rw (add-one i)
+    (sym (past x rest) ∙ ap (λ b. step x b rest) (sym fails) ∙ sym (cut x (drop (suc i) xs)) ∙ ap F (sym (drop-cons xs i d inside)) ∙ invariant)
+
+-- one that passes the test is what is found
+pub found_here : {X Y : Type 0} (F : List X → Y) (test : X → Bool) (step : X → Bool → Y → Y) → ((x : X) (xs : List X) → F (x ∷ xs) ≡ step x (test x) (F xs))
+    → (xs : List X) (i : ℕ) (d : X) (all : Y) → i < length xs → test (get_or xs i d) ≡ true → F (drop i xs) ≡ all → step (get_or xs i d) true (F (drop (suc i) xs)) ≡ all
+found_here F test step cut xs i d all inside passes invariant =
+    let x = get_or xs i d in
+    let rest = F (drop (suc i) xs) in
+    ap (λ b. step x b rest) (sym passes) ∙ sym (cut x (drop (suc i) xs)) ∙ ap F (sym (drop-cons xs i d inside)) ∙ invariant
+
+-- what is made of an element that is found, or else of what the others have
+pub made_first : {X Y : Type 0} (make : Option X → Y) (is_found : Bool) (x : X) (rest : Option X) → make (cond is_found (Some x) rest) ≡ cond is_found (make (Some x)) (make rest)
+made_first make true x rest = refl
+made_first make false x rest = refl
+
+-- numbers that aren't equal
+pub apart : (a b : ℕ) → (a ≡ b → ⊥) → (a == b) ≡ false
+apart a b h = grind (arith, nat_tests)
+
+pub alike : (a b : ℕ) → a ≡ b → (a == b) ≡ true
+alike a b h = grind (arith, nat_tests)
