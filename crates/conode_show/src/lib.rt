@@ -1,6 +1,16 @@
 //! The object dictionary of a data sheet (CiA 306, CiA 301), shown as text or as one JSON document.
 #![tactic(auto)]
 
+// As `?`, without a conversion of the error: a `match` is one step of a proof where `?` is three.
+macro_rules! attempt {
+    ($result:expr) => {
+        match $result {
+            Ok(value) => value,
+            Err(fault) => return Err(fault),
+        }
+    };
+}
+
 mod form;
 mod json_entries;
 mod json_form;

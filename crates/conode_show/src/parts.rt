@@ -105,9 +105,9 @@ fn put_quantity(
     ensures { OnOk result
         (writer.new ≡ writer.old ++ quantity_member (member_name member) number value.now) }
 {
-    writer.begin_object_of(member.name())?;
-    writer.put_number_if(alloc, "number", number)?;
-    writer.put_bytes(alloc, "text", value)?;
+    attempt!(writer.begin_object_of(member.name()));
+    attempt!(writer.put_number_if(alloc, "number", number));
+    attempt!(writer.put_bytes(alloc, "text", value));
     writer.end_object()
 }
 
@@ -184,15 +184,10 @@ fn put_said<'p>(
     ensures { OnOk result (writer.new ≡ writer.old
         ++ said_member (member_name member) meaning node (section_view section.entry.now)) }
 {
-    writer.begin_object_of(member.name())?;
-    writer.put_number_if(alloc, "number", word_number(node, section))?;
-    put_shown(
-        alloc,
-        writer,
-        Member::Words,
-        node,
-        &Content::Said(meaning, section),
-    )?;
+    attempt!(writer.begin_object_of(member.name()));
+    attempt!(writer.put_number_if(alloc, "number", word_number(node, section)));
+    let words = Content::Said(meaning, section);
+    attempt!(put_shown(alloc, writer, Member::Words, node, &words));
     writer.end_object()
 }
 

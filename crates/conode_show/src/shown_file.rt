@@ -195,14 +195,14 @@ fn reason(alloc: Global, text: &[u8]) -> Result<Option<&'static str>, AllocError
     ensures small { IfOk result (λ made.
         option_copied made ≡ None → length text.now ≤ 1048576) }
 {
-    let format = text_format(alloc, text)?;
+    let format = attempt!(text_format(alloc, text));
     if text.len() > GREATEST_SIZE {
         return Ok(Some(large_reason(format)));
     }
     let Some(format) = format else {
         return Ok(None);
     };
-    if has_object(alloc, text)? {
+    if attempt!(has_object(alloc, text)) {
         Ok(None)
     } else {
         Ok(Some(format_meaning(format)))
@@ -239,7 +239,7 @@ fn shown(
     ensures text { IfOk result (λ made. made.0.items ≡ shown form node text.now) }
     ensures readable { IfOk result (λ made. made.1 ≡ is_none (reason text.now)) }
 {
-    match reason(alloc, text)? {
+    match attempt!(reason(alloc, text)) {
         Some(words) => match reason_in(alloc, form, words) {
             Ok(made) => Ok((made, false)),
             Err(fault) => Err(fault),
