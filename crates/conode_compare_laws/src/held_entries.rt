@@ -19,11 +19,11 @@ ghost use Rattle.conode_compare_laws.specs.RpdoDifferences.{
 };
 
 /// What RPDOs write to the entries that are held (`--held`) changes no difference other than
-/// `value-held`: so what the other laws say of a recording holds of what the program finds, which
-/// looks at these writes between two frames (`frame_taken` of `conode_compare`). Whatever is known
-/// of the data sheet, whichever entries are held, and with whatever stamps. `picked`: of each
-/// choice of differences in which `value-held` isn't (`PicksNoHeld`) the program finds the same in
-/// any list of data frames. `laws`: the choices of all laws of this crate are such. `others`: of
+/// `value-held`: so what the other laws say of a recording holds with these writes looked at between
+/// two frames, in the order of `frame_taken` of `conode_compare` (that its `compared` goes through a
+/// recording so isn't proved). Whatever is known of the data sheet, whichever entries are held, and
+/// with whatever stamps. `picked`: of each choice of differences in which `value-held` isn't
+/// (`PicksNoHeld`) the program finds the same in any list of data frames. `laws`: the choices of all laws of this crate are such. `others`: of
 /// all kinds other than `value-held` it finds the same at frames of any kind, remote frames, error
 /// frames and CAN FD too. This is a law: a call of it changes nothing.
 pub fn held_changes_no_other()
