@@ -2,6 +2,8 @@
 //! (CiA 301, 7.2.2 and 7.3.2.2.4).
 #![tactic(auto)]
 
+mod process_data;
 mod receptions;
+mod transfers;
 
 pub use receptions::Receptions;

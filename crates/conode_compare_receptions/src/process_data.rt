@@ -1,0 +1,246 @@
+//! What a data frame brings the entries that are held, where it may be an RPDO.
+
+ghost use Rattle.std.specs.Prelude.{◌≡◌, true, map};
+ghost use Rattle.std.specs.List.{AllPairs};
+ghost use Rattle.co_sheet.specs.SheetViews.{row_view};
+ghost use Rattle.co_value.specs.Keys.{is_key_before};
+ghost use Rattle.conode_record.specs.Grammar.{IsIdentifier};
+ghost use Rattle.conode_compare_receptions.specs.Receptions.{
+  brought,
+  doubted,
+  frame_received,
+  is_apart,
+  is_rpdo_settled,
+  is_sure,
+  is_tpdo,
+  is_used,
+  other_received,
+  process_received,
+  received_by,
+  shared_received,
+  taken,
+  with_any,
+};
+
+use co_frame::Frame;
+use co_sheet::EntryRow;
+use conode_compare_held::{all_fit, is_restricted};
+use conode_compare_pdos::{Pdos, Rpdo, is_id};
+use conode_compare_rules::{Progress, Subject};
+use conode_compare_transfers::is_past;
+use conode_record::{Content, Identifier};
+
+use crate::receptions::Receptions;
+
+// whether SYNC has an identifier, or a TPDO of the device
+fn is_used(pdos: &Pdos, id: u16) -> bool
+    ensures { result ≡ is_used pdos.now id }
+{
+    is_id(pdos.sync, id) || is_tpdo(pdos, id)
+}
+
+// whether a TPDO of the device has an identifier
+fn is_tpdo(pdos: &Pdos, id: u16) -> bool
+    ensures { result ≡ is_tpdo pdos.now id }
+{
+    is_id(pdos.first.parameters.id, id)
+        || is_id(pdos.second.parameters.id, id)
+        || is_id(pdos.third.parameters.id, id)
+        || is_id(pdos.fourth.parameters.id, id)
+}
+
+// whether the tolerance is over since one of its parameters was written or read
+fn is_rpdo_settled(tolerance: u32, changed: Option<u64>, free: u64) -> bool
+    ensures { result ≡ is_rpdo_settled tolerance changed free }
+{
+    match changed {
+        Some(changed) => is_past(changed, tolerance, free),
+        None => true,
+    }
+}
+
+impl Receptions {
+    // whether what an RPDO writes with a frame is known
+    #[tactic(auto, unfolding(crate::specs::Receptions::is_sure))]
+    fn is_sure(&self, subject: &Subject, progress: &Progress, id: u16, rpdo: &Rpdo) -> bool
+        ensures { result ≡ is_sure subject.now self.now progress.now id rpdo.now }
+    {
+        self.followed
+            && !self.writing
+            && rpdo.cob_id.is_some()
+            && rpdo.is_immediate()
+            && is_rpdo_settled(subject.limits.tolerance, rpdo.changed, progress.free)
+            && progress.takes_rpdos(subject)
+            && !is_used(progress.pdos(), id)
+    }
+
+    // A frame came that may be an RPDO.
+    fn doubt(&mut self, subject: &Subject, progress: &Progress, micros: u64, id: u16)
+        ensures { self.new ≡ doubted subject.now self.old progress.now micros id }
+    {
+        self.writes.forget_values();
+        self.writes.written = progress.written;
+        self.writes.written.forget_mapped(&subject.held);
+        self.followed = self.followed && self.rpdos.all_at_once(id);
+        self.touched = Some(micros);
+    }
+
+    // A frame of an RPDO brings the entries what it has.
+    fn bring(&mut self, subject: &Subject, micros: u64, frame: &Frame, rpdo: &Rpdo)
+        ensures { self.new
+            ≡ brought subject.now self.old micros frame.now.id rpdo.now frame.now.bytes }
+    {
+        let (rpdos, id) = (self.rpdos, frame.id());
+        self.writes
+            .receive(&subject.held, &rpdos, id, rpdo, frame.bytes(), micros);
+        self.touched = Some(micros);
+    }
+
+    // A frame of an RPDO came that maps so many bytes.
+    fn receive(
+        &mut self,
+        subject: &Subject,
+        rows: &[EntryRow<'_>],
+        progress: &Progress,
+        micros: u64,
+        frame: &Frame,
+        rpdo: &Rpdo,
+        mapped: u8,
+    )
+        requires { AllPairs (λ e f. is_key_before e.key f.key ≡ true) rows.now }
+        ensures { self.new ≡ taken subject.now (map row_view rows.now) self.old progress.now micros
+            frame.now.id rpdo.now frame.now.bytes mapped }
+    {
+        if frame.bytes().len() < mapped as usize {
+            return;
+        }
+        if all_fit(rows, rpdo, frame.bytes()) {
+            self.bring(subject, micros, frame, rpdo);
+        } else {
+            self.doubt(subject, progress, micros, frame.id());
+        }
+    }
+
+    // A frame came that may be of one RPDO alone.
+    fn take_receiver(
+        &mut self,
+        subject: &Subject,
+        rows: &[EntryRow<'_>],
+        progress: &Progress,
+        micros: u64,
+        frame: &Frame,
+        rpdo: &Option<Rpdo>,
+    )
+        requires { AllPairs (λ e f. is_key_before e.key f.key ≡ true) rows.now }
+        ensures { self.new ≡ received_by subject.now (map row_view rows.now) self.old progress.now
+            micros frame.now.id frame.now.bytes rpdo.now }
+    {
+        if let Some(rpdo) = rpdo {
+            if let Some(mapped) = rpdo.mapped_length() {
+                if self.is_sure(subject, progress, frame.id(), rpdo) {
+                    self.receive(subject, rows, progress, micros, frame, rpdo, mapped);
+                    return;
+                }
+            }
+        }
+        self.doubt(subject, progress, micros, frame.id());
+    }
+
+    // whether none of its RPDOs has an identifier
+    fn is_apart(&self, id: u16) -> bool
+        ensures { result ≡ is_apart self.now id }
+    {
+        is_restricted(id) || !self.rpdos.any_receives(id)
+    }
+
+    // A data frame came, and RPDOs aren't followed.
+    fn take_any(&mut self, progress: &Progress, micros: u64, id: u16)
+        ensures { self.new ≡ with_any self.old progress.now micros id }
+    {
+        self.writes.written = progress.written;
+        if !is_restricted(id) && !is_tpdo(progress.pdos(), id) {
+            self.touched = Some(micros);
+        }
+    }
+
+    // A data frame came that may be an RPDO.
+    #[tactic(auto, unfolding(crate::specs::Receptions::process_received))]
+    fn take_process(
+        &mut self,
+        subject: &Subject,
+        rows: &[EntryRow<'_>],
+        progress: &Progress,
+        micros: u64,
+        frame: &Frame,
+    )
+        requires { AllPairs (λ e f. is_key_before e.key f.key ≡ true) rows.now }
+        ensures { self.new ≡ process_received
+            subject.now (map row_view rows.now) self.old progress.now micros frame.now }
+    {
+        if !self.followed {
+            self.take_any(progress, micros, frame.id());
+            return;
+        }
+        if self.is_apart(frame.id()) {
+            return;
+        }
+        let rpdo = self.rpdos.receiver(frame.id());
+        self.take_receiver(subject, rows, progress, micros, frame, &rpdo);
+    }
+
+    // A frame with an identifier of 29 bits came, or one of CAN FD.
+    fn take_other(&mut self, progress: &Progress, micros: u64)
+        ensures { self.new ≡ other_received self.old progress.now micros }
+    {
+        self.writes.forget_values();
+        self.writes.written = progress.written;
+        self.followed = false;
+        self.touched = Some(micros);
+    }
+
+    // Another frame came.
+    pub(crate) fn take_frame(
+        &mut self,
+        subject: &Subject,
+        rows: &[EntryRow<'_>],
+        progress: &Progress,
+        micros: u64,
+        id: Identifier,
+        content: &Content<'_>,
+    )
+        requires rows { AllPairs (λ e f. is_key_before e.key f.key ≡ true) rows.now }
+        requires id { IsIdentifier id }
+        ensures { self.new ≡ frame_received
+            subject.now (map row_view rows.now) self.old progress.now micros id content.now }
+    {
+        match (id, content) {
+            (Identifier::Base(id), Content::Data(bytes)) => {
+                let frame = Frame::packed(id, bytes);
+                self.take_process(subject, rows, progress, micros, &frame);
+            }
+            _ => self.take_other(progress, micros),
+        }
+    }
+
+    // A frame with an identifier that EMCY may share with an RPDO.
+    pub(crate) fn take_shared(
+        &mut self,
+        subject: &Subject,
+        rows: &[EntryRow<'_>],
+        progress: &Progress,
+        micros: u64,
+        id: Identifier,
+        content: &Content<'_>,
+    )
+        requires rows { AllPairs (λ e f. is_key_before e.key f.key ≡ true) rows.now }
+        requires id { IsIdentifier id }
+        ensures { self.new ≡ shared_received
+            subject.now (map row_view rows.now) self.old progress.now micros id content.now }
+    {
+        if self.followed {
+            self.take_frame(subject, rows, progress, micros, id, content);
+        } else {
+            self.set_written(progress.written);
+        }
+    }
+}
