@@ -22,6 +22,7 @@ ghost use Rattle.conode_compare_receptions.specs.Receptions.{
   with_any,
 };
 
+use crate::receptions::Receptions;
 use co_frame::Frame;
 use co_sheet::EntryRow;
 use conode_compare_held::{all_fit, is_restricted};
@@ -29,8 +30,6 @@ use conode_compare_pdos::{Pdos, Rpdo, is_id};
 use conode_compare_rules::{Progress, Subject};
 use conode_compare_transfers::is_past;
 use conode_record::{Content, Identifier};
-
-use crate::receptions::Receptions;
 
 // whether SYNC has an identifier, or a TPDO of the device
 fn is_used(pdos: &Pdos, id: u16) -> bool

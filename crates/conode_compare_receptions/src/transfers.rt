@@ -17,6 +17,7 @@ ghost use Rattle.conode_compare_receptions.specs.Receptions.{
   written_ended,
 };
 
+use crate::receptions::Receptions;
 use co_frame::Frame;
 use co_value::Key;
 use conode_compare_held::{RpdoWrites, Written};
@@ -24,8 +25,6 @@ use conode_compare_pdos::Rpdos;
 use conode_compare_rules::{Progress, Subject};
 use conode_compare_transfers::{Exchange, asks_to_write, is_past, is_timed, key_in};
 use conode_explain_transfers::{Direction, Ended, Side, What};
-
-use crate::receptions::Receptions;
 
 // whether a client asks to write
 fn asks(side: Side, frame: &Frame) -> bool
