@@ -14,12 +14,12 @@ use Rattle.conode_json.specs.Characters.{utf8_of}
 use Rattle.conode_show_text.specs.declared.chapters.Chapter.{Chapter}
 use Rattle.conode_show_text.specs.declared.chapters.Chapter.TheVariants.{Entries, Pdos, Services}
 use Rattle.conode_show_text.specs.declared.meaning.Meaning.{Meaning}
-use Rattle.conode_show_text.specs.declared.meaning.Meaning.TheVariants.{PdoCobId, Transmission, PdoInhibit, EventTimer, Mapped}
+use Rattle.conode_show_text.specs.declared.meaning.Meaning.TheVariants.{PdoCobId, PdoInhibit, EventTimer, Mapped}
 use Rattle.conode_show_text.specs.declared.service.Service.{Service}
 use Rattle.conode_show_text.specs.declared.values.Word.{Word}
 use Rattle.conode_show_text.specs.Entries.{has_sub_indices, is_mappable, type_text}
 use Rattle.conode_show_text.specs.Meanings.{mapped_key, said}
-use Rattle.conode_show_text.specs.Pdos.{entry_section, is_counted, is_pdo_cob_id, mapping_count, mapping_index, pdo_name, section_word}
+use Rattle.conode_show_text.specs.Pdos.{entry_section, is_counted, is_pdo_cob_id, mapping_count, mapping_index, pdo_name, section_word, type_meaning}
 use Rattle.conode_show_text.specs.Services.{key_of, service_meaning, service_name, service_of}
 use Rattle.conode_show_text.specs.Values.{limit_number, type_of, value_number}
 
@@ -150,7 +150,7 @@ abbrev pub pdo_members : Option ℕ → List TextSection → ℕ → TextSection
 pdo_members node sections index section =
     text_member (codes "pdo") (pdo_name index) ++ number_member (codes "index") (pos index)
     ++ said_member (codes "cobId") PdoCobId node section
-    ++ said_at_member (codes "transmissionType") Transmission node sections (record { index = index; sub = 2 })
+    ++ said_at_member (codes "transmissionType") (type_meaning index) node sections (record { index = index; sub = 2 })
     ++ said_at_member (codes "inhibitTime") PdoInhibit node sections (record { index = index; sub = 3 })
     ++ said_at_member (codes "eventTimer") EventTimer node sections (record { index = index; sub = 5 })
 

@@ -22,6 +22,7 @@ use co_value::Key;
 use conode_json::Document;
 use conode_show_text::{
     Content, Meaning, Word, is_counted, is_pdo_cob_id, mapped_key, mapping_count, section_word,
+    type_meaning,
 };
 
 fn begin_object(document: &mut Document)
@@ -131,7 +132,7 @@ fn put_pdo_begin<'p>(
         Part::Said(Member::CobId, Meaning::PdoCobId, node, section),
         Part::SaidAt(
             Member::TransmissionType,
-            Meaning::Transmission,
+            type_meaning(index),
             node,
             sections,
             transmission,

@@ -7,14 +7,15 @@ use lib.Utf8.{encode}
 use Rattle.co_text.specs.Printed.{digits_text}
 use Rattle.co_value.specs.declared.data_type.DataType.TheVariants.{Integer16, Unsigned8, Unsigned16, Unsigned32, VisibleString, OctetString}
 use Rattle.conode_show_text.specs.declared.format.Format.TheVariants.{Text, Markdown}
-use Rattle.conode_show_text.specs.declared.meaning.Meaning.TheVariants.{PdoCobId, CobId, SyncCobId, Transmission, PdoInhibit, EventTimer, EmcyInhibit, Consumer, Producer, Mapped}
+use Rattle.conode_show_text.specs.declared.meaning.Meaning.TheVariants.{PdoCobId, CobId, SyncCobId, Transmission, Reception, PdoInhibit, EventTimer, EmcyInhibit, Consumer, Producer, Mapped}
 use Rattle.conode_show_text.specs.Numbers.{hex_text, in_parentheses, number_text}
 use Rattle.conode_show_text.specs.Texts.{plain_text}
 use Rattle.conode_show_text.specs.Layout.{Part, placed, line_of}
 use Rattle.conode_show_text.specs.declared.values.Word.{Word}
 use Rattle.conode_show_text.specs.Values.{sum_text, known_text, quoted, value_text, unnumbered_text, word_of}
 use Rattle.conode_show_text.specs.CobIds.{identifier_text, cob_id_text, pdo_cob_id_text, sync_text}
-use Rattle.conode_show_text.specs.Meanings.{meaning_text, word_text, transmission_text, counted_syncs, millis_text, time_text, consumer_text, mapped_text}
+use Rattle.conode_show_text.specs.Meanings.{meaning_text, word_text, transmission_text, reception_text, counted_syncs, millis_text, time_text, consumer_text, mapped_text}
+use Rattle.conode_show_text.specs.Pdos.{type_meaning}
 use Rattle.conode_show_text.specs.Entries.{type_name}
 
 -- ---- numbers
@@ -289,6 +290,49 @@ type_255 = refl
 type_256 : meaning_text Transmission (word 256) ≡ codes "256: reserved"
 unfolding transmission_text counted_syncs digits
 type_256 = refl
+
+-- ---- transmission types of RPDOs
+
+reception_0 : meaning_text Reception (word 0) ≡ codes "0: with the next SYNC"
+unfolding reception_text digits
+reception_0 = refl
+
+reception_240 : meaning_text Reception (word 240) ≡ codes "240: with the next SYNC"
+unfolding reception_text digits
+reception_240 = refl
+
+reception_241 : meaning_text Reception (word 241) ≡ codes "241: reserved"
+unfolding reception_text digits
+reception_241 = refl
+
+reception_253 : meaning_text Reception (word 253) ≡ codes "253: reserved"
+unfolding reception_text digits
+reception_253 = refl
+
+reception_254 : meaning_text Reception (word 254) ≡ codes "254: event-driven, manufacturer"
+unfolding reception_text transmission_text
+reception_254 = refl
+
+reception_255 : meaning_text Reception (word 255) ≡ codes "255: event-driven, device profile"
+unfolding reception_text transmission_text
+reception_255 = refl
+
+reception_256 : meaning_text Reception (word 256) ≡ codes "256: reserved"
+unfolding reception_text digits
+reception_256 = refl
+
+-- the first and the last RPDO, the first TPDO
+meaning_of_rpdo : type_meaning 0x1400 ≡ Reception
+unfolding type_meaning
+meaning_of_rpdo = refl
+
+meaning_of_last_rpdo : type_meaning 0x15FF ≡ Reception
+unfolding type_meaning
+meaning_of_last_rpdo = refl
+
+meaning_of_tpdo : type_meaning 0x1800 ≡ Transmission
+unfolding type_meaning
+meaning_of_tpdo = refl
 
 -- ---- times
 

@@ -1,11 +1,11 @@
 -- What the numbers of the communication profile mean, in words (CiA 301, 7.5.2).
-use Rattle.std.specs.Prelude.{ℕ, ◌/◌, ◌%◌, ◌==◌, nat_le, Bool, true, false, not, ◌&&◌, if◌then◌else◌, List, [], ◌∷◌, ◌++◌, codes, decimal, Option}
+use Rattle.std.specs.Prelude.{ℕ, ◌/◌, ◌%◌, ◌==◌, nat_le, Bool, true, false, not, ◌&&◌, ◌||◌, if◌then◌else◌, List, [], ◌∷◌, ◌++◌, codes, decimal, Option}
 use Rattle.std.specs.Option.{option_map_or}
 use Rattle.co_value.specs.declared.key.Key.{Key}
 use Rattle.co_value.specs.KeyTexts.{key_text}
 use Rattle.co_sheet_text.specs.Sections.{TextSection}
 use Rattle.conode_show_text.specs.declared.meaning.Meaning.{Meaning}
-use Rattle.conode_show_text.specs.declared.meaning.Meaning.TheVariants.{PdoCobId, CobId, SyncCobId, Transmission, PdoInhibit, EventTimer, EmcyInhibit, Consumer, Producer, Mapped}
+use Rattle.conode_show_text.specs.declared.meaning.Meaning.TheVariants.{PdoCobId, CobId, SyncCobId, Transmission, Reception, PdoInhibit, EventTimer, EmcyInhibit, Consumer, Producer, Mapped}
 use Rattle.co_sheet.specs.Commissioning.{is_node_number}
 use Rattle.conode_show_text.specs.Names.{name_among}
 use Rattle.conode_show_text.specs.CobIds.{pdo_cob_id_text, cob_id_text, sync_text}
@@ -13,7 +13,7 @@ use Rattle.conode_show_text.specs.Texts.{plain_text}
 use Rattle.conode_show_text.specs.declared.values.Word.{Word}
 use Rattle.conode_show_text.specs.Values.{word_of, value_of}
 
--- the transmission types that have words of their own (CiA 301, 7.5.2.35 and 7.5.2.37)
+-- the transmission types of TPDOs that have words of their own (CiA 301, 7.5.2.37)
 abbrev pub transmission_names : List (ℕ × List ℕ)
 transmission_names =
     (0, codes "0: synchronous, acyclic") ∷ (1, codes "1: every SYNC") ∷ (252, codes "252: remote, synchronous")
@@ -31,6 +31,14 @@ counted_syncs n =
 
 unfoldable pub transmission_text : ℕ → List ℕ
 transmission_text n = option_map_or (λ name. name) (transmission_name n) (counted_syncs n)
+
+-- the transmission types of RPDOs (CiA 301, 7.5.2.35): up to 240 the next SYNC brings what was
+-- received; 254 and 255 as for TPDOs; the others are reserved
+unfoldable pub reception_text : ℕ → List ℕ
+reception_text n =
+    if nat_le n 240 then decimal n ++ codes ": with the next SYNC"
+    else if n == 254 || n == 255 then transmission_text n
+    else decimal n ++ codes ": reserved"
 
 -- a time in ms; with tenths, if the number is in 100 µs
 unfoldable pub millis_text : Bool → ℕ → List ℕ
@@ -70,6 +78,7 @@ meaning_text PdoCobId word = pdo_cob_id_text word
 meaning_text CobId word = cob_id_text word
 meaning_text SyncCobId word = sync_text word
 meaning_text Transmission word = transmission_text word.number
+meaning_text Reception word = reception_text word.number
 meaning_text PdoInhibit word = time_text [] (codes "inhibit ") true word.number
 meaning_text EventTimer word = time_text [] (codes "event ") false word.number
 meaning_text EmcyInhibit word = time_text (codes "none") [] true word.number

@@ -9,7 +9,7 @@ use Rattle.co_sheet_text.specs.declared.section_kind.SectionKind.TheVariants.{Ob
 use Rattle.co_sheet_text.specs.Sections.{TextSection, section_at}
 use Rattle.conode_show_text.specs.declared.format.Format.{Format}
 use Rattle.conode_show_text.specs.declared.meaning.Meaning.{Meaning}
-use Rattle.conode_show_text.specs.declared.meaning.Meaning.TheVariants.{PdoCobId, Transmission, PdoInhibit, EventTimer, Mapped}
+use Rattle.conode_show_text.specs.declared.meaning.Meaning.TheVariants.{PdoCobId, Transmission, Reception, PdoInhibit, EventTimer, Mapped}
 use Rattle.conode_show_text.specs.Layout.{Part, line_of}
 use Rattle.conode_show_text.specs.Texts.{property_text}
 use Rattle.conode_show_text.specs.declared.values.Word.{Word}
@@ -21,6 +21,10 @@ unfoldable pub pdo_name : ℕ → List ℕ
 pdo_name index =
     if is_within rpdo_communication index then codes "RPDO " ++ decimal (index - 0x13FF)
     else codes "TPDO " ++ decimal (index - 0x17FF)
+
+-- what the transmission type of a PDO means, by the index of its communication parameter
+unfoldable pub type_meaning : ℕ → Meaning
+type_meaning index = if is_within rpdo_communication index then Reception else Transmission
 
 -- whether an entry is the COB-ID of a PDO
 abbrev pub is_pdo_cob_id : Key → Bool
@@ -42,7 +46,7 @@ abbrev pub pdo_parts : Option ℕ → List TextSection → ℕ → TextSection �
 pdo_parts node sections index section =
     record { column = 0; text = pdo_name index }
     ∷ record { column = 8; text = said PdoCobId node section }
-    ∷ record { column = 38; text = said_at Transmission node sections (record { index = index; sub = 2 }) }
+    ∷ record { column = 38; text = said_at (type_meaning index) node sections (record { index = index; sub = 2 }) }
     ∷ record { column = 72; text = said_at PdoInhibit node sections (record { index = index; sub = 3 }) }
     ∷ record { column = 88; text = said_at EventTimer node sections (record { index = index; sub = 5 }) } ∷ []
 

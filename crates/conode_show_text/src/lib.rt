@@ -25,7 +25,9 @@ pub use entries::{has_sub_indices, is_mappable};
 pub use format::Format;
 pub use meaning::{Meaning, mapped_key};
 pub use ordering::order;
-pub use pdos::{entry_section, is_counted, is_pdo_cob_id, mapping_count, section_word};
+pub use pdos::{
+    entry_section, is_counted, is_pdo_cob_id, mapping_count, section_word, type_meaning,
+};
 pub use sections::node_for;
 pub use service::{Service, key_of};
 pub use values::{Word, limit_number, type_of, value_number};

@@ -11,6 +11,7 @@ ghost use Rattle.conode_show_text.specs.Meanings.{
   mapped_key,
   mapped_text,
   meaning_text,
+  reception_text,
   said,
   time_text,
   transmission_name,
@@ -36,8 +37,10 @@ pub enum Meaning {
     CobId,
     /// The COB-ID of SYNC.
     SyncCobId,
-    /// The transmission type of a PDO.
+    /// The transmission type of a TPDO.
     Transmission,
+    /// The transmission type of an RPDO.
+    Reception,
     /// The inhibit time of a PDO, in 100 µs.
     PdoInhibit,
     /// The event timer of a PDO, in ms.
@@ -52,7 +55,7 @@ pub enum Meaning {
     Mapped,
 }
 
-/// The transmission types that have words of their own (CiA 301, 7.5.2.35 and 7.5.2.37).
+/// The transmission types of TPDOs that have words of their own (CiA 301, 7.5.2.37).
 const TRANSMISSION_NAMES: [(u64, &str); 6] = [
     (0, "0: synchronous, acyclic"),
     (1, "1: every SYNC"),
@@ -68,7 +71,7 @@ fn transmission_name(number: u64) -> Option<&'static str>
     name_among(number, &TRANSMISSION_NAMES)
 }
 
-// a transmission type: by name, by a number of SYNCs, or reserved
+// the transmission type of a TPDO: by name, by a number of SYNCs, or reserved
 #[tactic(auto, unfolding(crate::specs::Meanings::transmission_text, crate::specs::Meanings::counted_syncs))]
 fn push_transmission(text: &mut String, number: u64) -> Result<(), AllocError>
     ensures { OnOk result
@@ -81,6 +84,21 @@ fn push_transmission(text: &mut String, number: u64) -> Result<(), AllocError>
         return push_between(text, "", number, ": reserved");
     }
     write!(text, "{number}: every {number} SYNCs")
+}
+
+// the transmission type of an RPDO: up to 240 the next SYNC brings what was received
+#[tactic(auto, unfolding(crate::specs::Meanings::reception_text))]
+fn push_reception(text: &mut String, number: u64) -> Result<(), AllocError>
+    ensures { OnOk result
+        (string_bytes text.new ≡ string_bytes text.old ++ reception_text number) }
+{
+    if number <= 240 {
+        return push_between(text, "", number, ": with the next SYNC");
+    }
+    if number == 254 || number == 255 {
+        return push_transmission(text, number);
+    }
+    push_between(text, "", number, ": reserved")
 }
 
 // a time after the words `before`, or the words `off` for 0; in ms, with tenths if the number is in
@@ -170,6 +188,7 @@ fn push_meaning(text: &mut String, meaning: Meaning, word: Word) -> Result<(), A
         Meaning::CobId => push_identifier(text, word.number, use_name(word)),
         Meaning::SyncCobId => push_identifier(text, word.number, sync_name(word)),
         Meaning::Transmission => push_transmission(text, word.number),
+        Meaning::Reception => push_reception(text, word.number),
         Meaning::PdoInhibit => push_time(text, "", "inhibit ", true, word.number),
         Meaning::EventTimer => push_time(text, "", "event ", false, word.number),
         Meaning::EmcyInhibit => push_time(text, "none", "", true, word.number),

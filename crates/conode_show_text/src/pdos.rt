@@ -17,6 +17,7 @@ ghost use Rattle.conode_show_text.specs.Pdos.{
   pdo_text,
   said_at,
   section_word,
+  type_meaning,
 };
 
 use crate::cells::{Cell, Content, push_line};
@@ -49,6 +50,18 @@ pub(crate) fn push_pdo_name(text: &mut String, index: u16) -> Result<(), AllocEr
         push_between(text, "RPDO ", index.saturating_sub(0x13FF) as u64, "")
     } else {
         push_between(text, "TPDO ", index.saturating_sub(0x17FF) as u64, "")
+    }
+}
+
+/// What the transmission type of a PDO means, by the index of its communication parameter.
+#[tactic(auto, unfolding(crate::specs::Pdos::type_meaning))]
+pub fn type_meaning(index: u16) -> Meaning
+    ensures { result ≡ type_meaning index }
+{
+    if IndexRange::RPDO_COMMUNICATION.contains(index) {
+        Meaning::Reception
+    } else {
+        Meaning::Transmission
     }
 }
 
@@ -220,7 +233,7 @@ fn push_pdo_lines<'p>(
         &[
             Cell(0, Content::Pdo(index)),
             Cell(8, Content::Said(Meaning::PdoCobId, section)),
-            Cell(38, said_at(Meaning::Transmission, sections, transmission)),
+            Cell(38, said_at(type_meaning(index), sections, transmission)),
             Cell(72, said_at(Meaning::PdoInhibit, sections, inhibit)),
             Cell(88, said_at(Meaning::EventTimer, sections, timer)),
         ],
