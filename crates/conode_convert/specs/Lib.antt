@@ -1,4 +1,5 @@
 pub mod Converted
 pub mod Printed
+pub mod SheetTexts
 pub mod SheetWords
 pub mod Taking
