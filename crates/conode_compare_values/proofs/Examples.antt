@@ -65,6 +65,17 @@ other_const : upload (row 0x2000 0 Unsigned16 Constant (number (pos 258))) true 
 unfolding value_mismatch
 other_const = refl
 
+-- a BOOLEAN: of 1 in the sheet 0 alone is another; of 0 what has its lowest bit set
+boolean_of_1 : map (λ shown. upload (row 0x2000 0 Boolean Constant (number (pos 1))) true (shown ∷ [])) (0 ∷ 1 ∷ 2 ∷ 0xFF ∷ [])
+    ≡ Some (ValueConst (key 0x2000 0) 0 1) ∷ None ∷ None ∷ None ∷ []
+unfolding value_mismatch
+boolean_of_1 = refl
+
+boolean_of_0 : map (λ shown. upload (row 0x2000 0 Boolean Constant (number (pos 0))) true (shown ∷ [])) (0 ∷ 1 ∷ 2 ∷ 0xFF ∷ [])
+    ≡ None ∷ Some (ValueConst (key 0x2000 0) 1 0) ∷ None ∷ Some (ValueConst (key 0x2000 0) 0xFF 0) ∷ []
+unfolding value_mismatch
+boolean_of_0 = refl
+
 -- without its size the first bytes count
 no_size : upload (row 0x2000 0 Unsigned16 Constant (number (pos 258))) false (2 ∷ 1 ∷ 9 ∷ 9 ∷ []) ≡ None
 unfolding value_mismatch

@@ -60,18 +60,31 @@ abbrev pub shown_number : ℕ → List ℕ → Option ℕ
 shown_number width bytes =
     if nat_le width 8 && has_room width (length bytes) then Some (unsigned_of (take width bytes)) else None
 
+abbrev pub is_boolean : DataType → Bool
+is_boolean Boolean = true
+is_boolean other = false
+
+-- Of the byte of a BOOLEAN only one bit may count: it is another than 0 if that bit is set, and another
+-- than 1 if no bit is.
+abbrev pub is_other_boolean : ℕ → ℕ → Bool
+is_other_boolean shown held = if held == 0 then shown % 2 == 1 else shown == 0
+
+abbrev pub is_other_number : DataType → ℕ → ℕ → Bool
+is_other_number type shown held = if is_boolean type then is_other_boolean shown held else not (shown == held)
+
 -- `value-const`: another number than the data sheet's
-abbrev pub constant_mismatch : Key → Option ℕ → Option ℕ → Option Mismatch
-constant_mismatch key None held = None
-constant_mismatch key (Some shown) None = None
-constant_mismatch key (Some shown) (Some held) = if shown == held then None else Some (ValueConst key shown held)
+abbrev pub constant_mismatch : Row → Option ℕ → Option ℕ → Option Mismatch
+constant_mismatch row None held = None
+constant_mismatch row (Some shown) None = None
+constant_mismatch row (Some shown) (Some held) =
+    if is_other_number row.data_type shown held then Some (ValueConst row.key shown held) else None
 
 -- `value-length`: a number has as many bytes as its type, where their number is indicated; one of
 -- more than four isn't expedited
 abbrev pub number_mismatch : ℕ → Row → Bool → List ℕ → ℕ → Option Mismatch
 number_mismatch node row indicated bytes width =
     if nat_lt 4 width || (indicated && not (width == length bytes)) then Some (ValueLength row.key (length bytes) width)
-    else constant_mismatch row.key (shown_number width bytes) (held_number node row)
+    else constant_mismatch row (shown_number width bytes) (held_number node row)
 
 -- in segments or blocks; where the number of bytes is known exactly, it is the type's
 abbrev pub has_width : Bool → ℕ → ℕ → Bool
@@ -79,7 +92,7 @@ has_width exact width count = if exact then width == count else has_room width c
 
 abbrev pub long_mismatch : ℕ → Row → Bool → ℕ → List ℕ → ℕ → Option Mismatch
 long_mismatch node row exact count bytes width =
-    if has_width exact width count then constant_mismatch row.key (shown_number width bytes) (held_number node row)
+    if has_width exact width count then constant_mismatch row (shown_number width bytes) (held_number node row)
     else Some (ValueLength row.key count width)
 
 -- by the protocol, of so many bytes, the first of which are these
@@ -156,10 +169,6 @@ refused_mismatch modular row code =
     if not modular && (denies row.key code.0 && is_readable row.access) then Some (ReadRefused row.key code) else None
 
 -- ---- downloads
-
-abbrev pub is_boolean : DataType → Bool
-is_boolean Boolean = true
-is_boolean other = false
 
 -- Limits that can be meant: a sole one isn't below 0, since HighLimit=0xFFFF of an INTEGER16 may be
 -- meant as none; and two leave a number.

@@ -23,6 +23,8 @@ ghost use Rattle.conode_compare_values.specs.SheetValues.{
   is_first,
   is_held,
   is_held_text,
+  is_other_boolean,
+  is_other_number,
   is_other_text,
   is_printed,
   is_readable,
@@ -115,12 +117,42 @@ pub fn shown_number(width: usize, bytes: &[u8]) -> Option<u64>
     }
 }
 
+fn is_boolean(data_type: DataType) -> bool
+    ensures { result ≡ is_boolean data_type }
+{
+    matches!(data_type, DataType::Boolean)
+}
+
+// whether the byte of a BOOLEAN is another than the data sheet's, whether its lowest bit counts alone
+// or all of its bits
+fn is_other_boolean(shown: u64, held: u64) -> bool
+    ensures { result ≡ is_other_boolean shown held }
+{
+    if held == 0 {
+        shown % 2 == 1
+    } else {
+        shown == 0
+    }
+}
+
+fn is_other_number(data_type: DataType, shown: u64, held: u64) -> bool
+    ensures { result ≡ is_other_number data_type shown held }
+{
+    if is_boolean(data_type) {
+        is_other_boolean(shown, held)
+    } else {
+        shown != held
+    }
+}
+
 // the difference of a value that was uploaded
-fn constant_mismatch(key: Key, shown: Option<u64>, held: Option<u64>) -> Option<Mismatch>
-    ensures { result ≡ constant_mismatch key shown held }
+fn constant_mismatch(row: &EntryRow<'_>, shown: Option<u64>, held: Option<u64>) -> Option<Mismatch>
+    ensures { result ≡ constant_mismatch (row_view row.now) shown held }
 {
     match (shown, held) {
-        (Some(shown), Some(held)) if shown != held => Some(Mismatch::ValueConst(key, shown, held)),
+        (Some(shown), Some(held)) if is_other_number(row.data_type, shown, held) => {
+            Some(Mismatch::ValueConst(row.key, shown, held))
+        }
         _ => None,
     }
 }
@@ -140,7 +172,7 @@ fn number_mismatch(
     if width > 4 || (indicated && width != bytes.len()) {
         return Some(Mismatch::ValueLength(row.key, bytes.len() as u64, width as u8));
     }
-    constant_mismatch(row.key, shown_number(width, bytes), held_number(node, row))
+    constant_mismatch(row, shown_number(width, bytes), held_number(node, row))
 }
 
 fn has_width(exact: bool, width: usize, count: u64) -> bool
@@ -167,7 +199,7 @@ fn long_mismatch(
     ensures { result ≡ long_mismatch node (row_view row.now) exact count bytes.now width }
 {
     if has_width(exact, width, count) {
-        constant_mismatch(row.key, shown_number(width, bytes), held_number(node, row))
+        constant_mismatch(row, shown_number(width, bytes), held_number(node, row))
     } else {
         Some(Mismatch::ValueLength(row.key, count, width as u8))
     }
@@ -305,12 +337,6 @@ fn binds(low: Option<i128>, high: Option<i128>) -> bool
         (Some(limit), None) | (None, Some(limit)) => 0 <= limit,
         (None, None) => false,
     }
-}
-
-fn is_boolean(data_type: DataType) -> bool
-    ensures { result ≡ is_boolean data_type }
-{
-    matches!(data_type, DataType::Boolean)
 }
 
 /// Whether the limits of an entry are the data sheet's alone, and can be meant.
