@@ -1,7 +1,7 @@
 -- What a log is explained as: the lines of its frames that are asked for, in order, each with that
 -- of the transfer that ended with it, and at the end those of the transfers that are open. A bad
 -- line has none here, and is counted.
-use Rattle.std.specs.Prelude.{ℕ, ◌+◌, ◌-◌, ◌==◌, Bool, false, min, nat_lt, ◌&&◌, ◌||◌, if◌then◌else◌, List, [], ◌∷◌, ◌++◌, length, Option, Some, None}
+use Rattle.std.specs.Prelude.{ℕ, ◌+◌, ◌-◌, ◌==◌, Bool, true, false, min, nat_lt, ◌&&◌, ◌||◌, if◌then◌else◌, List, [], ◌∷◌, ◌++◌, length, Option, Some, None}
 use Rattle.std.specs.List.{flat_map}
 use Rattle.std.specs.Str.Lines.{lines}
 use Rattle.co_stream.specs.Founds.{is_closed}
@@ -288,6 +288,10 @@ unfinished_lines form sheets progress =
     flat_map (unfinished_in form sheets progress.seen) progress.channels ++ flat_map (unfinished_on form sheets progress.seen) progress.further
 
 -- ---- bad lines
+
+abbrev pub count_if : Bool → ℕ
+count_if true = 1
+count_if false = 0
 
 -- 1 for a line that is bad
 abbrev pub faults_in : Option RecordLine → ℕ

@@ -11,6 +11,8 @@ use Rattle.conode_record.specs.declared.bad_line.BadLine.{BadLine}
 use Rattle.conode_record.specs.declared.line.RecordLine.{RecordLine}
 use Rattle.conode_record.specs.declared.line.RecordLine.TheVariants.{Skipped}
 use Rattle.conode_record.specs.Lines.{line_in}
+use Rattle.conode_explain.specs.declared.step.Said.{Said}
+use Rattle.conode_explain.specs.declared.step.Said.TheVariants as said
 
 -- what a line as `candump -L` writes it says
 abbrev pub good : Result RecordLine BadLine → Option RecordLine
@@ -27,3 +29,9 @@ record_in line (Err bad) = None
 -- what a line of a log says, where it was so far before it
 unfoldable pub line_at : Log → List ℕ → Option RecordLine
 line_at log line = record_in line (says log line).1
+
+-- the same, where a line as `candump -L` writes it was written of it
+abbrev pub said_in : List ℕ → Said → Option RecordLine
+said_in text said.Nothing = Some Skipped
+said_in text said.Line = good (line_in text)
+said_in text (said.Bad words) = None

@@ -15,8 +15,8 @@ use Rattle.conode_explain_transfers.specs.declared.ended.Ending.TheVariants.{Abo
 use Rattle.conode_explain_transfers.specs.declared.kinds.Side.{Side}
 use Rattle.conode_explain_pdo.specs.declared.claim.Claim.{Claim}
 use Rattle.conode_explain_pdo.specs.Buses.{Bus, names_at}
-use Rattle.conode_explain_transfer_text.specs.Ends.{end_text}
-use Rattle.conode_explain_transfer_text.specs.Frames.{after_text, segment_number, segment_text}
+use Rattle.conode_explain_entries.specs.Ends.{end_text}
+use Rattle.conode_explain_entries.specs.Frames.{after_text, segment_number, segment_text}
 use Rattle.conode_explain.specs.AbortWords.{words_of}
 use Rattle.conode_explain.specs.FrameWords.{words_of_content}
 

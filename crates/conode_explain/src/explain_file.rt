@@ -27,6 +27,13 @@ use std::rt::Files;
 /// The path that stands for standard input.
 const STANDARD_INPUT: &str = "-";
 
+// says that memory ran out
+fn no_memory<O: Write, E: Write>(out: &mut O, err: &mut E) -> ExitCode
+    ensures { exit_status result ≡ 1 }
+{
+    stopped(CmdFault::Memory, out, err).status()
+}
+
 // Explains an input; the first line of a table of signals comes first. Says on `err` how many lines
 // are bad, or why it stopped.
 fn explain_input<R: Read, O: Write, E: Write>(
@@ -81,11 +88,13 @@ fn missing_signal<E: Write>(signal: Signal, err: &mut E) -> ExitCode
     ExitCode::from(2)
 }
 
-// explains the recording of a path by data sheets with their PDOs, if they have all signals
+// explains the recording of a path by data sheets with their PDOs, where all were added, if they have
+// all signals
 #[tactic(auto, using(crate::proofs::WriteLemmas::one_or_two, crate::proofs::WriteLemmas::or_two))]
 fn explain_with<R: Files + AllocGlobal + Input, O: Write, E: Write>(
     rt: &R,
     path: &str,
+    added: bool,
     sheets: &[KnownSheet<'_, '_>],
     form: Layout<'_>,
     out: &mut O,
@@ -93,12 +102,15 @@ fn explain_with<R: Files + AllocGlobal + Input, O: Write, E: Write>(
 ) -> ExitCode
     ensures { (exit_status result ≡ 0) ⊎ ((exit_status result ≡ 1) ⊎ (exit_status result ≡ 2)) }
 {
-    let Ok(channels) = channels_of(rt.alloc(), sheets) else {
-        return stopped(CmdFault::Memory, out, err).status();
-    };
+    if !added {
+        return no_memory(out, err);
+    }
     if let Some(signal) = first_missing(sheets, form.signals) {
         return missing_signal(signal, err);
     }
+    let Ok(channels) = channels_of(rt.alloc(), sheets) else {
+        return no_memory(out, err);
+    };
     let settings = Settings {
         form,
         sheets,
@@ -120,10 +132,8 @@ fn explain_by<'s, 't, R: Files + AllocGlobal + Input, O: Write, E: Write>(
     ensures { (exit_status result ≡ 0) ⊎ ((exit_status result ≡ 1) ⊎ (exit_status result ≡ 2)) }
 {
     let mut known: Vec<KnownSheet<'s, 't>> = Vec::new(rt.alloc());
-    match add_in_order(rt.alloc(), &mut known, sheets) {
-        Ok(()) => explain_with(rt, path, known.as_slice(), form, out, err),
-        Err(_) => stopped(CmdFault::Memory, out, err).status(),
-    }
+    let added = add_in_order(rt.alloc(), &mut known, sheets).is_ok();
+    explain_with(rt, path, added, known.as_slice(), form, out, err)
 }
 
 // Replaces the texts of data sheets that aren't accepted by those by which they are read all the
@@ -164,7 +174,14 @@ fn add_sheet<'t>(
                 sheet,
                 originals,
             };
-            Ok(sheets.push(made).is_ok())
+            match sheets.push(made) {
+                Ok(()) => Ok(true),
+                Err(left) => {
+                    // (a call, in place of the code of each of its parts)
+                    drop(left);
+                    Ok(false)
+                }
+            }
         }
         Err(_) => Err(SheetFault {
             kind: FaultKind::Memory,
@@ -187,7 +204,7 @@ fn add_sheets<'t, O: Write, E: Write>(
     for text in texts {
         match add_sheet(alloc, sheets, text) {
             Ok(true) => {}
-            Ok(false) => return Err(stopped(CmdFault::Memory, out, err).status()),
+            Ok(false) => return Err(no_memory(out, err)),
             Err(fault) => {
                 return Err(bad_sheet(fault, text.word.path, texts.len() > 1, out, err));
             }
@@ -233,7 +250,7 @@ fn explain_named<R: Files + AllocGlobal + Input, O: Write, E: Write>(
     match texts_of(rt, named.as_slice(), out, err) {
         Ok(mut texts) => match make_readable(rt.alloc(), texts.as_mut_slice(), err) {
             Ok(()) => explain_texts(rt, path, texts.as_slice(), form, out, err),
-            Err(_) => stopped(CmdFault::Memory, out, err).status(),
+            Err(_) => no_memory(out, err),
         },
         Err(status) => status,
     }
@@ -291,7 +308,7 @@ fn bad_filter<O: Write, E: Write>(fault: FilterFault<'_>, out: &mut O, err: &mut
             let _ = writeln!(err, "{}: {word} is not {}", option.name(), option.wanted());
             ExitCode::from(2)
         }
-        FilterFault::Memory => stopped(CmdFault::Memory, out, err).status(),
+        FilterFault::Memory => no_memory(out, err),
     }
 }
 
@@ -307,7 +324,7 @@ fn bad_signal<O: Write, E: Write>(fault: SignalFault<'_>, out: &mut O, err: &mut
             );
             ExitCode::from(2)
         }
-        SignalFault::Memory => stopped(CmdFault::Memory, out, err).status(),
+        SignalFault::Memory => no_memory(out, err),
     }
 }
 
@@ -316,6 +333,38 @@ fn signals_in<'a>(alloc: Global, text: Option<&'a str>) -> Result<Vec<Signal>, S
     match text {
         Some(text) => Signal::read_all(alloc, text),
         None => Ok(Vec::new(alloc)),
+    }
+}
+
+// explains the recording of a path with this filter
+#[tactic(auto, using(crate::proofs::WriteLemmas::one_or_two))]
+fn explain_filtered<R: Files + AllocGlobal + Input, O: Write, E: Write>(
+    rt: &R,
+    recording: &str,
+    sheets: &[&str],
+    options: &ExplainOptions<'_>,
+    filter: &Filter,
+    out: &mut O,
+    err: &mut E,
+) -> ExitCode
+    ensures { (exit_status result ≡ 0) ⊎ ((exit_status result ≡ 1) ⊎ (exit_status result ≡ 2)) }
+{
+    match signals_in(rt.alloc(), options.signals) {
+        Ok(signals) => {
+            let form = Layout {
+                stamps: options.stamps,
+                transfers: options.transfers,
+                changes: options.changes,
+                stop: options.stop,
+                format: options.format,
+                colours: options.colours,
+                log: options.log,
+                filter,
+                signals: signals.as_slice(),
+            };
+            explain_named(rt, recording, sheets, form, out, err)
+        }
+        Err(fault) => bad_signal(fault, out, err),
     }
 }
 
@@ -345,21 +394,5 @@ pub fn explain_files<R: Files + AllocGlobal + Input, O: Write, E: Write>(
         Ok(filter) => filter,
         Err(fault) => return bad_filter(fault, out, err),
     };
-    match signals_in(rt.alloc(), options.signals) {
-        Ok(signals) => {
-            let form = Layout {
-                stamps: options.stamps,
-                transfers: options.transfers,
-                changes: options.changes,
-                stop: options.stop,
-                format: options.format,
-                colours: options.colours,
-                log: options.log,
-                filter: &filter,
-                signals: signals.as_slice(),
-            };
-            explain_named(rt, recording, sheets, form, out, err)
-        }
-        Err(fault) => bad_signal(fault, out, err),
-    }
+    explain_filtered(rt, recording, sheets, options, &filter, out, err)
 }

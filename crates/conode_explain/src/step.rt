@@ -1,6 +1,6 @@
 //! One line of a log after another.
 
-ghost use Rattle.std.specs.Prelude.{◌≡◌, ◌≤◌, ◌==◌, ◌&&◌, OnOk, IfOk, IfSome, IfNone};
+ghost use Rattle.std.specs.Prelude.{◌≡◌, ◌≤◌, ◌==◌, ◌&&◌, OnOk, IfOk, IfSome, IfNone, is_some};
 ghost use Rattle.std.specs.Io.KnownBytes.{Keeps, IsAtEnd};
 ghost use Rattle.co_stream.specs.Held.{nothing_held, to_come};
 ghost use Rattle.co_stream.specs.Readings.{Gave};
@@ -9,13 +9,14 @@ ghost use Rattle.conode_convert.specs.Converted.{at_start};
 ghost use Rattle.conode_logs.specs.Logs.{says};
 ghost use Rattle.conode_record.specs.Lines.{line_in};
 ghost use Rattle.conode_explain.specs.Explained.{
+  count_if,
   faults_in,
   nothing_known,
   progress_after,
   said_lines,
   unfinished_lines,
 };
-ghost use Rattle.conode_explain.specs.LogLines.{good, line_at};
+ghost use Rattle.conode_explain.specs.LogLines.{good, line_at, said_in};
 ghost use Rattle.conode_explain.specs.Taking.{Takes};
 ghost use Rattle.conode_explain.specs.Sheets.{sheets_of};
 
@@ -30,7 +31,7 @@ use conode_explain_pdo::Claim;
 use conode_io::{CmdFault, flush};
 use conode_logs::{Form, Log};
 use conode_record::{LogLine, RecordLine};
-use std::alloc::Global;
+use std::alloc::{AllocError, Global};
 use std::io::{Read, Write};
 
 /// How far a recording is explained.
@@ -44,81 +45,81 @@ pub(crate) struct Explaining {
     claims: Vec<Claim>,
 }
 
-// Takes a line in the form of `candump -L`, and writes the line of its frame, if it has one.
-// Returns 1 for a bad line, which it names, else 0.
+// Takes a line in the form of `candump -L`, and writes the line of its frame, if it has one. Returns
+// what is wrong with it, if it is bad.
 #[inline(always)]
-fn explain_record<W: Write, E: Write>(
+fn explain_record<W: Write>(
     room: &mut Room,
     claims: &mut Vec<Claim>,
     progress: &mut Progress,
     settings: &Settings<'_, '_, '_, '_>,
-    number: u64,
     line: &[u8],
     out: &mut W,
-    err: &mut E,
-) -> Result<u64, CmdFault>
+) -> Result<Option<&'static str>, CmdFault>
     ensures lines { OnOk result (WritesLines (W.contents out.old) (W.contents out.new)
         (said_lines settings.now.form (sheets_of settings.now) progress.old
         (good (line_in line.now)))) }
     ensures progress { OnOk result
         (progress.new ≡ progress_after settings.now.form (sheets_of settings.now)
         progress.old (good (line_in line.now))) }
-    ensures bad { IfOk result (λ bad. bad ≡ faults_in (good (line_in line.now))) }
+    ensures wrong { IfOk result
+        (λ wrong. count_if (is_some wrong) ≡ faults_in (good (line_in line.now))) }
 {
     match RecordLine::read(line) {
-        Ok(RecordLine::Skipped) => Ok(0),
+        Ok(RecordLine::Skipped) => Ok(None),
         Ok(RecordLine::Frame(frame)) => {
             attempt!(write_frame(room, claims, progress, settings, &frame, out));
-            Ok(0)
+            Ok(None)
         }
-        Err(bad) => {
-            name_bad_line(number, bad_words(bad), err);
-            Ok(1)
-        }
+        Err(bad) => Ok(Some(bad_words(bad))),
     }
 }
 
-// Takes a line of a log of any form, and writes the line of its frame, if it has one. Returns 1 for
-// a bad line, which it names, else 0. Apart from `explain_line`, since a line of other forms is
-// large.
+/// What a line of a log of any form says.
+#[derive(Clone, Copy)]
+pub(crate) enum Said {
+    /// Nothing.
+    Nothing,
+    /// What the line in the form of `candump -L` says that was written of it.
+    Line,
+    /// It is bad: what is wrong with it.
+    Bad(&'static str),
+}
+
+// Takes a line of a log of any form. Where it has a frame, sets `text` to its line in the form of
+// `candump -L`. Apart from `explain_line`, since a line of other forms is large.
 #[inline(never)]
 #[tactic(auto, unfolding(crate::specs::LogLines::line_at))]
-fn explain_any<W: Write, E: Write>(
-    room: &mut Room,
-    claims: &mut Vec<Claim>,
-    text: &mut Vec<u8>,
-    log: &mut Log,
-    progress: &mut Progress,
-    settings: &Settings<'_, '_, '_, '_>,
-    number: u64,
-    line: &[u8],
-    out: &mut W,
-    err: &mut E,
-) -> Result<u64, CmdFault>
-    ensures lines { OnOk result (WritesLines (W.contents out.old) (W.contents out.new)
-        (said_lines settings.now.form (sheets_of settings.now) progress.old
-        (line_at log.old line.now))) }
+fn take_any(text: &mut Vec<u8>, log: &mut Log, line: &[u8]) -> Result<Said, AllocError>
     ensures log { OnOk result (log.new ≡ (says log.old line.now).0) }
-    ensures progress { OnOk result
-        (progress.new ≡ progress_after settings.now.form (sheets_of settings.now)
-        progress.old (line_at log.old line.now)) }
-    ensures bad { IfOk result (λ bad. bad ≡ faults_in (line_at log.old line.now)) }
+    ensures line { IfOk result (λ said. line_at log.old line.now ≡ said_in text.new.items said) }
 {
+    text.clear();
     match log.read(line) {
-        Ok(LogLine::Skipped) => Ok(0),
+        Ok(LogLine::Skipped) => Ok(Said::Nothing),
         Ok(LogLine::AsItIs) => {
-            explain_record(room, claims, progress, settings, number, line, out, err)
+            attempt!(text.extend_from_slice(line));
+            Ok(Said::Line)
         }
         Ok(LogLine::Frame(frame)) => {
-            text.clear();
-            attempt_in_memory!(add_frame(text, &frame));
-            let line = text.as_slice();
-            explain_record(room, claims, progress, settings, number, line, out, err)
+            attempt!(add_frame(text, &frame));
+            Ok(Said::Line)
         }
-        Err(bad) => {
-            name_bad_line(number, bad.words(), err);
-            Ok(1)
+        Err(bad) => Ok(Said::Bad(bad.words())),
+    }
+}
+
+// names a line with which this is wrong; 1 for one
+fn name_wrong<E: Write>(number: u64, wrong: Option<&'static str>, err: &mut E) -> u64
+    ensures count { result ≡ count_if (is_some wrong.entry) }
+    ensures few { result ≤ 1 }
+{
+    match wrong {
+        Some(words) => {
+            name_bad_line(number, words, err);
+            1
         }
+        None => 0,
     }
 }
 
@@ -155,16 +156,14 @@ impl Explaining {
         Ok(())
     }
 
-    // Takes the line that was found, and writes the line of its frame, if it has one. Returns 1 for
-    // a bad line, which it names, else 0.
+    // Takes the line that was found, and writes the line of its frame, if it has one. Returns what
+    // is wrong with it, if it is bad.
     #[tactic(auto, using(crate::proofs::LogLemmas::candump_line, crate::proofs::LogLemmas::candump_log))]
-    fn explain_line<W: Write, E: Write>(
+    fn explain_line<W: Write>(
         &mut self,
         settings: &Settings<'_, '_, '_, '_>,
-        number: u64,
         out: &mut W,
-        err: &mut E,
-    ) -> Result<u64, CmdFault>
+    ) -> Result<Option<&'static str>, CmdFault>
         ensures lines { OnOk result (WritesLines (W.contents out.old) (W.contents out.new)
             (said_lines settings.now.form (sheets_of settings.now) self.old.progress
             (line_at self.old.log self.old.lines.line))) }
@@ -172,35 +171,26 @@ impl Explaining {
         ensures progress { OnOk result (self.new.progress
             ≡ progress_after settings.now.form (sheets_of settings.now)
             self.old.progress (line_at self.old.log self.old.lines.line)) }
-        ensures bad { IfOk result
-            (λ bad. bad ≡ faults_in (line_at self.old.log self.old.lines.line)) }
+        ensures wrong { IfOk result (λ wrong. count_if (is_some wrong)
+            ≡ faults_in (line_at self.old.log self.old.lines.line)) }
         ensures held { self.new.lines ≡ self.old.lines }
     {
+        let room = &mut self.room;
+        let claims = &mut self.claims;
+        let progress = &mut self.progress;
         let line = self.lines.line();
         if let Form::Candump = self.log.form {
-            return explain_record(
-                &mut self.room,
-                &mut self.claims,
-                &mut self.progress,
-                settings,
-                number,
-                line,
-                out,
-                err,
-            );
+            return explain_record(room, claims, progress, settings, line, out);
         }
-        explain_any(
-            &mut self.room,
-            &mut self.claims,
-            &mut self.frame,
-            &mut self.log,
-            &mut self.progress,
-            settings,
-            number,
-            line,
-            out,
-            err,
-        )
+        match take_any(&mut self.frame, &mut self.log, line) {
+            Ok(Said::Nothing) => Ok(None),
+            Ok(Said::Line) => {
+                let line = self.frame.as_slice();
+                explain_record(room, claims, progress, settings, line, out)
+            }
+            Ok(Said::Bad(words)) => Ok(Some(words)),
+            Err(_) => Err(CmdFault::Memory),
+        }
     }
 
     /// Takes the next line: writes the line of its frame, if it has one, or names a bad line.
@@ -235,11 +225,12 @@ impl Explaining {
                 Ok(Some(1))
             }
             Ok(Found::Line) => {
-                let bad = attempt_value!(self.explain_line(settings, number, out, err));
-                Ok(Some(bad))
+                let wrong = attempt_value!(self.explain_line(settings, out));
+                Ok(Some(name_wrong(number, wrong, err)))
             }
             Ok(Found::Last) => {
-                attempt_value!(self.explain_line(settings, number, out, err));
+                let wrong = attempt_value!(self.explain_line(settings, out));
+                name_wrong(number, wrong, err);
                 Ok(Some(0))
             }
             Err(fault) => Err(read_fault(fault)),

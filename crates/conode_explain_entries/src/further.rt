@@ -199,7 +199,7 @@ impl FurtherChannels {
         ensures channels { OnOk result (self.new
             ≡ (further_telling self.old interface.now place micros frame.now.bytes).channels) }
     {
-        let Some(at) = attempt!(self.place(interface, place)) else {
+        let Some(at) = attempt_value!(self.place(interface, place)) else {
             return Ok(None);
         };
         let heard = self.take_at(at, micros, place.side, frame);

@@ -1,5 +1,5 @@
 -- A line of an explained recording as an object of JSON, in tokens (RFC 8259).
-use Rattle.std.specs.Prelude.{ℕ, Bool, true, List, [], ◌∷◌, ◌++◌, length, pos, ◌-ℤ◌, codes, Option}
+use Rattle.std.specs.Prelude.{ℕ, Bool, true, List, [], ◌∷◌, ◌++◌, length, ℤ, pos, ◌-ℤ◌, codes, Option, Some, None}
 use Rattle.std.specs.List.{flat_map}
 use Rattle.std.specs.Option.{option_map_or}
 use Rattle.json.specs.Token.{Token, begin_object, end_object}
@@ -11,7 +11,7 @@ use Rattle.conode_record.specs.declared.fields.Identifier.{Identifier}
 use Rattle.conode_record.specs.declared.fields.Identifier.TheVariants.{Base, Extended, Error}
 use Rattle.conode_record.specs.declared.line.Record.{Record}
 use Rattle.conode_json.specs.Characters.{utf8_of}
-use Rattle.conode_json.specs.Members.{flag_member, number_member, numbers_member, text_member}
+use Rattle.conode_json.specs.Members.{flag_member, number_if, number_member, numbers_member, text_member}
 use Rattle.conode_explain_filter.specs.declared.kind.Kind.{Kind}
 use Rattle.conode_explain_filter.specs.declared.kind.Kind.TheVariants.{Sdo, Pdo, Emergency, Nmt, Heartbeat, Sync, Other}
 use Rattle.conode_explain_text.specs.declared.so_far.Times.{Times}
@@ -23,12 +23,16 @@ use Rattle.conode_explain_text.specs.Stamps.{moment_text}
 
 -- ---- the parts of a line
 
--- a stamp in microseconds, or as a date
+-- a stamp in microseconds, where it isn't a date
+abbrev pub stamp_number : StampForm → Times → Option ℤ
+stamp_number Relative times = Some (pos times.now -ℤ pos times.first)
+stamp_number Absolute times = Some (pos times.now)
+stamp_number Delta times = Some (pos times.now -ℤ pos times.before)
+stamp_number AsDate times = None
+
 unfoldable pub stamp_member : StampForm → Times → List Token
-stamp_member Relative times = number_member (codes "stamp") (pos times.now -ℤ pos times.first)
-stamp_member Absolute times = number_member (codes "stamp") (pos times.now)
-stamp_member Delta times = number_member (codes "stamp") (pos times.now -ℤ pos times.before)
-stamp_member AsDate times = text_member (codes "stamp") (moment_text times.now)
+stamp_member form times =
+    option_map_or (number_member (codes "stamp")) (stamp_number form times) (text_member (codes "stamp") (moment_text times.now))
 
 -- the length, the bytes as numbers, and in hexadecimal digits
 unfoldable pub data_members : ℕ → List ℕ → List Token
@@ -36,16 +40,16 @@ data_members count bytes =
     number_member (codes "length") (pos count) ++ numbers_member (codes "data") bytes
     ++ text_member (codes "raw") (flat_map byte_text bytes)
 
--- which sort of frame it is
-abbrev pub sort_member : List ℕ → List Token
-sort_member name = text_member (codes "frame") name
+-- which sort of frame it is, its flags, where it has some, its length and its data
+abbrev pub frame_members : List ℕ → Option ℤ → ℕ → List ℕ → List Token
+frame_members sort flags count bytes =
+    text_member (codes "frame") sort ++ number_if (codes "flags") flags ++ data_members count bytes
 
 -- a remote frame has a length alone, a CAN FD frame flags
 abbrev pub content_members : Content → List Token
-content_members (Data bytes) = sort_member (codes "data") ++ data_members (length bytes) bytes
-content_members (Remote count) = sort_member (codes "remote") ++ data_members count []
-content_members (Fd flags bytes) =
-    sort_member (codes "fd") ++ number_member (codes "flags") (pos flags) ++ data_members (length bytes) bytes
+content_members (Data bytes) = frame_members (codes "data") None (length bytes) bytes
+content_members (Remote count) = frame_members (codes "remote") None count []
+content_members (Fd flags bytes) = frame_members (codes "fd") (Some (pos flags)) (length bytes) bytes
 
 -- an identifier as it is printed; that of an error frame has its class, and is marked
 abbrev pub id_members : Identifier → List Token

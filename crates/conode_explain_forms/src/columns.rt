@@ -23,11 +23,11 @@ ghost use Rattle.conode_explain_forms.specs.Lines.{
 };
 
 use crate::signal::Signal;
-use crate::words::push_words;
 use co_sheet::EntryRow;
 use co_sheet_changes::shown_name;
-use co_text::{byte_digits, decimal_digits};
+use co_text::byte_digits;
 use conode_explain_pdo::{KnownSheet, names_for};
+use conode_text::{Value, push_filled};
 use std::alloc::{AllocError, Global};
 
 fn is_control(byte: u8) -> bool
@@ -173,10 +173,11 @@ fn push_name(text: &mut String, row: Option<&EntryRow<'_>>) -> Result<(), AllocE
     let Some(name) = shown_name(row) else {
         return Ok(());
     };
-    push_words(text, &[" ", name])
+    attempt!(text.push_str(" "));
+    text.push_str(name)
 }
 
-#[tactic(auto, unfolding(crate::specs::Lines::column_name))]
+#[tactic(auto, unfolding(crate::specs::Lines::column_name, conode_text::specs::Filled::filled))]
 fn set_column_name(
     text: &mut String,
     row: Option<&EntryRow<'_>>,
@@ -185,10 +186,12 @@ fn set_column_name(
     ensures { OnOk result (string_bytes text.new
         ≡ column_name (option_map row_view (option_copied row.entry)) signal) }
 {
-    let node = decimal_digits(signal.node as u64);
-    let key = signal.key.text();
     text.clear();
-    attempt!(push_words(text, &["node ", node.as_str(), " ", key.as_str()]));
+    attempt!(push_filled(
+        text,
+        "node % %",
+        &[Value::Number(signal.node as u64), Value::Key(signal.key),],
+    ));
     push_name(text, row)
 }
 

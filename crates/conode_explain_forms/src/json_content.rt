@@ -4,7 +4,7 @@ ghost use Rattle.std.specs.Prelude.{◌≡◌, ◌≤◌, ◌++◌, OnOk, string
 ghost use Rattle.std.specs.List.{flat_map};
 ghost use Rattle.conode_record.specs.Grammar.{IsIdentifier};
 ghost use Rattle.conode_explain_text.specs.Lines.{content, identifier, interface_parts};
-ghost use Rattle.conode_explain_forms.specs.JsonLines.{content_members, data_members, part_tokens};
+ghost use Rattle.conode_explain_forms.specs.JsonLines.{data_members, frame_members, part_tokens};
 
 use co_text::push_bytes;
 use conode_explain_text::{push_id, push_name};
@@ -65,6 +65,24 @@ fn put_data(
     writer.put_text("raw", digits.as_str())
 }
 
+// which sort of frame it is, its flags, where it has some, its length and its data
+fn put_frame(
+    alloc: Global,
+    writer: &mut JsonWriter,
+    digits: &mut String,
+    sort: &str,
+    flags: Option<i128>,
+    count: usize,
+    bytes: &[u8],
+) -> Result<(), AllocError>
+    ensures { OnOk result
+        (writer.new ≡ writer.old ++ frame_members sort.now flags count bytes.now) }
+{
+    attempt!(writer.put_text("frame", sort));
+    attempt!(writer.put_number_if(alloc, "flags", flags));
+    put_data(alloc, writer, digits, count, bytes)
+}
+
 /// The length and the data of a frame; `digits` is scratch space.
 pub(crate) fn put_content(
     alloc: Global,
@@ -77,18 +95,31 @@ pub(crate) fn put_content(
     match has {
         Content::Data(bytes) => {
             let bytes = bytes.to_list();
-            attempt!(writer.put_text("frame", "data"));
-            put_data(alloc, writer, digits, bytes.len(), bytes.as_slice())
+            put_frame(
+                alloc,
+                writer,
+                digits,
+                "data",
+                None,
+                bytes.len(),
+                bytes.as_slice(),
+            )
         }
         Content::Remote(count) => {
-            attempt!(writer.put_text("frame", "remote"));
-            put_data(alloc, writer, digits, *count as usize, &[])
+            put_frame(alloc, writer, digits, "remote", None, *count as usize, &[])
         }
         Content::Fd(flags, data) => {
-            attempt!(writer.put_text("frame", "fd"));
-            attempt!(writer.put_number(alloc, "flags", i128::from(*flags)));
             let bytes = data.bytes();
-            put_data(alloc, writer, digits, bytes.len(), bytes.as_slice())
+            let flags = Some(*flags as i128);
+            put_frame(
+                alloc,
+                writer,
+                digits,
+                "fd",
+                flags,
+                bytes.len(),
+                bytes.as_slice(),
+            )
         }
     }
 }

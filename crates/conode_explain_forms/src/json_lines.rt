@@ -20,6 +20,7 @@ ghost use Rattle.conode_explain_forms.specs.JsonLines.{
   kind_members,
   part_tokens,
   stamp_member,
+  stamp_number,
 };
 
 use crate::json_content::{put_content, put_id, put_interface};
@@ -37,6 +38,18 @@ fn between(from: u64, to: u64) -> i128
     i128::from(to) - i128::from(from)
 }
 
+// a stamp in microseconds, where it isn't a date
+fn stamp_number(form: StampForm, times: Times) -> Option<i128>
+    ensures { result ≡ stamp_number form times }
+{
+    match form {
+        StampForm::Relative => Some(between(times.first, times.now)),
+        StampForm::Absolute => Some(times.now as i128),
+        StampForm::Delta => Some(between(times.before, times.now)),
+        StampForm::Date => None,
+    }
+}
+
 #[tactic(auto, unfolding(crate::specs::JsonLines::stamp_member))]
 fn put_stamp(
     alloc: Global,
@@ -47,11 +60,9 @@ fn put_stamp(
 ) -> Result<(), AllocError>
     ensures { OnOk result (writer.new ≡ writer.old ++ stamp_member form times) }
 {
-    match form {
-        StampForm::Relative => writer.put_number(alloc, "stamp", between(times.first, times.now)),
-        StampForm::Absolute => writer.put_number(alloc, "stamp", i128::from(times.now)),
-        StampForm::Delta => writer.put_number(alloc, "stamp", between(times.before, times.now)),
-        StampForm::Date => {
+    match stamp_number(form, times) {
+        Some(micros) => writer.put_number(alloc, "stamp", micros),
+        None => {
             text.clear();
             attempt!(push_moment(text, times.now));
             writer.put_text("stamp", text.as_str())

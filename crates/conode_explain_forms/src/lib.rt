@@ -2,8 +2,19 @@
 //! the values of entries as a table of comma-separated values.
 #![tactic(auto)]
 
-// As `?`, without a conversion of the error: a `match` is one step of a proof where `?` is three.
+// As `?` of a result without a value, and without a conversion of the error: a `match` is one step
+// of a proof where `?` is three.
 macro_rules! attempt {
+    ($result:expr) => {
+        match $result {
+            Ok(()) => {}
+            Err(fault) => return Err(fault),
+        }
+    };
+}
+
+// The same of a result with a value.
+macro_rules! attempt_value {
     ($result:expr) => {
         match $result {
             Ok(value) => value,
@@ -22,7 +33,6 @@ mod places;
 mod signal;
 mod stamps;
 mod tones;
-mod words;
 
 pub use columns::{first_missing, header};
 pub use json_lines::{json_line, own_json_line};

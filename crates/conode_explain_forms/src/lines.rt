@@ -50,7 +50,7 @@ fn push_fields<'b>(
 {
     let mut has = false;
     for signal in signals {
-        let here = attempt!(push_after_comma(text, bus, claims, bytes, told, *signal));
+        let here = attempt_value!(push_after_comma(text, bus, claims, bytes, told, *signal));
         has = has || here;
     }
     Ok(has)
@@ -82,7 +82,7 @@ pub fn set_signal_line<'b>(
 {
     text.clear();
     attempt!(push_stamp(text, form, times));
-    let has = attempt!(push_fields(text, bus, claims, bytes, told, signals));
+    let has = attempt_value!(push_fields(text, bus, claims, bytes, told, signals));
     attempt!(text.push_str("\n"));
     Ok(has)
 }

@@ -4,8 +4,7 @@
 ghost use Rattle.std.specs.Prelude.{◌≡◌, ◌++◌, OnOk, string_bytes};
 ghost use Rattle.conode_explain_forms.specs.Stamps.{between_text, seconds_text, stamp_field};
 
-use crate::words::push_words;
-use co_text::decimal_digits;
+use co_text::push_decimal;
 use conode_explain_text::{StampForm, Times, push_micros, push_moment};
 use std::alloc::AllocError;
 
@@ -13,8 +12,8 @@ use std::alloc::AllocError;
 fn push_seconds(text: &mut String, micros: u64) -> Result<(), AllocError>
     ensures { OnOk result (string_bytes text.new ≡ string_bytes text.old ++ seconds_text micros) }
 {
-    let seconds = decimal_digits(micros / 1_000_000);
-    attempt!(push_words(text, &[seconds.as_str(), "."]));
+    attempt!(push_decimal(text, micros / 1_000_000));
+    attempt!(text.push_str("."));
     push_micros(text, (micros % 1_000_000) as u32)
 }
 

@@ -9,17 +9,18 @@ use Rattle.conode_explain_entries.specs.declared.entries.ShownPdo.{ShownPdo}
 use Rattle.conode_explain_entries.specs.declared.state.Value.{Value}
 use Rattle.conode_explain_entries.specs.declared.state.Value.TheVariants.{Seen, Saved}
 use Rattle.conode_explain_pdo.specs.declared.claim.Claim.{Claim}
+use Rattle.conode_explain_pdo.specs.declared.in_force.Origin.TheVariants.{Sheet}
 use Rattle.conode_explain_pdo.specs.declared.sheet.SheetPdo.{SheetPdo}
 use Rattle.conode_explain_pdo.specs.Buses.{Bus}
 use Rattle.conode_explain_pdo.specs.CobIds.{has_identifier, may_be_pdo, node_with}
-use Rattle.conode_explain_pdo.specs.InForce.{is_assumed, state_at}
+use Rattle.conode_explain_pdo.specs.InForce.{is_from, state_at}
 use Rattle.conode_explain_pdo.specs.Known.{KnownSheet, is_on, sheet_for}
 
 -- ---- by the data sheets
 
 -- the recording shows the COB-ID of a node's PDO
 abbrev pub is_cob_id_shown : Bus → ℕ → ℕ → Bool
-is_cob_id_shown bus node index = option_map_or (λ state. not (is_assumed state.now.cob_id)) (state_at bus node index) false
+is_cob_id_shown bus node index = option_map_or (λ state. not (is_from Sheet state.now.cob_id)) (state_at bus node index) false
 
 -- the sheet that is for the node says it: no earlier one is for the node, and the recording doesn't
 -- show the COB-ID

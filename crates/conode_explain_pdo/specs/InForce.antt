@@ -9,6 +9,8 @@ use Rattle.conode_explain_entries.specs.declared.state.Value.{Value}
 use Rattle.conode_explain_entries.specs.declared.state.Value.TheVariants.{Assumed, Seen, Saved, Unknown}
 use Rattle.conode_explain_entries.specs.Tables.{state_in}
 use Rattle.conode_text.specs.Filled.{filled}
+use Rattle.conode_explain_pdo.specs.declared.in_force.Origin.{Origin}
+use Rattle.conode_explain_pdo.specs.declared.in_force.Origin.TheVariants.{Sheet, Transfer, Store}
 use Rattle.conode_explain_pdo.specs.declared.sheet.SheetPdo.{SheetPdo}
 use Rattle.conode_explain_pdo.specs.Buses.{Bus, names_at}
 use Rattle.conode_explain_pdo.specs.Content.{Mapping}
@@ -28,17 +30,12 @@ number_by sheet (Seen number) = Some number
 number_by sheet (Saved number) = Some number
 number_by sheet Unknown = None
 
-abbrev pub is_assumed : Value → Bool
-is_assumed Assumed = true
-is_assumed _ = false
-
-abbrev pub is_seen : Value → Bool
-is_seen (Seen number) = true
-is_seen _ = false
-
-abbrev pub is_saved : Value → Bool
-is_saved (Saved number) = true
-is_saved _ = false
+-- a value is the sheet's, is one that a transfer showed, or came back with a boot-up
+abbrev pub is_from : Origin → Value → Bool
+is_from Sheet Assumed = true
+is_from Transfer (Seen number) = true
+is_from Store (Saved number) = true
+is_from origin value = false
 
 -- ---- the mapping of the sheet
 
@@ -96,9 +93,9 @@ mapping_in_force values sheet = option_and_then (mapping_with values sheet) (cou
 -- else some of it
 abbrev pub origin_words : List Value → List ℕ
 origin_words values =
-    if list_all is_assumed values then []
-    else (if list_all is_seen values then codes " (mapping seen)"
-    else (if list_all is_saved values then codes " (mapping saved)" else codes " (mapping partly seen)"))
+    if list_all (is_from Sheet) values then []
+    else (if list_all (is_from Transfer) values then codes " (mapping seen)"
+    else (if list_all (is_from Store) values then codes " (mapping saved)" else codes " (mapping partly seen)"))
 
 -- by the number of mapped entries, and the words of so many
 abbrev pub origin_text : List Value → ℕ → List ℕ

@@ -27,7 +27,7 @@ ghost use Rattle.conode_explain_pdo.specs.Claims.{
 
 use crate::bus::Bus;
 use crate::cob_id::{has_identifier, may_be_pdo};
-use crate::in_force::is_assumed;
+use crate::in_force::{Origin, is_from};
 use crate::known::is_none_for;
 use crate::known_sheet::KnownSheet;
 use crate::sheet::SheetPdo;
@@ -48,7 +48,7 @@ fn is_cob_id_shown(bus: Bus<'_, '_, '_, '_, '_>, node: u8, index: u16) -> bool
     ensures { result ≡ is_cob_id_shown (bus_view bus.entry) node index }
 {
     match bus.state(node, index) {
-        Some(state) => !is_assumed(state.now.cob_id),
+        Some(state) => !is_from(Origin::Sheet, state.now.cob_id),
         None => false,
     }
 }

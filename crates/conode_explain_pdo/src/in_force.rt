@@ -11,9 +11,7 @@ ghost use Rattle.conode_explain_pdo.specs.InForce.{
   data_in_force,
   digits_of,
   if_there,
-  is_assumed,
-  is_saved,
-  is_seen,
+  is_from,
   known_text,
   mapping_in_force,
   mapping_of,
@@ -54,29 +52,24 @@ fn number_by(sheet: Option<u32>, value: Value) -> Option<u32>
     }
 }
 
-pub(crate) fn is_assumed(value: Value) -> bool
-    ensures { result ≡ is_assumed value }
-{
-    match value {
-        Value::Assumed => true,
-        _ => false,
-    }
+/// Where the value of an entry is from.
+#[derive(Clone, Copy)]
+pub(crate) enum Origin {
+    /// The data sheet: nothing was shown of it.
+    Sheet,
+    /// A transfer showed it.
+    Transfer,
+    /// It came back with a boot-up.
+    Store,
 }
 
-fn is_seen(value: Value) -> bool
-    ensures { result ≡ is_seen value }
+pub(crate) fn is_from(origin: Origin, value: Value) -> bool
+    ensures { result ≡ is_from origin value }
 {
-    match value {
-        Value::Seen { number: _ } => true,
-        _ => false,
-    }
-}
-
-fn is_saved(value: Value) -> bool
-    ensures { result ≡ is_saved value }
-{
-    match value {
-        Value::Saved { number: _ } => true,
+    match (origin, value) {
+        (Origin::Sheet, Value::Assumed)
+        | (Origin::Transfer, Value::Seen { number: _ })
+        | (Origin::Store, Value::Saved { number: _ }) => true,
         _ => false,
     }
 }
@@ -218,33 +211,11 @@ pub(crate) fn mapping_in_force(values: &[Value], sheet: Option<&Mapping>) -> Opt
     }
 }
 
-fn all_assumed(values: &[Value]) -> bool
-    ensures { result ≡ list_all is_assumed values.now }
+fn are_from(origin: Origin, values: &[Value]) -> bool
+    ensures { result ≡ list_all (is_from origin) values.now }
 {
     for value in values {
-        if !is_assumed(*value) {
-            return false;
-        }
-    }
-    true
-}
-
-fn all_seen(values: &[Value]) -> bool
-    ensures { result ≡ list_all is_seen values.now }
-{
-    for value in values {
-        if !is_seen(*value) {
-            return false;
-        }
-    }
-    true
-}
-
-fn all_saved(values: &[Value]) -> bool
-    ensures { result ≡ list_all is_saved values.now }
-{
-    for value in values {
-        if !is_saved(*value) {
+        if !is_from(origin, *value) {
             return false;
         }
     }
@@ -254,13 +225,13 @@ fn all_saved(values: &[Value]) -> bool
 fn origin_words(values: &[Value]) -> &'static str
     ensures { result.now ≡ origin_words values.now }
 {
-    if all_assumed(values) {
+    if are_from(Origin::Sheet, values) {
         return "";
     }
-    if all_seen(values) {
+    if are_from(Origin::Transfer, values) {
         return " (mapping seen)";
     }
-    if all_saved(values) {
+    if are_from(Origin::Store, values) {
         return " (mapping saved)";
     }
     " (mapping partly seen)"

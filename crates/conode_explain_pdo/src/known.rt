@@ -30,7 +30,7 @@ impl<'s, 'a> KnownSheet<'s, 'a> {
             (λ sheet. known_view sheet
             ≡ known_sheet (option_copied interface.entry) (names_view names.entry)) }
     {
-        let pdos = attempt!(sheet_pdos(alloc, names));
+        let pdos = attempt_value!(sheet_pdos(alloc, names));
         Ok(KnownSheet {
             interface,
             names,

@@ -4,6 +4,8 @@ use Rattle.std.specs.List.{slice_index_or}
 use Rattle.std.specs.Str.{bytes_eq}
 use Rattle.co_frame.specs.FrameContent.{FrameContent}
 use Rattle.conode_explain_services.specs.declared.last.Last.{Last}
+use Rattle.conode_explain_services.specs.declared.last.Shown.{Shown}
+use Rattle.conode_explain_services.specs.declared.last.Shown.TheVariants.{Register, State, Request, Command}
 use Rattle.conode_explain_services.specs.declared.guarding.Guarding.TheVariants.{NotSeen}
 use Rattle.conode_explain_services.specs.declared.node.Node.{Node}
 use Rattle.conode_explain_services.specs.Guardings.{guarding_after, guarding_asked}
@@ -39,14 +41,22 @@ last_at (Some place) nodes = (node_at nodes place).last
 unfoldable pub last_in : List Node → List ℕ → ℕ → Last
 last_in nodes interface id = last_at (place_of nodes interface id) nodes
 
--- the nodes where its last frames have this now; a new one comes last, where there is room
-abbrev pub noted_at : Option ℕ → List Node → List ℕ → ℕ → Last → List Node
-noted_at (Some place) nodes interface id last = slice_set nodes place (record (node_at nodes place) { last = last })
-noted_at None nodes interface id last =
-    if nat_lt (length nodes) most_nodes then nodes ++ new_node interface id last ∷ [] else nodes
+-- what they have after a frame that shows this
+abbrev pub last_with : Last → Shown → Last
+last_with last (Register register) = record last { register = Some register }
+last_with last (State byte) = record last { guarding = guarding_after last.guarding byte; state = state_after last.state byte }
+last_with last Request = record last { guarding = guarding_asked last.guarding }
+last_with last (Command command) = record last { state = state_commanded last.state command }
 
-unfoldable pub noted : List Node → List ℕ → ℕ → Last → List Node
-noted nodes interface id last = noted_at (place_of nodes interface id) nodes interface id last
+-- the nodes after a frame that shows this of one; a new one comes last, where there is room
+abbrev pub noted_at : Option ℕ → List Node → List ℕ → ℕ → Shown → List Node
+noted_at (Some place) nodes interface id shown =
+    slice_set nodes place (record (node_at nodes place) { last = last_with (node_at nodes place).last shown })
+noted_at None nodes interface id shown =
+    if nat_lt (length nodes) most_nodes then nodes ++ new_node interface id (last_with nothing_seen shown) ∷ [] else nodes
+
+unfoldable pub noted : List Node → List ℕ → ℕ → Shown → List Node
+noted nodes interface id shown = noted_at (place_of nodes interface id) nodes interface id shown
 
 -- ---- which frames count
 
@@ -78,7 +88,7 @@ last_of nodes interface id =
 abbrev pub commanded : List ℕ → ℕ → Node → Node
 commanded interface command node =
     if bytes_eq node.interface.items interface
-    then record node { last = record node.last { state = state_commanded node.last.state command } } else node
+    then record node { last = last_with node.last (Command command) } else node
 
 -- all nodes that are kept; of others nothing is known anyway
 abbrev pub all_commanded : List Node → List ℕ → ℕ → List Node
@@ -88,7 +98,7 @@ all_commanded nodes interface command = map (commanded interface command) nodes
 unfoldable pub nodes_commanded : List Node → List ℕ → ℕ → ℕ → List Node
 nodes_commanded nodes interface command id =
     if id == 0 then all_commanded nodes interface command
-    else noted nodes interface id (record (last_in nodes interface id) { state = state_commanded (last_in nodes interface id).state command })
+    else noted nodes interface id (Command command)
 
 -- what the last frames of the node of a data frame had: of a command, the node that it is for
 unfoldable pub last_for : List Node → List ℕ → FrameContent → Last
@@ -98,22 +108,12 @@ last_for nodes interface frame =
 -- the nodes after a data frame on an interface
 unfoldable pub nodes_after : List Node → List ℕ → FrameContent → List Node
 nodes_after nodes interface frame =
-    if is_emergency frame
-    then noted nodes interface (frame.id - 0x080)
-    (record (last_of nodes interface frame.id) { register = Some (slice_index frame.bytes 2) })
-    else (if is_error_control frame
-    then noted nodes interface (frame.id - 0x700)
-    (record (last_of nodes interface frame.id) {
-      guarding = guarding_after (last_of nodes interface frame.id).guarding (slice_index frame.bytes 0);
-      state = state_after (last_of nodes interface frame.id).state (slice_index frame.bytes 0);
-    })
+    if is_emergency frame then noted nodes interface (frame.id - 0x080) (Register (slice_index frame.bytes 2))
+    else (if is_error_control frame then noted nodes interface (frame.id - 0x700) (State (slice_index frame.bytes 0))
     else (if is_command frame
     then nodes_commanded nodes interface (slice_index frame.bytes 0) (slice_index frame.bytes 1) else nodes))
 
 -- the nodes after a remote frame
 unfoldable pub nodes_asked : List Node → List ℕ → ℕ → List Node
 nodes_asked nodes interface id =
-    if is_error_control_id id
-    then noted nodes interface (id - 0x700)
-    (record (last_of nodes interface id) { guarding = guarding_asked (last_of nodes interface id).guarding })
-    else nodes
+    if is_error_control_id id then noted nodes interface (id - 0x700) Request else nodes

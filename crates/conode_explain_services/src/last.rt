@@ -13,3 +13,16 @@ pub struct Last {
     /// What is known of its NMT state.
     pub state: KnownState,
 }
+
+/// What a frame shows of its node.
+#[derive(Clone, Copy)]
+pub(crate) enum Shown {
+    /// The error register, in an emergency.
+    Register(u8),
+    /// The byte of a frame of error control.
+    State(u8),
+    /// That a master asked, by a remote frame.
+    Request,
+    /// An NMT command for the node.
+    Command(u8),
+}

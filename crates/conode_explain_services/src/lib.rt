@@ -2,11 +2,12 @@
 //! the standard reserves.
 #![tactic(auto)]
 
-// As `?`, without a conversion of the error: a `match` is one step of a proof where `?` is three.
+// As `?` of a result without a value, and without a conversion of the error: a `match` is one step
+// of a proof where `?` is three.
 macro_rules! attempt {
     ($result:expr) => {
         match $result {
-            Ok(value) => value,
+            Ok(()) => {}
             Err(fault) => return Err(fault),
         }
     };

@@ -3,8 +3,7 @@
 ghost use Rattle.std.specs.Prelude.{◌≡◌, ◌≤◌, length};
 ghost use Rattle.conode_explain_services.specs.Nodes.{commanded, is_of, new_node};
 
-use crate::last::Last;
-use crate::nmt_states::state_commanded;
+use crate::last::{Last, Shown};
 use arrayvec::ArrayVec;
 
 /// A node on an interface.
@@ -44,7 +43,7 @@ impl Node {
         ensures { self.new ≡ commanded interface.now command self.old }
     {
         if self.interface.as_slice() == interface {
-            self.last.state = state_commanded(self.last.state, command);
+            self.last = self.last.with(Shown::Command(command));
         }
     }
 }

@@ -9,6 +9,7 @@ ghost use Rattle.conode_explain_services.specs.Nodes.{
   last_for,
   last_in,
   last_of,
+  last_with,
   nodes_after,
   nodes_asked,
   nodes_commanded,
@@ -19,7 +20,7 @@ ghost use Rattle.conode_explain_services.specs.Nodes.{
 
 use crate::guarding::Guarding;
 use crate::guardings::{guarding_after, guarding_asked};
-use crate::last::Last;
+use crate::last::{Last, Shown};
 use crate::nmt_state::KnownState;
 use crate::nmt_states::{is_command, state_after, state_commanded};
 use crate::node::Node;
@@ -86,6 +87,34 @@ impl Last {
             state: KnownState::Unknown,
         }
     }
+
+    /// After a frame that shows this.
+    pub(crate) fn with(self, shown: Shown) -> Last
+        ensures { result ≡ last_with self shown }
+    {
+        match shown {
+            Shown::Register(register) => Last {
+                register: Some(register),
+                guarding: self.guarding,
+                state: self.state,
+            },
+            Shown::State(byte) => Last {
+                register: self.register,
+                guarding: guarding_after(self.guarding, byte),
+                state: state_after(self.state, byte),
+            },
+            Shown::Request => Last {
+                register: self.register,
+                guarding: guarding_asked(self.guarding),
+                state: self.state,
+            },
+            Shown::Command(command) => Last {
+                register: self.register,
+                guarding: self.guarding,
+                state: state_commanded(self.state, command),
+            },
+        }
+    }
 }
 
 impl Nodes {
@@ -123,20 +152,23 @@ impl Nodes {
         Last::new()
     }
 
-    // Notes what the last frames of a node have now.
+    // Notes what a frame shows of its node.
     #[tactic(auto, unfolding(crate::specs::Nodes::noted))]
-    fn note(&mut self, interface: &[u8], id: u8, last: Last) -> Result<(), AllocError>
+    fn note(&mut self, interface: &[u8], id: u8, shown: Shown) -> Result<(), AllocError>
         requires { length interface.now ≤ 15 }
-        ensures { OnOk result (self.new ≡ noted self.old interface.now id last) }
+        ensures { OnOk result (self.new ≡ noted self.old interface.now id shown) }
     {
         if let Some(place) = place_of(self.nodes.as_slice(), interface, id) {
-            self.nodes[place].last = last;
+            self.nodes[place].last = self.nodes[place].last.with(shown);
             return Ok(());
         }
         if self.nodes.len() >= MOST_NODES {
             return Ok(());
         }
-        match self.nodes.push(Node::new(interface, id, last)) {
+        match self
+            .nodes
+            .push(Node::new(interface, id, Last::new().with(shown)))
+        {
             Ok(()) => Ok(()),
             Err(_) => Err(AllocError),
         }
@@ -151,15 +183,12 @@ impl Nodes {
     {
         let bytes = frame.bytes();
         if is_emergency(frame) {
-            let mut last = self.last(interface, frame.id());
-            last.register = Some(bytes[2]);
-            return self.note(interface, (frame.id() - 0x080) as u8, last);
+            let id = (frame.id() - 0x080) as u8;
+            return self.note(interface, id, Shown::Register(bytes[2]));
         }
         if is_error_control(frame) {
-            let mut last = self.last(interface, frame.id());
-            last.guarding = guarding_after(last.guarding, bytes[0]);
-            last.state = state_after(last.state, bytes[0]);
-            return self.note(interface, (frame.id() - 0x700) as u8, last);
+            let id = (frame.id() - 0x700) as u8;
+            return self.note(interface, id, Shown::State(bytes[0]));
         }
         if is_command(frame) {
             return self.command(interface, bytes[0], bytes[1]);
@@ -187,9 +216,7 @@ impl Nodes {
             self.command_all(interface, command);
             return Ok(());
         }
-        let mut last = self.last_in(interface, id);
-        last.state = state_commanded(last.state, command);
-        self.note(interface, id, last)
+        self.note(interface, id, Shown::Command(command))
     }
 
     /// What the last frames of the node of a data frame on an interface had: of an NMT command, the
@@ -211,9 +238,7 @@ impl Nodes {
         ensures { OnOk result (self.new ≡ nodes_asked self.old interface.now id) }
     {
         if is_error_control_id(id) {
-            let mut last = self.last(interface, id);
-            last.guarding = guarding_asked(last.guarding);
-            return self.note(interface, (id - 0x700) as u8, last);
+            return self.note(interface, (id - 0x700) as u8, Shown::Request);
         }
         Ok(())
     }

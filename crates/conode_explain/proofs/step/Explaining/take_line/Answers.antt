@@ -1,5 +1,5 @@
 -- What is found next, and what is written of it.
-use Rattle.std.proofs.Common.{refl, subst}
+use Rattle.std.proofs.Common.{refl, subst, ◌∙◌}
 use Rattle.co_stream.specs.declared.bounded_lines.Found.{Found}
 use Rattle.co_stream.specs.Founds.{Finds}
 use Rattle.co_stream.specs.Held.{to_come}
@@ -38,7 +38,7 @@ returns-in-Ok-clause-line g c =
     let new = g.W.Write.contents c.explain_line.new.out in
     let found = subst (λ (f : Found). Gave held.ended holds.ended before after (λ had has. Finds (to_come held had) (to_come holds has) holds.line f)) c.in-Ok-Line.field-0-is c.in-Ok-Line.ensures.found in
     let said = c.in-Ok.ensures in
-    rw said.held (takes_line c.args.settings.now.form (sheets_of c.args.settings.now) held holds before after c.args.self.now.log c.args.self.now.progress old new holds.line c.explain_line.new.self.log c.explain_line.new.self.progress said.log said.progress said.lines c.in-Ok.value said.bad found)
+    rw said.held (takes_line c.args.settings.now.form (sheets_of c.args.settings.now) held holds before after c.args.self.now.log c.args.self.now.progress old new holds.line c.explain_line.new.self.log c.explain_line.new.self.progress said.log said.progress said.lines c.name_wrong.result (c.name_wrong.ensures.count ∙ said.wrong) found)
 
 pub returns-in-Ok-explain_line-clause-line : goal.returns-in-Ok-explain_line-clause-line
 returns-in-Ok-explain_line-clause-line g c =

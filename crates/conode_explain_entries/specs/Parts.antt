@@ -1,9 +1,9 @@
 -- The parts of a line of a transfer.
 use Rattle.std.specs.Prelude.{ℕ, List}
-use Rattle.conode_explain_transfer_text.specs.declared.part.Part.{Part}
-use Rattle.conode_explain_transfer_text.specs.declared.part.Part.TheVariants.{Way, Entry, Sender, InBrackets, Grouped, Plural, Seconds, Crc, Code}
-use Rattle.conode_explain_transfer_text.specs.Ends.{direction_text, entry_text, in_brackets, side_text}
-use Rattle.conode_explain_transfer_text.specs.Numbers.{grouped, hexadecimal, plural, seconds_text}
+use Rattle.conode_explain_entries.specs.declared.part.Part.{Part}
+use Rattle.conode_explain_entries.specs.declared.part.Part.TheVariants.{Way, Entry, Sender, InBrackets, Grouped, Plural, Seconds, Crc, Code}
+use Rattle.conode_explain_entries.specs.Ends.{direction_text, entry_text, in_brackets, side_text}
+use Rattle.conode_explain_entries.specs.Numbers.{grouped, hexadecimal, plural, seconds_text}
 
 abbrev pub part_text : Part → List ℕ
 part_text (Way direction) = direction_text direction

@@ -6,7 +6,7 @@ use Rattle.conode_explain_transfers.specs.declared.kinds.Side.{Side}
 use Rattle.conode_explain_transfers.specs.declared.kinds.Side.TheVariants.{Client, Server}
 use Rattle.conode_explain_transfers.specs.declared.kinds.What.{What}
 use Rattle.conode_explain_transfers.specs.declared.kinds.What.TheVariants.{Segment, OutOfSequence, Repeated, Overtaken, Unexpected, Stray, BegunBefore}
-use Rattle.conode_explain_transfer_text.specs.Ends.{entry_text}
+use Rattle.conode_explain_entries.specs.Ends.{entry_text}
 
 -- ---- segments of sub-blocks, whose bytes alone don't show what they are
 

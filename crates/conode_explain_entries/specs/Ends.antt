@@ -10,7 +10,7 @@ use Rattle.conode_explain_transfers.specs.declared.kinds.Direction.{Direction}
 use Rattle.conode_explain_transfers.specs.declared.kinds.Direction.TheVariants.{Download, Upload}
 use Rattle.conode_explain_transfers.specs.declared.kinds.Side.{Side}
 use Rattle.conode_explain_transfers.specs.declared.kinds.Side.TheVariants.{Client, Server}
-use Rattle.conode_explain_transfer_text.specs.Numbers.{hexadecimal, grouped, plural, seconds_text}
+use Rattle.conode_explain_entries.specs.Numbers.{hexadecimal, grouped, plural, seconds_text}
 
 -- ---- what is transferred
 
@@ -58,7 +58,9 @@ ending_words Repeated = codes "requested again after %"
 ending_words Interrupted = codes "interrupted"
 ending_words Unfinished = codes "unfinished where the recording ends, % after its last frame"
 ending_words Irregular = codes "confirmed, but frames are missing or repeated in the recording"
-ending_words _ = []
+ending_words (Aborted by code) = []
+ending_words (SizeDiffers indicated) = []
+ending_words (CrcDiffers came computed) = []
 
 -- `words` is what its abort code means
 abbrev pub ending_text : Ended → Ending → List ℕ → List ℕ

@@ -1,7 +1,6 @@
 -- Numbers for people.
-use Rattle.std.specs.Prelude.{ℕ, ◌-◌, ◌/◌, ◌%◌, ◌==◌, nat_lt, if◌then◌else◌, List, [], ◌∷◌, ◌++◌, codes, decimal}
+use Rattle.std.specs.Prelude.{ℕ, ◌-◌, ◌/◌, ◌%◌, ◌==◌, nat_lt, if◌then◌else◌, List, [], ◌++◌, codes, decimal}
 use Rattle.co_text.specs.Printed.{digits_text}
-use Rattle.conode_text.specs.Filled.{filled}
 
 -- the last three digits
 abbrev pub three_digits : ℕ → List ℕ
@@ -29,4 +28,4 @@ plural number = if number == 1 then [] else codes "s"
 -- the time from one stamp in microseconds to another, in seconds; 0 where the other is earlier
 unfoldable pub seconds_text : ℕ → ℕ → List ℕ
 seconds_text from to =
-    filled (codes "%.% s") (decimal ((to - from) / 1000 / 1000) ∷ three_digits ((to - from) / 1000 % 1000) ∷ [])
+    decimal ((to - from) / 1000 / 1000) ++ codes "." ++ three_digits ((to - from) / 1000 % 1000) ++ codes " s"

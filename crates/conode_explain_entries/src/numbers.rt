@@ -3,7 +3,7 @@
 
 ghost use Rattle.std.specs.Prelude.{◌≡◌, ◌<◌, ◌++◌, OnOk, codes, string_bytes};
 ghost use Rattle.co_text.specs.Printed.{printed_digit};
-ghost use Rattle.conode_explain_transfer_text.specs.Numbers.{
+ghost use Rattle.conode_explain_entries.specs.Numbers.{
   grouped,
   millions,
   plural,
@@ -14,7 +14,6 @@ ghost use Rattle.conode_explain_transfer_text.specs.Numbers.{
 
 use arrayvec::ArrayString;
 use co_text::push_decimal;
-use conode_text::{Value, push_filled};
 use std::alloc::AllocError;
 
 fn decimal_char(digit: u64) -> char
@@ -37,13 +36,12 @@ fn three_digits(number: u64) -> ArrayString<3>
 }
 
 // a comma and three digits
-#[tactic(auto, unfolding(conode_text::specs::Filled::filled))]
 fn push_group(text: &mut String, number: u64) -> Result<(), AllocError>
     ensures { OnOk result
         (string_bytes text.new ≡ string_bytes text.old ++ codes "," ++ three_digits number) }
 {
-    let digits = three_digits(number);
-    push_filled(text, ",%", &[Value::Words(digits.as_str())])
+    attempt!(text.push_str(","));
+    text.push_str(three_digits(number).as_str())
 }
 
 #[tactic(auto, unfolding(crate::specs::Numbers::millions))]
@@ -94,10 +92,8 @@ pub(crate) fn push_seconds(text: &mut String, from: u64, to: u64) -> Result<(), 
     ensures { OnOk result (string_bytes text.new ≡ string_bytes text.old ++ seconds_text from to) }
 {
     let millis = to.saturating_sub(from) / 1000;
-    let rest = three_digits(millis % 1000);
-    push_filled(
-        text,
-        "%.% s",
-        &[Value::Number(millis / 1000), Value::Words(rest.as_str())],
-    )
+    attempt!(push_decimal(text, millis / 1000));
+    attempt!(text.push_str("."));
+    attempt!(text.push_str(three_digits(millis % 1000).as_str()));
+    text.push_str(" s")
 }

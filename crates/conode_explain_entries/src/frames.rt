@@ -2,7 +2,7 @@
 //! and a part of it may be there.
 
 ghost use Rattle.std.specs.Prelude.{◌≡◌, ◌++◌, OnOk, string_bytes};
-ghost use Rattle.conode_explain_transfer_text.specs.Frames.{
+ghost use Rattle.conode_explain_entries.specs.Frames.{
   numbers_text,
   segment_number,
   service_text,

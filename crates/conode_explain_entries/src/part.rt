@@ -1,14 +1,14 @@
 //! The parts of a line of a transfer.
 
 ghost use Rattle.std.specs.Prelude.{◌≡◌, ◌++◌, OnOk, string_bytes};
-ghost use Rattle.conode_explain_transfer_text.specs.Ends.{
+ghost use Rattle.conode_explain_entries.specs.Ends.{
   direction_text,
   entry_text,
   in_brackets,
   quoted,
   side_text,
 };
-ghost use Rattle.conode_explain_transfer_text.specs.Parts.{part_text};
+ghost use Rattle.conode_explain_entries.specs.Parts.{part_text};
 
 use crate::numbers::{plural, push_grouped, push_seconds};
 use co_text::{push_u16, push_u32};

@@ -12,9 +12,9 @@ use Rattle.conode_explain_transfers.specs.declared.kinds.Direction.TheVariants.{
 use Rattle.conode_explain_transfers.specs.declared.kinds.Protocol.TheVariants.{Segmented}
 use Rattle.conode_explain_transfers.specs.declared.kinds.Side.TheVariants.{Client, Server}
 use Rattle.conode_explain_transfers.specs.declared.kinds.What.TheVariants.{Part, OutOfSequence, Repeated as AskedAgain, BegunBefore}
-use Rattle.conode_explain_transfer_text.specs.Ends.{end_text, entry_text, transfer_text, aborted_text, ending_words, size_text, crc_text}
-use Rattle.conode_explain_transfer_text.specs.Frames.{service_text, numbers_text, segment_text, remark_words, awaited_text, of_text, after_text}
-use Rattle.conode_explain_transfer_text.specs.Numbers.{millions, thousands, grouped, seconds_text}
+use Rattle.conode_explain_entries.specs.Ends.{end_text, entry_text, transfer_text, aborted_text, ending_words, size_text, crc_text}
+use Rattle.conode_explain_entries.specs.Frames.{service_text, numbers_text, segment_text, remark_words, awaited_text, of_text, after_text}
+use Rattle.conode_explain_entries.specs.Numbers.{millions, thousands, grouped, seconds_text}
 
 -- of 2100:00, from 1 s to 1.182 s, the newest frame at 1.18 s
 abbrev transfer : Direction → ℕ → ℕ → Ending → Ended

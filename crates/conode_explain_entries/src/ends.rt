@@ -2,7 +2,7 @@
 //! a part of it may be there.
 
 ghost use Rattle.std.specs.Prelude.{◌≡◌, ◌++◌, OnOk, string_bytes};
-ghost use Rattle.conode_explain_transfer_text.specs.Ends.{
+ghost use Rattle.conode_explain_entries.specs.Ends.{
   aborted_text,
   crc_text,
   end_text,
@@ -67,7 +67,12 @@ fn ending_words(ending: Ending) -> &'static str
         Ending::Interrupted => "interrupted",
         Ending::Unfinished => "unfinished where the recording ends, % after its last frame",
         Ending::Irregular => "confirmed, but frames are missing or repeated in the recording",
-        _ => "",
+        Ending::Aborted { by: _, code: _ }
+        | Ending::SizeDiffers { indicated: _ }
+        | Ending::CrcDiffers {
+            came: _,
+            computed: _,
+        } => "",
     }
 }
 
@@ -84,7 +89,12 @@ fn push_ending(
         Ending::Aborted { by, code } => push_aborted(text, by, code.0, words),
         Ending::SizeDiffers { indicated } => push_size(text, indicated, ended.bytes),
         Ending::CrcDiffers { came, computed } => push_crcs(text, came, computed),
-        _ => {
+        Ending::Done { crc: _ }
+        | Ending::Unanswered
+        | Ending::Repeated
+        | Ending::Interrupted
+        | Ending::Unfinished
+        | Ending::Irregular => {
             let waited = Part::Seconds(ended.newest, ended.end);
             push_filled(text, ending_words(ending), &[waited])
         }

@@ -1,4 +1,0 @@
-pub mod Ends
-pub mod Frames
-pub mod Numbers
-pub mod Parts
