@@ -222,10 +222,12 @@ class Schedule:
         waiting = {*self.left, *running}
         ready = [it for it in self.left.values() if not any(below.name in waiting for below in it.below)]
         ready.sort(key=lambda it: -self.above[it.name])
+        longest = max((self.above.get(name, 0.0) for name in running), default=0.0)
         for at, it in enumerate(ready):
             if idle > 0 and (it.megabytes <= memory or not running):
                 del self.left[it.name]
-                spare = idle // (len(ready) - at)
+                # a further job is worth less than the first of another crate, which may be ready soon: only the longest chain gets it
+                spare = idle - (len(ready) - at - 1) if self.above[it.name] >= longest else 1
                 room = int((memory / it.megabytes - 1) / 0.6) + 1
                 return it, max(1, min(4, spare, room))
         return None

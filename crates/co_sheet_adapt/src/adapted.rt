@@ -8,6 +8,8 @@ ghost use Rattle.co_sheet.specs.Content.{objects_of, rows_of};
 ghost use Rattle.co_sheet_adapt.specs.Pieces.{all_pieces};
 ghost use Rattle.co_sheet_adapt.specs.Adapted.{
   shown_byte,
+  comment_end,
+  comment_front,
   comment_line,
   pieces_in,
   body_in,
@@ -76,17 +78,28 @@ fn push_shown(text: &mut Vec<u8>, bytes: &[u8]) -> Result<(), AllocError>
     Ok(())
 }
 
-// the first line: who adapted what
-#[tactic(auto, unfolding(crate::specs::Adapted::comment_front, crate::specs::Adapted::comment_end))]
-fn comment_line(alloc: Global, by: &[u8]) -> Result<Vec<u8>, AllocError>
-    ensures { IfOk result (λ made. made.items ≡ comment_line by.now) }
+#[tactic(auto, unfolding(crate::specs::Adapted::comment_front))]
+fn comment_front() -> &'static [u8]
+    ensures { result.now ≡ comment_front }
 {
-    let mut made = Vec::new(alloc);
-    made.extend_from_slice(b"; adapted by ")?;
-    push_shown(&mut made, first_bytes(by))?;
-    made.extend_from_slice(b": not for configuration tools")?;
-    made.push(b'\n')?;
-    Ok(made)
+    b"; adapted by "
+}
+
+#[tactic(auto, unfolding(crate::specs::Adapted::comment_end))]
+fn comment_end() -> &'static [u8]
+    ensures { result.now ≡ comment_end }
+{
+    b": not for configuration tools"
+}
+
+// appends the first line: who adapted what
+fn push_comment(text: &mut Vec<u8>, by: &[u8]) -> Result<(), AllocError>
+    ensures { OnOk result (text.new.items ≡ text.old.items ++ comment_line by.now) }
+{
+    attempt!(text.extend_from_slice(comment_front()));
+    attempt!(push_shown(text, first_bytes(by)));
+    attempt!(text.extend_from_slice(comment_end()));
+    text.extend_from_slice(b"\n")
 }
 
 // the pieces of a text that isn't accepted
@@ -95,7 +108,7 @@ fn rewritten<'a>(alloc: Global, text: &'a [u8]) -> Result<Vec<Piece<'a>>, AdaptF
     ensures { IfOk result (λ pieces.
         map piece_view pieces.items ≡ all_pieces (lines_of text.entry.now)) }
 {
-    let lines = lines_in(alloc, text)?;
+    let lines = attempt_in_memory!(lines_in(alloc, text));
     pieces_of(alloc, lines.as_slice())
 }
 
@@ -111,12 +124,12 @@ fn push_body<'a>(
     ensures stays { IfOk result (λ body. body.1 ≡ is_none (first_fault text.entry.now)) }
     ensures text { OnOk result (made.new.items ≡ made.old.items ++ body_in text.entry.now) }
 {
-    if is_accepted(alloc, text)? {
-        made.extend_from_slice(without_mark(text))?;
+    if attempt_in_memory!(is_accepted(alloc, text)) {
+        attempt_in_memory!(made.extend_from_slice(without_mark(text)));
         return Ok((Vec::new(alloc), true));
     }
-    let pieces = rewritten(alloc, text)?;
-    push_pieces(made, pieces.as_slice())?;
+    let pieces = attempt!(rewritten(alloc, text));
+    attempt_in_memory!(push_pieces(made, pieces.as_slice()));
     Ok((pieces, false))
 }
 
@@ -138,9 +151,10 @@ pub fn adapt<'a>(alloc: Global, text: &'a [u8], by: &[u8]) -> Result<Adapted<'a>
     if text.len() > GREATEST_SIZE {
         return Err(AdaptFault::TooLarge);
     }
-    let mut made = comment_line(alloc, by)?;
-    let (pieces, stays) = push_body(alloc, &mut made, text)?;
-    let is_accepted = is_accepted(alloc, made.as_slice())?;
+    let mut made = Vec::new(alloc);
+    attempt_in_memory!(push_comment(&mut made, by));
+    let (pieces, stays) = attempt!(push_body(alloc, &mut made, text));
+    let is_accepted = attempt_in_memory!(is_accepted(alloc, made.as_slice()));
     Ok(Adapted {
         text: made,
         pieces,

@@ -16,19 +16,21 @@ ghost use Rattle.co_sheet_adapt.specs.Compact.{
   name_line,
   value_line,
   first_section,
+  own_name,
   type_line,
   sub_section,
   sub_sections,
   compact_text,
   written_as,
 };
+ghost use Rattle.co_sheet_changes.specs.Pieces.{assigned};
 ghost use Rattle.co_sheet_changes.specs.Views.{line_view, group_view};
 ghost use Rattle.co_sheet_adapt.specs.private.Named.{texts_at};
 
-use crate::entry::entry_change;
+use crate::entry::{entry_change, push_assigned};
 use crate::facts::Facts;
 use crate::named::Texts;
-use co_sheet_changes::{Group, Line, assigned, joined, push_number};
+use co_sheet_changes::{Group, Line, joined, push_number};
 use co_sheet_text::same_name;
 use co_text::{push_byte, push_digit, push_u16};
 use co_value::Key;
@@ -44,17 +46,24 @@ fn push_sub(text: &mut String, sub: u8) -> Result<(), AllocError>
     }
 }
 
-// the section line of a sub-index
+// the same line in a text of its own
 #[tactic(auto, unfolding(crate::specs::Compact::sub_head))]
+fn push_head_words(head: &mut String, key: Key) -> Result<(), AllocError>
+    ensures { OnOk result (string_bytes head.new ≡ string_bytes head.old ++ sub_head key) }
+{
+    attempt!(head.push_str("["));
+    attempt!(push_u16(head, key.index));
+    attempt!(head.push_str("sub"));
+    attempt!(push_sub(head, key.sub));
+    head.push_str("]\n")
+}
+
+// the section line of a sub-index
 pub(crate) fn push_head(alloc: Global, text: &mut Vec<u8>, key: Key) -> Result<(), AllocError>
     ensures { OnOk result (text.new.items ≡ text.old.items ++ sub_head key) }
 {
     let mut head = String::new(alloc);
-    head.push('[')?;
-    push_u16(&mut head, key.index)?;
-    head.push_str("sub")?;
-    push_sub(&mut head, key.sub)?;
-    head.push_str("]\n")?;
+    attempt!(push_head_words(&mut head, key));
     text.extend_from_slice(head.as_bytes())
 }
 
@@ -83,12 +92,9 @@ fn push_written(
     ensures { OnOk result (text.new.items
         ≡ text.old.items ++ written_as facts.now name.now value.now kept.now) }
 {
-    match entry_change(alloc, facts, name, value)? {
+    match attempt!(entry_change(alloc, facts, name, value)) {
         Some(mended) => text.extend_from_slice(mended.new.as_slice()),
-        None => {
-            let line = assigned(alloc, name, kept)?;
-            text.extend_from_slice(line.as_slice())
-        }
+        None => push_assigned(text, name, kept),
     }
 }
 
@@ -116,7 +122,7 @@ fn copied_lines(alloc: Global, facts: &Facts, group: &Group) -> Result<Vec<u8>, 
 {
     let mut text = Vec::new(alloc);
     for line in group.body {
-        push_copied(alloc, &mut text, facts, line)?;
+        attempt!(push_copied(alloc, &mut text, facts, line));
     }
     Ok(text)
 }
@@ -125,8 +131,8 @@ fn copied_lines(alloc: Global, facts: &Facts, group: &Group) -> Result<Vec<u8>, 
 fn default_name(alloc: Global, name: &[u8], sub: u8) -> Result<Vec<u8>, AllocError>
     ensures { IfOk result (λ made. made.items ≡ default_name name.now sub) }
 {
-    let mut made = joined(alloc, name, b" ", b"")?;
-    push_number(alloc, &mut made, u64::from(sub))?;
+    let mut made = attempt!(joined(alloc, name, b" ", b""));
+    attempt!(push_number(alloc, &mut made, u64::from(sub)));
     Ok(made)
 }
 
@@ -147,11 +153,11 @@ pub(crate) fn push_first_section(
 ) -> Result<(), AllocError>
     ensures { OnOk result (text.new.items ≡ text.old.items ++ first_section index count) }
 {
-    push_head(alloc, text, Key { index, sub: 0 })?;
-    text.extend_from_slice(
+    attempt!(push_head(alloc, text, Key { index, sub: 0 }));
+    attempt!(text.extend_from_slice(
         b"ParameterName=Number of entries\nObjectType=0x7\nDataType=0x0005\nAccessType=ro\nDefaultValue=",
-    )?;
-    push_number(alloc, text, u64::from(count))?;
+    ));
+    attempt!(push_number(alloc, text, u64::from(count)));
     text.extend_from_slice(b"\nPDOMapping=0\n\n")
 }
 
@@ -166,21 +172,31 @@ pub(crate) struct Compact<'r, 's, 'a> {
 }
 
 impl Compact<'_, '_, '_> {
+    // appends the name of a sub-index that no section gives one
+    fn push_default_name(
+        &self,
+        alloc: Global,
+        text: &mut Vec<u8>,
+        sub: u8,
+    ) -> Result<(), AllocError>
+        ensures { OnOk result (text.new.items ≡ text.old.items ++ assigned
+            (codes "ParameterName") (default_name (own_name (group_view self.now.group.now)) sub)) }
+    {
+        let name = self.group.value(b"ParameterName").unwrap_or(b"");
+        let name = attempt!(default_name(alloc, name, sub));
+        push_assigned(text, b"ParameterName", name.as_slice())
+    }
+
     // appends the name of a sub-index
     #[tactic(auto, unfolding(crate::specs::Compact::name_line))]
     fn push_name(&self, alloc: Global, text: &mut Vec<u8>, key: Key) -> Result<(), AllocError>
         ensures { OnOk result (text.new.items ≡ text.old.items
             ++ name_line (texts_at self.now.names.now) (group_view self.now.group.now) key) }
     {
-        let line = match self.names.at(key) {
-            Some(name) => assigned(alloc, b"ParameterName", name)?,
-            None => {
-                let name = self.group.value(b"ParameterName").unwrap_or(b"");
-                let name = default_name(alloc, name, key.sub)?;
-                assigned(alloc, b"ParameterName", name.as_slice())?
-            }
-        };
-        text.extend_from_slice(line.as_slice())
+        match self.names.at(key) {
+            Some(name) => push_assigned(text, b"ParameterName", name),
+            None => self.push_default_name(alloc, text, key.sub),
+        }
     }
 
     // a value that can't be written at the type that stands for its own gets a `?` in front, so
@@ -203,10 +219,9 @@ impl Compact<'_, '_, '_> {
         let Some(value) = self.values.at(key) else {
             return Ok(());
         };
-        let kept = self.kept_value(alloc, value)?;
+        let kept = attempt!(self.kept_value(alloc, value));
         let kept = kept.as_slice();
-        push_written(alloc, text, self.facts, b"ParameterValue", value, kept)?;
-        Ok(())
+        push_written(alloc, text, self.facts, b"ParameterValue", value, kept)
     }
 
     // appends the section of a sub-index from 1 on
@@ -227,13 +242,12 @@ impl Compact<'_, '_, '_> {
             index: self.index,
             sub,
         };
-        push_head(alloc, text, key)?;
-        self.push_name(alloc, text, key)?;
-        text.extend_from_slice(type_line())?;
-        text.extend_from_slice(copied)?;
-        self.push_value(alloc, text, key)?;
-        text.push(b'\n')?;
-        Ok(())
+        attempt!(push_head(alloc, text, key));
+        attempt!(self.push_name(alloc, text, key));
+        attempt!(text.extend_from_slice(type_line()));
+        attempt!(text.extend_from_slice(copied));
+        attempt!(self.push_value(alloc, text, key));
+        text.extend_from_slice(b"\n")
     }
 
     /// The sections of sub-index 0 to this number.

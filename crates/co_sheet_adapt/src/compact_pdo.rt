@@ -39,11 +39,10 @@ ghost use Rattle.co_sheet_adapt.specs.CompactPdo.{
 ghost use Rattle.co_sheet_adapt.specs.private.Pdos.{form_view};
 
 use crate::compact::{push_first_section, push_head};
-use co_sheet_changes::{
-    ChangeKind, Group, Mended, Piece, assigned, hexadecimal, joined, push_number,
-};
+use crate::pieces::push_piece;
+use co_sheet_changes::{ChangeKind, Group, Mended, Piece, assigned, push_number};
 use co_sheet_text::{SectionKind, same_name};
-use co_text::{push_decimal, push_u16};
+use co_text::{decimal_digits, word_digits};
 use co_value::Key;
 use std::alloc::{AllocError, Global};
 
@@ -104,7 +103,7 @@ fn push_absent(
     ensures { OnOk result (indices.new.items
         ≡ indices.old.items ++ absent_of (map group_view groups.now) first count) }
 {
-    let absent = absent_of(alloc, groups, first, count)?;
+    let absent = attempt!(absent_of(alloc, groups, first, count));
     indices.extend_from_slice(absent.as_slice())
 }
 
@@ -157,24 +156,23 @@ fn subs_of(bits: u64) -> Option<u64>
     }
 }
 
-// the objects of this many PDOs that have no section
-fn absent_objects(
+// adds the objects of this many PDOs that have no section
+fn push_absent_objects(
     alloc: Global,
+    indices: &mut Vec<u16>,
     groups: &[Group],
     receive: u16,
     transmit: u16,
-) -> Result<Vec<u16>, AllocError>
+) -> Result<(), AllocError>
     requires receive { receive ≤ 512 }
     requires transmit { transmit ≤ 512 }
-    ensures { IfOk result (λ made.
-        made.items ≡ absent_objects (map group_view groups.now) receive transmit) }
+    ensures { OnOk result (indices.new.items
+        ≡ indices.old.items ++ absent_objects (map group_view groups.now) receive transmit) }
 {
-    let mut indices = Vec::new(alloc);
-    push_absent(alloc, &mut indices, groups, 0x1400, receive)?;
-    push_absent(alloc, &mut indices, groups, 0x1600, receive)?;
-    push_absent(alloc, &mut indices, groups, 0x1800, transmit)?;
-    push_absent(alloc, &mut indices, groups, 0x1A00, transmit)?;
-    Ok(indices)
+    attempt!(push_absent(alloc, indices, groups, 0x1400, receive));
+    attempt!(push_absent(alloc, indices, groups, 0x1600, receive));
+    attempt!(push_absent(alloc, indices, groups, 0x1800, transmit));
+    push_absent(alloc, indices, groups, 0x1A00, transmit)
 }
 
 impl PdoForm {
@@ -199,7 +197,8 @@ impl PdoForm {
         let Some(subs) = subs_of(bits) else {
             return Ok(None);
         };
-        let absent = absent_objects(alloc, groups, receive as u16, transmit as u16)?;
+        let mut absent = Vec::new(alloc);
+        attempt!(push_absent_objects(alloc, &mut absent, groups, receive as u16, transmit as u16,));
         Ok(Some(PdoForm {
             subs,
             listed: listed as u16,
@@ -228,7 +227,7 @@ impl PdoForm {
         if !same_name(name, b"CompactPDO") {
             return Ok(None);
         }
-        let new = assigned(alloc, name, b"0")?;
+        let new = attempt!(assigned(alloc, name, b"0"));
         let count = self.absent.len() as u64;
         let subs = self.subs;
         let kind = ChangeKind::CompactPdo { count, subs };
@@ -242,12 +241,8 @@ impl PdoForm {
         if !same_name(name, b"SupportedObjects") || self.absent.is_empty() {
             return Ok(None);
         }
-        let mut digits = String::new(alloc);
-        push_decimal(
-            &mut digits,
-            u64::from(self.listed) + self.absent.len() as u64,
-        )?;
-        let new = assigned(alloc, name, digits.as_bytes())?;
+        let count = u64::from(self.listed) + self.absent.len() as u64;
+        let new = attempt!(assigned(alloc, name, decimal_digits(count).as_str().as_bytes()));
         let kind = ChangeKind::ListCount;
         Ok(Some(Mended { kind, new }))
     }
@@ -272,14 +267,12 @@ pub(crate) fn pdo_change(
 
 // the section line of an object
 #[tactic(auto, unfolding(crate::specs::CompactPdo::object_head))]
-fn push_object_head(alloc: Global, text: &mut Vec<u8>, index: u16) -> Result<(), AllocError>
+fn push_object_head(text: &mut Vec<u8>, index: u16) -> Result<(), AllocError>
     ensures { OnOk result (text.new.items ≡ text.old.items ++ object_head index) }
 {
-    let mut head = String::new(alloc);
-    head.push('[')?;
-    push_u16(&mut head, index)?;
-    head.push_str("]\n")?;
-    text.extend_from_slice(head.as_bytes())
+    attempt!(text.extend_from_slice(b"["));
+    attempt!(text.extend_from_slice(word_digits(index).as_str().as_bytes()));
+    text.extend_from_slice(b"]\n")
 }
 
 // a sub-index, where it is there
@@ -373,32 +366,32 @@ fn push_communication(
 ) -> Result<(), AllocError>
     ensures { OnOk result (text.new.items ≡ text.old.items ++ communication_text subs index) }
 {
-    push_object_head(alloc, text, index)?;
-    text.extend_from_slice(Part::Communication.keys())?;
-    push_first_section(alloc, text, index, highest_of(subs))?;
-    push_part(alloc, text, Key { index, sub: 1 }, Part::CobId)?;
-    push_part(alloc, text, Key { index, sub: 2 }, Part::TransmissionType)?;
-    push_sub_if(
+    attempt!(push_object_head(text, index));
+    attempt!(text.extend_from_slice(Part::Communication.keys()));
+    attempt!(push_first_section(alloc, text, index, highest_of(subs)));
+    attempt!(push_part(alloc, text, Key { index, sub: 1 }, Part::CobId));
+    attempt!(push_part(alloc, text, Key { index, sub: 2 }, Part::TransmissionType));
+    attempt!(push_sub_if(
         alloc,
         text,
         subs / 4 % 2 == 1,
         Key { index, sub: 3 },
         Part::InhibitTime,
-    )?;
-    push_sub_if(
+    ));
+    attempt!(push_sub_if(
         alloc,
         text,
         subs / 8 % 2 == 1,
         Key { index, sub: 4 },
         Part::Reserved,
-    )?;
-    push_sub_if(
+    ));
+    attempt!(push_sub_if(
         alloc,
         text,
         subs / 16 % 2 == 1,
         Key { index, sub: 5 },
         Part::EventTimer,
-    )?;
+    ));
     push_sub_if(
         alloc,
         text,
@@ -412,7 +405,7 @@ fn push_communication(
 fn push_part(alloc: Global, text: &mut Vec<u8>, key: Key, part: Part) -> Result<(), AllocError>
     ensures { OnOk result (text.new.items ≡ text.old.items ++ sub_head key ++ keys_of part) }
 {
-    push_head(alloc, text, key)?;
+    attempt!(push_head(alloc, text, key));
     text.extend_from_slice(part.keys())
 }
 
@@ -439,9 +432,9 @@ fn push_object(alloc: Global, text: &mut Vec<u8>, subs: u64, index: u16) -> Resu
     if matches!(index, 0..=0x15FF | 0x1800..=0x19FF) {
         return push_communication(alloc, text, subs, index);
     }
-    push_object_head(alloc, text, index)?;
-    text.extend_from_slice(Part::Mapping.keys())?;
-    push_part(alloc, text, Key { index, sub: 0 }, Part::MappingCount)?;
+    attempt!(push_object_head(text, index));
+    attempt!(text.extend_from_slice(Part::Mapping.keys()));
+    attempt!(push_part(alloc, text, Key { index, sub: 0 }, Part::MappingCount));
     push_words(alloc, text, index)
 }
 
@@ -450,10 +443,10 @@ fn push_object(alloc: Global, text: &mut Vec<u8>, subs: u64, index: u16) -> Resu
 fn push_place(text: &mut Vec<u8>, alloc: Global, place: u64, index: u16) -> Result<(), AllocError>
     ensures { OnOk result (text.new.items ≡ text.old.items ++ place_line place index) }
 {
-    push_number(alloc, text, place)?;
-    let index = hexadecimal(alloc, 4, u64::from(index))?;
-    let end = joined(alloc, b"=", index.as_slice(), b"\n")?;
-    text.extend_from_slice(end.as_slice())
+    attempt!(push_number(alloc, text, place));
+    attempt!(text.extend_from_slice(b"=0x"));
+    attempt!(text.extend_from_slice(word_digits(index).as_str().as_bytes()));
+    text.extend_from_slice(b"\n")
 }
 
 impl PdoForm {
@@ -463,7 +456,7 @@ impl PdoForm {
             ++ flat_map (object_text (form_view self.now).subs) (form_view self.now).absent) }
     {
         for index in &self.absent {
-            push_object(alloc, text, self.subs, *index)?;
+            attempt!(push_object(alloc, text, self.subs, *index));
         }
         Ok(())
     }
@@ -475,25 +468,28 @@ impl PdoForm {
     {
         let mut place = u64::from(self.listed) + 1;
         for index in &self.absent {
-            push_place(text, alloc, place, *index)?;
+            attempt!(push_place(text, alloc, place, *index));
             place += 1;
         }
         Ok(())
     }
 }
 
-// what is added to a section
-fn pdo_text(alloc: Global, form: Option<&PdoForm>, kind: SectionKind) -> Result<Vec<u8>, AllocError>
-    ensures { IfOk result (λ made.
-        made.items ≡ pdo_text (option_map (λ f. form_view f.now) form.entry) kind) }
+// appends what is added to a section
+fn push_pdo_text(
+    alloc: Global,
+    text: &mut Vec<u8>,
+    form: Option<&PdoForm>,
+    kind: SectionKind,
+) -> Result<(), AllocError>
+    ensures { OnOk result (text.new.items
+        ≡ text.old.items ++ pdo_text (option_map (λ f. form_view f.now) form.entry) kind) }
 {
-    let mut text = Vec::new(alloc);
     match (form, kind) {
-        (Some(form), SectionKind::DeviceInfo) => form.push_objects(alloc, &mut text)?,
-        (Some(form), SectionKind::OptionalObjects) => form.push_places(alloc, &mut text)?,
-        _ => {}
+        (Some(form), SectionKind::DeviceInfo) => form.push_objects(alloc, text),
+        (Some(form), SectionKind::OptionalObjects) => form.push_places(alloc, text),
+        _ => Ok(()),
     }
-    Ok(text)
 }
 
 /// Adds what comes after the lines of a section.
@@ -506,10 +502,11 @@ pub(crate) fn push_pdos<'a>(
     ensures { OnOk result (map piece_view pieces.new.items ≡ map piece_view pieces.old.items
         ++ pdo_added (option_map (λ f. form_view f.now) form.entry) (group_view group.now)) }
 {
-    let text = pdo_text(alloc, form, group.kind)?;
-    if !text.is_empty() {
-        let line = group.head.number;
-        pieces.push(Piece::Added { line, text })?;
+    let mut text = Vec::new(alloc);
+    attempt!(push_pdo_text(alloc, &mut text, form, group.kind));
+    if text.is_empty() {
+        return Ok(());
     }
-    Ok(())
+    let line = group.head.number;
+    push_piece(pieces, Piece::Added { line, text })
 }

@@ -19,13 +19,23 @@ use co_sheet_text::same_name;
 use co_value::DataType;
 use std::alloc::{AllocError, Global};
 
+/// Appends a line `NAME=VALUE`.
+#[tactic(auto, unfolding(co_sheet_changes::specs::Pieces::assigned))]
+pub(crate) fn push_assigned(text: &mut Vec<u8>, name: &[u8], value: &[u8]) -> Result<(), AllocError>
+    ensures { OnOk result (text.new.items ≡ text.old.items ++ assigned name.now value.now) }
+{
+    attempt!(text.extend_from_slice(name));
+    attempt!(text.extend_from_slice(b"="));
+    attempt!(text.extend_from_slice(value));
+    text.extend_from_slice(b"\n")
+}
+
 // the data type that stands for one that is left out, and in a key of our own the original
 fn type_lines(alloc: Global, left_out: LeftOut, name: &[u8]) -> Result<Vec<u8>, AllocError>
     ensures { IfOk result (λ made. made.items ≡ type_lines left_out name.now) }
 {
-    let mut made = assigned(alloc, name, left_out.code_in_place())?;
-    let original = assigned(alloc, b"OriginalDataType", left_out.code())?;
-    made.extend_from_slice(original.as_slice())?;
+    let mut made = attempt!(assigned(alloc, name, left_out.code_in_place()));
+    attempt!(push_assigned(&mut made, b"OriginalDataType", left_out.code()));
     Ok(made)
 }
 
@@ -52,7 +62,7 @@ fn preset_in_place(
     let Some(kind) = preset_kind(left_out) else {
         return Ok(None);
     };
-    let value = left_out.value_in_place(alloc, value)?;
+    let value = attempt!(left_out.value_in_place(alloc, value));
     with_value(alloc, kind, name, value)
 }
 
@@ -67,7 +77,7 @@ fn in_place(
         option_map mended_view made ≡ in_place left_out name.now value.now) }
 {
     if same_name(name, b"DataType") {
-        let new = type_lines(alloc, left_out, name)?;
+        let new = attempt!(type_lines(alloc, left_out, name));
         let kind = ChangeKind::DataType;
         Ok(Some(Mended { kind, new }))
     } else if is_limit(name) && left_out.is_real() {
@@ -92,10 +102,10 @@ fn preset_at_type(
         option_map mended_view made ≡ preset_at_type data_type name.now value.now) }
 {
     if data_type == DataType::OctetString {
-        let value = pairs_without_blanks(alloc, value)?;
+        let value = attempt!(pairs_without_blanks(alloc, value));
         with_value(alloc, ChangeKind::OctetBlanks, name, value)
     } else {
-        let value = sign_extended(alloc, data_type, value)?;
+        let value = attempt!(sign_extended(alloc, data_type, value));
         with_value(alloc, ChangeKind::SignExtended, name, value)
     }
 }

@@ -78,7 +78,12 @@ fn converts(left_out: LeftOut, value: Option<&[u8]>) -> bool
 fn left_out_of(group: &Group) -> Option<LeftOut>
     ensures { result ≡ left_out_of (group_view group.now) }
 {
-    let left_out = LeftOut::with(group.number(b"DataType")?)?;
+    let Some(code) = group.number(b"DataType") else {
+        return None;
+    };
+    let Some(left_out) = LeftOut::with(code) else {
+        return None;
+    };
     if converts(left_out, group.value(b"DefaultValue"))
         && converts(left_out, group.value(b"ParameterValue"))
     {

@@ -139,7 +139,7 @@ fn bits_text(alloc: Global, count: u8, bits: Option<u64>) -> Result<Option<Vec<u
         option_map (λ v. v.items) made ≡ option_map (hexadecimal count) bits) }
 {
     match bits {
-        Some(bits) => Ok(Some(hexadecimal(alloc, count, bits)?)),
+        Some(bits) => Ok(Some(attempt!(hexadecimal(alloc, count, bits)))),
         None => Ok(None),
     }
 }
@@ -151,7 +151,7 @@ fn number_text(alloc: Global, text: &[u8]) -> Result<Option<Vec<u8>>, AllocError
         return Ok(None);
     }
     let mut made = Vec::new(alloc);
-    made.extend_from_slice(text)?;
+    attempt!(made.extend_from_slice(text));
     Ok(Some(made))
 }
 
@@ -170,8 +170,8 @@ fn utf16(alloc: Global, text: &[u8]) -> Result<Option<Vec<u8>>, AllocError>
     }
     let mut made = String::new(alloc);
     for byte in text {
-        push_byte(&mut made, *byte)?;
-        push_byte(&mut made, 0)?;
+        attempt!(push_byte(&mut made, *byte));
+        attempt!(push_byte(&mut made, 0));
     }
     Ok(Some(made.into_bytes()))
 }

@@ -2,6 +2,27 @@
 //! and what no rule changes.
 #![tactic(auto)]
 
+// As `?`, without a conversion of the error: a `match` is one step of a proof where `?` is three.
+macro_rules! attempt {
+    ($result:expr) => {
+        match $result {
+            Ok(value) => value,
+            Err(fault) => return Err(fault),
+        }
+    };
+}
+
+// The same of a result whose `Err` says that memory ran out, in a function that gives an
+// `AdaptFault`.
+macro_rules! attempt_in_memory {
+    ($result:expr) => {
+        match $result {
+            Ok(value) => value,
+            Err(_) => return Err(AdaptFault::Memory),
+        }
+    };
+}
+
 mod adapted;
 mod compact;
 mod compact_pdo;

@@ -46,9 +46,16 @@ fn sub_named(name: &[u8]) -> Option<u8>
 }
 
 /// The names or values that sections give sub-indices, by key; if there are two, the first counts.
-#[derive(Drop)]
 pub(crate) struct Texts<'a> {
     texts: IndexMap<Key, &'a [u8]>,
+}
+
+// its own, so that a function that lets one go has one call
+impl<'a> Drop for Texts<'a> {
+    fn drop(self) {
+        let Texts { texts } = self;
+        drop(texts);
+    }
 }
 
 impl<'a> Texts<'a> {
@@ -64,10 +71,13 @@ impl<'a> Texts<'a> {
             return Ok(());
         };
         let key = Key { index, sub };
-        if self.texts.get(&key).is_none() {
-            self.texts.insert(key, value)?;
+        if self.texts.get(&key).is_some() {
+            return Ok(());
         }
-        Ok(())
+        match self.texts.insert(key, value) {
+            Ok(_) => Ok(()),
+            Err(_) => Err(AllocError),
+        }
     }
 
     // adds what a section gives, if it is one of the word
@@ -80,7 +90,7 @@ impl<'a> Texts<'a> {
             return Ok(());
         };
         for line in group.body {
-            self.add_line(index, line)?;
+            attempt!(self.add_line(index, line));
         }
         Ok(())
     }
@@ -108,6 +118,6 @@ impl<'a> Texts<'a> {
     pub(crate) fn at(&self, key: Key) -> Option<&'a [u8]>
         ensures { option_copied result ≡ texts_at self.now key }
     {
-        Some(*self.texts.get(&key)?)
+        self.texts.get(&key).copied()
     }
 }

@@ -71,7 +71,7 @@ fn list_change(alloc: Global, name: &[u8], value: &[u8]) -> Result<Option<Mended
     if !is_padded(name) {
         return Ok(None);
     }
-    let new = assigned(alloc, stripped(name), value)?;
+    let new = attempt!(assigned(alloc, stripped(name), value));
     let kind = ChangeKind::ListKey;
     Ok(Some(Mended { kind, new }))
 }
@@ -88,9 +88,9 @@ fn head_text(alloc: Global, group: &Group) -> Result<Vec<u8>, AllocError>
     ensures { IfOk result (λ made. made.items ≡ head_text (group_view group.now)) }
 {
     if is_renamed(group) {
-        let name = without_blanks(alloc, group.name)?;
-        let mut made = joined(alloc, b"[", name.as_slice(), b"]")?;
-        made.push(b'\n')?;
+        let name = attempt!(without_blanks(alloc, group.name));
+        let mut made = attempt!(joined(alloc, b"[", name.as_slice(), b"]"));
+        attempt!(made.extend_from_slice(b"\n"));
         return Ok(made);
     }
     joined(alloc, group.head.bytes, b"\n", b"")
@@ -146,8 +146,8 @@ fn head_change(alloc: Global, group: &Group) -> Result<Option<Mended>, AllocErro
     } else {
         ChangeKind::SubIndex0
     };
-    let mut new = head_text(alloc, group)?;
-    new.extend_from_slice(missing)?;
+    let mut new = attempt!(head_text(alloc, group));
+    attempt!(new.extend_from_slice(missing));
     Ok(Some(Mended { kind, new }))
 }
 
@@ -164,7 +164,7 @@ fn compact_change(
     if !same_name(name, b"CompactSubObj") {
         return Ok(None);
     }
-    let new = assigned(alloc, name, b"0")?;
+    let new = attempt!(assigned(alloc, name, b"0"));
     let kind = ChangeKind::CompactSubObj { index, count };
     Ok(Some(Mended { kind, new }))
 }
@@ -200,9 +200,22 @@ fn line_change(
     ensures { IfOk result (λ made. option_map mended_view made
         ≡ line_change (option_map (λ f. form_view f.now) pdos.entry) kind facts.now name.now value.now) }
 {
-    match pdo_change(alloc, pdos, kind, name)? {
+    match attempt!(pdo_change(alloc, pdos, kind, name)) {
         Some(mended) => Ok(Some(mended)),
         None => given_change(alloc, kind, facts, name, value),
+    }
+}
+
+/// Adds a piece; a function of its own, so that what happens to it without memory is proved once.
+pub(crate) fn push_piece<'a>(
+    pieces: &mut Vec<Piece<'a>>,
+    piece: Piece<'a>,
+) -> Result<(), AllocError>
+    ensures { OnOk result (pieces.new.items ≡ pieces.old.items ++ piece.entry ∷ []) }
+{
+    match pieces.push(piece) {
+        Ok(()) => Ok(()),
+        Err(_) => Err(AllocError),
     }
 }
 
@@ -220,11 +233,10 @@ fn push_line<'a>(
         (line_view line.now) ∷ []) }
 {
     let mended = match line.property() {
-        Some((name, value)) => line_change(alloc, pdos, kind, facts, name, value)?,
+        Some((name, value)) => attempt!(line_change(alloc, pdos, kind, facts, name, value)),
         None => None,
     };
-    pieces.push(piece_of(line, mended))?;
-    Ok(())
+    push_piece(pieces, piece_of(line, mended))
 }
 
 /// The names and the values that the sections of a text give sub-indices, and what they say of PDOs
@@ -269,10 +281,9 @@ impl<'a> Tables<'a> {
             group,
             index,
         };
-        let text = compact.text(alloc, count)?;
+        let text = attempt!(compact.text(alloc, count));
         let line = group.head.number;
-        pieces.push(Piece::Added { line, text })?;
-        Ok(())
+        push_piece(pieces, Piece::Added { line, text })
     }
 
     // adds the pieces of sections
@@ -289,7 +300,7 @@ impl<'a> Tables<'a> {
     {
         let mut size: usize = 0;
         for group in groups {
-            self.push_group(alloc, pieces, group)?;
+            attempt_in_memory!(self.push_group(alloc, pieces, group));
             size = size.saturating_add(added_bytes(pieces.as_slice()));
             if size > GREATEST_SIZE {
                 return Err(AdaptFault::TooLarge);
@@ -311,8 +322,8 @@ impl<'a> Tables<'a> {
     {
         let pdos = self.pdos.as_ref();
         let facts = Facts::of(group);
-        push_own(alloc, pieces, pdos, &facts, group)?;
-        self.push_added(alloc, pieces, &facts, group)?;
+        attempt!(push_own(alloc, pieces, pdos, &facts, group));
+        attempt!(self.push_added(alloc, pieces, &facts, group));
         push_pdos(alloc, pieces, pdos, group)
     }
 }
@@ -328,8 +339,8 @@ fn push_own<'a>(
     ensures { OnOk result (map piece_view pieces.new.items ≡ map piece_view pieces.old.items
         ++ own_pieces (option_map (λ f. form_view f.now) pdos.entry) facts.now (group_view group.now)) }
 {
-    let head = head_change(alloc, group)?;
-    pieces.push(piece_of(&group.head, head))?;
+    let head = attempt!(head_change(alloc, group));
+    attempt!(push_piece(pieces, piece_of(&group.head, head)));
     push_lines(alloc, pieces, pdos, group.kind, facts, group.body)
 }
 
@@ -347,7 +358,7 @@ fn push_lines<'a>(
         (map line_view lines.now)) }
 {
     for line in lines {
-        push_line(alloc, pieces, pdos, kind, facts, line)?;
+        attempt!(push_line(alloc, pieces, pdos, kind, facts, line));
     }
     Ok(())
 }

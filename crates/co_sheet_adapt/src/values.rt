@@ -65,7 +65,7 @@ pub(crate) fn sign_extended(
         return Ok(None);
     };
     if is_sign_extended(width, number) {
-        Ok(Some(hexadecimal(alloc, 2 * width as u8, number)?))
+        Ok(Some(attempt!(hexadecimal(alloc, 2 * width as u8, number))))
     } else {
         Ok(None)
     }
@@ -80,8 +80,10 @@ fn past_part(text: &[u8]) -> Option<&[u8]>
     match text {
         [first, rest @ ..] if is_blank(*first) => Some(rest),
         _ => {
-            let (_, rest) = pair_at(text)?;
-            Some(rest)
+            match pair_at(text) {
+                Some((_, rest)) => Some(rest),
+                None => None,
+            }
         }
     }
 }
@@ -110,7 +112,7 @@ pub(crate) fn pairs_without_blanks(
         return Ok(None);
     }
     if is_spaced(value) {
-        Ok(Some(without_blanks(alloc, value)?))
+        Ok(Some(attempt!(without_blanks(alloc, value))))
     } else {
         Ok(None)
     }

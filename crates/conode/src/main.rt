@@ -6,6 +6,7 @@
 
 use co_dict_build::Limits;
 use co_node::Config;
+use co_sdo_client::Mode as TransferMode;
 use conode_adapt::{AdaptWords, LeadingZeros as ZerosRead, adapt_file};
 use conode_check::check_file;
 use conode_compare::{Asked, Format as ComparedFormat, compare_files};
@@ -21,7 +22,7 @@ use conode_lint::{Checks, Form, LintOptions, lint_files};
 use conode_show::{Form as ShownForm, Format as ShownFormat, show_file};
 use conode_stats::{StatsWords, stats_file};
 use conode_words::{
-    Colours, DeviceWords, DictionaryWords, Format, LeadingZeros, LinesAs, LintWords, LogForm,
+    Colours, DeviceWords, DictionaryWords, Format, LeadingZeros, LinesAs, LintWords, LogForm, Mode,
     OnlyWords, ReportAs, ShownAs, Stamps, Task, VERSION, task,
 };
 use std::io::{BufWriter, IsTerminal, Write};
@@ -42,6 +43,15 @@ fn config_of(device: &DeviceWords) -> Config<'static> {
     Config {
         limits: limits_of(&device.dictionary),
         time: device.time,
+    }
+}
+
+/// How a client transfers.
+fn transfer_mode(mode: Mode) -> TransferMode {
+    match mode {
+        Mode::Plain => TransferMode::Plain,
+        Mode::Segmented => TransferMode::Segmented,
+        Mode::Block => TransferMode::Block,
     }
 }
 
@@ -205,6 +215,7 @@ fn carry_out_task<O: Write, E: Write>(
         } => {
             let node = device.dictionary.node;
             let config = config_of(&device);
+            let mode = transfer_mode(mode);
             loop_files(rt, sheet, key, bytes, node, mode, &config, out, err)
         }
         Task::Show {

@@ -5,7 +5,7 @@ use Rattle.clap.specs.Takes.{value_passes}
 use Rattle.clap.specs.Words.{App, Rule, Shape, Text, fault_of, matches_of, subcommand_of}
 use Rattle.clap.specs.declared.error.kind.ErrorKind.{ErrorKind}
 use Rattle.clap.specs.declared.error.kind.ErrorKind.TheVariants as kind
-use Rattle.co_sdo_client.specs.declared.mode.Mode.TheVariants.{Plain, Segmented, Block}
+use Rattle.conode_words.specs.declared.tasks.Mode.TheVariants.{Plain, Segmented, Block}
 use Rattle.conode_words.specs.declared.tasks.DeviceWords.{DeviceWords}
 use Rattle.conode_words.specs.declared.tasks.DictionaryWords.{DictionaryWords}
 use Rattle.conode_words.specs.declared.tasks.LinesAs.TheVariants as lines

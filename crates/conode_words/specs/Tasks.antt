@@ -7,7 +7,7 @@ use Rattle.clap.specs.ValueTests.{is_numeral}
 use Rattle.clap.specs.Kinds.{Kinds, or_else}
 use Rattle.clap.specs.Words.{Row, Text, all_of, fault_of, first_of, subcommand_of}
 use Rattle.clap.specs.declared.error.kind.ErrorKind.TheVariants.{InvalidValue}
-use Rattle.co_sdo_client.specs.declared.mode.Mode.{Mode}
+use Rattle.conode_words.specs.declared.tasks.Mode.{Mode}
 use Rattle.conode_words.specs.Choices.{colours_for, format_for, lines_as_for, log_form_for, mode_for, report_as_for, shown_for, stamps_for, zeros_for}
 use Rattle.conode_words.specs.Commands.{conode_command}
 use Rattle.conode_words.specs.declared.tasks.DeviceWords.{DeviceWords}

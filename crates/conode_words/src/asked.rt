@@ -41,8 +41,8 @@ use std::alloc::{AllocError, Global};
 fn dictionary_words(found: &ArgMatches<'_>) -> Option<DictionaryWords>
     ensures { result ≡ asked_dictionary (rows_of (found_of found.now)) }
 {
-    let strings = number_u16(found, "strings")?;
-    let domains = number_u16(found, "domains")?;
+    let strings = given!(number_u16(found, "strings"));
+    let domains = given!(number_u16(found, "domains"));
     Some(DictionaryWords {
         node: number_u8(found, "node"),
         strings,
@@ -55,8 +55,8 @@ fn dictionary_words(found: &ArgMatches<'_>) -> Option<DictionaryWords>
 fn device_words(found: &ArgMatches<'_>) -> Option<DeviceWords>
     ensures { result ≡ asked_device (rows_of (found_of found.now)) }
 {
-    let dictionary = dictionary_words(found)?;
-    let time = number_u16(found, "time")?;
+    let dictionary = given!(dictionary_words(found));
+    let time = given!(number_u16(found, "time"));
     Some(DeviceWords { dictionary, time })
 }
 
@@ -65,8 +65,8 @@ fn device_words(found: &ArgMatches<'_>) -> Option<DeviceWords>
 fn asked_check<'a>(found: &ArgMatches<'a>) -> Option<Task<'a>>
     ensures { option_map asked_by result ≡ asked_check (rows_of (found_of found.now)) }
 {
-    let sheet = word_for(found, "SHEET")?;
-    let dictionary = dictionary_words(found)?;
+    let sheet = given!(word_for(found, "SHEET"));
+    let dictionary = given!(dictionary_words(found));
     Some(Task::Check { sheet, dictionary })
 }
 
@@ -105,7 +105,7 @@ fn asked_lint<'a>(alloc: Global, found: &ArgMatches<'a>) -> Result<Option<Task<'
 fn asked_decode<'a>(found: &ArgMatches<'a>) -> Option<Task<'a>>
     ensures { option_map asked_by result ≡ asked_decode (rows_of (found_of found.now)) }
 {
-    let trace = word_for(found, "TRACE")?;
+    let trace = given!(word_for(found, "TRACE"));
     Some(Task::Decode {
         trace,
         sheet: word_for(found, "sheet"),
@@ -118,9 +118,9 @@ fn asked_decode<'a>(found: &ArgMatches<'a>) -> Option<Task<'a>>
 fn asked_replay<'a>(found: &ArgMatches<'a>) -> Option<Task<'a>>
     ensures { option_map asked_by result ≡ asked_replay (rows_of (found_of found.now)) }
 {
-    let sheet = word_for(found, "SHEET")?;
-    let trace = word_for(found, "TRACE")?;
-    let device = device_words(found)?;
+    let sheet = given!(word_for(found, "SHEET"));
+    let trace = given!(word_for(found, "TRACE"));
+    let device = given!(device_words(found));
     Some(Task::Replay {
         sheet,
         trace,
@@ -133,21 +133,11 @@ fn asked_replay<'a>(found: &ArgMatches<'a>) -> Option<Task<'a>>
 fn asked_loop<'a>(found: &ArgMatches<'a>) -> Option<Task<'a>>
     ensures { option_map asked_by result ≡ asked_loop (rows_of (found_of found.now)) }
 {
-    let Some(sheet) = word_for(found, "SHEET") else {
-        return None;
-    };
-    let Some(key) = word_for(found, "KEY") else {
-        return None;
-    };
-    let Some(bytes) = word_for(found, "HEX") else {
-        return None;
-    };
-    let Some(mode) = mode_for(found) else {
-        return None;
-    };
-    let Some(device) = device_words(found) else {
-        return None;
-    };
+    let sheet = given!(word_for(found, "SHEET"));
+    let key = given!(word_for(found, "KEY"));
+    let bytes = given!(word_for(found, "HEX"));
+    let mode = given!(mode_for(found));
+    let device = given!(device_words(found));
     Some(Task::LoopBack {
         sheet,
         key,
@@ -162,8 +152,8 @@ fn asked_loop<'a>(found: &ArgMatches<'a>) -> Option<Task<'a>>
 fn asked_show<'a>(found: &ArgMatches<'a>) -> Option<Task<'a>>
     ensures { option_map asked_by result ≡ asked_show (rows_of (found_of found.now)) }
 {
-    let sheet = word_for(found, "SHEET")?;
-    let shown_as = shown_for(found)?;
+    let sheet = given!(word_for(found, "SHEET"));
+    let shown_as = given!(shown_for(found));
     Some(Task::Show {
         sheet,
         node: number_u8(found, "node"),
@@ -176,8 +166,8 @@ fn asked_show<'a>(found: &ArgMatches<'a>) -> Option<Task<'a>>
 fn asked_adapt<'a>(found: &ArgMatches<'a>) -> Option<Task<'a>>
     ensures { option_map asked_by result ≡ asked_adapt (rows_of (found_of found.now)) }
 {
-    let sheet = word_for(found, "SHEET")?;
-    let leading_zeros = zeros_for(found)?;
+    let sheet = given!(word_for(found, "SHEET"));
+    let leading_zeros = given!(zeros_for(found));
     Some(Task::Adapt {
         sheet,
         leading_zeros,
@@ -241,8 +231,8 @@ fn asked_explain<'a>(alloc: Global, found: &ArgMatches<'a>) -> Result<Option<Tas
 fn asked_convert<'a>(found: &ArgMatches<'a>) -> Option<Task<'a>>
     ensures { option_map asked_by result ≡ asked_convert (rows_of (found_of found.now)) }
 {
-    let log = word_for(found, "LOG")?;
-    let form = log_form_for(found)?;
+    let log = given!(word_for(found, "LOG"));
+    let form = given!(log_form_for(found));
     Some(Task::Convert { log, form })
 }
 
@@ -277,10 +267,10 @@ fn asked_stats<'a>(alloc: Global, found: &ArgMatches<'a>) -> Result<Option<Task<
 fn timing_words(found: &ArgMatches<'_>) -> Option<TimingWords>
     ensures { result ≡ asked_timing (rows_of (found_of found.now)) }
 {
-    let tolerance = number_u32(found, "tolerance")?;
-    let drift = number_u8(found, "drift")?;
-    let answer = number_u32(found, "answer")?;
-    let boot = number_u32(found, "boot")?;
+    let tolerance = given!(number_u32(found, "tolerance"));
+    let drift = given!(number_u8(found, "drift"));
+    let answer = given!(number_u32(found, "answer"));
+    let boot = given!(number_u32(found, "boot"));
     Some(TimingWords {
         tolerance,
         drift,
@@ -306,21 +296,11 @@ fn room_words(found: &ArgMatches<'_>) -> RoomWords
 fn asked_compare<'a>(found: &ArgMatches<'a>) -> Option<Task<'a>>
     ensures { option_map asked_by result ≡ asked_compare (rows_of (found_of found.now)) }
 {
-    let Some(sheet) = word_for(found, "SHEET") else {
-        return None;
-    };
-    let Some(trace) = word_for(found, "TRACE") else {
-        return None;
-    };
-    let Some(form) = log_form_for(found) else {
-        return None;
-    };
-    let Some(report_as) = report_as_for(found) else {
-        return None;
-    };
-    let Some(timing) = timing_words(found) else {
-        return None;
-    };
+    let sheet = given!(word_for(found, "SHEET"));
+    let trace = given!(word_for(found, "TRACE"));
+    let form = given!(log_form_for(found));
+    let report_as = given!(report_as_for(found));
+    let timing = given!(timing_words(found));
     Some(Task::Compare {
         sheet,
         trace,

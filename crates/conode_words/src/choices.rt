@@ -18,9 +18,10 @@ ghost use Rattle.conode_words.specs.Choices.{
 };
 
 use crate::found::{is, word_for};
-use crate::tasks::{Colours, Format, LeadingZeros, LinesAs, LogForm, ReportAs, ShownAs, Stamps};
+use crate::tasks::{
+    Colours, Format, LeadingZeros, LinesAs, LogForm, Mode, ReportAs, ShownAs, Stamps,
+};
 use clap::ArgMatches;
-use co_sdo_client::Mode;
 
 // the choice that a word names, of these
 fn choice_named<T: Copy>(word: &str, choices: &[(&str, T)]) -> Option<T>
@@ -39,7 +40,7 @@ fn choice_for<T: Copy>(found: &ArgMatches<'_>, name: &str, choices: &[(&str, T)]
     ensures { result ≡ option_and_then (choice_named (map (λ c. (c.0.now, c.1)) choices.now))
         (first_of name.now (rows_of (found_of found.now))) }
 {
-    choice_named(word_for(found, name)?, choices)
+    choice_named(given!(word_for(found, name)), choices)
 }
 
 /// The format of `lint`.
@@ -124,7 +125,7 @@ pub(crate) fn zeros_for(found: &ArgMatches<'_>) -> Option<Option<LeadingZeros>>
     ensures { result ≡ zeros_for (rows_of (found_of found.now)) }
 {
     match word_for(found, "leading-zeros") {
-        Some(word) => Some(Some(zeros_of(word)?)),
+        Some(word) => Some(Some(given!(zeros_of(word)))),
         None => Some(None),
     }
 }

@@ -57,7 +57,7 @@ pub(crate) fn is_used(found: &ArgMatches<'_>, name: &str) -> bool
 pub(crate) fn number_u8(found: &ArgMatches<'_>, name: &str) -> Option<u8>
     ensures { result ≡ number_for 8 name.now (rows_of (found_of found.now)) }
 {
-    word_for(found, name)?.parse().ok()
+    given!(word_for(found, name)).parse().ok()
 }
 
 /// The number of an option, if it is there and fits 16 bits.
@@ -65,7 +65,7 @@ pub(crate) fn number_u8(found: &ArgMatches<'_>, name: &str) -> Option<u8>
 pub(crate) fn number_u16(found: &ArgMatches<'_>, name: &str) -> Option<u16>
     ensures { result ≡ number_for 16 name.now (rows_of (found_of found.now)) }
 {
-    word_for(found, name)?.parse().ok()
+    given!(word_for(found, name)).parse().ok()
 }
 
 /// The number of an option, if it is there and fits 32 bits.
@@ -73,5 +73,5 @@ pub(crate) fn number_u16(found: &ArgMatches<'_>, name: &str) -> Option<u16>
 pub(crate) fn number_u32(found: &ArgMatches<'_>, name: &str) -> Option<u32>
     ensures { result ≡ number_for 32 name.now (rows_of (found_of found.now)) }
 {
-    word_for(found, name)?.parse().ok()
+    given!(word_for(found, name)).parse().ok()
 }

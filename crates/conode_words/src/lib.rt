@@ -1,6 +1,16 @@
 //! What the words of the command line ask for, and the text of help.
 #![tactic(auto)]
 
+// As `?` of an `Option`: a `match` is one step of a proof where `?` is three.
+macro_rules! given {
+    ($option:expr) => {
+        match $option {
+            Some(value) => value,
+            None => return None,
+        }
+    };
+}
+
 mod asked;
 mod choices;
 mod command_line;
@@ -13,6 +23,6 @@ mod tasks;
 pub use command_line::task;
 pub use help::VERSION;
 pub use tasks::{
-    Colours, DeviceWords, DictionaryWords, Format, LeadingZeros, LinesAs, LintWords, LogForm,
+    Colours, DeviceWords, DictionaryWords, Format, LeadingZeros, LinesAs, LintWords, LogForm, Mode,
     OnlyWords, ReportAs, RoomWords, ShownAs, Stamps, Task, TimingWords,
 };

@@ -1,7 +1,5 @@
 //! What the program can be asked to do.
 
-use co_sdo_client::Mode;
-
 /// How the object dictionary of a sheet is built.
 #[derive(Clone, Copy)]
 pub struct DictionaryWords {
@@ -20,6 +18,17 @@ pub struct DeviceWords {
     pub dictionary: DictionaryWords,
     /// The SDO timeout in ms; 0 disables it.
     pub time: u16,
+}
+
+/// How `loop` transfers.
+#[derive(Clone, Copy)]
+pub enum Mode {
+    /// Expedited where it fits, else in segments.
+    Plain,
+    /// In segments.
+    Segmented,
+    /// In blocks.
+    Block,
 }
 
 /// The form in which a dictionary is shown.
